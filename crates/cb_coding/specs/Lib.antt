@@ -1,0 +1,5 @@
+pub mod Distance
+pub mod Pairs
+pub mod Books
+pub mod Answers
+pub mod Groups

@@ -1,0 +1,26 @@
+//! Codebooks, pairs of codes and answers.
+use cb_model::List;
+
+/// Two codes by their places, the lesser first, and at how many columns they differ.
+#[derive(Clone, Copy, Debug, PartialEq, Eq)]
+pub struct Pair {
+    pub first: u32,
+    pub second: u32,
+    pub distance: u32,
+}
+
+/// The columns that are looked at, as rising places, and how far any two codes are apart over them.
+#[derive(Debug, Drop)]
+pub struct Book {
+    pub columns: List<u32>,
+    pub distance: u32,
+}
+
+/// The groups nearest to a word, as rising places; at how many columns their codes differ from it; and whether that
+/// is within the radius, so that no other group can be meant.
+#[derive(Debug, Drop)]
+pub struct Answer {
+    pub distance: u32,
+    pub groups: List<u32>,
+    pub sure: bool,
+}
