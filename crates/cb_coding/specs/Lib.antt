@@ -3,3 +3,4 @@ pub mod Pairs
 pub mod Books
 pub mod Answers
 pub mod Groups
+pub mod Laws
