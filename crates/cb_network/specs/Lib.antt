@@ -5,3 +5,5 @@ pub mod Edits
 pub mod Causes
 pub mod Matrix
 pub mod Finding
+pub mod Regular
+pub mod Laws

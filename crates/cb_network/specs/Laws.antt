@@ -1,0 +1,98 @@
+-- What holds of topologies, causes, codes and findings, whatever the program does.
+use Rattle.std.specs.Prelude.{◌≡◌, ℕ, ◌<◌, ◌≤◌, List, [], ◌∷◌, length, Bool, IsTrue, ⊤, Result, Ok}
+use Rattle.cb_text.specs.Names.{IsInstance}
+use Rattle.cb_model.specs.declared.node.NodeName.{NodeName}
+use Rattle.cb_model.specs.declared.tables.Tables.{Tables}
+use Rattle.cb_coding.specs.declared.group.Group.{Group}
+use Rattle.cb_coding.specs.declared.group.Problem.{Problem}
+use Rattle.cb_coding.specs.Answers.{from_word}
+use Rattle.cb_coding.specs.Distance.{all_columns}
+use Rattle.cb_coding.specs.Groups.{codes_of}
+use Rattle.cb_network.specs.declared.edit.Edit.{Edit}
+use Rattle.cb_network.specs.declared.edit.Edit.TheVariants.{Create}
+use Rattle.cb_network.specs.declared.edit.EditRefusal.{EditRefusal}
+use Rattle.cb_network.specs.declared.finding.Finding.{Finding}
+use Rattle.cb_network.specs.Topology.{Topology, empty_topology}
+use Rattle.cb_network.specs.Sound.{Sound}
+use Rattle.cb_network.specs.Regular.{IsRegular}
+use Rattle.cb_network.specs.Edits.{IsAfter, IsAfterAll}
+use Rattle.cb_network.specs.Causes.{Edge, Causes}
+use Rattle.cb_network.specs.Matrix.{AreColumns, AreProblems, IsCode, AreCoded, IsMatrix}
+use Rattle.cb_network.specs.Finding.{IsFinding, IsBurst, named_groups, word_of}
+
+-- every node causes itself
+abbrev pub CausesItself : Type 0
+CausesItself = (t : Topology) (p : NodeName) → Causes t p p
+
+-- what is caused by something that p causes is caused by p
+abbrev pub CausesFurther : Type 0
+CausesFurther = (t : Topology) (p q s : NodeName) → Causes t p q → Causes t q s → Causes t p s
+
+-- an edge is a cause
+abbrev pub EdgeCauses : Type 0
+EdgeCauses = (t : Topology) (p q : NodeName) → Edge t p q → Causes t p q
+
+-- no edge leads out of the nodes for which the test holds
+abbrev pub IsClosed : Topology → (NodeName → Bool) → Type 0
+IsClosed t test = (p q : NodeName) → IsTrue (test p) → Edge t p q → IsTrue (test q)
+
+-- a closed set that has p has every node that p causes
+abbrev pub ClosedHasCaused : Type 0
+ClosedHasCaused = (t : Topology) (test : NodeName → Bool) (p s : NodeName) → IsClosed t test → IsTrue (test p) → Causes t p s → IsTrue (test s)
+
+-- a topology has one list of columns
+abbrev pub ColumnsAreOne : Type 0
+ColumnsAreOne = (t : Topology) (xs ys : List NodeName) → AreColumns t xs → AreColumns t ys → xs ≡ ys
+
+-- a topology has one list of problems
+abbrev pub ProblemsAreOne : Type 0
+ProblemsAreOne = (t : Topology) (xs ys : List NodeName) → AreProblems t xs → AreProblems t ys → xs ≡ ys
+
+-- over some columns a node has one code
+abbrev pub CodeIsOne : Type 0
+CodeIsOne = (t : Topology) (columns : List NodeName) (p : NodeName) (v w : List Bool) → IsCode t columns p v → IsCode t columns p w → v ≡ w
+
+-- over some columns the problems have one list of codes
+abbrev pub CodedAreOne : Type 0
+CodedAreOne = (t : Topology) (columns : List NodeName) (ps qs : List Problem) → AreCoded t columns ps → AreCoded t columns qs → ps ≡ qs
+
+-- a topology has one matrix
+abbrev pub MatrixIsOne : Type 0
+MatrixIsOne = (t : Topology) (xs ys : List NodeName) (gs hs : List Group) → IsMatrix t xs gs → IsMatrix t ys hs → (xs ≡ ys) × (gs ≡ hs)
+
+-- for a set of raised nodes there is one finding
+abbrev pub FindingIsOne : Type 0
+FindingIsOne = (columns : List NodeName) (groups : List Group) (book_columns : List ℕ) (d : ℕ) (raised : List NodeName) (a b : Finding)
+    → IsFinding columns groups book_columns d raised a → IsFinding columns groups book_columns d raised b → a ≡ b
+
+-- a topology and a set of raised nodes have one finding over all columns
+abbrev pub BurstIsOne : Type 0
+BurstIsOne = (t : Topology) (raised : List NodeName) (a b : Finding) → IsBurst t raised a → IsBurst t raised b → a ≡ b
+
+-- an edit comes out in one way
+abbrev pub AfterIsOne : Type 0
+AfterIsOne = (t : Topology) (edit : Edit) (a b : Result Topology EditRefusal) → IsRegular t.model → IsAfter t edit a → IsAfter t edit b → a ≡ b
+
+-- a list of edits comes out in one way
+abbrev pub AfterAllIsOne : Type 0
+AfterAllIsOne = (t : Topology) (edits : List Edit) (u v : Topology) → IsRegular t.model → IsAfterAll t edits u → IsAfterAll t edits v → u ≡ v
+
+-- the topology without any instance is sound
+abbrev pub EmptyIsSound : Type 0
+EmptyIsSound = (tables : Tables) → Sound (empty_topology tables)
+
+-- the name of a new instance is one by the grammar
+abbrev pub HasGoodName : Edit → Type 0
+HasGoodName (Create name class) = IsInstance name
+HasGoodName edit = ⊤
+
+-- an accepted edit of a sound topology leaves it sound
+abbrev pub EditKeepsSound : Type 0
+EditKeepsSound = (t u : Topology) (edit : Edit) → IsRegular t.model → HasGoodName edit → Sound t → IsAfter t edit (Ok u) → Sound u
+
+-- Where what is raised differs from the code of one group at no more columns than the radius says, lost or spurious, that
+-- group alone is listed, and the finding is sure.
+abbrev pub BurstFindsTheCause : Type 0
+BurstFindsTheCause = (t : Topology) (raised : List NodeName) (finding : Finding) (burst : IsBurst t raised finding) (i : ℕ) → i < length burst.groups
+    → from_word (all_columns (length burst.columns)) (codes_of burst.groups) (word_of burst.columns raised) i ≤ finding.radius
+    → (finding.groups ≡ named_groups burst.groups (i ∷ [])) × IsTrue finding.sure
