@@ -58,7 +58,7 @@ same_pair p q e f g =
     let pair : ℕ → ℕ → ℕ → Pair = λ i j d. record { first = i; second = j; distance = d } in
     ap (λ i. pair i p.second p.distance) e ∙ (ap (λ j. pair q.first j p.distance) f ∙ ap (λ d. pair q.first q.second d) g)
 
-closest_is_one : (columns : List ℕ) (codes : List (List Bool)) (p q : Pair) → IsClosest columns codes p → IsClosest columns codes q → p ≡ q
+pub closest_is_one : (columns : List ℕ) (codes : List (List Bool)) (p q : Pair) → IsClosest columns codes p → IsClosest columns codes q → p ≡ q
 closest_is_one columns codes p q a b =
     let up = a.least q.first q.second b.is_pair in
     let down = b.least p.first p.second a.is_pair in
