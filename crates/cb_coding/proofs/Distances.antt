@@ -1,13 +1,13 @@
 -- Distances, and the coding theorem.
-use Rattle.std.proofs.Common.{◌≡◌, ◌≢◌, ℕ, suc, ◌+◌, ◌<◌, ◌≤◌, List, [], ◌∷◌, length, get_or, refl, sym, ap, subst, ◌∙◌, arith, Bool, true, false, cond, IsTrue, inl, inr}
-use Rattle.std.specs.List.{All, AllPairs, Contains, count_by}
+use Rattle.std.proofs.Common.{◌≡◌, ◌≢◌, ℕ, zero, suc, ◌+◌, ◌<◌, ◌≤◌, List, [], ◌∷◌, ◌++◌, length, get_or, refl, sym, ap, subst, ◌∙◌, arith, Bool, true, false, cond, IsTrue, inl, inr}
+use Rattle.std.specs.List.{All, AllPairs, Contains, count_by, sum_by, range_with_len}
 use Rattle.std.specs.List.Sorted.{IsStrictlyIncreasing}
 use Rattle.std.proofs.lemmas.Bool.{cases_order}
 use Rattle.std.proofs.lemmas.List.{ext_get_or}
 use Rattle.std.proofs.lemmas.List.Elements.{All-contains}
 use Rattle.std.proofs.lemmas.List.Kept.{AllPairs-from_increasing}
 use Rattle.std.proofs.lemmas.List.FromFn.{length-range_with_len, get_or-range_with_len}
-use Rattle.std.proofs.lemmas.List.Sums.{sum_by-cons, get_or-le-sum_by}
+use Rattle.std.proofs.lemmas.List.Sums.{sum_by-cons, sum_by_push, get_or-le-sum_by}
 use Rattle.cb_model.proofs.Rising.{contains_cases, contains_head, contains_tail, nothing_in_empty}
 use Rattle.cb_coding.specs.declared.book.Answer.{Answer}
 use Rattle.cb_coding.specs.Distance.{differ, bit, distance, all_columns, code_at}
@@ -74,10 +74,31 @@ module _ (columns : List ℕ) (codes : List (List Bool)) (d : ℕ) (word : List 
         is.sure.1 (omega arith)
       )
 
+-- one more column
+
+range_suc : (a n : ℕ) → range_with_len a (suc n) ≡ range_with_len a n ++ (a + n) ∷ []
+range_suc a zero = let f : a ≡ a + 0 = omega arith in ap (λ x. x ∷ []) f
+range_suc a (suc n) =
+    let f = range_suc (a + 1) n in
+    let g : a + 1 + n ≡ a + suc n = omega arith in
+    ap (λ r. a ∷ r) (f ∙ ap (λ x. range_with_len (a + 1) n ++ x ∷ []) g)
+
+pub all_columns_more : (n : ℕ) → all_columns (n + 1) ≡ all_columns n ++ n ∷ []
+all_columns_more n =
+    let f : n + 1 ≡ suc n = omega arith in
+    let g : 0 + n ≡ n = omega arith in
+    ap (range_with_len 0) f ∙ (range_suc 0 n ∙ ap (λ x. range_with_len 0 n ++ x ∷ []) g)
+
+pub distance_more : (n : ℕ) (v w : List Bool)
+    → distance (all_columns (n + 1)) v w ≡ distance (all_columns n) v w + cond (differ (bit v n) (bit w n)) 1 0
+distance_more n v w =
+    let tests : ℕ → ℕ = λ k. once (differ (bit v k) (bit w k)) in
+    ap (sum_by tests) (all_columns_more n) ∙ sum_by_push tests (all_columns n) n
+
 -- fewer columns
 
 -- each number is below all later ones
-abbrev Rising : List ℕ → Type 0
+abbrev pub Rising : List ℕ → Type 0
 Rising xs = AllPairs (λ x y. x < y) xs
 
 below_later : (x : ℕ) (xs : List ℕ) → Rising (x ∷ xs) → (z : ℕ) → Contains xs z → x < z
@@ -87,7 +108,7 @@ later_rise : (x : ℕ) (xs : List ℕ) → Rising (x ∷ xs) → Rising xs
 later_rise x xs rise i j d lt le = rise (suc i) (suc j) d (omega arith) (omega arith)
 
 -- of fewer places no more pass a test
-count_of_fewer : (p : ℕ → Bool) (xs ys : List ℕ) → Rising xs → Rising ys → ((z : ℕ) → Contains xs z → Contains ys z)
+pub count_of_fewer : (p : ℕ → Bool) (xs ys : List ℕ) → Rising xs → Rising ys → ((z : ℕ) → Contains xs z → Contains ys z)
     → count_by p xs ≤ count_by p ys
 count_of_fewer p [] ys rise rise' into = omega arith
 count_of_fewer p (x ∷ xs) [] rise rise' into = absurd (nothing_in_empty x (into x (contains_head x xs)))
@@ -118,12 +139,12 @@ count_of_fewer p (x ∷ xs) (y ∷ ys) rise rise' into =
           omega arith
     ]
 
-all_columns_rise : (width : ℕ) → Rising (all_columns width)
+pub all_columns_rise : (width : ℕ) → Rising (all_columns width)
 all_columns_rise width i j d lt le =
     let n = length-range_with_len 0 width in
     omega (arith, get_or-range_with_len 0 width i d (omega arith), get_or-range_with_len 0 width j d (omega arith))
 
-in_all_columns : (width k : ℕ) → k < width → Contains (all_columns width) k
+pub in_all_columns : (width k : ℕ) → k < width → Contains (all_columns width) k
 in_all_columns width k lt = (k, omega (arith, length-range_with_len 0 width), omega (arith, get_or-range_with_len 0 width k k lt))
 
 pub fewer_columns : (width : ℕ) (columns : List ℕ) (v w : List Bool) → IsStrictlyIncreasing columns → All (λ k. k < width) columns

@@ -1,2 +1,4 @@
 pub mod One
 pub mod Distances
+pub mod GroupLaws
+pub mod BookLaws

@@ -12,14 +12,14 @@ use Rattle.std.proofs.lemmas.Bool.Decides.{nat_tests}
 use Rattle.cb_model.specs.declared.node.NodeName.{NodeName}
 use Rattle.cb_model.specs.Order.{Rises}
 use Rattle.cb_model.specs.NodeOrder.{node_cmp}
-use Rattle.cb_model.proofs.Rising.{same_rising, contains_head, contains_tail}
+use Rattle.cb_model.proofs.Rising.{same_rising, contains_cases, contains_head, contains_tail, nothing_in_empty}
 use Rattle.cb_coding.specs.declared.book.Pair.{Pair}
 use Rattle.cb_coding.specs.declared.book.Answer.{Answer}
 use Rattle.cb_coding.specs.declared.group.Problem.{Problem}
 use Rattle.cb_coding.specs.declared.group.Group.{Group}
 use Rattle.cb_coding.specs.Pairs.{IsClosest, IsLeast, ComesBefore}
 use Rattle.cb_coding.specs.Answers.{IsAnswer, radius}
-use Rattle.cb_coding.specs.Groups.{AreGroups, same_code, members_of, group_of, zeros, members_cmp}
+use Rattle.cb_coding.specs.Groups.{IsGroup, AreGroups, same_code, members_of, group_of, zeros, members_cmp}
 
 -- of two answers of a total order to one pair, both ways round, only one is Less
 strict_of_total : {X : Type 0} (cmp : X → X → Ordering) → IsTotalOrder cmp → (x y : X) → cmp x y ≡ Less → cmp y x ≡ Less → ⊥
@@ -58,7 +58,7 @@ same_pair p q e f g =
     let pair : ℕ → ℕ → ℕ → Pair = λ i j d. record { first = i; second = j; distance = d } in
     ap (λ i. pair i p.second p.distance) e ∙ (ap (λ j. pair q.first j p.distance) f ∙ ap (λ d. pair q.first q.second d) g)
 
-closest_is_one : (columns : List ℕ) (codes : List (List Bool)) (p q : Pair) → IsClosest columns codes p → IsClosest columns codes q → p ≡ q
+pub closest_is_one : (columns : List ℕ) (codes : List (List Bool)) (p q : Pair) → IsClosest columns codes p → IsClosest columns codes q → p ≡ q
 closest_is_one columns codes p q a b =
     let up = a.least q.first q.second b.is_pair in
     let down = b.least p.first p.second a.is_pair in
@@ -99,7 +99,7 @@ answer_is_one columns codes d word a b p q =
 
 -- groups
 
-members_strict : (xs ys : List NodeName) → members_cmp xs ys ≡ Less → members_cmp ys xs ≡ Less → ⊥
+pub members_strict : (xs ys : List NodeName) → members_cmp xs ys ≡ Less → members_cmp ys xs ≡ Less → ⊥
 members_strict [] ys e f = cc
 members_strict (x ∷ xs) [] e f = cc
 members_strict (x ∷ xs) (y ∷ ys) e f = node_strict x y e f
@@ -119,17 +119,32 @@ same_code_itself [] = refl
 same_code_itself (true ∷ v) = same_code_itself v
 same_code_itself (false ∷ v) = same_code_itself v
 
--- a code that has members is that of a problem
-pub problem_of_members : (code : List Bool) (problems : List Problem) → members_of problems code ≢ []
-    → (p : Problem) × Contains problems p × (code ≡ p.code)
-problem_of_members code [] some = absurd (some refl)
-problem_of_members code (q ∷ qs) some =
-    elim (same_code code q.code) as (λ b. same_code code q.code ≡ b → (p : Problem) × Contains (q ∷ qs) p × (code ≡ p.code)) [
-      | true ↦ λ e. (q, contains_head q qs, same_code_true code q.code e)
-      | false ↦ λ e.
-          let found = problem_of_members code qs (rw e at some) in
-          (found.0, contains_tail q qs found.0 found.1, found.2)
+-- a member is the name of a problem of that code
+pub problem_of_member : (code : List Bool) (problems : List Problem) (name : NodeName) → Contains (members_of problems code) name
+    → (p : Problem) × Contains problems p × (code ≡ p.code) × (p.name ≡ name)
+problem_of_member code [] name c = absurd (nothing_in_empty name c)
+problem_of_member code (q ∷ qs) name c =
+    let later : Contains (members_of qs code) name → (p : Problem) × Contains (q ∷ qs) p × (code ≡ p.code) × (p.name ≡ name) =
+      λ in_rest. let found = problem_of_member code qs name in_rest in (found.0, contains_tail q qs found.0 found.1, found.2, found.3)
+    in
+    elim (same_code code q.code) as (λ b. same_code code q.code ≡ b → (p : Problem) × Contains (q ∷ qs) p × (code ≡ p.code) × (p.name ≡ name)) [
+      | true ↦ λ e. elim (contains_cases q.name (members_of qs code) name (rw e at c)) [
+        | inl is ↦ (q, contains_head q qs, same_code_true code q.code e, is)
+        | inr in_rest ↦ later in_rest
+      ]
+      | false ↦ λ e. later (rw e at c)
     ] refl
+
+some_item : {X : Type 0} (xs : List X) → xs ≢ [] → (x : X) × Contains xs x
+some_item [] some = absurd (some refl)
+some_item (x ∷ xs) some = (x, contains_head x xs)
+
+-- a group that has members has the code of a problem
+pub problem_of_group : (problems : List Problem) (g : Group) → IsGroup problems g → (p : Problem) × Contains problems p × (g.code ≡ p.code)
+problem_of_group problems g is =
+    let member = some_item g.members is.some in
+    let found = problem_of_member g.code problems member.0 (subst (λ names. Contains names member.0) is.members member.1) in
+    (found.0, found.1, found.2)
 
 -- a group with exactly the problems of a code
 pub group_is : (problems : List Problem) (g : Group) (code : List Bool) → g.code ≡ code → g.members ≡ members_of problems g.code
@@ -144,7 +159,7 @@ others_are_others : (width : ℕ) (problems : List Problem) (gs hs : List Group)
     (g : Group) → Contains a.others g → Contains b.others g
 others_are_others width problems gs hs a b g c =
     let is = a.each g c in
-    let found = problem_of_members g.code problems (rw is.members at is.some) in
+    let found = problem_of_group problems g is in
     subst (λ h. Contains b.others h) (group_is problems g found.0.code found.2 is.members) (b.all found.0 found.1 (rw found.2 at is.nonzero))
 
 pub groups_are_one : (width : ℕ) (problems : List Problem) (gs hs : List Group) → AreGroups width problems gs → AreGroups width problems hs → gs ≡ hs
