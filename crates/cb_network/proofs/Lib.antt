@@ -4,3 +4,6 @@ pub mod Nearest
 pub mod Sets
 pub mod Decided
 pub mod Counts
+pub mod Kept
+pub mod Links
+pub mod Accepted

@@ -1,10 +1,11 @@
 -- Each definition from columns to findings holds of one value alone.
 use Rattle.std.proofs.Common.{◌≡◌, ◌↔◌, ℕ, List, [], ◌∷◌, length, map, refl, sym, ap, subst, ◌∙◌, Bool, true, false, IsTrue, Option}
-use Rattle.std.specs.List.{All, AllZip}
+use Rattle.std.specs.FinSet as set
+use Rattle.std.specs.List.{All}
 use Rattle.std.proofs.lemmas.List.Elements.{All-head, All-tail}
 use Rattle.cb_model.specs.declared.node.NodeName.{NodeName}
 use Rattle.cb_model.specs.NodeOrder.{node_cmp}
-use Rattle.cb_model.proofs.Rising.{same_rising, node_strict}
+use Rattle.cb_model.proofs.Rising.{same_rising, node_strict, node_cmp_total, node_cmp_exact}
 use Rattle.cb_coding.specs.declared.book.Pair.{Pair}
 use Rattle.cb_coding.specs.declared.group.Group.{Group}
 use Rattle.cb_coding.specs.declared.group.Problem.{Problem}
@@ -14,7 +15,7 @@ use Rattle.cb_coding.specs.Pairs.{IsLeast}
 use Rattle.cb_coding.proofs.One.{groups_are_one, answer_is_one, least_is_one}
 use Rattle.cb_network.specs.declared.finding.Finding.{Finding}
 use Rattle.cb_network.specs.Topology.{Topology}
-use Rattle.cb_network.specs.Causes.{Causes}
+use Rattle.cb_network.specs.Causes.{Causes, Reaches}
 use Rattle.cb_network.specs.Matrix.{AreColumns, AreProblems, IsCode, AreCoded, IsMatrix}
 use Rattle.cb_network.specs.Finding.{IsFinding, IsBurst, least_or_one, named_groups}
 
@@ -30,6 +31,9 @@ same_truth P true true p q = refl
 same_truth P true false p q = sym (q.1 (p.0 refl))
 same_truth P false true p q = p.1 (q.0 refl)
 same_truth P false false p q = refl
+
+pub reached_is_one : (t : Topology) (p : NodeName) (x y : set.FinSet node_cmp) → Reaches t p x → Reaches t p y → x ≡ y
+reached_is_one t p x y a b = set.same_set node_cmp_total node_cmp_exact x y (λ s. same_truth (Causes t p s) _ _ (a s) (b s))
 
 pub code_is_one : (t : Topology) (columns : List NodeName) (p : NodeName) (v w : List Bool) → IsCode t columns p v → IsCode t columns p w → v ≡ w
 code_is_one t [] p [] [] a b = refl

@@ -1,8 +1,11 @@
 -- What holds of topologies, causes, codes and findings, whatever the program does.
 use Rattle.std.specs.Prelude.{◌≡◌, ℕ, ◌<◌, ◌≤◌, List, [], ◌∷◌, length, Bool, IsTrue, ⊤, Result, Ok}
+use Rattle.std.specs.FinSet as set
+use Rattle.std.specs.List.{Contains}
 use Rattle.cb_text.specs.Names.{IsInstance}
 use Rattle.cb_model.specs.declared.node.NodeName.{NodeName}
 use Rattle.cb_model.specs.declared.tables.Tables.{Tables}
+use Rattle.cb_model.specs.NodeOrder.{node_cmp}
 use Rattle.cb_coding.specs.declared.group.Group.{Group}
 use Rattle.cb_coding.specs.declared.group.Problem.{Problem}
 use Rattle.cb_coding.specs.Answers.{from_word}
@@ -16,7 +19,7 @@ use Rattle.cb_network.specs.Topology.{Topology, empty_topology}
 use Rattle.cb_network.specs.Sound.{Sound}
 use Rattle.cb_network.specs.Regular.{IsRegular}
 use Rattle.cb_network.specs.Edits.{IsAfter, IsAfterAll}
-use Rattle.cb_network.specs.Causes.{Edge, Causes}
+use Rattle.cb_network.specs.Causes.{Edge, Causes, Reaches}
 use Rattle.cb_network.specs.Matrix.{AreColumns, AreProblems, IsCode, AreCoded, IsMatrix}
 use Rattle.cb_network.specs.Finding.{IsFinding, IsBurst, named_groups, word_of}
 
@@ -39,6 +42,10 @@ IsClosed t test = (p q : NodeName) → IsTrue (test p) → Edge t p q → IsTrue
 -- a closed set that has p has every node that p causes
 abbrev pub ClosedHasCaused : Type 0
 ClosedHasCaused = (t : Topology) (test : NodeName → Bool) (p s : NodeName) → IsClosed t test → IsTrue (test p) → Causes t p s → IsTrue (test s)
+
+-- a node has one reached set
+abbrev pub ReachedIsOne : Type 0
+ReachedIsOne = (t : Topology) (p : NodeName) (x y : set.FinSet node_cmp) → Reaches t p x → Reaches t p y → x ≡ y
 
 -- a topology has one list of columns
 abbrev pub ColumnsAreOne : Type 0
@@ -89,6 +96,11 @@ HasGoodName edit = ⊤
 -- an accepted edit of a sound topology leaves it sound
 abbrev pub EditKeepsSound : Type 0
 EditKeepsSound = (t u : Topology) (edit : Edit) → IsRegular t.model → HasGoodName edit → Sound t → IsAfter t edit (Ok u) → Sound u
+
+-- all edits of a list, those that are refused among them, leave a sound topology sound
+abbrev pub EditsKeepSound : Type 0
+EditsKeepSound = (t u : Topology) (edits : List Edit) → IsRegular t.model → ((edit : Edit) → Contains edits edit → HasGoodName edit) → Sound t
+    → IsAfterAll t edits u → Sound u
 
 -- Where what is raised differs from the code of one group at no more columns than the radius says, lost or spurious, that
 -- group alone is listed, and the finding is sure.

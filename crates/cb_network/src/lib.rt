@@ -3,6 +3,7 @@
 
 mod edit;
 mod finding;
+pub mod laws;
 
 pub use edit::{Edit, EditRefusal};
 pub use finding::Finding;

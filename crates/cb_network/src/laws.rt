@@ -1,0 +1,97 @@
+//! What holds of topologies, causes, codes and findings, whatever the program does. Each law is the contract of a
+//! function that does nothing.
+ghost use Rattle.cb_network.specs.Laws.{AfterAllIsOne, AfterIsOne, BurstFindsTheCause, BurstIsOne, CausesFurther, CausesItself, ClosedHasCaused, CodeIsOne, CodedAreOne, ColumnsAreOne, EdgeCauses, EditKeepsSound, EditsKeepSound, EmptyIsSound, FindingIsOne, MatrixIsOne, ProblemsAreOne, ReachedIsOne};
+
+/// Every node causes itself, by the chain without an edge.
+pub fn causes_itself()
+    ensures { CausesItself }
+{}
+
+/// Where there is an edge, the first node causes the second.
+pub fn edge_causes()
+    ensures { EdgeCauses }
+{}
+
+/// Causes chain: what is caused by something that a node causes is caused by that node.
+pub fn causes_further()
+    ensures { CausesFurther }
+{}
+
+/// A set of nodes that no edge leaves has, with a node, everything that the node causes. So a search that has
+/// followed every edge has found all.
+pub fn closed_has_caused()
+    ensures { ClosedHasCaused }
+{}
+
+/// A node reaches one set of nodes.
+pub fn reached_is_one()
+    ensures { ReachedIsOne }
+{}
+
+/// A topology has one list of columns.
+pub fn columns_are_one()
+    ensures { ColumnsAreOne }
+{}
+
+/// A topology has one list of problems.
+pub fn problems_are_one()
+    ensures { ProblemsAreOne }
+{}
+
+/// Over given columns a problem has one code.
+pub fn code_is_one()
+    ensures { CodeIsOne }
+{}
+
+/// Over given columns a topology's problems have one list of codes.
+pub fn coded_are_one()
+    ensures { CodedAreOne }
+{}
+
+/// A topology has one list of columns with one list of groups.
+pub fn matrix_is_one()
+    ensures { MatrixIsOne }
+{}
+
+/// A set of raised nodes has one finding over given columns, groups and book.
+pub fn finding_is_one()
+    ensures { FindingIsOne }
+{}
+
+/// A topology and a set of raised nodes have one finding over all columns.
+pub fn burst_is_one()
+    ensures { BurstIsOne }
+{}
+
+/// An edit comes out in one way: one refusal, or one changed topology. The names of the model's classes and
+/// relations must be told apart.
+pub fn after_is_one()
+    ensures { AfterIsOne }
+{}
+
+/// A list of edits leads to one topology.
+pub fn after_all_is_one()
+    ensures { AfterAllIsOne }
+{}
+
+/// The topology without any instance is sound.
+pub fn empty_is_sound()
+    ensures { EmptyIsSound }
+{}
+
+/// An accepted edit of a sound topology leaves it sound: links still fit their ends and stand both ways, mutes are of
+/// symptoms, and no limit is passed.
+pub fn edit_keeps_sound()
+    ensures { EditKeepsSound }
+{}
+
+/// A list of edits leaves a sound topology sound, also where some are refused.
+pub fn edits_keep_sound()
+    ensures { EditsKeepSound }
+{}
+
+/// Where up to as many symptoms as the radius says were lost or are spurious, the true group alone is listed, and
+/// the finding says that it is sure.
+pub fn burst_finds_the_cause()
+    ensures { BurstFindsTheCause }
+{}
