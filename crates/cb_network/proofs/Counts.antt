@@ -1,6 +1,6 @@
 -- The numbers of nodes, problems and symptom nodes after an edit. All three are nodes of a kind.
-use Rattle.std.proofs.Common.{◌≡◌, ◌≢◌, ◌⊎◌, ◌↔◌, ℕ, zero, suc, ◌<◌, ◌≤◌, List, [], ◌∷◌, length, refl, sym, ap, subst, ◌∙◌, inl, inr, arith, Bool, true, not, None, Some}
-use Rattle.std.specs.List.{slice_get}
+use Rattle.std.proofs.Common.{◌≡◌, ◌⊎◌, ◌↔◌, ℕ, zero, suc, ◌<◌, List, [], ◌∷◌, length, refl, sym, ap, subst, ◌∙◌, inl, inr, arith, Bool, true, false, not, None, Some}
+use Rattle.std.specs.List.{slice_get, Contains}
 use Rattle.std.specs.FinMap as map
 use Rattle.std.specs.FinSet as set
 use Rattle.std.specs.Cmp.Lexicographic.{bytes_decides}
@@ -11,13 +11,15 @@ use Rattle.cb_model.specs.declared.node.NodeName.{NodeName}
 use Rattle.cb_model.specs.declared.tables.Tables.{Tables}
 use Rattle.cb_model.specs.declared.tables.EventRow.{EventRow}
 use Rattle.cb_model.specs.Classes.{HasEvent, NamesEvent, IsProblemOf, IsSymptomOf}
+use Rattle.cb_model.specs.Order.{Rises}
 use Rattle.cb_model.specs.NodeOrder.{node_cmp}
-use Rattle.cb_model.proofs.Rising.{name_cmp_total, name_cmp_exact, node_cmp_total, node_cmp_exact}
-use Rattle.cb_network.specs.Topology.{Topology, IsLive, IsOf}
-use Rattle.cb_network.specs.Nodes.{IsEventAt, IsNodeOf, IsProblem, IsSymptomNode, IsCount, IsWithin, IsBeyond}
+use Rattle.cb_model.proofs.Rising.{name_cmp_total, name_cmp_exact, node_cmp_total, node_cmp_exact, node_strict, rises_tail, rises_head, contains_cases, contains_head, contains_tail, nothing_in_empty}
+use Rattle.cb_network.specs.Topology.{Topology, IsOf}
+use Rattle.cb_network.specs.Nodes.{IsNodeOf, IsProblem, IsSymptomNode, IsCount, IsWithin, IsBeyond}
 use Rattle.cb_network.specs.Edits.{same_name, with_instance, without_instance, node_of}
 use Rattle.cb_network.specs.Regular.{IsRegular}
 use Rattle.cb_network.proofs.Sets.{in_insert, in_retain, in_union, got_insert, got_remove, len_of_part, decide_key, not_true, true_of_not}
+use Rattle.cb_network.proofs.One.{same_truth}
 use Rattle.cb_network.proofs.Decided.{Decision, decide_event, decide_problem, decide_symptom, decide_same, decide_below}
 
 -- which events of a class count, and under which names
@@ -60,14 +62,59 @@ same_count P Q same k count = record {
   len = count.len;
 }
 
-pub same_within : (P Q : NodeName → Type 0) → ((n : NodeName) → P n ↔ Q n) → (limit : ℕ) → IsWithin P limit → IsWithin Q limit
+pub same_within : (P Q : NodeName → Type 0) → ((n : NodeName) → P n ↔ Q n) → (limit : ℕ) → IsWithin P limit
+    → IsWithin Q limit
 same_within P Q same limit (k, count, few) = (k, same_count P Q same k count, few)
 
-pub same_beyond : (P Q : NodeName → Type 0) → ((n : NodeName) → P n ↔ Q n) → (limit : ℕ) → IsBeyond P limit → IsBeyond Q limit
+pub same_beyond : (P Q : NodeName → Type 0) → ((n : NodeName) → P n ↔ Q n) → (limit : ℕ) → IsBeyond P limit
+    → IsBeyond Q limit
 same_beyond P Q same limit (k, count, many) = (k, same_count P Q same k count, many)
 
 pub turned : (P Q : NodeName → Type 0) → ((n : NodeName) → P n ↔ Q n) → (n : NodeName) → Q n ↔ P n
 turned P Q same n = ((same n).1, (same n).0)
+
+-- nodes are counted in one way
+pub count_is_one : (P : NodeName → Type 0) (m n : ℕ) → IsCount P m → IsCount P n → m ≡ n
+count_is_one P m n a b =
+    let same = set.same_set node_cmp_total node_cmp_exact a.nodes b.nodes (λ q. same_truth (P q) _ _ (a.members q) (b.members q)) in
+    sym a.len ∙ (ap set.len same ∙ b.len)
+
+pub within_is_not_beyond : (P : NodeName → Type 0) (limit : ℕ) → IsWithin P limit → ¬ IsBeyond P limit
+within_is_not_beyond P limit (m, count, few) (n, count', many) = let same = count_is_one P m n count count' in absurd (omega arith)
+
+-- the nodes of a list in order are as many as the list is long
+set_of_rising : (xs : List NodeName) → Rises node_cmp xs
+    → (s : set.FinSet node_cmp) × ((n : NodeName) → (set.contains s n ≡ true) ↔ Contains xs n) × (set.len s ≡ length xs)
+set_of_rising [] rise = (set.empty, λ n. (λ h. let e = set.contains-empty node_cmp n in absurd (cc), λ c. absurd (nothing_in_empty n c)), set.len-empty node_cmp)
+set_of_rising (x ∷ xs) rise =
+    let (s, is, len) = set_of_rising xs (rises_tail node_cmp x xs rise) in
+    let within = in_insert node_cmp_total node_cmp_exact s x in
+    let fresh : set.contains s x ≡ true → ⊥ = λ h. let below = rises_head node_cmp x xs rise x ((is x).0 h) in node_strict x x below below in (
+      set.insert s x,
+      λ n. (
+        λ h. elim ((within n).0 h) [
+          | inl e ↦ subst (λ k. Contains (x ∷ xs) k) (sym e) (contains_head x xs)
+          | inr old ↦ contains_tail x xs n ((is n).0 old)
+        ],
+        λ c. (within n).1 (elim (contains_cases x xs n c) [ inl e ↦ inl (sym e) | inr late ↦ inr ((is n).1 late) ]),
+      ),
+      grown s x (length xs) fresh len,
+    )
+  where
+    grown : (s : set.FinSet node_cmp) (k : NodeName) (n : ℕ) → (set.contains s k ≡ true → ⊥) → set.len s ≡ n
+        → set.len (set.insert s k) ≡ suc n
+    grown s k n fresh len =
+        let is = set.len-insert node_cmp_total s k in
+        elim (set.contains s k) as (λ b. set.contains s k ≡ b → set.len (set.insert s k) ≡ suc n) [
+          | true ↦ λ e. absurd (fresh e)
+          | false ↦ λ e. let now = rw e at is in omega arith
+        ] refl
+
+pub count_of_rising : (P : NodeName → Type 0) (xs : List NodeName) → Rises node_cmp xs
+    → ((n : NodeName) → Contains xs n ↔ P n) → IsCount P (length xs)
+count_of_rising P xs rise are =
+    let (s, is, len) = set_of_rising xs rise in
+    record { nodes = s; members = λ n. (λ h. (are n).0 ((is n).0 h), λ p. (is n).1 ((are n).1 p)); len = len }
 
 -- it can be decided which events of a class count, each under one name, and all are below the bound
 pub record IsFinite (bound : ℕ) (M : Kind) : Type 0 where
@@ -85,31 +132,37 @@ module _ (M : Kind) (bound : ℕ) (finite : IsFinite bound M) where
     Collected n = (s : set.FinSet node_cmp) × ((q : NodeName) → (set.contains s q ≡ true) ↔ IsBelow n q)
 
     one_more : (n : ℕ) (x : List ℕ) → M c (record { 0 = n }) x → Collected n → Collected (suc n)
-    one_more n x m (s, is) = (set.insert s (node_of x name), λ q.
-      let within = in_insert node_cmp_total node_cmp_exact s (node_of x name) q in (
-        λ h. elim (within.0 h) [
-          | inl e ↦ (ap (λ (p : NodeName). p.instance) e, (n, omega arith, subst (M c (record { 0 = n })) (sym (ap (λ (p : NodeName). p.event) e)) m))
-          | inr old ↦ let (here, (k, lt, mk)) = (is q).0 old in (here, (k, omega arith, mk))
-        ],
-        λ (here, (k, lt, mk)). within.1 (elim (cases_order k n) [
-          | inl e ↦
-              let moved = subst (λ i. M c (record { 0 = i }) q.event) e mk in
-              let event = finite.once c (record { 0 = n }) q.event x moved m in
-              inl (λ i. record { event = event i; instance = here i })
-          | inr (inl below) ↦ inr ((is q).1 (here, (k, below, mk)))
-          | inr (inr above) ↦ absurd (omega arith)
-        ]),
-      ))
+    one_more n x m (s, is) = (
+      set.insert s (node_of x name),
+      λ q.
+          let within = in_insert node_cmp_total node_cmp_exact s (node_of x name) q in (
+            λ h. elim (within.0 h) [
+              | inl e ↦ (ap (λ (p : NodeName). p.instance) e, (n, omega arith, subst (M c (record { 0 = n })) (sym (ap (λ (p : NodeName). p.event) e)) m))
+              | inr old ↦ let (here, (k, lt, mk)) = (is q).0 old in (here, (k, omega arith, mk))
+            ],
+            λ (here, (k, lt, mk)). within.1 (elim (cases_order k n) [
+              | inl e ↦
+                  let moved = subst (λ i. M c (record { 0 = i }) q.event) e mk in
+                  let event = finite.once c (record { 0 = n }) q.event x moved m in
+                  inl (λ i. record { event = event i; instance = here i })
+              | inr (inl below) ↦ inr ((is q).1 (here, (k, below, mk)))
+              | inr (inr above) ↦ absurd (omega arith)
+            ]),
+          ),
+    )
 
     none_more : (n : ℕ) → ((x : List ℕ) → M c (record { 0 = n }) x → ⊥) → Collected n → Collected (suc n)
-    none_more n none (s, is) = (s, λ q. (
-      λ h. let (here, (k, lt, mk)) = (is q).0 h in (here, (k, omega arith, mk)),
-      λ (here, (k, lt, mk)). elim (cases_order k n) [
-        | inl e ↦ absurd (none q.event (subst (λ i. M c (record { 0 = i }) q.event) e mk))
-        | inr (inl below) ↦ (is q).1 (here, (k, below, mk))
-        | inr (inr above) ↦ absurd (omega arith)
-      ],
-    ))
+    none_more n none (s, is) = (
+      s,
+      λ q. (
+        λ h. let (here, (k, lt, mk)) = (is q).0 h in (here, (k, omega arith, mk)),
+        λ (here, (k, lt, mk)). elim (cases_order k n) [
+          | inl e ↦ absurd (none q.event (subst (λ i. M c (record { 0 = i }) q.event) e mk))
+          | inr (inl below) ↦ (is q).1 (here, (k, below, mk))
+          | inr (inr above) ↦ absurd (omega arith)
+        ],
+      ),
+    )
 
     collect : (n : ℕ) → Collected n
     collect zero = (set.empty, λ q. (λ h. let e = set.contains-empty node_cmp q in absurd (cc), λ (here, (k, lt, mk)). absurd (omega arith)))
@@ -162,9 +215,9 @@ module _ (M : Kind) (bound : ℕ) (finite : IsFinite bound M) where
     | Some c ↦ λ is.
         decide_same _ (IsAt t M q) (λ (k, lt, m). (c, is, (record { 0 = k }, m)))
         (λ (d, of, (e, m)).
-          let same : c ≡ d = inside c d (sym is ∙ of) in
-          let here = subst (λ b. M b e q.event) (sym same) m in
-          (e.0, finite.within c e q.event here, here))
+        let same : c ≡ d = inside c d (sym is ∙ of) in
+        let here = subst (λ b. M b e q.event) (sym same) m in
+        (e.0, finite.within c e q.event here, here))
         (decide_below (λ k. M c (record { 0 = k }) q.event) (λ k. decide_named c (record { 0 = k }) q.event) bound)
   ] refl
     where
@@ -191,27 +244,34 @@ without_its M t name q = (
   λ (d, is, em).
       let (other, old) = (got_remove name_cmp_total name_cmp_exact t.instances name q.instance d).0 is in
       ((d, old, em), true_of_not (same_name name q.instance) (λ e. other (sym (same_name_is name q.instance e)))),
-  λ ((d, is, em), other).
-      (d, (got_remove name_cmp_total name_cmp_exact t.instances name q.instance d).1
-        (λ e. not_true (same_name name q.instance) other (same_name_of name q.instance (sym e)), is), em),
+  λ ((d, is, em), other). (
+    d,
+    (got_remove name_cmp_total name_cmp_exact t.instances name q.instance d).1
+        (λ e. not_true (same_name name q.instance) other (same_name_of name q.instance (sym e)), is),
+    em,
+  ),
 )
 
-pub within_deleted : (M : Kind) (t : Topology) (name : List ℕ) (limit : ℕ) → IsWithin (IsAt t M) limit → IsWithin (IsAt (without_instance t name) M) limit
+pub within_deleted : (M : Kind) (t : Topology) (name : List ℕ) (limit : ℕ) → IsWithin (IsAt t M) limit
+    → IsWithin (IsAt (without_instance t name) M) limit
 within_deleted M t name limit (n, count, few) =
     let keep : NodeName → Bool = λ q. not (same_name name q.instance) in
     let kept = set.retain count.nodes keep in
     let in_kept = in_retain node_cmp_total node_cmp_exact count.nodes keep in
     let less = len_of_part node_cmp_total node_cmp_exact kept count.nodes (λ q h. ((in_kept q).0 h).0) in
-    let is = count.len in
-    (set.len kept, record {
-      nodes = kept;
-      members = λ q.
-          let its = without_its M t name q in (
-            λ h. let both = (in_kept q).0 h in its.1 ((count.members q).0 both.0, both.1),
-            λ at. let both = its.0 at in (in_kept q).1 ((count.members q).1 both.0, both.1),
-          );
-      len = refl;
-    }, omega arith)
+    let is = count.len in (
+      set.len kept,
+      record {
+        nodes = kept;
+        members = λ q.
+            let its = without_its M t name q in (
+              λ h. let both = (in_kept q).0 h in its.1 ((count.members q).0 both.0, both.1),
+              λ at. let both = its.0 at in (in_kept q).1 ((count.members q).1 both.0, both.1),
+            );
+        len = refl;
+      },
+      omega arith,
+    )
 
 -- the three kinds are finite
 
@@ -222,7 +282,8 @@ module _ (tables : Tables) (regular : IsRegular tables) where
   place_of_row (r ∷ rows) zero row e = omega arith
   place_of_row (r ∷ rows) (suc k) row e = let lt = place_of_row rows k row e in omega arith
 
-  one_name : (c d : ClassId) (e : EventId) (a : HasEvent tables c e) (b : HasEvent tables d e) (x y : List ℕ) → a.row.name ≡ x → b.row.name ≡ y → x ≡ y
+  one_name : (c d : ClassId) (e : EventId) (a : HasEvent tables c e) (b : HasEvent tables d e) (x y : List ℕ)
+      → a.row.name ≡ x → b.row.name ≡ y → x ≡ y
   one_name c d e a b x y at_x at_y =
       let rows : Some a.row ≡ Some b.row = sym a.is ∙ b.is in
       let row : a.row ≡ b.row = cc in

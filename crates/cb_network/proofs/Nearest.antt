@@ -1,12 +1,8 @@
 -- What a burst finds where the raised nodes are within the radius of one group.
-use Rattle.std.proofs.Common.{◌≡◌, ℕ, ◌<◌, ◌≤◌, suc, List, [], ◌∷◌, length, map, get_or, refl, sym, ap, subst, ◌∙◌, arith, Bool, IsTrue, Option, None, Some}
-use Rattle.std.specs.Ordering.{on}
-use Rattle.std.specs.List.{All}
+use Rattle.std.proofs.Common.{◌≡◌, ℕ, ◌<◌, ◌≤◌, suc, List, [], ◌∷◌, length, refl, sym, ap, subst, ◌∙◌, arith, Bool, IsTrue, Option, None, Some}
 use Rattle.std.proofs.lemmas.List.{get_or-map, length-map}
 use Rattle.std.proofs.lemmas.List.Elements.{All-weaker}
 use Rattle.cb_model.specs.declared.node.NodeName.{NodeName}
-use Rattle.cb_model.specs.Order.{Rises}
-use Rattle.cb_model.specs.NodeOrder.{node_cmp}
 use Rattle.cb_coding.specs.declared.group.Group.{Group}
 use Rattle.cb_coding.specs.declared.group.Problem.{Problem}
 use Rattle.cb_coding.specs.declared.book.Pair.{Pair}
@@ -22,14 +18,16 @@ use Rattle.cb_network.specs.Matrix.{IsCode, AreCoded, IsMatrix}
 use Rattle.cb_network.specs.Finding.{IsBurst, least_or_one, named_groups, word_of}
 
 -- a code has a value for each column
-code_is_wide : (t : Topology) (columns : List NodeName) (p : NodeName) (code : List Bool) → IsCode t columns p code → length code ≡ length columns
+code_is_wide : (t : Topology) (columns : List NodeName) (p : NodeName) (code : List Bool) → IsCode t columns p code
+    → length code ≡ length columns
 code_is_wide t [] p [] is = refl
 code_is_wide t [] p (b ∷ code) is = absurd is
 code_is_wide t (c ∷ cs) p [] is = absurd is
 code_is_wide t (c ∷ cs) p (b ∷ code) is = let rest = code_is_wide t cs p code is.1 in ap suc rest
 
 -- problems with their codes are problems in the sense of groups
-pub coded_are_wide : (t : Topology) (columns : List NodeName) (problems : List Problem) → AreCoded t columns problems → AreWide (length columns) problems
+pub coded_are_wide : (t : Topology) (columns : List NodeName) (problems : List Problem) → AreCoded t columns problems
+    → AreWide (length columns) problems
 coded_are_wide t columns problems coded = record {
   rise = λ i j d lt within.
       let name : Problem → NodeName = λ p. p.name in
@@ -39,7 +37,8 @@ coded_are_wide t columns problems coded = record {
 }
 
 -- codes are as far apart as the closest pair
-good_at_least : (width : ℕ) (codes : List (List Bool)) (least : Option Pair) → IsLeast width codes least → Good codes (all_columns width) (least_or_one least)
+good_at_least : (width : ℕ) (codes : List (List Bool)) (least : Option Pair) → IsLeast width codes least
+    → Good codes (all_columns width) (least_or_one least)
 good_at_least width codes None few i j (lt, within) = absurd (omega arith)
 good_at_least width codes (Some pair) is i j pair_is = is.least i j pair_is
 

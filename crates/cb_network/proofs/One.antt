@@ -35,7 +35,8 @@ same_truth P false false p q = refl
 pub reached_is_one : (t : Topology) (p : NodeName) (x y : set.FinSet node_cmp) → Reaches t p x → Reaches t p y → x ≡ y
 reached_is_one t p x y a b = set.same_set node_cmp_total node_cmp_exact x y (λ s. same_truth (Causes t p s) _ _ (a s) (b s))
 
-pub code_is_one : (t : Topology) (columns : List NodeName) (p : NodeName) (v w : List Bool) → IsCode t columns p v → IsCode t columns p w → v ≡ w
+pub code_is_one : (t : Topology) (columns : List NodeName) (p : NodeName) (v w : List Bool) → IsCode t columns p v
+    → IsCode t columns p w → v ≡ w
 code_is_one t [] p [] [] a b = refl
 code_is_one t [] p [] (y ∷ w) a b = absurd b
 code_is_one t [] p (x ∷ v) w a b = absurd a
@@ -47,7 +48,8 @@ code_is_one t (c ∷ cs) p (x ∷ v) (y ∷ w) a b =
     cc
 
 -- problems with the same names have the same codes
-codes_are_one : (t : Topology) (columns : List NodeName) (ps qs : List Problem) → map (λ (p : Problem). p.name) ps ≡ map (λ (p : Problem). p.name) qs
+codes_are_one : (t : Topology) (columns : List NodeName) (ps qs : List Problem)
+    → map (λ (p : Problem). p.name) ps ≡ map (λ (p : Problem). p.name) qs
     → All (λ p. IsCode t columns p.name p.code) ps → All (λ p. IsCode t columns p.name p.code) qs → ps ≡ qs
 codes_are_one t columns [] [] same a b = refl
 codes_are_one t columns [] (q ∷ qs) same a b = absurd (cc)
@@ -62,16 +64,18 @@ codes_are_one t columns (p ∷ ps) (q ∷ qs) same a b =
     let rest = codes_are_one t columns ps qs names (All-tail Coded p ps a) (All-tail Coded q qs b) in
     cc
 
-pub coded_are_one : (t : Topology) (columns : List NodeName) (ps qs : List Problem) → AreCoded t columns ps → AreCoded t columns qs → ps ≡ qs
+pub coded_are_one : (t : Topology) (columns : List NodeName) (ps qs : List Problem) → AreCoded t columns ps
+    → AreCoded t columns qs → ps ≡ qs
 coded_are_one t columns ps qs a b = codes_are_one t columns ps qs (problems_are_one t _ _ a.names b.names) a.codes b.codes
 
-pub matrix_is_one : (t : Topology) (xs ys : List NodeName) (gs hs : List Group) → IsMatrix t xs gs → IsMatrix t ys hs → (xs ≡ ys) × (gs ≡ hs)
+pub matrix_is_one : (t : Topology) (xs ys : List NodeName) (gs hs : List Group) → IsMatrix t xs gs → IsMatrix t ys hs
+    → (xs ≡ ys) × (gs ≡ hs)
 matrix_is_one t xs ys gs hs a b =
     let columns = columns_are_one t xs ys a.columns_are b.columns_are in
     let coded : AreCoded t xs b.problems = subst (λ cs. AreCoded t cs b.problems) (sym columns) b.problems_are in
     let problems = coded_are_one t xs a.problems b.problems a.problems_are coded in
     let groups : AreGroups (length xs) a.problems hs = subst (λ cs. AreGroups (length cs) a.problems hs) (sym columns)
-      (subst (λ ps. AreGroups (length ys) ps hs) (sym problems) b.groups_are)
+    (subst (λ ps. AreGroups (length ys) ps hs) (sym problems) b.groups_are)
     in
     (columns, groups_are_one (length xs) a.problems gs hs a.groups_are groups)
 

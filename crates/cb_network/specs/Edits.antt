@@ -152,7 +152,8 @@ Refuses t edit why = ⊥
 -- the changed topology where no refusal holds, and else the refusal of least number that holds
 abbrev pub IsAfter : Topology → Edit → Result Topology EditRefusal → Type 0
 IsAfter t edit (Ok u) = ((why : EditRefusal) → ¬ Refuses t edit why) × Changes t edit u
-IsAfter t edit (Err why) = Refuses t edit why × ((other : EditRefusal) → number_of other < number_of why → ¬ Refuses t edit other)
+IsAfter t edit (Err why) = Refuses t edit why
+    × ((other : EditRefusal) → number_of other < number_of why → ¬ Refuses t edit other)
 
 -- the topology that stays where an edit was refused
 abbrev pub result_or : Topology → Result Topology EditRefusal → Topology
@@ -162,4 +163,5 @@ result_or t (Err why) = t
 -- the topology after these edits in order, of which a refused one leaves it
 abbrev pub IsAfterAll : Topology → List Edit → Topology → Type 0
 IsAfterAll t [] u = t ≡ u
-IsAfterAll t (edit ∷ edits) u = (result : Result Topology EditRefusal) × IsAfter t edit result × IsAfterAll (result_or t result) edits u
+IsAfterAll t (edit ∷ edits) u = (result : Result Topology EditRefusal) × IsAfter t edit result
+    × IsAfterAll (result_or t result) edits u

@@ -39,7 +39,8 @@ named_groups groups places = map (named_group groups) places
 
 -- The answer to the raised nodes over the columns of a book at which the codes are d apart, with the numbers of raised
 -- and of unknown nodes.
-pub record IsFinding (columns : List NodeName) (groups : List Group) (book_columns : List ℕ) (d : ℕ) (raised : List NodeName) (finding : Finding) : Type 0 where
+pub record IsFinding (columns : List NodeName) (groups : List Group) (book_columns : List ℕ) (d : ℕ) (raised : List NodeName)
+    (finding : Finding) : Type 0 where
   pub rise : Rises node_cmp raised
   pub raised_are : finding.raised ≡ length raised
   pub unknown_are : finding.unknown ≡ unknown_of columns raised

@@ -16,6 +16,7 @@ use Rattle.cb_network.specs.declared.edit.Edit.TheVariants.{Create}
 use Rattle.cb_network.specs.declared.edit.EditRefusal.{EditRefusal}
 use Rattle.cb_network.specs.declared.finding.Finding.{Finding}
 use Rattle.cb_network.specs.Topology.{Topology, empty_topology}
+use Rattle.cb_network.specs.Nodes.{IsNodeOf, IsProblem, IsSymptomNode, IsCount}
 use Rattle.cb_network.specs.Sound.{Sound}
 use Rattle.cb_network.specs.Regular.{IsRegular}
 use Rattle.cb_network.specs.Edits.{IsAfter, IsAfterAll}
@@ -41,7 +42,8 @@ IsClosed t test = (p q : NodeName) → IsTrue (test p) → Edge t p q → IsTrue
 
 -- a closed set that has p has every node that p causes
 abbrev pub ClosedHasCaused : Type 0
-ClosedHasCaused = (t : Topology) (test : NodeName → Bool) (p s : NodeName) → IsClosed t test → IsTrue (test p) → Causes t p s → IsTrue (test s)
+ClosedHasCaused = (t : Topology) (test : NodeName → Bool) (p s : NodeName) → IsClosed t test → IsTrue (test p) → Causes t p s
+    → IsTrue (test s)
 
 -- a node has one reached set
 abbrev pub ReachedIsOne : Type 0
@@ -57,32 +59,43 @@ ProblemsAreOne = (t : Topology) (xs ys : List NodeName) → AreProblems t xs →
 
 -- over some columns a node has one code
 abbrev pub CodeIsOne : Type 0
-CodeIsOne = (t : Topology) (columns : List NodeName) (p : NodeName) (v w : List Bool) → IsCode t columns p v → IsCode t columns p w → v ≡ w
+CodeIsOne = (t : Topology) (columns : List NodeName) (p : NodeName) (v w : List Bool) → IsCode t columns p v
+    → IsCode t columns p w → v ≡ w
 
 -- over some columns the problems have one list of codes
 abbrev pub CodedAreOne : Type 0
-CodedAreOne = (t : Topology) (columns : List NodeName) (ps qs : List Problem) → AreCoded t columns ps → AreCoded t columns qs → ps ≡ qs
+CodedAreOne = (t : Topology) (columns : List NodeName) (ps qs : List Problem) → AreCoded t columns ps → AreCoded t columns qs
+    → ps ≡ qs
 
 -- a topology has one matrix
 abbrev pub MatrixIsOne : Type 0
-MatrixIsOne = (t : Topology) (xs ys : List NodeName) (gs hs : List Group) → IsMatrix t xs gs → IsMatrix t ys hs → (xs ≡ ys) × (gs ≡ hs)
+MatrixIsOne = (t : Topology) (xs ys : List NodeName) (gs hs : List Group) → IsMatrix t xs gs → IsMatrix t ys hs
+    → (xs ≡ ys) × (gs ≡ hs)
 
 -- for a set of raised nodes there is one finding
 abbrev pub FindingIsOne : Type 0
-FindingIsOne = (columns : List NodeName) (groups : List Group) (book_columns : List ℕ) (d : ℕ) (raised : List NodeName) (a b : Finding)
-    → IsFinding columns groups book_columns d raised a → IsFinding columns groups book_columns d raised b → a ≡ b
+FindingIsOne = (columns : List NodeName) (groups : List Group) (book_columns : List ℕ) (d : ℕ) (raised : List NodeName)
+    (a b : Finding) → IsFinding columns groups book_columns d raised a → IsFinding columns groups book_columns d raised b → a ≡ b
 
 -- a topology and a set of raised nodes have one finding over all columns
 abbrev pub BurstIsOne : Type 0
 BurstIsOne = (t : Topology) (raised : List NodeName) (a b : Finding) → IsBurst t raised a → IsBurst t raised b → a ≡ b
 
+-- nodes are counted in one way
+abbrev pub CountIsOne : Type 0
+CountIsOne = (t : Topology) (m n : ℕ) → (IsCount (IsNodeOf t) m → IsCount (IsNodeOf t) n → m ≡ n)
+    × (IsCount (IsProblem t) m → IsCount (IsProblem t) n → m ≡ n)
+    × (IsCount (IsSymptomNode t) m → IsCount (IsSymptomNode t) n → m ≡ n)
+
 -- an edit comes out in one way
 abbrev pub AfterIsOne : Type 0
-AfterIsOne = (t : Topology) (edit : Edit) (a b : Result Topology EditRefusal) → IsRegular t.model → IsAfter t edit a → IsAfter t edit b → a ≡ b
+AfterIsOne = (t : Topology) (edit : Edit) (a b : Result Topology EditRefusal) → IsRegular t.model → IsAfter t edit a
+    → IsAfter t edit b → a ≡ b
 
 -- a list of edits comes out in one way
 abbrev pub AfterAllIsOne : Type 0
-AfterAllIsOne = (t : Topology) (edits : List Edit) (u v : Topology) → IsRegular t.model → IsAfterAll t edits u → IsAfterAll t edits v → u ≡ v
+AfterAllIsOne = (t : Topology) (edits : List Edit) (u v : Topology) → IsRegular t.model → IsAfterAll t edits u
+    → IsAfterAll t edits v → u ≡ v
 
 -- the topology without any instance is sound
 abbrev pub EmptyIsSound : Type 0
@@ -95,16 +108,19 @@ HasGoodName edit = ⊤
 
 -- an accepted edit of a sound topology leaves it sound
 abbrev pub EditKeepsSound : Type 0
-EditKeepsSound = (t u : Topology) (edit : Edit) → IsRegular t.model → HasGoodName edit → Sound t → IsAfter t edit (Ok u) → Sound u
+EditKeepsSound = (t u : Topology) (edit : Edit) → IsRegular t.model → HasGoodName edit → Sound t → IsAfter t edit (Ok u)
+    → Sound u
 
 -- all edits of a list, those that are refused among them, leave a sound topology sound
 abbrev pub EditsKeepSound : Type 0
-EditsKeepSound = (t u : Topology) (edits : List Edit) → IsRegular t.model → ((edit : Edit) → Contains edits edit → HasGoodName edit) → Sound t
+EditsKeepSound = (t u : Topology) (edits : List Edit) → IsRegular t.model
+    → ((edit : Edit) → Contains edits edit → HasGoodName edit) → Sound t
     → IsAfterAll t edits u → Sound u
 
 -- Where what is raised differs from the code of one group at no more columns than the radius says, lost or spurious, that
 -- group alone is listed, and the finding is sure.
 abbrev pub BurstFindsTheCause : Type 0
-BurstFindsTheCause = (t : Topology) (raised : List NodeName) (finding : Finding) (burst : IsBurst t raised finding) (i : ℕ) → i < length burst.groups
+BurstFindsTheCause = (t : Topology) (raised : List NodeName) (finding : Finding) (burst : IsBurst t raised finding) (i : ℕ)
+    → i < length burst.groups
     → from_word (all_columns (length burst.columns)) (codes_of burst.groups) (word_of burst.columns raised) i ≤ finding.radius
     → (finding.groups ≡ named_groups burst.groups (i ∷ [])) × IsTrue finding.sure

@@ -1,6 +1,9 @@
 //! What holds of topologies, causes, codes and findings, whatever the program does. Each law is the contract of a
 //! function that does nothing.
-ghost use Rattle.cb_network.specs.Laws.{AfterAllIsOne, AfterIsOne, BurstFindsTheCause, BurstIsOne, CausesFurther, CausesItself, ClosedHasCaused, CodeIsOne, CodedAreOne, ColumnsAreOne, EdgeCauses, EditKeepsSound, EditsKeepSound, EmptyIsSound, FindingIsOne, MatrixIsOne, ProblemsAreOne, ReachedIsOne};
+ghost use Rattle.cb_network.specs.Laws.{CausesItself, EdgeCauses, CausesFurther, ClosedHasCaused, ReachedIsOne};
+ghost use Rattle.cb_network.specs.Laws.{ColumnsAreOne, ProblemsAreOne, CodeIsOne, CodedAreOne, MatrixIsOne};
+ghost use Rattle.cb_network.specs.Laws.{FindingIsOne, BurstIsOne, BurstFindsTheCause};
+ghost use Rattle.cb_network.specs.Laws.{CountIsOne, AfterIsOne, AfterAllIsOne, EmptyIsSound, EditKeepsSound, EditsKeepSound};
 
 /// Every node causes itself, by the chain without an edge.
 pub fn causes_itself()
@@ -61,6 +64,11 @@ pub fn finding_is_one()
 /// A topology and a set of raised nodes have one finding over all columns.
 pub fn burst_is_one()
     ensures { BurstIsOne }
+{}
+
+/// A topology has one number of nodes, one of problems and one of symptom nodes.
+pub fn count_is_one()
+    ensures { CountIsOne }
 {}
 
 /// An edit comes out in one way: one refusal, or one changed topology. The names of the model's classes and
