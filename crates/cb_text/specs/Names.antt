@@ -43,3 +43,9 @@ pub record IsNode (bytes event instance : List ℕ) : Type 0 where
   pub written : bytes ≡ event ++ codes "@" ++ instance
   pub event_is : IsName event
   pub instance_is : IsInstance instance
+
+-- `@`, which is 64, is no byte of a name, so a node's bytes have one event and one instance
+abbrev pub NodesAreReadOnce : Type 0
+NodesAreReadOnce =
+    (bytes event instance other_event other_instance : List ℕ) → IsNode bytes event instance → IsNode bytes other_event other_instance
+    → (event ≡ other_event) × (instance ≡ other_instance)

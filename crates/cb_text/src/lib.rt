@@ -1,2 +1,15 @@
 //! Readers over slices of bytes: words, names, nodes and lines. None of them takes memory.
 #![tactic(auto)]
+
+mod line;
+mod name;
+mod node;
+mod word;
+
+pub use line::{LineAt, line_from, lines_are_met};
+pub use name::{is_instance, is_name};
+pub use node::{node_parts, nodes_are_read_once};
+pub use word::{WordIter, is_passed_over, words};
+
+#[cfg(test)]
+mod tests;
