@@ -1,5 +1,5 @@
 -- Each definition holds of one value alone.
-use Rattle.std.proofs.Common.{◌≡◌, ◌≢◌, ℕ, ◌<◌, ◌≤◌, List, [], ◌∷◌, length, refl, sym, ap, subst, ◌∙◌, arith, rules, Bool, true, false, ◌↔◌, IsTrue, Option, None, Some, inl, inr, ◌⊎◌}
+use Rattle.std.proofs.Common.{◌≡◌, ◌≢◌, ℕ, ◌≤◌, List, [], ◌∷◌, refl, sym, ap, subst, ◌∙◌, arith, rules, Bool, true, false, ◌↔◌, IsTrue, Option, None, Some, inl, inr}
 use Rattle.std.specs.List.{Contains}
 use Rattle.std.specs.List.Sorted.{IsStrictlyIncreasing}
 use Rattle.std.specs.Ordering.{nat_cmp, on, ordering_reverse}
@@ -92,8 +92,8 @@ answer_is_one columns codes d word a b p q =
     let far : a.distance ≡ b.distance = omega arith in
     let sure : IsTrue a.sure ↔ (b.distance ≤ radius d) = subst (λ n. IsTrue a.sure ↔ (n ≤ radius d)) far p.sure in
     let groups : a.groups ≡ b.groups = same_numbers a.groups b.groups p.rise q.rise
-      (λ i c. let n = (p.nearest i).0 c in (q.nearest i).1 (n.0, n.1 ∙ far))
-      (λ i c. let n = (q.nearest i).0 c in (p.nearest i).1 (n.0, n.1 ∙ sym far))
+    (λ i c. let n = (p.nearest i).0 c in (q.nearest i).1 (n.0, n.1 ∙ far))
+    (λ i c. let n = (q.nearest i).0 c in (p.nearest i).1 (n.0, n.1 ∙ sym far))
     in
     same_answer a b far groups (same_truth _ a.sure b.sure sure q.sure)
 
@@ -125,7 +125,7 @@ pub problem_of_member : (code : List Bool) (problems : List Problem) (name : Nod
 problem_of_member code [] name c = absurd (nothing_in_empty name c)
 problem_of_member code (q ∷ qs) name c =
     let later : Contains (members_of qs code) name → (p : Problem) × Contains (q ∷ qs) p × (code ≡ p.code) × (p.name ≡ name) =
-      λ in_rest. let found = problem_of_member code qs name in_rest in (found.0, contains_tail q qs found.0 found.1, found.2, found.3)
+    λ in_rest. let found = problem_of_member code qs name in_rest in (found.0, contains_tail q qs found.0 found.1, found.2, found.3)
     in
     elim (same_code code q.code) as (λ b. same_code code q.code ≡ b → (p : Problem) × Contains (q ∷ qs) p × (code ≡ p.code) × (p.name ≡ name)) [
       | true ↦ λ e. elim (contains_cases q.name (members_of qs code) name (rw e at c)) [
@@ -165,6 +165,6 @@ others_are_others width problems gs hs a b g c =
 pub groups_are_one : (width : ℕ) (problems : List Problem) (gs hs : List Group) → AreGroups width problems gs → AreGroups width problems hs → gs ≡ hs
 groups_are_one width problems gs hs a b =
     let others : a.others ≡ b.others = same_rising (on (λ g. g.members) members_cmp) (λ g h. members_strict g.members h.members) a.others b.others
-      a.rise b.rise (others_are_others width problems gs hs a b) (others_are_others width problems hs gs b a)
+    a.rise b.rise (others_are_others width problems gs hs a b) (others_are_others width problems hs gs b a)
     in
     a.quiet ∙ (ap (λ later. group_of problems (zeros width) ∷ later) others ∙ sym b.quiet)
