@@ -7,7 +7,7 @@ use Rattle.std.proofs.lemmas.List.{length-map, length-replicate, get_or-map, get
 use Rattle.std.proofs.lemmas.List.Elements.{All-contains, Contains-get_or}
 use Rattle.std.proofs.lemmas.Option.{slice_get-get_or, slice_get_within, same_Some}
 use Rattle.cb_model.specs.NodeOrder.{node_cmp}
-use Rattle.cb_model.proofs.Rising.{contains_cases, contains_head, contains_tail, nothing_in_empty}
+use Rattle.cb_model.proofs.Rising.{node_strict, contains_cases, contains_head, contains_tail, nothing_in_empty}
 use Rattle.cb_coding.specs.declared.book.Pair.{Pair}
 use Rattle.cb_coding.specs.declared.group.Problem.{Problem}
 use Rattle.cb_coding.specs.declared.group.Group.{Group}
@@ -15,7 +15,7 @@ use Rattle.cb_coding.specs.Distance.{HaveWidth, all_columns, code_at, apart}
 use Rattle.cb_coding.specs.Pairs.{IsLeast, Good}
 use Rattle.cb_coding.specs.Groups.{AreProblems, IsGroup, AreGroups, same_code, is_zero, members_of, group_of, zeros, members_cmp, codes_of}
 use Rattle.cb_coding.specs.Laws.{IsIn}
-use Rattle.cb_coding.proofs.One.{node_strict, members_strict, same_code_itself, problem_of_member, problem_of_group}
+use Rattle.cb_coding.proofs.One.{members_strict, same_code_itself, problem_of_member, problem_of_group}
 use Rattle.cb_coding.proofs.Distances.{same_where_zero}
 
 -- the code without any symptom
