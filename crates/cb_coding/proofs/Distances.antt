@@ -146,6 +146,17 @@ all_columns_rise width i j d lt le =
 pub in_all_columns : (width k : ℕ) → k < width → Contains (all_columns width) k
 in_all_columns width k lt = (k, omega (arith, length-range_with_len 0 width), omega (arith, get_or-range_with_len 0 width k k lt))
 
+below_from_all_columns : (width k : ℕ) → Contains (all_columns width) k → k < width
+below_from_all_columns width k (i, lt, e) =
+    let n = length-range_with_len 0 width in
+    omega (arith, get_or-range_with_len 0 width i k (omega arith))
+
+-- over more of the columns two codes are no closer
+pub distance_grows : (m n : ℕ) (v w : List Bool) → m ≤ n → distance (all_columns m) v w ≤ distance (all_columns n) v w
+distance_grows m n v w le =
+    count_of_fewer (λ k. differ (bit v k) (bit w k)) (all_columns m) (all_columns n) (all_columns_rise m) (all_columns_rise n)
+    (λ k c. let low = below_from_all_columns m k c in in_all_columns n k (omega arith))
+
 pub fewer_columns : (width : ℕ) (columns : List ℕ) (v w : List Bool) → IsStrictlyIncreasing columns → All (λ k. k < width) columns
     → distance columns v w ≤ distance (all_columns width) v w
 fewer_columns width columns v w rise within =

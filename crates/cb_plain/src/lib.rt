@@ -1,0 +1,6 @@
+//! The plain program for codes: it computes each definition of `cb_coding` from lists of truth values by simple loops.
+#![tactic(auto)]
+
+mod measure;
+
+pub use measure::{distance, distance_over};
