@@ -1,6 +1,8 @@
 //! The plain program for codes: it computes each definition of `cb_coding` from lists of truth values by simple loops.
 #![tactic(auto)]
 
+mod closest;
 mod measure;
 
+pub use closest::least;
 pub use measure::{distance, distance_over};
