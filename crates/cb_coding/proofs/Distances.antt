@@ -146,7 +146,7 @@ all_columns_rise width i j d lt le =
 pub in_all_columns : (width k : ℕ) → k < width → Contains (all_columns width) k
 in_all_columns width k lt = (k, omega (arith, length-range_with_len 0 width), omega (arith, get_or-range_with_len 0 width k k lt))
 
-below_from_all_columns : (width k : ℕ) → Contains (all_columns width) k → k < width
+pub below_from_all_columns : (width k : ℕ) → Contains (all_columns width) k → k < width
 below_from_all_columns width k (i, lt, e) =
     let n = length-range_with_len 0 width in
     omega (arith, get_or-range_with_len 0 width i k (omega arith))

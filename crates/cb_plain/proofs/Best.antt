@@ -8,18 +8,6 @@ use Rattle.cb_coding.specs.Distance.{HaveWidth, differ, bit, apart, all_columns,
 use Rattle.cb_coding.specs.Pairs.{IsPair, ComesBefore, IsLeast}
 use Rattle.cb_plain.specs.Closest.{IsClosestBefore, IsLeastBefore, limit_of}
 
--- the code that a place gives
-pub code_at_is : (codes : List (List Bool)) (i : ℕ) (code : List Bool) → slice_get codes i ≡ Some code → code_at codes i ≡ code
-code_at_is codes i code at = same_Some _ _ (sym (slice_get-get_or codes i [] (slice_get_within codes i code at)) ∙ at)
-
--- how far two codes are apart that places give
-pub apart_is : (width : ℕ) (codes : List (List Bool)) (i j : ℕ) (v w : List Bool) → HaveWidth width codes
-    → slice_get codes i ≡ Some v → slice_get codes j ≡ Some w
-    → distance (all_columns (length v)) v w ≡ apart (all_columns width) codes i j
-apart_is width codes i j v w wide at at' =
-    let long : length (code_at codes i) ≡ width = wide i [] (slice_get_within codes i v at) in
-    rw (← code_at_is codes i v at, ← code_at_is codes j w at', long) refl
-
 module _ (width : ℕ) (codes : List (List Bool)) (i : ℕ) where
   abbrev far : ℕ → ℕ → ℕ
   far k l = apart (all_columns width) codes k l

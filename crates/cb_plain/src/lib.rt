@@ -3,6 +3,8 @@
 
 mod closest;
 mod measure;
+mod reduce;
 
 pub use closest::least;
 pub use measure::{distance, distance_over};
+pub use reduce::{book, is_good};
