@@ -1,1 +1,2 @@
 pub mod Closest
+pub mod AtDistance

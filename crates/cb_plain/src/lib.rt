@@ -2,9 +2,11 @@
 #![tactic(auto)]
 
 mod closest;
+mod decode;
 mod measure;
 mod reduce;
 
 pub use closest::least;
+pub use decode::nearest;
 pub use measure::{distance, distance_over};
 pub use reduce::{book, is_good};
