@@ -1,16 +1,14 @@
 -- A book is one list of columns, it is good, and none of its columns can be left out.
-use Rattle.std.proofs.Common.{◌≡◌, ℕ, zero, suc, ◌+◌, ◌<◌, ◌≤◌, List, [], ◌∷◌, ◌++◌, refl, sym, ap, subst, ◌∙◌, arith, Bool, true, false, not, cond, nat_lt, ◌==◌, ◌↔◌, inl, inr, ◌⊎◌}
-use Rattle.std.specs.List.{All, AllPairs, Contains, filter, sum_by}
-use Rattle.std.specs.List.Sorted.{IsStrictlyIncreasing}
-use Rattle.std.proofs.lemmas.Bool.{cases_lt, cases_eq, cases_Bool, lt-ltb, le-ltb, ltb-true, ltb-false, eqb-true, eqb-false, ne_eqb, not-true}
-use Rattle.std.proofs.lemmas.Bool.Decides.{nat_tests}
+use Rattle.std.proofs.Common.{◌≡◌, ℕ, zero, suc, ◌+◌, ◌<◌, ◌≤◌, List, [], ◌∷◌, ◌++◌, refl, sym, ap, subst, ◌∙◌, arith, Bool, true, false, not, cond, nat_lt, ◌==◌, ◌↔◌, inl, inr}
+use Rattle.std.specs.List.{Contains, filter}
+use Rattle.std.proofs.lemmas.Bool.{cases_lt, cases_eq, lt-ltb, le-ltb, ltb-true, ltb-false, eqb-false, not-true}
 use Rattle.std.proofs.lemmas.List.Elements.{All-contains, filter_passes}
 use Rattle.std.proofs.lemmas.List.Kept.{AllPairs-cons, AllPairs-filter, AllPairs-from_increasing, IsStrictlyIncreasing-filter}
 use Rattle.std.proofs.lemmas.List.Filters.{sum_by-filter_both}
 use Rattle.std.proofs.lemmas.List.Sums.{sum_by-append, sum_by-cons}
 use Rattle.cb_model.proofs.Rising.{contains_cases, contains_head, contains_tail, nothing_in_empty}
 use Rattle.cb_coding.specs.declared.book.Book.{Book}
-use Rattle.cb_coding.specs.Distance.{differ, bit, distance, all_columns, code_at, apart}
+use Rattle.cb_coding.specs.Distance.{differ, bit, all_columns, code_at, apart}
 use Rattle.cb_coding.specs.Pairs.{IsPair, Good}
 use Rattle.cb_coding.specs.Books.{without, IsBook, IsInUse}
 use Rattle.cb_coding.specs.Laws.{leaving_out}
@@ -61,9 +59,9 @@ module _ (width : ℕ) (codes : List (List Bool)) where
   agree_at a b p q e c lt later in_a =
       let after : ℕ → Bool = λ k. nat_lt c k in
       let one : filter after a.columns ≡ filter after b.columns = same_numbers (filter after a.columns) (filter after b.columns)
-        (IsStrictlyIncreasing-filter after a.columns p.rise) (IsStrictlyIncreasing-filter after b.columns q.rise)
-        (λ z kept. let was = was_in_filtered after a.columns z kept in kept_by_filter after b.columns z ((later z (ltb-true c z was.1)).0 was.0) was.1)
-        (λ z kept. let was = was_in_filtered after b.columns z kept in kept_by_filter after a.columns z ((later z (ltb-true c z was.1)).1 was.0) was.1)
+      (IsStrictlyIncreasing-filter after a.columns p.rise) (IsStrictlyIncreasing-filter after b.columns q.rise)
+      (λ z kept. let was = was_in_filtered after a.columns z kept in kept_by_filter after b.columns z ((later z (ltb-true c z was.1)).0 was.0) was.1)
+      (λ z kept. let was = was_in_filtered after b.columns z kept in kept_by_filter after a.columns z ((later z (ltb-true c z was.1)).1 was.0) was.1)
       in
       (q.kept c lt).1 (λ good. (p.kept c lt).0 in_a
       (subst (λ columns. Good codes (all_columns c ++ columns) a.distance) (sym one) (subst (λ d. Good codes (without c b.columns) d) (sym e) good)))
@@ -73,14 +71,14 @@ module _ (width : ℕ) (codes : List (List Bool)) where
       → (z : ℕ) → c ≤ z → Contains a.columns z ↔ Contains b.columns z
   agree_from a b p q e zero c end z le =
       let beyond : (book : Book) → IsBook width codes book → Contains book.columns z → ⊥ = λ book is there.
-        omega (arith, All-contains (λ k. k < width) book.columns z is.within there)
+      omega (arith, All-contains (λ k. k < width) book.columns z is.within there)
       in
       (λ there. absurd (beyond a p there), λ there. absurd (beyond b q there))
   agree_from a b p q e (suc n) c end z le =
       let later : (y : ℕ) → c < y → Contains a.columns y ↔ Contains b.columns y = λ y lt. agree_from a b p q e n (suc c) (omega arith) y (omega arith) in
       elim (cases_eq c z) [
         | inl is ↦ subst (λ y. Contains a.columns y ↔ Contains b.columns y) is
-          (agree_at a b p q e c (omega arith) later, agree_at b a q p (sym e) c (omega arith) (λ y lt. let both = later y lt in (both.1, both.0)))
+            (agree_at a b p q e c (omega arith) later, agree_at b a q p (sym e) c (omega arith) (λ y lt. let both = later y lt in (both.1, both.0)))
         | inr apart ↦ later z (omega arith)
       ]
 
@@ -92,14 +90,14 @@ module _ (width : ℕ) (codes : List (List Bool)) where
   pub book_in_use_is_one : (wanted : ℕ) (a b : Book) → IsInUse width codes wanted a → IsInUse width codes wanted b → a ≡ b
   book_in_use_is_one wanted a b p q =
       let far : a.distance ≡ b.distance =
-        elim (cases_eq a.distance b.distance) [
-          | inl e ↦ e
-          | inr other ↦
-              let thin : ¬ Good codes (all_columns width) wanted = λ good. other (p.wanted_is good ∙ sym (q.wanted_is good)) in
-              let (here, is, e) = p.least_is thin in
-              let (there, is', f) = q.least_is thin in
-              e ∙ (ap (λ pair. pair.distance) (closest_is_one (all_columns width) codes here there is is') ∙ sym f)
-        ]
+      elim (cases_eq a.distance b.distance) [
+        | inl e ↦ e
+        | inr other ↦
+            let thin : ¬ Good codes (all_columns width) wanted = λ good. other (p.wanted_is good ∙ sym (q.wanted_is good)) in
+            let (here, is, e) = p.least_is thin in
+            let (there, is', f) = q.least_is thin in
+            e ∙ (ap (λ pair. pair.distance) (closest_is_one (all_columns width) codes here there is is') ∙ sym f)
+      ]
       in
       book_is_one a b p.is_book q.is_book far
 
@@ -189,7 +187,7 @@ module _ (width : ℕ) (codes : List (List Bool)) (book : Book) (is : IsBook wid
   book_is_good i j pair =
       let whole = good_from width 0 (omega arith) i j pair in
       let fewer : far i j (from 0) ≤ far i j book.columns = count_of_fewer _ (from 0) book.columns (from_rise 0) rise
-        (λ k kept. (was_in_filtered (λ j. not (nat_lt j 0)) book.columns k kept).0) in
+      (λ k kept. (was_in_filtered (λ j. not (nat_lt j 0)) book.columns k kept).0) in
       omega arith
 
   pub book_is_tight : (c : ℕ) → Contains book.columns c → ¬ Good codes (leaving_out c book.columns) book.distance
@@ -202,15 +200,15 @@ module _ (width : ℕ) (codes : List (List Bool)) (book : Book) (is : IsBook wid
       let early : ℕ → Bool = λ k. not (nat_lt c k) in
       let parts = sum_by-filter_both later early (λ k. refl) (λ k. cond (differ (bit (code_at codes i) k) (bit (code_at codes j) k)) 1 0) left in
       let above : far i j (filter later left) ≤ far i j (after c) = count_of_fewer _ (filter later left) (after c) (AllPairs-filter (λ x y. x < y) later left left_rise) (after_rise c)
-        (λ k kept.
-        let was = was_in_filtered later left k kept in
-        kept_by_filter later book.columns k (was_in_filtered (λ j. not (j == c)) book.columns k was.0).0 was.1)
+      (λ k kept.
+      let was = was_in_filtered later left k kept in
+      kept_by_filter later book.columns k (was_in_filtered (λ j. not (j == c)) book.columns k was.0).0 was.1)
       in
       let below : far i j (filter early left) ≤ far i j (all_columns c) = count_of_fewer _ (filter early left) (all_columns c) (AllPairs-filter (λ x y. x < y) early left left_rise) (all_columns_rise c)
-        (λ k kept.
-        let was = was_in_filtered early left k kept in
-        let le = ltb-false c k (not-true _ was.1) in
-        let other = eqb-false k c (not-true _ (was_in_filtered (λ j. not (j == c)) book.columns k was.0).1) in
-        in_all_columns c k (omega arith))
+      (λ k kept.
+      let was = was_in_filtered early left k kept in
+      let le = ltb-false c k (not-true _ was.1) in
+      let other = eqb-false k c (not-true _ (was_in_filtered (λ j. not (j == c)) book.columns k was.0).1) in
+      in_all_columns c k (omega arith))
       in
       omega (arith, good i j pair, far_append i j (all_columns c) (after c)))

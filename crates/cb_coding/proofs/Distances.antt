@@ -1,5 +1,5 @@
 -- Distances, and the coding theorem.
-use Rattle.std.proofs.Common.{◌≡◌, ◌≢◌, ℕ, zero, suc, ◌+◌, ◌<◌, ◌≤◌, List, [], ◌∷◌, ◌++◌, length, get_or, refl, sym, ap, subst, ◌∙◌, arith, Bool, true, false, cond, IsTrue, inl, inr}
+use Rattle.std.proofs.Common.{◌≡◌, ℕ, zero, suc, ◌+◌, ◌<◌, ◌≤◌, List, [], ◌∷◌, ◌++◌, length, get_or, refl, sym, ap, subst, ◌∙◌, arith, Bool, true, false, cond, IsTrue, inl, inr}
 use Rattle.std.specs.List.{All, AllPairs, Contains, count_by, sum_by, range_with_len}
 use Rattle.std.specs.List.Sorted.{IsStrictlyIncreasing}
 use Rattle.std.proofs.lemmas.Bool.{cases_order}
@@ -61,17 +61,16 @@ module _ (columns : List ℕ) (codes : List (List Bool)) (d : ℕ) (word : List 
   coding_theorem i answer lt near is =
       let low = is.least i lt in
       let nearest : (j : ℕ) → j < length codes → from_word columns codes word j ≡ answer.distance → j ≡ i =
-        λ j lt' e. within_is_one j i lt' lt (omega arith) near in
+      λ j lt' e. within_is_one j i lt' lt (omega arith) near in
       let here : from_word columns codes word i ≡ answer.distance =
-        let at = is.attained in ap (from_word columns codes word) (sym (nearest at.0 at.1 at.2)) ∙ at.2 in
-      (
+      let at = is.attained in ap (from_word columns codes word) (sym (nearest at.0 at.1 at.2)) ∙ at.2 in (
         same_numbers answer.groups (i ∷ []) is.rise (λ k lt'. absurd (omega arith))
-        (λ j c. let n = (is.nearest j).0 c in (0, omega arith, sym (nearest j n.0 n.1)))
-        (λ j c. elim (contains_cases i [] j c) [
-          | inl e ↦ (is.nearest j).1 (rw (← e) (lt, here))
-          | inr none ↦ absurd (nothing_in_empty j none)
-        ]),
-        is.sure.1 (omega arith)
+            (λ j c. let n = (is.nearest j).0 c in (0, omega arith, sym (nearest j n.0 n.1)))
+            (λ j c. elim (contains_cases i [] j c) [
+              | inl e ↦ (is.nearest j).1 (rw (← e) (lt, here))
+              | inr none ↦ absurd (nothing_in_empty j none)
+            ]),
+        is.sure.1 (omega arith),
       )
 
 -- one more column
@@ -118,23 +117,23 @@ count_of_fewer p (x ∷ xs) (y ∷ ys) rise rise' into =
     elim (contains_cases y ys x (into x (contains_head x xs))) [
       | inl e ↦
           let rest = count_of_fewer p xs ys (later_rise x xs rise) (later_rise y ys rise')
-            (λ z c. elim (contains_cases y ys z (into z (contains_tail x xs z c))) [
-              | inl same ↦ let below = below_later x xs rise z c in absurd (omega arith)
-              | inr there ↦ there
-            ])
+          (λ z c. elim (contains_cases y ys z (into z (contains_tail x xs z c))) [
+            | inl same ↦ let below = below_later x xs rise z c in absurd (omega arith)
+            | inr there ↦ there
+          ])
           in
           let same : once (p y) ≡ once (p x) = ap (λ k. once (p k)) e in
           omega arith
       | inr there ↦
           let first = below_later y ys rise' x there in
           let rest = count_of_fewer p (x ∷ xs) ys rise (later_rise y ys rise')
-            (λ z c. elim (contains_cases y ys z (into z c)) [
-              | inl same ↦ elim (contains_cases x xs z c) [
-                | inl here ↦ absurd (omega arith)
-                | inr late ↦ let below = below_later x xs rise z late in absurd (omega arith)
-              ]
-              | inr here ↦ here
-            ])
+          (λ z c. elim (contains_cases y ys z (into z c)) [
+            | inl same ↦ elim (contains_cases x xs z c) [
+              | inl here ↦ absurd (omega arith)
+              | inr late ↦ let below = below_later x xs rise z late in absurd (omega arith)
+            ]
+            | inr here ↦ here
+          ])
           in
           omega arith
     ]
@@ -146,6 +145,17 @@ all_columns_rise width i j d lt le =
 
 pub in_all_columns : (width k : ℕ) → k < width → Contains (all_columns width) k
 in_all_columns width k lt = (k, omega (arith, length-range_with_len 0 width), omega (arith, get_or-range_with_len 0 width k k lt))
+
+pub below_from_all_columns : (width k : ℕ) → Contains (all_columns width) k → k < width
+below_from_all_columns width k (i, lt, e) =
+    let n = length-range_with_len 0 width in
+    omega (arith, get_or-range_with_len 0 width i k (omega arith))
+
+-- over more of the columns two codes are no closer
+pub distance_grows : (m n : ℕ) (v w : List Bool) → m ≤ n → distance (all_columns m) v w ≤ distance (all_columns n) v w
+distance_grows m n v w le =
+    count_of_fewer (λ k. differ (bit v k) (bit w k)) (all_columns m) (all_columns n) (all_columns_rise m) (all_columns_rise n)
+    (λ k c. let low = below_from_all_columns m k c in in_all_columns n k (omega arith))
 
 pub fewer_columns : (width : ℕ) (columns : List ℕ) (v w : List Bool) → IsStrictlyIncreasing columns → All (λ k. k < width) columns
     → distance columns v w ≤ distance (all_columns width) v w

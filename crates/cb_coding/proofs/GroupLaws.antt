@@ -1,23 +1,21 @@
 -- Groups share no problem and no code.
-use Rattle.std.proofs.Common.{◌≡◌, ◌≢◌, ℕ, zero, suc, ◌<◌, ◌≤◌, List, [], ◌∷◌, length, get_or, map, replicate, slice_get, Some, refl, sym, ap, subst, ◌∙◌, arith, Bool, true, false, inl, inr, ◌⊎◌}
-use Rattle.std.specs.List.{All, AllPairs, Contains}
-use Rattle.std.specs.Ordering.{on}
+use Rattle.std.proofs.Common.{◌≡◌, ◌≢◌, ℕ, zero, suc, ◌<◌, List, [], ◌∷◌, length, get_or, Some, refl, sym, ap, subst, ◌∙◌, arith, Bool, true, false, inl, inr}
+use Rattle.std.specs.List.{AllPairs, Contains}
 use Rattle.std.specs.declared.cmp.Ordering.TheVariants.{Less}
 use Rattle.std.proofs.lemmas.Bool.{cases_order, cases_Bool}
 use Rattle.std.proofs.lemmas.List.{length-map, length-replicate, get_or-map, get_or_default}
 use Rattle.std.proofs.lemmas.List.Elements.{All-contains, Contains-get_or}
 use Rattle.std.proofs.lemmas.Option.{slice_get-get_or, slice_get_within, same_Some}
-use Rattle.cb_model.specs.declared.node.NodeName.{NodeName}
 use Rattle.cb_model.specs.NodeOrder.{node_cmp}
-use Rattle.cb_model.proofs.Rising.{contains_cases, contains_head, contains_tail, nothing_in_empty}
+use Rattle.cb_model.proofs.Rising.{node_strict, contains_cases, contains_head, contains_tail, nothing_in_empty}
 use Rattle.cb_coding.specs.declared.book.Pair.{Pair}
 use Rattle.cb_coding.specs.declared.group.Problem.{Problem}
 use Rattle.cb_coding.specs.declared.group.Group.{Group}
-use Rattle.cb_coding.specs.Distance.{HaveWidth, distance, all_columns, code_at, apart}
+use Rattle.cb_coding.specs.Distance.{HaveWidth, all_columns, code_at, apart}
 use Rattle.cb_coding.specs.Pairs.{IsLeast, Good}
 use Rattle.cb_coding.specs.Groups.{AreProblems, IsGroup, AreGroups, same_code, is_zero, members_of, group_of, zeros, members_cmp, codes_of}
 use Rattle.cb_coding.specs.Laws.{IsIn}
-use Rattle.cb_coding.proofs.One.{node_strict, members_strict, same_code_itself, problem_of_member, problem_of_group}
+use Rattle.cb_coding.proofs.One.{members_strict, same_code_itself, problem_of_member, problem_of_group}
 use Rattle.cb_coding.proofs.Distances.{same_where_zero}
 
 -- the code without any symptom
@@ -94,8 +92,8 @@ module _ (width : ℕ) (problems : List Problem) (groups : List Group) (are : Ar
       let v = get_or-map (λ (g : Group). g.code) groups i d [] (omega arith) in
       let w = get_or-map (λ (g : Group). g.code) groups j d [] (omega arith) in
       let apart_is : apart (all_columns width) (codes_of groups) i j ≡ 0 → ⊥ = λ none.
-        codes_differ width problems groups is i j d lt (omega arith)
-        (sym v ∙ (same_where_zero width (code_at (codes_of groups) i) (code_at (codes_of groups) j) (wide i [] (omega arith)) (wide j [] within) none ∙ w))
+      codes_differ width problems groups is i j d lt (omega arith)
+      (sym v ∙ (same_where_zero width (code_at (codes_of groups) i) (code_at (codes_of groups) j) (wide i [] (omega arith)) (wide j [] within) none ∙ w))
       in
       omega arith
 
@@ -127,9 +125,9 @@ one_name : (problems : List Problem) → AllPairs (λ (p q : Problem). node_cmp 
     → (p q : Problem) → Contains problems p → Contains problems q → p.name ≡ q.name → p ≡ q
 one_name problems rise p q (i, lt, e) (j, lt', f) same =
     let later : (r s : Problem) (k l : ℕ) → k < l → l < length problems → get_or problems k r ≡ r → get_or problems l s ≡ s → r.name ≡ s.name → ⊥ =
-      λ r s k l below within at_k at_l one.
-      let less : node_cmp r.name s.name ≡ Less = rw (at_k, get_or_default problems l r s within, at_l) at (rise k l r below within) in
-      node_strict s.name s.name (rw one at less) (rw one at less)
+    λ r s k l below within at_k at_l one.
+    let less : node_cmp r.name s.name ≡ Less = rw (at_k, get_or_default problems l r s within, at_l) at (rise k l r below within) in
+    node_strict s.name s.name (rw one at less) (rw one at less)
     in
     elim (cases_order i j) [
       | inl here ↦ sym e ∙ (get_or_default problems i p q lt ∙ (ap (λ k. get_or problems k q) here ∙ f))
@@ -158,25 +156,32 @@ module _ (width : ℕ) (problems : List Problem) (groups : List Group) (p : Prob
       elim (cases_Bool (is_zero p.code)) [
         | inl zero_code ↦
             let wide = All-contains (λ (q : Problem). length q.code ≡ width) problems p are.wide c in
-            let e : zeros width ≡ p.code = sym (zero_is_zeros p.code zero_code ∙ ap zeros wide) in
-            (group_of problems (zeros width), subst (λ gs. Contains gs (group_of problems (zeros width))) (sym is.quiet) (contains_head _ is.others),
-            member_of_code problems p (zeros width) c e)
-        | inr nonzero ↦
-            (group_of problems p.code, subst (λ gs. Contains gs (group_of problems p.code)) (sym is.quiet) (contains_tail _ is.others _ (is.all p c nonzero)),
-            member_of_code problems p p.code c refl)
+            let e : zeros width ≡ p.code = sym (zero_is_zeros p.code zero_code ∙ ap zeros wide) in (
+              group_of problems (zeros width),
+              subst (λ gs. Contains gs (group_of problems (zeros width))) (sym is.quiet) (contains_head _ is.others),
+              member_of_code problems p (zeros width) c e,
+            )
+        | inr nonzero ↦ (
+          group_of problems p.code,
+          subst (λ gs. Contains gs (group_of problems p.code)) (sym is.quiet) (contains_tail _ is.others _ (is.all p c nonzero)),
+          member_of_code problems p p.code c refl,
+        )
       ]
 
   pub problem_is_in_one_group : (i : ℕ) × IsIn groups i p.name × ((j : ℕ) → IsIn groups j p.name → j ≡ i)
   problem_is_in_one_group =
       let (g, (i, lt, at), member) = its_group in
       let code = code_of_its_group g (i, lt, at) member in
-      let differ = codes_differ width problems groups is in
-      (i, (g, slice_get-get_or groups i g lt ∙ ap Some at, member), λ j (h, at', member').
-        let lt' = slice_get_within groups j h at' in
-        let item : get_or groups j h ≡ h = same_Some _ _ (sym (slice_get-get_or groups j h lt') ∙ at') in
-        let same : h.code ≡ g.code = code_of_its_group h (j, lt', item) member' ∙ sym code in
-        elim (cases_order j i) [
-          | inl e ↦ e
-          | inr (inl below) ↦ absurd (rw (item, get_or_default groups i h g lt, at) at (differ j i h below lt) same)
-          | inr (inr above) ↦ absurd (rw (at, get_or_default groups j g h lt', item) at (differ i j g above lt') (sym same))
-        ])
+      let differ = codes_differ width problems groups is in (
+        i,
+        (g, slice_get-get_or groups i g lt ∙ ap Some at, member),
+        λ j (h, at', member').
+            let lt' = slice_get_within groups j h at' in
+            let item : get_or groups j h ≡ h = same_Some _ _ (sym (slice_get-get_or groups j h lt') ∙ at') in
+            let same : h.code ≡ g.code = code_of_its_group h (j, lt', item) member' ∙ sym code in
+            elim (cases_order j i) [
+              | inl e ↦ e
+              | inr (inl below) ↦ absurd (rw (item, get_or_default groups i h g lt, at) at (differ j i h below lt) same)
+              | inr (inr above) ↦ absurd (rw (at, get_or_default groups j g h lt', item) at (differ i j g above lt') (sym same))
+            ],
+      )

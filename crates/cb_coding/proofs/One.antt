@@ -1,18 +1,14 @@
 -- Each definition holds of one value alone.
-use Rattle.std.proofs.Common.{◌≡◌, ◌≢◌, ℕ, ◌<◌, ◌≤◌, List, [], ◌∷◌, length, refl, sym, ap, subst, ◌∙◌, arith, rules, Bool, true, false, ◌↔◌, IsTrue, Option, None, Some, inl, inr, ◌⊎◌}
+use Rattle.std.proofs.Common.{◌≡◌, ◌≢◌, ℕ, ◌≤◌, List, [], ◌∷◌, refl, sym, ap, subst, ◌∙◌, arith, Bool, true, false, ◌↔◌, IsTrue, Option, None, Some, inl, inr}
 use Rattle.std.specs.List.{Contains}
 use Rattle.std.specs.List.Sorted.{IsStrictlyIncreasing}
-use Rattle.std.specs.Ordering.{nat_cmp, on, ordering_reverse}
-use Rattle.std.specs.Cmp.{IsTotalOrder, nat_cmp_total}
-use Rattle.std.specs.Cmp.Rules.{comparing}
-use Rattle.std.specs.declared.cmp.Ordering.{Ordering}
-use Rattle.std.specs.declared.cmp.Ordering.TheVariants.{Less, Greater}
+use Rattle.std.specs.Ordering.{nat_cmp, on}
+use Rattle.std.specs.declared.cmp.Ordering.TheVariants.{Less}
 use Rattle.std.proofs.lemmas.List.Kept.{AllPairs-from_increasing}
 use Rattle.std.proofs.lemmas.Bool.Decides.{nat_tests}
 use Rattle.cb_model.specs.declared.node.NodeName.{NodeName}
 use Rattle.cb_model.specs.Order.{Rises}
-use Rattle.cb_model.specs.NodeOrder.{node_cmp}
-use Rattle.cb_model.proofs.Rising.{same_rising, contains_cases, contains_head, contains_tail, nothing_in_empty}
+use Rattle.cb_model.proofs.Rising.{nat_strict, node_strict, same_rising, contains_cases, contains_head, contains_tail, nothing_in_empty}
 use Rattle.cb_coding.specs.declared.book.Pair.{Pair}
 use Rattle.cb_coding.specs.declared.book.Answer.{Answer}
 use Rattle.cb_coding.specs.declared.group.Problem.{Problem}
@@ -20,21 +16,6 @@ use Rattle.cb_coding.specs.declared.group.Group.{Group}
 use Rattle.cb_coding.specs.Pairs.{IsClosest, IsLeast, ComesBefore}
 use Rattle.cb_coding.specs.Answers.{IsAnswer, radius}
 use Rattle.cb_coding.specs.Groups.{IsGroup, AreGroups, same_code, members_of, group_of, zeros, members_cmp}
-
--- of two answers of a total order to one pair, both ways round, only one is Less
-strict_of_total : {X : Type 0} (cmp : X → X → Ordering) → IsTotalOrder cmp → (x y : X) → cmp x y ≡ Less → cmp y x ≡ Less → ⊥
-strict_of_total cmp o x y e f =
-    let g : Less ≡ Greater = sym e ∙ (o.antisymm x y ∙ ap ordering_reverse f) in
-    cc
-
-pub node_cmp_total : IsTotalOrder node_cmp
-node_cmp_total = search (comparing, rules)
-
-pub node_strict : (x y : NodeName) → node_cmp x y ≡ Less → node_cmp y x ≡ Less → ⊥
-node_strict = strict_of_total node_cmp node_cmp_total
-
-nat_strict : (x y : ℕ) → nat_cmp x y ≡ Less → nat_cmp y x ≡ Less → ⊥
-nat_strict = strict_of_total nat_cmp nat_cmp_total
 
 rises_nat : (xs : List ℕ) → IsStrictlyIncreasing xs → Rises nat_cmp xs
 rises_nat xs rise i j d lt le = let below = AllPairs-from_increasing xs rise i j d lt le in grind (arith, nat_tests)
@@ -92,8 +73,8 @@ answer_is_one columns codes d word a b p q =
     let far : a.distance ≡ b.distance = omega arith in
     let sure : IsTrue a.sure ↔ (b.distance ≤ radius d) = subst (λ n. IsTrue a.sure ↔ (n ≤ radius d)) far p.sure in
     let groups : a.groups ≡ b.groups = same_numbers a.groups b.groups p.rise q.rise
-      (λ i c. let n = (p.nearest i).0 c in (q.nearest i).1 (n.0, n.1 ∙ far))
-      (λ i c. let n = (q.nearest i).0 c in (p.nearest i).1 (n.0, n.1 ∙ sym far))
+    (λ i c. let n = (p.nearest i).0 c in (q.nearest i).1 (n.0, n.1 ∙ far))
+    (λ i c. let n = (q.nearest i).0 c in (p.nearest i).1 (n.0, n.1 ∙ sym far))
     in
     same_answer a b far groups (same_truth _ a.sure b.sure sure q.sure)
 
@@ -125,7 +106,7 @@ pub problem_of_member : (code : List Bool) (problems : List Problem) (name : Nod
 problem_of_member code [] name c = absurd (nothing_in_empty name c)
 problem_of_member code (q ∷ qs) name c =
     let later : Contains (members_of qs code) name → (p : Problem) × Contains (q ∷ qs) p × (code ≡ p.code) × (p.name ≡ name) =
-      λ in_rest. let found = problem_of_member code qs name in_rest in (found.0, contains_tail q qs found.0 found.1, found.2, found.3)
+    λ in_rest. let found = problem_of_member code qs name in_rest in (found.0, contains_tail q qs found.0 found.1, found.2, found.3)
     in
     elim (same_code code q.code) as (λ b. same_code code q.code ≡ b → (p : Problem) × Contains (q ∷ qs) p × (code ≡ p.code) × (p.name ≡ name)) [
       | true ↦ λ e. elim (contains_cases q.name (members_of qs code) name (rw e at c)) [
@@ -165,6 +146,6 @@ others_are_others width problems gs hs a b g c =
 pub groups_are_one : (width : ℕ) (problems : List Problem) (gs hs : List Group) → AreGroups width problems gs → AreGroups width problems hs → gs ≡ hs
 groups_are_one width problems gs hs a b =
     let others : a.others ≡ b.others = same_rising (on (λ g. g.members) members_cmp) (λ g h. members_strict g.members h.members) a.others b.others
-      a.rise b.rise (others_are_others width problems gs hs a b) (others_are_others width problems hs gs b a)
+    a.rise b.rise (others_are_others width problems gs hs a b) (others_are_others width problems hs gs b a)
     in
     a.quiet ∙ (ap (λ later. group_of problems (zeros width) ∷ later) others ∙ sym b.quiet)

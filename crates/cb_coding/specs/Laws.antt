@@ -40,9 +40,9 @@ BookInUseIsOne = (width : ℕ) (codes : List (List Bool)) (wanted : ℕ) (a b : 
 
 -- Where every two codes are at least d apart, and a word is within the radius of one of them, that one alone is nearest,
 -- and the answer is sure.
-abbrev pub NearestIsMeant : Type 0
-NearestIsMeant = (columns : List ℕ) (codes : List (List Bool)) (d : ℕ) (word : List Bool) (i : ℕ) (answer : Answer)
-    → Good codes columns d → 0 < d → i < length codes → from_word columns codes word i ≤ radius d
+abbrev pub CodingTheorem : Type 0
+CodingTheorem = (columns : List ℕ) (codes : List (List Bool)) (d : ℕ) (word : List Bool) → Good codes columns d → 0 < d
+    → (i : ℕ) (answer : Answer) → i < length codes → from_word columns codes word i ≤ radius d
     → IsAnswer columns codes d word answer → (answer.groups ≡ i ∷ []) × IsTrue answer.sure
 
 -- over fewer columns two codes are no farther apart
@@ -72,8 +72,8 @@ OneIsGood = (width : ℕ) (problems : List Problem) (groups : List Group) → Ar
 
 -- the closest groups are at least 1 apart
 abbrev pub LeastIsPositive : Type 0
-LeastIsPositive = (width : ℕ) (problems : List Problem) (groups : List Group) (pair : Pair)
-    → AreProblems width problems → AreGroups width problems groups → IsLeast width (codes_of groups) (Some pair) → 0 < pair.distance
+LeastIsPositive = (width : ℕ) (problems : List Problem) (groups : List Group) → AreProblems width problems → AreGroups width problems groups
+    → (pair : Pair) → IsLeast width (codes_of groups) (Some pair) → 0 < pair.distance
 
 -- over the columns of a book the codes are as far apart as it says
 abbrev pub BookIsGood : Type 0
@@ -85,5 +85,5 @@ leaving_out c columns = filter (λ k. not (k == c)) columns
 
 -- no column of a book can be left out
 abbrev pub BookIsTight : Type 0
-BookIsTight = (width : ℕ) (codes : List (List Bool)) (book : Book) (c : ℕ) → IsBook width codes book → Contains book.columns c
-    → ¬ Good codes (leaving_out c book.columns) book.distance
+BookIsTight = (width : ℕ) (codes : List (List Bool)) (book : Book) → IsBook width codes book
+    → (c : ℕ) → Contains book.columns c → ¬ Good codes (leaving_out c book.columns) book.distance

@@ -1,0 +1,2 @@
+pub mod Closest
+pub mod AtDistance

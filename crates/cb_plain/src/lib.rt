@@ -1,0 +1,12 @@
+//! The plain program for codes: it computes each definition of `cb_coding` from lists of truth values by simple loops.
+#![tactic(auto)]
+
+mod closest;
+mod decode;
+mod measure;
+mod reduce;
+
+pub use closest::least;
+pub use decode::nearest;
+pub use measure::{distance, distance_over};
+pub use reduce::{book, is_good};

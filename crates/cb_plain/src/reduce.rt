@@ -1,0 +1,81 @@
+//! Books: the columns that keep codes apart.
+ghost use Rattle.std.specs.Prelude.{◌≡◌, ◌<◌, ◌≤◌, ◌^◌, ◌↔◌, ℕ, length, IsTrue, IfOk, IfSome, IfNone};
+ghost use Rattle.cb_coding.specs.Distance.{all_columns, apart};
+ghost use Rattle.cb_coding.specs.Pairs.{Good};
+ghost use Rattle.cb_coding.specs.Books.{IsBook};
+ghost use Rattle.cb_coding.specs.Laws.{leaving_out};
+
+use crate::measure::are_apart;
+use cb_coding::Book;
+use cb_model::List;
+use std::alloc::{AllocError, Global};
+
+/// The book at a distance; there is none where two codes are closer over all columns.
+pub fn book(alloc: Global, codes: &List<List<bool>>, width: usize, distance: u32) -> Result<Option<Book>, AllocError>
+    requires { width < 2 ^ 32 }
+    ensures book { IfOk result (λ made. IfSome made (IsBook width codes.now)) }
+    ensures distance { IfOk result (λ made. IfSome made (λ book. book.distance ≡ distance)) }
+    ensures too_close { IfOk result (λ made. IfNone made (¬ Good codes.now (all_columns width) distance)) }
+{
+    let mut columns = every_column(alloc, width)?;
+    if !is_good(codes, &columns, distance) {
+        return Ok(None);
+    }
+    for column in (0..width as u32).rev() {
+        let rest = without(alloc, &columns, column)?;
+        if is_good(codes, &rest, distance) {
+            columns = rest;
+        }
+    }
+    Ok(Some(Book { columns, distance }))
+}
+
+/// Whether every two codes are at least that far apart over these columns.
+pub fn is_good(codes: &List<List<bool>>, columns: &List<u32>, distance: u32) -> bool
+    ensures { IsTrue result ↔ Good codes.now columns.now distance }
+{
+    for second in 0..codes.len() {
+        if !is_far_from_earlier(codes, second, columns, distance) {
+            return false;
+        }
+    }
+    true
+}
+
+// Whether a code is at least that far from each code before it.
+fn is_far_from_earlier(codes: &List<List<bool>>, second: usize, columns: &List<u32>, distance: u32) -> bool
+    requires { second < length codes.now }
+    ensures { IsTrue result ↔ ((first : ℕ) → first < second → distance ≤ apart columns.now codes.now first second) }
+{
+    for first in 0..second {
+        if !are_apart(codes.at(first), codes.at(second), columns, distance) {
+            return false;
+        }
+    }
+    true
+}
+
+// All columns, in order.
+fn every_column(alloc: Global, width: usize) -> Result<List<u32>, AllocError>
+    requires { width < 2 ^ 32 }
+    ensures { IfOk result (λ columns. columns ≡ all_columns width) }
+{
+    let mut columns = List::new(alloc);
+    for column in 0..width as u32 {
+        columns.push(column)?;
+    }
+    Ok(columns)
+}
+
+// The columns but for one.
+fn without(alloc: Global, columns: &List<u32>, column: u32) -> Result<List<u32>, AllocError>
+    ensures { IfOk result (λ rest. rest ≡ leaving_out column columns.now) }
+{
+    let mut rest = List::new(alloc);
+    for other in columns.as_slice() {
+        if *other != column {
+            rest.push(*other)?;
+        }
+    }
+    Ok(rest)
+}
