@@ -1,0 +1,4 @@
+pub mod Pairs
+pub mod Told
+pub mod Memory
+pub mod Host

@@ -1,0 +1,5 @@
+pub mod Pairs
+pub mod Outside
+pub mod Stops
+pub mod Memory
+pub mod Host

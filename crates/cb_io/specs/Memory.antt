@@ -1,0 +1,84 @@
+-- What files and a sink in memory stand for.
+use Rattle.std.specs.Prelude.{◌≡◌, ℕ, ◌+◌, ◌++◌, ◌-◌, min, List, [], ◌∷◌, Contains, drop, length, map, Option, Some, None, unwrap_or}
+use Rattle.cb_io.specs.Pairs.{look_up, put}
+use Rattle.cb_io.specs.Outside.{FilesTold, SinkTold, next_count}
+
+-- a file: the bytes left, and how often reads of it have failed
+pub record FileState : Type 0 where
+  pub left : List ℕ
+  pub faults : ℕ
+
+-- the calls so far, and the numbers of those that are to fail
+pub record CallsState : Type 0 where
+  pub made : ℕ
+  pub failing : List ℕ
+
+-- files: those that were added, beside their names; the failed reads of other names; the greatest answer of a read
+pub record FilesState : Type 0 where
+  pub files : List (List ℕ × FileState)
+  pub unknown : ℕ
+  pub piece : ℕ
+  pub calls : CallsState
+
+-- a sink: the bytes taken; the room in all; the greatest answer of a write; the failed writes
+pub record SinkState : Type 0 where
+  pub bytes : List ℕ
+  pub room : ℕ
+  pub piece : ℕ
+  pub calls : CallsState
+  pub faults : ℕ
+
+-- the calls after one more
+abbrev pub next_call : CallsState → CallsState
+next_call calls = record calls { made = next_count calls.made }
+
+-- one more call is to fail
+abbrev pub with_failing : CallsState → ℕ → CallsState
+with_failing calls call = record calls { failing = calls.failing ++ call ∷ [] }
+
+-- the next call is to fail
+abbrev pub IsDue : CallsState → Type 0
+IsDue calls = Contains calls.failing (next_count calls.made)
+
+-- no call yet, and none that is to fail
+abbrev pub no_calls : CallsState
+no_calls = record { made = 0; failing = [] }
+
+-- the file of a name; one that wasn't added has no bytes, and the faults of all such names
+abbrev pub file_of : FilesState → List ℕ → FileState
+file_of state name = unwrap_or (look_up state.files name) (record { left = []; faults = state.unknown })
+
+-- the files with this one beside the name
+abbrev pub with_file : FilesState → List ℕ → FileState → FilesState
+with_file state name file = record state { files = put state.files name file }
+
+-- the files with these bytes behind those left of the name
+abbrev pub with_bytes : FilesState → List ℕ → List ℕ → FilesState
+with_bytes state name bytes = let file = file_of state name in with_file state name (record file { left = file.left ++ bytes })
+
+-- the files after one more call
+abbrev pub after_call : FilesState → FilesState
+after_call state = record state { calls = next_call state.calls }
+
+-- the files after a call that moved n bytes of the name
+abbrev pub after_read : FilesState → List ℕ → ℕ → FilesState
+after_read state name n = let file = file_of state name in with_file (after_call state) name (record file { left = drop n file.left })
+
+-- the files after a failed call: one more fault of the name, or of all names that weren't added
+abbrev pub after_fault_at : FilesState → List ℕ → Option FileState → FilesState
+after_fault_at state name None = record (after_call state) { unknown = next_count state.unknown }
+after_fault_at state name (Some file) = with_file (after_call state) name (record file { faults = next_count file.faults })
+
+abbrev pub after_fault : FilesState → List ℕ → FilesState
+after_fault state name = after_fault_at state name (look_up state.files name)
+
+-- what files in memory tell: all that is left, and the faults of each name
+abbrev pub files_told : FilesState → FilesTold
+files_told state = record {
+  left = Some (map (λ pair. (pair.0, pair.1.left)) state.files);
+  faults = λ name. (file_of state name).faults;
+}
+
+-- what a sink in memory tells: all that was taken, and the faults
+abbrev pub sink_told : SinkState → SinkTold
+sink_told state = record { taken = Some state.bytes; faults = state.faults }

@@ -1,0 +1,90 @@
+-- What files and sinks tell of themselves, and what a call changes of it. `old` is told before the call, `new` after it.
+use Rattle.std.specs.Prelude.{◌≡◌, ◌≢◌, ℕ, ◌+◌, ◌-◌, ◌^◌, ◌≤◌, ◌<◌, min, List, [], take, length, Option, None, Some, unwrap_or, Result, IfSome, if◌then◌else◌, ⊤}
+use Rattle.std.specs.Option.{option_map}
+use Rattle.std.specs.List.{list_any}
+use Rattle.std.specs.Str.{bytes_eq}
+use Rattle.std.specs.Io.KnownBytes.{Keeps, Consumes, Appends, ReadConsumes, WriteAppends}
+use Rattle.cb_io.specs.Pairs.{look_up}
+
+-- files: the names with the bytes left of each, where that is told, and how often reads of each name have failed
+pub record FilesTold : Type 0 where
+  pub left : Option (List (List ℕ × List ℕ))
+  pub faults : List ℕ → ℕ
+
+-- a sink: the bytes taken, where that is told, and how often writes have failed
+pub record SinkTold : Type 0 where
+  pub taken : Option (List ℕ)
+  pub faults : ℕ
+
+-- a count after one more, which stays at the last value of a u64
+abbrev pub next_count : ℕ → ℕ
+next_count count = min (count + 1) (2 ^ 64 - 1)
+
+-- a count rose, or stands at the last value of a u64
+abbrev pub Rose : ℕ → ℕ → Type 0
+Rose before after = next_count before ≤ after
+
+-- the bytes left of a name: none where the name isn't among the pairs
+abbrev pub bytes_of : List (List ℕ × List ℕ) → List ℕ → List ℕ
+bytes_of left name = unwrap_or (look_up left name) []
+
+-- the bytes left of a name, where that is told
+abbrev pub left_of : FilesTold → List ℕ → Option (List ℕ)
+left_of told name = option_map (λ left. bytes_of left name) told.left
+
+-- a read moved the front of what was left of the name to the front of buf, no byte only at the end, and none with an error
+abbrev pub Reads : {E : Type 0} → FilesTold → FilesTold → List ℕ → Result ℕ E → List ℕ → Type 0
+Reads old new name result buf = ReadConsumes (left_of old name) (left_of new name) result buf
+
+-- all known bytes were taken
+abbrev pub TakesAll : Option (List ℕ) → Option (List ℕ) → List ℕ → Type 0
+TakesAll None new all = ⊤
+TakesAll (Some left) new all = (all ≡ left) × (new ≡ Some [])
+
+-- all that was left of the name came, and nothing is left
+abbrev pub ReadsAll : FilesTold → FilesTold → List ℕ → List ℕ → Type 0
+ReadsAll old new name all = TakesAll (left_of old name) (left_of new name) all
+
+-- a front of what was left of the name came
+abbrev pub ReadsFront : FilesTold → FilesTold → List ℕ → Type 0
+ReadsFront old new name = (front : List ℕ) × Consumes (left_of old name) (left_of new name) front
+
+-- more than so many bytes of the name came
+abbrev pub ReadsMoreThan : FilesTold → FilesTold → List ℕ → ℕ → Type 0
+ReadsMoreThan old new name most = (front : List ℕ) × (most < length front) × Consumes (left_of old name) (left_of new name) front
+
+-- of every other name there is left what there was
+abbrev pub KeepsOthers : FilesTold → FilesTold → List ℕ → Type 0
+KeepsOthers old new name = (other : List ℕ) → other ≢ name → Keeps (left_of old other) (left_of new other)
+
+-- no count of failed reads falls
+abbrev pub NoCountFalls : FilesTold → FilesTold → Type 0
+NoCountFalls old new = (name : List ℕ) → old.faults name ≤ new.faults name
+
+-- a read of the name failed
+abbrev pub ReadFailed : FilesTold → FilesTold → List ℕ → Type 0
+ReadFailed old new name = Rose (old.faults name) (new.faults name)
+
+-- what a name gives that is read after these: the bytes left of it, and none where it is one of them
+abbrev pub contents : List (List ℕ × List ℕ) → List (List ℕ) → List ℕ → List ℕ
+contents left earlier name = if list_any (λ other. bytes_eq other name) earlier then [] else bytes_of left name
+
+-- these names were read whole, one after the other, and of every other name there is left what there was
+abbrev pub ReadsEach : FilesTold → FilesTold → List (List ℕ) → Type 0
+ReadsEach old new names = IfSome old.left (λ left. (name : List ℕ) → left_of new name ≡ Some (contents left names name))
+
+-- a write took the front of these bytes, and nothing with an error
+abbrev pub Writes : {E : Type 0} → SinkTold → SinkTold → Result ℕ E → List ℕ → Type 0
+Writes old new result bytes = WriteAppends old.taken new.taken result bytes
+
+-- all these bytes were taken, behind those taken before
+abbrev pub WritesAll : SinkTold → SinkTold → List ℕ → Type 0
+WritesAll old new bytes = Appends old.taken new.taken bytes
+
+-- a front of these bytes was taken
+abbrev pub WritesFront : SinkTold → SinkTold → List ℕ → Type 0
+WritesFront old new bytes = (n : ℕ) × (n ≤ length bytes) × Appends old.taken new.taken (take n bytes)
+
+-- a write failed
+abbrev pub WriteFailed : SinkTold → SinkTold → Type 0
+WriteFailed old new = Rose old.faults new.faults

@@ -1,0 +1,57 @@
+//! The machine's outputs.
+ghost use Rattle.std.specs.Prelude.{◌≡◌, ◌<◌, ◌≤◌, length, IfSome, None};
+
+use crate::{Failed, Sink};
+use std::io::Write;
+use std::marker::Model;
+
+/// Writes to a writer of `std`, as standard output, and flushes each time. What was taken isn't told; each refusal of the
+/// writer is a fault.
+#[derive(Drop)]
+pub struct HostSink<W: Write + Drop> {
+    writer: W,
+    faults: u64,
+}
+
+impl<W: Write + Drop> Model for HostSink<W> {
+    ghost use Rattle.std.specs.Prelude.{None};
+    ghost use Rattle.cb_io.specs.Outside.{SinkTold};
+
+    ghost Value = { SinkTold };
+
+    ghost view = { λ s. record { taken = None; faults = s.faults } };
+}
+
+impl<W: Write + Drop> HostSink<W> {
+    /// A sink without faults.
+    pub fn new(writer: W) -> Self
+        ensures { result ≡ record { taken = None; faults = 0 } }
+    {
+        HostSink { writer, faults: 0 }
+    }
+
+    // How many bytes the writer took and passed on, or none where it refused.
+    fn try_write(&mut self, bytes: &[u8]) -> Option<usize>
+        ensures bound { IfSome result (λ n. (0 < n) × (n ≤ length bytes.now)) }
+        ensures same { self.new ≡ self.old }
+    {
+        match self.writer.write(bytes) {
+            Ok(count) if count > 0 && self.writer.flush().is_ok() => Some(count),
+            _ => None,
+        }
+    }
+}
+
+impl<W: Write + Drop> Sink for HostSink<W> {
+    ghost tells = { λ s. s };
+
+    fn write(&mut self, bytes: &[u8]) -> Result<usize, Failed> {
+        match self.try_write(bytes) {
+            Some(count) => Ok(count),
+            None => {
+                self.faults = self.faults.saturating_add(1);
+                Err(Failed)
+            }
+        }
+    }
+}

@@ -1,0 +1,99 @@
+//! A sink in memory.
+ghost use Rattle.std.specs.Prelude.{◌≡◌, ◌+◌, ◌-◌, ◌^◌, ◌<◌, ◌≤◌, ◌⊎◌, ◌↔◌, [], ◌∷◌, ◌++◌, length, take, min, IfOk, OnOk, OnErr, IsErr};
+ghost use Rattle.std.specs.Io.{WritesAtMost};
+ghost use Rattle.cb_io.specs.Outside.{Writes, WriteFailed, next_count};
+ghost use Rattle.cb_io.specs.Memory.{sink_told, next_call, with_failing, no_calls, IsDue};
+
+use crate::calls::Calls;
+use crate::{Failed, Sink};
+use std::alloc::{AllocError, Global};
+use std::marker::Model;
+
+/// A sink that keeps what it takes. All its room is taken when it is made, so that a write needs no memory; it can be
+/// told to take small pieces, and to fail at certain calls.
+#[derive(Debug, Drop)]
+pub struct MemSink {
+    bytes: Vec<u8>,
+    room: usize,
+    piece: usize,
+    calls: Calls,
+    faults: u64,
+}
+
+impl Model for MemSink {
+    ghost use Rattle.std.specs.Prelude.{◌≤◌, ◌<◌, vec_len, vec_capacity};
+    ghost use Rattle.cb_io.specs.Memory.{SinkState};
+
+    ghost Value = { SinkState };
+
+    ghost view = { λ s. record { bytes = s.bytes.items; room = s.room; piece = s.piece; calls = s.calls; faults = s.faults } };
+
+    ghost invariant = { λ s. (vec_len s.bytes ≤ s.room) × (s.room ≤ vec_capacity s.bytes) × (0 < s.piece) };
+}
+
+impl MemSink {
+    /// A sink with room for so many bytes, which takes as many at once as there is room for.
+    pub fn new(alloc: Global, room: usize) -> Result<Self, AllocError>
+        ensures { IfOk result (λ sink. sink ≡ record { bytes = []; room = room; piece = 2 ^ 64 - 1; calls = no_calls; faults = 0 }) }
+    {
+        Ok(MemSink {
+            bytes: Vec::with_capacity(alloc, room)?,
+            room,
+            piece: usize::MAX,
+            calls: Calls::new(alloc),
+            faults: 0,
+        })
+    }
+
+    /// From now on a write takes at most so many bytes.
+    pub fn piece(&mut self, most: usize)
+        requires { 0 < most }
+        ensures { self.new ≡ record self.old { piece = most } }
+    {
+        self.piece = most;
+    }
+
+    /// Lets a write fail, by its number; the first write of all has the number 1.
+    pub fn fail_at(&mut self, call: u64) -> Result<(), AllocError>
+        ensures ok { OnOk result (self.new ≡ record self.old { calls = with_failing self.old.calls call }) }
+        ensures err { OnErr result (self.new ≡ self.old) }
+    {
+        self.calls.fail_at(call)
+    }
+
+    /// The bytes taken so far.
+    pub fn bytes(&self) -> &[u8]
+        ensures { result.now ≡ self.now.bytes }
+    {
+        &self.bytes
+    }
+}
+
+impl Sink for MemSink {
+    ghost tells = { sink_told };
+
+    fn write(&mut self, bytes: &[u8]) -> Result<usize, Failed>
+        requires { 0 < length bytes.now }
+        ensures some { IfOk result (λ n. 0 < n) }
+        ensures bound { WritesAtMost result bytes.now }
+        ensures bytes { Writes (sink_told self.old) (sink_told self.new) result bytes.now }
+        ensures counts { self.old.faults ≤ self.new.faults }
+        ensures failed { OnErr result (WriteFailed (sink_told self.old) (sink_told self.new)) }
+
+        // Which calls fail, how many bytes the others take, and that nothing else changes.
+        ensures fails { IsErr result ↔ (IsDue self.old.calls ⊎ (self.old.room ≤ length self.old.bytes)) }
+        ensures count { IfOk result (λ n. n ≡ min (min (length bytes.now) self.old.piece) (self.old.room - length self.old.bytes)) }
+        ensures ok { IfOk result (λ n. self.new ≡ record self.old { bytes = self.old.bytes ++ take n bytes.now; calls = next_call self.old.calls }) }
+        ensures err { OnErr result (self.new ≡ record self.old { faults = next_count self.old.faults; calls = next_call self.old.calls }) }
+    {
+        let due = self.calls.count();
+        let free = self.room - self.bytes.len();
+        if due || free == 0 {
+            self.faults = self.faults.saturating_add(1);
+            return Err(Failed);
+        }
+        let count = bytes.len().min(self.piece).min(free);
+        self.bytes.extend_from_slice(&bytes[..count]).unwrap();
+        Ok(count)
+    }
+}
