@@ -228,10 +228,10 @@ module _ (t : Tables) (flat : IsFlat t) where
       omega (arith, sum, classes, filled.all, filled.total)
 
   abbrev declared_event : (c : ClassId) (i : ℕ) → HasEvent t c (record { 0 = i }) → DeclaresEvent t c.0 (length t.events) i
-  declared_event c i has = (has.row, has.is, ap (λ (a : ClassId). a.0) (sym (stands_alone t flat c has.row.class has.from_c)), slice_get_within t.events i has.row has.is)
+  declared_event c i has = (has.row, has.is, ap (λ (a : ClassId). a.0) (sym (stands_alone t flat.alone c has.row.class has.from_c)), slice_get_within t.events i has.row has.is)
 
   declared_rule : (c : ClassId) (i : ℕ) → HasRule t c i → DeclaresRule t c.0 (length t.rules) i
-  declared_rule c i has = (has.row, has.is, ap (λ (a : ClassId). a.0) (sym (stands_alone t flat c has.row.class has.from_c)), slice_get_within t.rules i has.row has.is)
+  declared_rule c i has = (has.row, has.is, ap (λ (a : ClassId). a.0) (sym (stands_alone t flat.alone c has.row.class has.from_c)), slice_get_within t.rules i has.row has.is)
 
   finds_event : (c : ClassId) (name : List ℕ) (found : Option EventId) →
       MatchOption found ((i : ℕ) → ¬ DeclaresNamed t c.0 (length t.events) name i) (λ e. DeclaresNamed t c.0 (length t.events) name e.0) →

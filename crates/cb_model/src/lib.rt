@@ -15,7 +15,7 @@ mod tables;
 pub use id::{ClassId, EventId, RelId};
 pub use limits::{MOST_ANCESTORS, MOST_CLASSES, MOST_EVENTS, MOST_RELATIONS, MOST_RULES};
 pub use list::List;
-pub use model::Model;
+pub use model::{Model, flat_rows_are_flat};
 pub use name::Name;
 pub use node::{GroupName, NamedGroup, NodeName};
 pub use rule::{Marks, Rule};

@@ -4,7 +4,7 @@ ghost use Rattle.cb_model.specs.declared.id.ClassId.{ClassId as Class};
 ghost use Rattle.cb_model.specs.declared.id.EventId.{EventId as Event};
 ghost use Rattle.cb_model.specs.Classes.{IsProblemOf, IsSymptomOf, NamesClass, NamesEvent};
 ghost use Rattle.cb_model.specs.WellTyped.{IsClass, IsEvent};
-ghost use Rattle.cb_model.specs.Flat.{IsFlat};
+ghost use Rattle.cb_model.specs.Flat.{IsFlat, FlatRowsAreFlat};
 ghost use Rattle.cb_model.specs.Views.{AreEventsOf, AreRulesOf};
 ghost use Rattle.cb_model.specs.Sealed.{FindsClasses};
 ghost use Rattle.cb_model.specs.Filling.{AreEmpty, AreFilled};
@@ -114,6 +114,11 @@ impl Model {
         &self.views[class.0 as usize].rules
     }
 }
+
+/// Tables of classes that stand alone keep the type rules where their rows do.
+pub fn flat_rows_are_flat()
+    ensures { FlatRowsAreFlat }
+{}
 
 // The classes by their names.
 fn class_names(alloc: Global, tables: &Tables) -> Result<NameMap<ClassId>, AllocError>
