@@ -1,3 +1,9 @@
 pub mod Order
 pub mod NodeOrder
 pub mod Classes
+pub mod NameMap
+pub mod WellTyped
+pub mod Flat
+pub mod Views
+pub mod Sealed
+pub mod Filling

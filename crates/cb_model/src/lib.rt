@@ -1,14 +1,22 @@
 //! The base types of the product: lists, names, nodes, numbers, and the tables of a model.
 #![tactic(auto)]
 
+mod class_view;
 mod id;
+mod limits;
 mod list;
+mod model;
 mod name;
+mod name_map;
 mod node;
+mod rule;
 mod tables;
 
 pub use id::{ClassId, EventId, RelId};
+pub use limits::{MOST_ANCESTORS, MOST_CLASSES, MOST_EVENTS, MOST_RELATIONS, MOST_RULES};
 pub use list::List;
+pub use model::{Model, flat_rows_are_flat};
 pub use name::Name;
 pub use node::{GroupName, NamedGroup, NodeName};
+pub use rule::{Marks, Rule};
 pub use tables::{BlockRow, ClassRow, EventRow, HideRow, RelRow, RuleRow, Tables};

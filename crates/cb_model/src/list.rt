@@ -1,5 +1,5 @@
 //! A vector that contracts see as the list of its items.
-ghost use Rattle.std.specs.Prelude.{◌≡◌, ◌<◌, [], ◌∷◌, ◌++◌, length, OnOk, OnErr, slice_get, Some};
+ghost use Rattle.std.specs.Prelude.{◌≡◌, ◌<◌, [], ◌∷◌, ◌++◌, length, OnOk, OnErr, IfOk, slice_get, Some};
 
 use std::alloc::{AllocError, Global};
 use std::marker::Model;
@@ -60,5 +60,16 @@ impl<T> List<T> {
     {
         self.items.push(value)?;
         Ok(())
+    }
+}
+
+impl<T: Copy> List<T> {
+    /// A copy, which may lack memory.
+    pub fn copy(&self, alloc: Global) -> Result<List<T>, AllocError>
+        ensures { IfOk result (λ copy. copy ≡ self.now) }
+    {
+        Ok(List {
+            items: Vec::from_slice(alloc, &self.items)?,
+        })
     }
 }

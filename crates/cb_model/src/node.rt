@@ -79,8 +79,8 @@ impl Ord for NodeName {
     ghost matches_eq = { Prim.search (comparing, rules) };
 
     fn cmp(&self, other: &NodeName) -> Ordering {
-        self.instance
-            .cmp(&other.instance)
-            .then(self.event.cmp(&other.event))
+        let by_instance = self.instance.cmp(&other.instance);
+        let by_event = self.event.cmp(&other.event);
+        by_instance.then(by_event)
     }
 }

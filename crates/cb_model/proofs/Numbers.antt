@@ -1,0 +1,72 @@
+-- Rising lists of numbers, and lists that are written at one place.
+use Rattle.std.proofs.Common.{◌≡◌, ◌≢◌, ℕ, zero, suc, ◌+◌, ◌<◌, ◌≤◌, List, [], ◌∷◌, ◌++◌, length, get_or, replicate, Option, Some, None, refl, sym, ap, subst, ◌∙◌, inl, inr, arith}
+use Rattle.std.specs.Prelude.{◌⊎◌, ◌↔◌, slice_get, slice_set, ⊤}
+use Rattle.std.specs.List.{All, AllPairs, AllZip, Contains}
+use Rattle.std.proofs.lemmas.List.{get_or-replicate, length-replicate}
+use Rattle.std.proofs.lemmas.Option.{slice_get_within, slice_get_read, get_or_from_slice_get}
+use Rattle.std.proofs.lemmas.List.Elements.{Contains-push_cases, Contains-append_left, Contains-push, Contains-get_or}
+use Rattle.std.proofs.lemmas.List.Quantifiers.{all_pairs_push}
+use Rattle.cb_model.specs.Views.{ListsNumbers}
+
+-- nothing is listed by the empty list
+pub lists_none : (P : ℕ → Type 0) → ((n : ℕ) → ¬ P n) → ListsNumbers P []
+lists_none P none = record {
+  rising = λ i j d below within. absurd (omega arith);
+  exactly = λ n. (λ has. absurd (omega (arith, has.1)), λ is. absurd (none n is));
+}
+
+-- the same numbers meet P and Q
+pub lists_same : (P Q : ℕ → Type 0) (ns : List ℕ) → ((n : ℕ) → P n ↔ Q n) → ListsNumbers P ns → ListsNumbers Q ns
+lists_same P Q ns same lists = record {
+  rising = lists.rising;
+  exactly = λ n. (λ has. (same n).0 ((lists.exactly n).0 has), λ is. (lists.exactly n).1 ((same n).1 is));
+}
+
+-- a number above all others is listed behind them
+pub lists_more : (P Q : ℕ → Type 0) (ns : List ℕ) (n : ℕ) → ((i : ℕ) → P i → i < n) → ((i : ℕ) → Q i ↔ P i ⊎ (n ≡ i)) → ListsNumbers P ns → ListsNumbers Q (ns ++ n ∷ [])
+lists_more P Q ns n below also lists = record {
+  rising = all_pairs_push (λ one other. one < other) ns n lists.rising (λ k d low. below (get_or ns k d) ((lists.exactly (get_or ns k d)).0 (Contains-get_or ns k d low)));
+  exactly = λ i. (
+    λ has. elim (Contains-push_cases ns n i has) [
+      | inl early ↦ (also i).1 (inl ((lists.exactly i).0 early))
+      | inr last ↦ (also i).1 (inr last)
+    ],
+    λ is. elim ((also i).0 is) [
+      | inl early ↦ Contains-append_left ns (n ∷ []) i ((lists.exactly i).1 early)
+      | inr last ↦ subst (Contains (ns ++ n ∷ [])) last (Contains-push ns n)
+    ],
+  );
+}
+
+-- one more pair at the end
+pub zip_push : {X Y : Type 0} (R : X → Y → Type 0) (xs : List X) (ys : List Y) (x : X) (y : Y) → AllZip R xs ys → R x y → AllZip R (xs ++ x ∷ []) (ys ++ y ∷ [])
+zip_push R [] [] x y zip here = (here, tt)
+zip_push R [] (b ∷ bs) x y zip here = absurd zip
+zip_push R (a ∷ as') [] x y zip here = absurd zip
+zip_push R (a ∷ as') (b ∷ bs) x y zip here = (zip.0, zip_push R as' bs x y zip.1 here)
+
+-- what stands at a place after another was written
+pub slice_get-set_other : {X : Type 0} (xs : List X) (i k : ℕ) (v : X) → i ≢ k → slice_get (slice_set xs i v) k ≡ slice_get xs k
+slice_get-set_other [] i k v ne = refl
+slice_get-set_other (x ∷ xs) zero zero v ne = absurd (ne refl)
+slice_get-set_other (x ∷ xs) zero (suc k) v ne = refl
+slice_get-set_other (x ∷ xs) (suc i) zero v ne = refl
+slice_get-set_other (x ∷ xs) (suc i) (suc k) v ne = slice_get-set_other xs i k v (λ e. ne (ap suc e))
+
+pub slice_get-set_same : {X : Type 0} (xs : List X) (i : ℕ) (v w : X) → slice_get (slice_set xs i v) i ≡ Some w → v ≡ w
+slice_get-set_same [] i v w is = cc
+slice_get-set_same (x ∷ xs) zero v w is = cc
+slice_get-set_same (x ∷ xs) (suc i) v w is = slice_get-set_same xs i v w is
+
+pub slice_get-replicate : {X : Type 0} (n k : ℕ) (v w : X) → slice_get (replicate n v) k ≡ Some w → v ≡ w
+slice_get-replicate n k v w is =
+    let within = slice_get_within (replicate n v) k w is in
+    sym (get_or-replicate n k v v (omega (arith, length-replicate n v))) ∙ get_or_from_slice_get (replicate n v) k w v is
+
+-- what a read gave stands there, in a list that is another by name
+pub read_at : {X : Type 0} (xs ys : List X) (i : ℕ) (x : X) → ys ≡ xs → i < length ys → x ≡ get_or ys i x → slice_get xs i ≡ Some x
+read_at {X} xs ys i x same low is = ap (λ (l : List X). slice_get l i) (sym same) ∙ slice_get_read ys (length ys) i x refl low is
+
+-- what holds of all holds there
+pub all_at : {X : Type 0} (P : X → Type 0) (xs : List X) (i : ℕ) (x : X) → slice_get xs i ≡ Some x → All P xs → P x
+all_at P xs i x is all = subst P (get_or_from_slice_get xs i x x is) (all i x (slice_get_within xs i x is))

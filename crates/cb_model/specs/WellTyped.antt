@@ -1,0 +1,108 @@
+-- The rules that the tables of a model keep.
+use Rattle.std.specs.Prelude.{◌≡◌, ◌≢◌, ℕ, suc, ◌<◌, ◌≤◌, List, [], ◌∷◌, length, Option, Some, None, slice_get, IfSome, true}
+use Rattle.std.specs.List.{All, AllPairs}
+use Rattle.cb_text.specs.Names.{IsName}
+use Rattle.cb_model.specs.declared.limits.TheConstants.{MOST_CLASSES, MOST_ANCESTORS, MOST_EVENTS, MOST_RELATIONS, MOST_RULES}
+use Rattle.cb_model.specs.declared.id.ClassId.{ClassId}
+use Rattle.cb_model.specs.declared.id.EventId.{EventId}
+use Rattle.cb_model.specs.declared.id.RelId.{RelId}
+use Rattle.cb_model.specs.declared.tables.Tables.{Tables}
+use Rattle.cb_model.specs.declared.tables.ClassRow.{ClassRow}
+use Rattle.cb_model.specs.declared.tables.EventRow.{EventRow}
+use Rattle.cb_model.specs.declared.tables.RelRow.{RelRow}
+use Rattle.cb_model.specs.declared.tables.RuleRow.{RuleRow}
+use Rattle.cb_model.specs.declared.tables.BlockRow.{BlockRow}
+use Rattle.cb_model.specs.declared.tables.HideRow.{HideRow}
+use Rattle.cb_model.specs.Classes.{ancestor, IsA, HasEvent, HasRelation}
+
+-- the numbers that are places of rows
+abbrev pub IsClass : Tables → ClassId → Type 0
+IsClass t c = c.0 < length t.classes
+
+abbrev pub IsEvent : Tables → EventId → Type 0
+IsEvent t e = e.0 < length t.events
+
+abbrev pub IsRelation : Tables → RelId → Type 0
+IsRelation t r = r.0 < length t.relations
+
+-- every number in a row is the place of a row
+pub record HasPlaces (t : Tables) : Type 0 where
+  pub classes : All (λ row. IfSome row.parent (IsClass t)) t.classes
+  pub events : All (λ row. IsClass t row.class) t.events
+  pub relations : All (λ row. IsClass t row.class × IsClass t row.target × IsRelation t row.inverse) t.relations
+  pub rules : All (λ row. IsClass t row.class × IsEvent t row.cause × All (IsRelation t) row.path × IsEvent t row.effect) t.rules
+  pub blocks : All (λ row. IsClass t row.class × (row.rule < length t.rules)) t.blocks
+  pub hides : All (λ row. IsClass t row.class × IsEvent t row.event) t.hides
+
+-- every name in a row is a name
+pub record HasNames (t : Tables) : Type 0 where
+  pub classes : All (λ row. IsName row.name) t.classes
+  pub events : All (λ row. IsName row.name) t.events
+  pub relations : All (λ row. IsName row.name) t.relations
+  pub rules : All (λ row. IsName row.name) t.rules
+
+-- what a class declares under a name, by its table and its place there
+pub data Member : Type 0 where
+  event : ℕ → Member
+  relation : ℕ → Member
+  rule : ℕ → Member
+
+-- the class itself declares the member under this name
+abbrev pub Declares : Tables → ClassId → Member → List ℕ → Type 0
+Declares t c (event n) name = (row : EventRow) × (slice_get t.events n ≡ Some row) × (row.class ≡ c) × (row.name ≡ name)
+Declares t c (relation n) name = (row : RelRow) × (slice_get t.relations n ≡ Some row) × (row.class ≡ c) × (row.name ≡ name)
+Declares t c (rule n) name = (row : RuleRow) × (slice_get t.rules n ≡ Some row) × (row.class ≡ c) × (row.name ≡ name)
+
+-- c has the rule or blocks it: it is declared in c or in an ancestor
+abbrev pub InheritsRule : Tables → ClassId → ℕ → Type 0
+InheritsRule t c n = (row : RuleRow) × (slice_get t.rules n ≡ Some row) × IsA t c row.class
+
+-- the path leads from instances of c to instances of d: each of its relations is one that the class reached there has
+abbrev pub Reaches : Tables → ClassId → List RelId → ClassId → Type 0
+Reaches t c [] d = c ≡ d
+Reaches t c (r ∷ rest) d = (has : HasRelation t c r) × Reaches t has.row.target rest d
+
+-- no more than so many different things meet P
+abbrev pub AtMost : {X : Type 0} → ℕ → (X → Type 0) → Type 0
+AtMost {X} most P = (xs : List X) → AllPairs (λ x y. x ≢ y) xs → All P xs → length xs ≤ most
+
+-- the relation's inverse is declared by its target and leads back
+pub record HasInverse (t : Tables) (r : RelId) (row : RelRow) : Type 0 where
+  pub back : RelRow
+  pub is : slice_get t.relations row.inverse.0 ≡ Some back
+  pub from_target : back.class ≡ row.target
+  pub to_class : back.target ≡ row.class
+  pub again : back.inverse ≡ r
+
+-- the type rules: one field for what each forbids, but for the names that lead nowhere, since a row has places for names
+pub record KeepsTypeRules (t : Tables) : Type 0 where
+  -- two classes of one name
+  pub class_names : AllPairs (λ one other. one.name ≢ other.name) t.classes
+  -- a class that is its own ancestor
+  pub no_loop : (c : ClassId) (n : ℕ) → ancestor t c (suc n) ≢ Some c
+  -- a class with too many ancestors
+  pub depth : (c : ClassId) → ancestor t c (suc MOST_ANCESTORS) ≡ None
+  -- two members of one name, in a class and its ancestors
+  pub member_names : (c d : ClassId) (one other : Member) (name : List ℕ) → IsA t c d → Declares t c one name → Declares t d other name → one ≡ other
+  -- a relation whose inverse does not lead back
+  pub inverses : (r : RelId) (row : RelRow) → slice_get t.relations r.0 ≡ Some row → HasInverse t r row
+  -- a cause that the rule's class does not have
+  pub causes : All (λ row. HasEvent t row.class row.cause) t.rules
+  -- a path that leads nowhere, or to a class that does not have the effect
+  pub effects : All (λ row. (d : ClassId) × Reaches t row.class row.path d × HasEvent t d row.effect) t.rules
+  -- a blocked rule that the class does not inherit or declare
+  pub blocked : All (λ row. InheritsRule t row.class row.rule) t.blocks
+  -- a hidden event that the class does not have, or that is no symptom
+  pub hidden : All (λ row. (has : HasEvent t row.class row.event) × (has.row.symptom ≡ true)) t.hides
+  -- too many classes
+  pub few_classes : length t.classes ≤ MOST_CLASSES
+  -- a class with too many events, relations or rules
+  pub few_events : (c : ClassId) → AtMost MOST_EVENTS (HasEvent t c)
+  pub few_relations : (c : ClassId) → AtMost MOST_RELATIONS (HasRelation t c)
+  pub few_rules : (c : ClassId) → AtMost MOST_RULES (InheritsRule t c)
+
+-- the tables are those of a model
+pub record WellTyped (t : Tables) : Type 0 where
+  pub places : HasPlaces t
+  pub names : HasNames t
+  pub rules : KeepsTypeRules t
