@@ -1,0 +1,254 @@
+//! What has been read of a member of a class.
+ghost use Rattle.std.specs.Prelude.{◌≡◌, IfOk};
+ghost use Rattle.cb_grammar.specs.Table.{begun, next_event, next_relation, next_rule, next};
+
+use crate::lexeme::Lexeme;
+use crate::tree::{Member, Token};
+use cb_model::List;
+use std::alloc::{AllocError, Global};
+
+/// An event's words, and then its name, with whether it is marked problem and symptom.
+#[derive(Debug, Drop)]
+pub enum EventPlace {
+    Problem,
+    ProblemSymptom,
+    Symptom,
+    Event,
+    Named(Token, bool, bool),
+}
+
+/// A relation's name, its target, whether it leads to many, and its inverse, as far as they are read.
+#[derive(Debug, Drop)]
+pub enum RelationPlace {
+    Word,
+    Named(Token),
+    To(Token),
+    Target(Token, Token),
+    Count(Token, Token, bool),
+    Inverse(Token, Token, bool),
+    Whole(Token, Token, bool, Token),
+}
+
+/// A rule's name, its cause, its path and its effect, as far as they are read. What seems the effect is a relation of
+/// the path where a dot follows.
+#[derive(Debug, Drop)]
+pub enum RulePlace {
+    Word,
+    Named(Token),
+    Colon(Token),
+    Cause(Token, Token),
+    Arrow(Token, Token),
+    Effect(Token, Token, List<Token>, Token),
+    Dot(Token, Token, List<Token>),
+}
+
+/// Nothing of a member yet, or what has been read of one.
+#[derive(Debug, Drop)]
+pub enum Place {
+    Start,
+    Event(EventPlace),
+    Relation(RelationPlace),
+    Rule(RulePlace),
+    Block,
+    BlockName(Token),
+    Hide,
+    HideName(Token),
+}
+
+/// A place after one token more: still inside the member, behind it, or nowhere.
+#[derive(Debug, Drop)]
+pub enum Grown {
+    More(Place),
+    Whole(Member),
+    Wrong,
+}
+
+// The first token of a member.
+fn begin(lexeme: Lexeme) -> Grown
+    ensures { result ≡ begun lexeme }
+{
+    match lexeme {
+        Lexeme::Problem => Grown::More(Place::Event(EventPlace::Problem)),
+        Lexeme::Symptom => Grown::More(Place::Event(EventPlace::Symptom)),
+        Lexeme::Event => Grown::More(Place::Event(EventPlace::Event)),
+        Lexeme::Relation => Grown::More(Place::Relation(RelationPlace::Word)),
+        Lexeme::Rule => Grown::More(Place::Rule(RulePlace::Word)),
+        Lexeme::Block => Grown::More(Place::Block),
+        Lexeme::Hide => Grown::More(Place::Hide),
+        _ => Grown::Wrong,
+    }
+}
+
+// An event, one token more.
+fn grow_event(place: EventPlace, lexeme: Lexeme) -> Grown
+    ensures { result ≡ next_event place lexeme }
+{
+    let next = match place {
+        EventPlace::Problem => match lexeme {
+            Lexeme::Symptom => EventPlace::ProblemSymptom,
+            Lexeme::Name(name) => EventPlace::Named(name, true, false),
+            _ => return Grown::Wrong,
+        },
+        EventPlace::ProblemSymptom => match lexeme {
+            Lexeme::Name(name) => EventPlace::Named(name, true, true),
+            _ => return Grown::Wrong,
+        },
+        EventPlace::Symptom => match lexeme {
+            Lexeme::Name(name) => EventPlace::Named(name, false, true),
+            _ => return Grown::Wrong,
+        },
+        EventPlace::Event => match lexeme {
+            Lexeme::Name(name) => EventPlace::Named(name, false, false),
+            _ => return Grown::Wrong,
+        },
+        EventPlace::Named(name, problem, symptom) => match lexeme {
+            Lexeme::Semicolon => {
+                return Grown::Whole(Member::Event {
+                    name,
+                    problem,
+                    symptom,
+                });
+            }
+            _ => return Grown::Wrong,
+        },
+    };
+    Grown::More(Place::Event(next))
+}
+
+// A relation, one token more.
+fn grow_relation(place: RelationPlace, lexeme: Lexeme) -> Grown
+    ensures { result ≡ next_relation place lexeme }
+{
+    let next = match place {
+        RelationPlace::Word => match lexeme {
+            Lexeme::Name(name) => RelationPlace::Named(name),
+            _ => return Grown::Wrong,
+        },
+        RelationPlace::Named(name) => match lexeme {
+            Lexeme::To => RelationPlace::To(name),
+            _ => return Grown::Wrong,
+        },
+        RelationPlace::To(name) => match lexeme {
+            Lexeme::Name(target) => RelationPlace::Target(name, target),
+            _ => return Grown::Wrong,
+        },
+        RelationPlace::Target(name, target) => match lexeme {
+            Lexeme::One => RelationPlace::Count(name, target, false),
+            Lexeme::Many => RelationPlace::Count(name, target, true),
+            _ => return Grown::Wrong,
+        },
+        RelationPlace::Count(name, target, many) => match lexeme {
+            Lexeme::Inverse => RelationPlace::Inverse(name, target, many),
+            _ => return Grown::Wrong,
+        },
+        RelationPlace::Inverse(name, target, many) => match lexeme {
+            Lexeme::Name(inverse) => RelationPlace::Whole(name, target, many, inverse),
+            _ => return Grown::Wrong,
+        },
+        RelationPlace::Whole(name, target, many, inverse) => match lexeme {
+            Lexeme::Semicolon => {
+                return Grown::Whole(Member::Relation {
+                    name,
+                    target,
+                    many,
+                    inverse,
+                });
+            }
+            _ => return Grown::Wrong,
+        },
+    };
+    Grown::More(Place::Relation(next))
+}
+
+// A rule, one token more.
+fn grow_rule(alloc: Global, place: RulePlace, lexeme: Lexeme) -> Result<Grown, AllocError>
+    ensures { IfOk result (λ grown. grown ≡ next_rule place lexeme) }
+{
+    let next = match place {
+        RulePlace::Word => match lexeme {
+            Lexeme::Name(name) => RulePlace::Named(name),
+            _ => return Ok(Grown::Wrong),
+        },
+        RulePlace::Named(name) => match lexeme {
+            Lexeme::Colon => RulePlace::Colon(name),
+            _ => return Ok(Grown::Wrong),
+        },
+        RulePlace::Colon(name) => match lexeme {
+            Lexeme::Name(cause) => RulePlace::Cause(name, cause),
+            _ => return Ok(Grown::Wrong),
+        },
+        RulePlace::Cause(name, cause) => match lexeme {
+            Lexeme::Arrow => RulePlace::Arrow(name, cause),
+            _ => return Ok(Grown::Wrong),
+        },
+        RulePlace::Arrow(name, cause) => match lexeme {
+            Lexeme::Name(effect) => RulePlace::Effect(name, cause, List::new(alloc), effect),
+            _ => return Ok(Grown::Wrong),
+        },
+        RulePlace::Effect(name, cause, path, effect) => {
+            return grow_path(name, cause, path, effect, lexeme);
+        }
+        RulePlace::Dot(name, cause, path) => match lexeme {
+            Lexeme::Name(effect) => RulePlace::Effect(name, cause, path, effect),
+            _ => return Ok(Grown::Wrong),
+        },
+    };
+    Ok(Grown::More(Place::Rule(next)))
+}
+
+// A rule ends, or what seemed its effect is a relation of its path, of which there are at most 4.
+fn grow_path(
+    name: Token,
+    cause: Token,
+    path: List<Token>,
+    effect: Token,
+    lexeme: Lexeme,
+) -> Result<Grown, AllocError>
+    ensures { IfOk result (λ grown. grown ≡ next_rule (RulePlace.Effect name cause path effect) lexeme) }
+{
+    match lexeme {
+        Lexeme::Semicolon => Ok(Grown::Whole(Member::Rule {
+            name,
+            cause,
+            path,
+            effect,
+        })),
+        Lexeme::Dot => {
+            if path.len() >= 4 {
+                return Ok(Grown::Wrong);
+            }
+            let mut longer = path;
+            longer.push(effect)?;
+            Ok(Grown::More(Place::Rule(RulePlace::Dot(name, cause, longer))))
+        }
+        _ => Ok(Grown::Wrong),
+    }
+}
+
+/// A member, one token more.
+pub fn grow(alloc: Global, place: Place, lexeme: Lexeme) -> Result<Grown, AllocError>
+    ensures { IfOk result (λ grown. grown ≡ next place lexeme) }
+{
+    match place {
+        Place::Start => Ok(begin(lexeme)),
+        Place::Event(inner) => Ok(grow_event(inner, lexeme)),
+        Place::Relation(inner) => Ok(grow_relation(inner, lexeme)),
+        Place::Rule(inner) => grow_rule(alloc, inner, lexeme),
+        Place::Block => match lexeme {
+            Lexeme::Name(name) => Ok(Grown::More(Place::BlockName(name))),
+            _ => Ok(Grown::Wrong),
+        },
+        Place::BlockName(name) => match lexeme {
+            Lexeme::Semicolon => Ok(Grown::Whole(Member::Block { name })),
+            _ => Ok(Grown::Wrong),
+        },
+        Place::Hide => match lexeme {
+            Lexeme::Name(name) => Ok(Grown::More(Place::HideName(name))),
+            _ => Ok(Grown::Wrong),
+        },
+        Place::HideName(name) => match lexeme {
+            Lexeme::Semicolon => Ok(Grown::Whole(Member::Hide { name })),
+            _ => Ok(Grown::Wrong),
+        },
+    }
+}

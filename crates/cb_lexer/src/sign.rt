@@ -1,0 +1,20 @@
+//! Signs.
+ghost use Rattle.std.specs.Prelude.{◌≡◌, MatchOption, length};
+ghost use Rattle.cb_lexer.specs.Tokens.{IsSign, NoSign, BeginsWith, bytes_of};
+
+use cb_grammar::Lexeme;
+
+/// The sign at the front of the bytes, and its length.
+pub fn sign(bytes: &[u8]) -> Option<(Lexeme, usize)>
+    ensures { MatchOption result (NoSign bytes.now) (λ found. IsSign found.0 × (found.1 ≡ length (bytes_of found.0)) × BeginsWith bytes.now (bytes_of found.0)) }
+{
+    match bytes {
+        [b'{', ..] => Some((Lexeme::Open, 1)),
+        [b'}', ..] => Some((Lexeme::Close, 1)),
+        [b';', ..] => Some((Lexeme::Semicolon, 1)),
+        [b':', ..] => Some((Lexeme::Colon, 1)),
+        [b'.', ..] => Some((Lexeme::Dot, 1)),
+        [b'=', b'>', ..] => Some((Lexeme::Arrow, 2)),
+        _ => None,
+    }
+}
