@@ -1,0 +1,13 @@
+use Rattle.std.specs.Prelude.{IfSome}
+use Rattle.cb_top.specs.Outcome.{texts}
+use Rattle.cb_top.proofs.Reading.{if_some}
+use Rattle.cb_top.proofs.Outcomes.{takes_front, blames_file}
+use Rattle.cb_top.proofs.top.run.Goals as goal
+
+pub returns-clause-front : goal.returns-clause-front
+returns-clause-front g c =
+    if_some (g.F.Files.tells c.args.files.now).left _ _
+    (λ left shown. takes_front (texts c.args.words.now) left c.answer-answer.result c.conclude.result _ _ _ _ shown c.conclude.ensures) c.answer-answer.ensures.answer
+
+pub returns-clause-read_fault : goal.returns-clause-read_fault
+returns-clause-read_fault g c = blames_file (texts c.args.words.now) _ _ c.answer-answer.result c.conclude.result _ _ _ _ c.answer-answer.ensures.stop c.conclude.ensures

@@ -1,0 +1,4 @@
+pub mod Status
+pub mod Outcome
+pub mod Commands
+pub mod Run

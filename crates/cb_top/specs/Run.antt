@@ -1,0 +1,99 @@
+-- What the clauses of a run say. `old` is told before the run, `new` after it.
+use Rattle.std.specs.Prelude.{◌≡◌, ◌≢◌, ◌⊎◌, ℕ, List, [], ◌∷◌, ◌++◌, ◌+◌, take, slice_get, codes, IfSome, Some, Result, Ok, Err, Vec}
+use Rattle.std.specs.declared.alloc.Global.{Global}
+use Rattle.cb_io.specs.Outside.{FilesTold, SinkTold, left_of, ReadFailed, WritesAll, WritesFront, WriteFailed}
+use Rattle.cb_top.specs.declared.status.Status.{Status}
+use Rattle.cb_top.specs.declared.status.Status.TheVariants.{Done, ReadFault, WriteFault, Memory, NotBuilt}
+use Rattle.cb_top.specs.declared.halt.Halt.{Halt}
+use Rattle.cb_top.specs.declared.halt.Halt.TheVariants as halts
+use Rattle.cb_top.specs.Outcome.{Outcome, IsOutcome, contents, file_words, done, not_built, not_built_line}
+
+abbrev pub read_line : List ℕ → List ℕ
+read_line name = codes "error 8 read " ++ name ++ codes "\n"
+
+abbrev pub write_line : List ℕ
+write_line = codes "error 9 write\n"
+
+abbrev pub memory_line : List ℕ
+memory_line = codes "error 10 memory\n"
+
+-- these files were read whole, and the others have left what they had
+abbrev pub HasRead : List (List ℕ) → FilesTold → FilesTold → Type 0
+HasRead names old new = IfSome old.left (λ left. (name : List ℕ) → left_of new name ≡ Some (contents left names name))
+
+-- the sink took the line, or a front of it where a write failed
+abbrev pub Says : SinkTold → SinkTold → List ℕ → Type 0
+Says old new line = WritesAll old new line ⊎ (WritesFront old new line × WriteFailed old new)
+
+-- the sink took nothing
+abbrev pub TakesNothing : SinkTold → SinkTold → Type 0
+TakesNothing old new = WritesAll old new []
+
+-- A read of the file word at a place failed. The file words before it were read whole, and all names but that one and
+-- those have left what they had.
+pub record StopsAt (names : List (List ℕ)) (place : ℕ) (old new : FilesTold) : Type 0 where
+  pub name : List ℕ
+  pub is : slice_get names place ≡ Some name
+  pub failed : ReadFailed old new name
+  pub others : IfSome old.left (λ left. (other : List ℕ) → other ≢ name → left_of new other ≡ Some (contents left (take place names) other))
+
+-- a file word stopped the run, and the line names it
+pub record BlamesFile (words : List (List ℕ)) (old new : FilesTold) (err_old err_new : SinkTold) : Type 0 where
+  pub place : ℕ
+  pub stops : StopsAt (file_words words) place old new
+  pub says : Says err_old err_new (read_line stops.name)
+
+-- a write failed, and the line says so
+pub record BlamesOut (old new err_old err_new : SinkTold) : Type 0 where
+  pub failed : WriteFailed old new
+  pub says : Says err_old err_new write_line
+
+-- the status is the outcome's, the output its bytes, and the error sink was given its line
+pub record Answers (words : List (List ℕ)) (left : List (List ℕ × List ℕ)) (status : Status) (out_old out_new err_old err_new : SinkTold) : Type 0 where
+  pub outcome : Outcome
+  pub is : IsOutcome words left outcome
+  pub status_is : status ≡ outcome.status
+  pub output : WritesAll out_old out_new outcome.out
+  pub says : Says err_old err_new outcome.line
+
+-- the output took no more than a front of the outcome's bytes
+abbrev pub TakesFront : List (List ℕ) → List (List ℕ × List ℕ) → SinkTold → SinkTold → Type 0
+TakesFront words left old new = (outcome : Outcome) → IsOutcome words left outcome → WritesFront old new outcome.out
+
+-- a fact where a file word couldn't be read, of its place
+abbrev pub OnFileFault : Halt → (ℕ → Type 0) → Type 0
+OnFileFault (halts.ReadFault place) P = P place
+OnFileFault halt P = Unit {0}
+
+-- the same, where a result may be such a halt
+abbrev pub OnStop : {T : Type 0} → Result T Halt → (ℕ → Type 0) → Type 0
+OnStop (Ok value) P = Unit {0}
+OnStop (Err halt) P = OnFileFault halt P
+
+-- what a halt shows of the outcome
+abbrev pub HaltShows : Halt → (Outcome → Type 0) → Type 0
+HaltShows halts.NotBuilt IsIt = IsIt not_built
+HaltShows halt IsIt = Unit {0}
+
+-- what is known of the outcome, once the files were read and judged
+abbrev pub Shows : Result (Vec ℕ Global) Halt → (Outcome → Type 0) → Type 0
+Shows (Ok bytes) IsIt = IsIt (done bytes.items)
+Shows (Err halt) IsIt = HaltShows halt IsIt
+
+-- the status and the line that tell why there is no output
+abbrev pub Explains : List (List ℕ) → Halt → Status → SinkTold → SinkTold → Type 0
+Explains words halts.NotBuilt NotBuilt old new = Says old new not_built_line
+Explains words (halts.ReadFault place) ReadFault old new = (name : List ℕ) × (slice_get words (place + 1) ≡ Some name) × Says old new (read_line name)
+Explains words halts.Memory Memory old new = Says old new memory_line
+Explains words halt status old new = ⊥
+
+-- how the bytes of the output are written
+abbrev pub Delivers : List ℕ → Status → SinkTold → SinkTold → SinkTold → SinkTold → Type 0
+Delivers bytes Done out out' err err' = WritesAll out out' bytes × TakesNothing err err'
+Delivers bytes WriteFault out out' err err' = WritesFront out out' bytes × BlamesOut out out' err err'
+Delivers bytes status out out' err err' = ⊥
+
+-- how a run ends, once the files were read and judged
+abbrev pub Concludes : List (List ℕ) → Result (Vec ℕ Global) Halt → Status → SinkTold → SinkTold → SinkTold → SinkTold → Type 0
+Concludes words (Ok bytes) status out out' err err' = Delivers bytes.items status out out' err err'
+Concludes words (Err halt) status out out' err err' = TakesNothing out out' × Explains words halt status err err'

@@ -1,0 +1,53 @@
+//! The files of a command, each read whole.
+ghost use Rattle.std.specs.Prelude.{◌≡◌, ◌≢◌, ◌≤◌, ◌<◌, [], length, IfOk, OnOk, IfSome, IsErrOf};
+ghost use Rattle.cb_io.specs.Outside.{left_of, ReadsAll, KeepsOthers, NoCountFalls, ReadFailed};
+ghost use Rattle.cb_top.specs.Run.{OnStop};
+
+use crate::halt::Halt;
+use cb_io::{Files, ReadStop, read_whole};
+use std::alloc::Global;
+
+/// A model, topology or symptom file has at most so many bytes.
+pub const MOST_BYTES: usize = 16 << 20;
+
+/// All bytes left of the file word at a place; a longer file isn't built for.
+pub fn read_file<F: Files>(
+    alloc: Global,
+    files: &mut F,
+    name: &str,
+    place: usize,
+) -> Result<Vec<u8>, Halt>
+    ensures text { IfOk result (λ text. ReadsAll (F.tells files.old) (F.tells files.new) name.now text.items) }
+    ensures short { IfOk result (λ text. length text.items ≤ MOST_BYTES) }
+    ensures long { IsErrOf result Halt.NotBuilt → IfSome (left_of (F.tells files.old) name.now) (λ text. MOST_BYTES < length text) }
+    ensures fault { OnStop result (λ at. (at ≡ place) × ReadFailed (F.tells files.old) (F.tells files.new) name.now) }
+    ensures others { KeepsOthers (F.tells files.old) (F.tells files.new) name.now }
+    ensures counts { NoCountFalls (F.tells files.old) (F.tells files.new) }
+{
+    match read_whole(alloc, files, name, MOST_BYTES) {
+        Ok(text) => Ok(text),
+        Err(ReadStop::TooMuch) => Err(Halt::NotBuilt),
+        Err(ReadStop::ReadFault) => Err(Halt::ReadFault(place)),
+        Err(ReadStop::NoMemory) => Err(Halt::Memory),
+    }
+}
+
+/// Reads a file that may have no byte.
+pub fn read_nothing<F: Files>(
+    alloc: Global,
+    files: &mut F,
+    name: &str,
+    place: usize,
+) -> Result<(), Halt>
+    ensures ok { OnOk result (ReadsAll (F.tells files.old) (F.tells files.new) name.now []) }
+    ensures not_built { IsErrOf result Halt.NotBuilt → IfSome (left_of (F.tells files.old) name.now) (λ text. text ≢ []) }
+    ensures stop { OnStop result (λ at. (at ≡ place) × ReadFailed (F.tells files.old) (F.tells files.new) name.now) }
+    ensures others { KeepsOthers (F.tells files.old) (F.tells files.new) name.now }
+    ensures counts { NoCountFalls (F.tells files.old) (F.tells files.new) }
+{
+    let text = read_file(alloc, files, name, place)?;
+    if text.is_empty() {
+        return Ok(());
+    }
+    Err(Halt::NotBuilt)
+}

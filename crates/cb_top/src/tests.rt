@@ -1,0 +1,185 @@
+//! The top call, over files and sinks in memory.
+ghost use Rattle.std.specs.Prelude.{◌≡◌, ◌<◌};
+
+use crate::{Status, run};
+use cb_io::{MemFiles, MemSink};
+use cb_steps::Steps;
+use std::alloc::{AllocError, Global};
+use std::marker::Brand;
+use std::process::Abort;
+use std::sync::ledger::{Blank, Ledger};
+use std::test::Fail;
+
+const QUIET: &str = "burst raised 0 unknown 0 distance 0 radius 0 sure groups 1\n  group quiet\n";
+
+/// What a run is made on: the words, the files, and what the outside does to it.
+#[derive(Clone, Copy)]
+struct Case<'a> {
+    words: &'a [&'a str],
+    files: &'a [(&'a str, &'a str)],
+    piece: usize,
+    failing_read: u64,
+    failing_write: u64,
+}
+
+/// What is wanted of it.
+#[derive(Clone, Copy)]
+struct Wanted<'a> {
+    code: u8,
+    out: &'a str,
+    err: &'a str,
+}
+
+fn words_of(alloc: Global, words: &[&str]) -> Result<Vec<String>, AllocError> {
+    let mut all = Vec::new(alloc);
+    for word in words {
+        all.push(String::from_str(alloc, word)?)?;
+    }
+    Ok(all)
+}
+
+fn files_of(alloc: Global, case: &Case<'_>) -> Result<MemFiles, AllocError> {
+    let mut files = MemFiles::new(alloc);
+    for (name, bytes) in case.files {
+        files.add(name, bytes.as_bytes())?;
+    }
+    if case.piece > 0 {
+        files.piece(case.piece);
+    }
+    files.fail_at(case.failing_read)?;
+    Ok(files)
+}
+
+// What a run over files and sinks in memory answers and writes.
+fn ran<L: Ledger>(
+    rt: &impl Abort,
+    alloc: Global,
+    case: &Case<'_>,
+    wanted: &Wanted<'_>,
+    blank: Blank,
+) -> Result<(), AllocError>
+    requires name { blank.name ≡ L.name }
+    requires parts { blank.parts ≡ L.parts }
+    requires some { 0 < L.parts }
+{
+    let words = words_of(alloc, case.words)?;
+    let mut files = files_of(alloc, case)?;
+    let mut out = MemSink::new(alloc, 4096)?;
+    let mut err = MemSink::new(alloc, 4096)?;
+    if case.piece > 0 {
+        out.piece(case.piece);
+    }
+    out.fail_at(case.failing_write)?;
+    let mut steps = Steps::<L>::new(blank);
+    let status = run(alloc, &words, &mut files, &mut out, &mut err, &mut steps);
+    assert_eq!(rt; status.code(), wanted.code);
+    assert_eq!(rt; out.bytes(), wanted.out.as_bytes());
+    assert_eq!(rt; err.bytes(), wanted.err.as_bytes());
+    Ok(())
+}
+
+// Runs the case in a ledger of its own.
+fn check(
+    rt: &impl Abort,
+    alloc: Global,
+    case: &Case<'_>,
+    wanted: &Wanted<'_>,
+) -> Result<(), AllocError> {
+    ran::<Brand>(rt, alloc, case, wanted, Blank::new(1))
+}
+
+const EMPTY: &[(&str, &str)] = &[("m", ""), ("t", ""), ("s", "")];
+
+#[test]
+fn empty_files_are_quiet_in_any_pieces(rt: HostRuntime) -> Result<(), Fail> {
+    for piece in [0, 1, 7] {
+        let case = Case {
+            words: &["burst", "m", "t", "s"],
+            files: EMPTY,
+            piece,
+            failing_read: 0,
+            failing_write: 0,
+        };
+        let wanted = Wanted {
+            code: 0,
+            out: QUIET,
+            err: "",
+        };
+        check(&rt, rt.alloc(), &case, &wanted)?;
+    }
+    Ok(())
+}
+
+#[test]
+fn a_failed_read_names_its_file(rt: HostRuntime) -> Result<(), Fail> {
+    // The names that were added, the read that fails, if not 0, and the line.
+    let cases: [(&[(&str, &str)], u64, &str); 5] = [
+        (&[("m", ""), ("s", "")], 0, "error 8 read t\n"),
+        (&[], 0, "error 8 read m\n"),
+        (EMPTY, 1, "error 8 read m\n"),
+        (EMPTY, 2, "error 8 read t\n"),
+        (EMPTY, 3, "error 8 read s\n"),
+    ];
+    for (files, failing_read, err) in cases {
+        let case = Case {
+            words: &["burst", "m", "t", "s"],
+            files,
+            piece: 0,
+            failing_read,
+            failing_write: 0,
+        };
+        let wanted = Wanted {
+            code: 8,
+            out: "",
+            err,
+        };
+        check(&rt, rt.alloc(), &case, &wanted)?;
+    }
+    Ok(())
+}
+
+#[test]
+fn a_refused_write_leaves_a_front(rt: HostRuntime) -> Result<(), Fail> {
+    for (failing_write, out) in [(1, ""), (2, "burst r"), (3, "burst raised 0")] {
+        let case = Case {
+            words: &["burst", "m", "t", "s"],
+            files: EMPTY,
+            piece: 7,
+            failing_read: 0,
+            failing_write,
+        };
+        let wanted = Wanted {
+            code: 9,
+            out,
+            err: "error 9 write\n",
+        };
+        check(&rt, rt.alloc(), &case, &wanted)?;
+    }
+    Ok(())
+}
+
+#[test]
+fn other_words_are_not_built(rt: HostRuntime) -> Result<(), Fail> {
+    let cases: [&[&str]; 4] = [
+        &[],
+        &["matrix"],
+        &["burst", "m", "t"],
+        &["Burst", "m", "t", "s"],
+    ];
+    for words in cases {
+        let case = Case {
+            words,
+            files: EMPTY,
+            piece: 0,
+            failing_read: 0,
+            failing_write: 0,
+        };
+        let wanted = Wanted {
+            code: 11,
+            out: "",
+            err: "error 11 not-built\n",
+        };
+        check(&rt, rt.alloc(), &case, &wanted)?;
+    }
+    Ok(())
+}

@@ -1,0 +1,62 @@
+//! The top call.
+ghost use Rattle.std.specs.Prelude.{◌≡◌, [], OnOk, IfSome};
+ghost use Rattle.cb_top.specs.Status.{OnAnswer, OnDone, OnReadFault, OnWriteFault, OnMemory};
+ghost use Rattle.cb_top.specs.Outcome.{texts, file_words, IsOutcome};
+ghost use Rattle.cb_top.specs.Run.{Answers, TakesFront, TakesNothing, HasRead, BlamesFile, BlamesOut, Says, StopsAt, Shows, OnStop, memory_line};
+
+use crate::burst::burst;
+use crate::command::Command;
+use crate::conclude::conclude;
+use crate::halt::Halt;
+use crate::status::Status;
+use cb_io::{Files, Sink};
+use cb_steps::Steps;
+use std::alloc::Global;
+use std::sync::ledger::Ledger;
+
+/// Does what the words of the command line say: reads the files that they name, writes the output to `out`, and where
+/// the status isn't `Done`, one line to `err`.
+pub fn run<F: Files, O: Sink, E: Sink, L: Ledger>(
+    alloc: Global,
+    words: &[String],
+    files: &mut F,
+    out: &mut O,
+    err: &mut E,
+    steps: &mut Steps<L>,
+) -> Status
+    // Status, output and line are those of the outcome, unless a read or a write failed or memory ran out.
+    ensures answer { OnAnswer result (IfSome (F.tells files.old).left (λ left.
+        Answers (texts words.now) left result (O.tells out.old) (O.tells out.new) (E.tells err.old) (E.tells err.new))) }
+    // At every status, the output is the outcome's up to some byte.
+    ensures front { IfSome (F.tells files.old).left (λ left. TakesFront (texts words.now) left (O.tells out.old) (O.tells out.new)) }
+    // Where the words are no command, nothing else matters.
+    ensures no_command { file_words (texts words.now) ≡ [] → result ≡ Status.NotBuilt }
+    ensures read_whole { OnDone result (HasRead (file_words (texts words.now)) (F.tells files.old) (F.tells files.new)) }
+    ensures read_fault { OnReadFault result (BlamesFile (texts words.now) (F.tells files.old) (F.tells files.new) (E.tells err.old) (E.tells err.new)) }
+    ensures read_quiet { OnReadFault result (TakesNothing (O.tells out.old) (O.tells out.new)) }
+    ensures write_fault { OnWriteFault result (BlamesOut (O.tells out.old) (O.tells out.new) (E.tells err.old) (E.tells err.new)) }
+    ensures memory { OnMemory result (Says (E.tells err.old) (E.tells err.new) memory_line) }
+    ensures steps { steps.new ≡ steps.old }
+{
+    let answer = answer(alloc, words, files);
+    conclude(words, answer, out, err)
+}
+
+// Reads and judges the files of a command, and gives its output.
+fn answer<F: Files>(alloc: Global, words: &[String], files: &mut F) -> Result<Vec<u8>, Halt>
+    ensures answer { IfSome (F.tells files.old).left (λ left. Shows result (IsOutcome (texts words.now) left)) }
+    ensures read { OnOk result (HasRead (file_words (texts words.now)) (F.tells files.old) (F.tells files.new)) }
+    ensures stop { OnStop result (λ place. StopsAt (file_words (texts words.now)) place (F.tells files.old) (F.tells files.new)) }
+    ensures no_command { file_words (texts words.now) ≡ [] → result ≡ Err Halt.NotBuilt }
+{
+    match Command::of(words) {
+        Some(
+            Command::Burst {
+                model,
+                topology,
+                symptoms,
+            },
+        ) => burst(alloc, files, model, topology, symptoms),
+        None => Err(Halt::NotBuilt),
+    }
+}
