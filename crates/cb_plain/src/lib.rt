@@ -12,3 +12,6 @@ pub use decode::nearest;
 pub use grouping::{codes, groups};
 pub use measure::{distance, distance_over};
 pub use reduce::{book, is_good};
+
+#[cfg(test)]
+mod tests;
