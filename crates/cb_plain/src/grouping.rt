@@ -42,9 +42,9 @@ fn group_of(alloc: Global, problems: &List<Problem>, code: List<bool>) -> Result
     ensures { IfOk result (λ group. group ≡ group_of_code problems.now code) }
 {
     let mut members = List::new(alloc);
-    for problem in problems.as_slice() {
-        if code.as_slice() == problem.code.as_slice() {
-            members.push(problem.name.copy(alloc)?)?;
+    for candidate in problems.as_slice() {
+        if code.as_slice() == candidate.code.as_slice() {
+            members.push(candidate.name.copy(alloc)?)?;
         }
     }
     Ok(Group { code, members })

@@ -28,13 +28,47 @@ fn finds_the_first_closest_pair(rt: HostRuntime) -> Result<(), Fail> {
 }
 
 #[test]
+fn tells_how_far_codes_are_apart(rt: HostRuntime) -> Result<(), Fail> {
+    let alloc = rt.alloc();
+    let mut columns = List::new(alloc);
+    for column in [0, 2, 3] {
+        columns.push(column)?;
+    }
+    for (a, b, all, over) in [
+        ("11100", "11011", 3, 2),
+        ("00000", "10111", 4, 3),
+        ("01001", "01001", 0, 0),
+    ] {
+        let (a, b) = (code_of(alloc, 5, a)?, code_of(alloc, 5, b)?);
+        assert_eq!(rt;
+            (distance(&a, &b), distance_over(&a, &b, &columns)),
+            (all, over)
+        );
+    }
+    let codes = codes_of(alloc, 5, &CODES)?;
+    assert_eq!(rt;
+        (is_good(&codes, &columns, 2), is_good(&codes, &columns, 3)),
+        (true, false)
+    );
+    Ok(())
+}
+
+#[test]
 fn keeps_the_columns_of_a_book(rt: HostRuntime) -> Result<(), Fail> {
     let alloc = rt.alloc();
     let codes = codes_of(alloc, 5, &CODES)?;
-    let cases: [(u32, Option<&[u32]>); 3] = [(3, Some(&[0, 1, 2, 3, 4])), (2, Some(&[0, 2, 3])), (4, None)];
+    let cases: [(u32, Option<&[u32]>); 3] = [
+        (3, Some(&[0, 1, 2, 3, 4])),
+        (2, Some(&[0, 2, 3])),
+        (4, None),
+    ];
     for (distance, columns) in cases {
         let made = book(alloc, &codes, 5, distance)?;
-        assert_eq!(rt; made.as_ref().map(|book| book.columns.as_slice()), columns, "at {distance}");
+        assert_eq!(rt;
+            made.as_ref().map(|book| book.columns.as_slice()),
+            columns,
+            "at {distance}"
+        );
     }
     let alone = book(alloc, &codes_of(alloc, 3, &["000"])?, 3, 9_999)?.ok_or("no book")?;
     assert_eq!(rt; alone.columns.len(), 0);
@@ -46,7 +80,10 @@ fn keeps_the_columns_of_a_book(rt: HostRuntime) -> Result<(), Fail> {
 fn decodes_words(rt: HostRuntime) -> Result<(), Fail> {
     let alloc = rt.alloc();
     let codes = codes_of(alloc, 5, &CODES)?;
-    let cases: [(u32, &str, &[u32], bool); 2] = [(2, "10000", &[0, 1, 3], false), (3, "10100", &[1], true)];
+    let cases: [(u32, &str, &[u32], bool); 2] = [
+        (2, "10000", &[0, 1, 3], false),
+        (3, "10100", &[1], true),
+    ];
     for (distance, word, groups, sure) in cases {
         let book = book(alloc, &codes, 5, distance)?.ok_or("no book")?;
         assert!(rt; book.columns.len() <= 5);
@@ -75,6 +112,7 @@ fn groups_problems_by_codes(rt: HostRuntime) -> Result<(), Fail> {
     let made = groups(alloc, &problems, 3)?;
     let want: [&[usize]; 3] = [&[1, 4], &[0, 3], &[2]];
     assert_eq!(rt; made.len(), want.len());
+    assert_eq!(rt; codes(alloc, &made)?.len(), want.len());
     for (group, places) in made.as_slice().iter().zip(want) {
         assert_eq!(rt; group.members.len(), places.len());
         for (member, place) in group.members.as_slice().iter().zip(places) {
