@@ -1,5 +1,5 @@
 -- The places of the nearest codes.
-use Rattle.std.proofs.Common.{◌≡◌, ℕ, ◌+◌, ◌<◌, ◌≤◌, List, [], ◌∷◌, ◌++◌, length, Bool, IsTrue, ◌==◌, ◌↔◌, refl, sym, ap, subst, ◌∙◌, arith}
+use Rattle.std.proofs.Common.{◌≡◌, ℕ, ◌+◌, ◌<◌, ◌≤◌, List, [], ◌∷◌, ◌++◌, length, Bool, IsTrue, ◌==◌, ◌↔◌, refl, sym, ap, ◌∙◌, arith}
 use Rattle.std.specs.List.{Contains, filter}
 use Rattle.std.proofs.lemmas.Bool.{eqb-true, eq-eqb, ne_eqb}
 use Rattle.std.proofs.lemmas.List.{append-nil}
@@ -34,11 +34,11 @@ module _ (columns : List ℕ) (codes : List (List Bool)) (word : List Bool) (dis
       → IsTrue answer.sure ↔ (distance ≤ radius d) → IsAnswer columns codes d word answer
   nearest_is d answer e groups attained least sure =
       let at : (i : ℕ) → Contains (places_at columns codes word distance (length codes)) i ↔ ((i < length codes) × (from_word columns codes word i ≡ distance)) =
-        λ i. (
-          λ c. let was = was_in_filtered is_at (all_columns (length codes)) i c in
-          (below_from_all_columns (length codes) i was.0, eqb-true (from_word columns codes word i) distance was.1),
-          λ (lt, is). kept_by_filter is_at (all_columns (length codes)) i (in_all_columns (length codes) i lt) (eq-eqb (from_word columns codes word i) distance is)
-        )
+      λ i. (
+        λ c. let was = was_in_filtered is_at (all_columns (length codes)) i c in
+            (below_from_all_columns (length codes) i was.0, eqb-true (from_word columns codes word i) distance was.1),
+        λ (lt, is). kept_by_filter is_at (all_columns (length codes)) i (in_all_columns (length codes) i lt) (eq-eqb (from_word columns codes word i) distance is),
+      )
       in
       record {
         attained = (attained.0, attained.1, attained.2 ∙ sym e);

@@ -1,10 +1,9 @@
 -- The closest pair so far, one pair and one row of pairs on.
-use Rattle.std.proofs.Common.{◌≡◌, ℕ, ◌+◌, ◌<◌, ◌≤◌, List, [], length, slice_get, Option, Some, None, Bool, refl, sym, ap, ◌∙◌, inl, inr, ◌⊎◌, arith}
-use Rattle.std.proofs.lemmas.Option.{same_Some, slice_get-get_or, slice_get_within}
+use Rattle.std.proofs.Common.{◌≡◌, ℕ, ◌+◌, ◌<◌, ◌≤◌, List, length, Option, Some, None, Bool, refl, ap, ◌∙◌, inl, inr, ◌⊎◌, arith}
 use Rattle.std.proofs.lemmas.List.FromFn.{length-range_with_len}
 use Rattle.std.proofs.lemmas.List.Sums.{count_by-le-length}
 use Rattle.cb_coding.specs.declared.book.Pair.{Pair}
-use Rattle.cb_coding.specs.Distance.{HaveWidth, differ, bit, apart, all_columns, code_at, distance}
+use Rattle.cb_coding.specs.Distance.{differ, bit, apart, all_columns, code_at}
 use Rattle.cb_coding.specs.Pairs.{IsPair, ComesBefore, IsLeast}
 use Rattle.cb_plain.specs.Closest.{IsClosestBefore, IsLeastBefore, limit_of}
 

@@ -23,7 +23,12 @@ pub fn least(codes: &List<List<bool>>, width: usize) -> Option<Pair>
 }
 
 // The closest of all pairs up to those that have this first place; the best is the closest of the earlier ones.
-fn closest_from(codes: &List<List<bool>>, width: usize, first: usize, mut best: Option<Pair>) -> Option<Pair>
+fn closest_from(
+    codes: &List<List<bool>>,
+    width: usize,
+    first: usize,
+    mut best: Option<Pair>,
+) -> Option<Pair>
     requires have_width { HaveWidth width codes.now }
     requires places_fit { length codes.now < 2 ^ 32 }
     requires columns_fit { width < 2 ^ 32 }

@@ -9,7 +9,12 @@ use cb_model::List;
 use std::alloc::{AllocError, Global};
 
 /// The answer for a word over the columns of a book. A code or a word that is too short says false past its end.
-pub fn nearest(alloc: Global, codes: &List<List<bool>>, book: &Book, word: &List<bool>) -> Result<Answer, AllocError>
+pub fn nearest(
+    alloc: Global,
+    codes: &List<List<bool>>,
+    book: &Book,
+    word: &List<bool>,
+) -> Result<Answer, AllocError>
     requires some { 0 < length codes.now }
     requires places_fit { length codes.now < 2 ^ 32 }
     requires columns_fit { length book.now.columns < 2 ^ 32 }
@@ -43,7 +48,13 @@ fn least_distance(codes: &List<List<bool>>, columns: &List<u32>, word: &List<boo
 }
 
 // The places of all codes at that distance from the word, in order.
-fn all_at(alloc: Global, codes: &List<List<bool>>, columns: &List<u32>, word: &List<bool>, distance: u32) -> Result<List<u32>, AllocError>
+fn all_at(
+    alloc: Global,
+    codes: &List<List<bool>>,
+    columns: &List<u32>,
+    word: &List<bool>,
+    distance: u32,
+) -> Result<List<u32>, AllocError>
     requires places_fit { length codes.now < 2 ^ 32 }
     requires columns_fit { length columns.now < 2 ^ 32 }
     ensures { IfOk result (λ found. found ≡ places_at columns.now codes.now word.now distance (length codes.now)) }

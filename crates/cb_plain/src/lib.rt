@@ -3,10 +3,15 @@
 
 mod closest;
 mod decode;
+mod grouping;
 mod measure;
 mod reduce;
 
 pub use closest::least;
 pub use decode::nearest;
+pub use grouping::{codes, groups};
 pub use measure::{distance, distance_over};
 pub use reduce::{book, is_good};
+
+#[cfg(test)]
+mod tests;

@@ -1,6 +1,6 @@
 //! How far two codes are apart.
 ghost use Rattle.std.specs.Prelude.{◌≡◌, ◌<◌, ◌≤◌, ◌^◌, ◌↔◌, length, IsTrue, SomeIff};
-ghost use Rattle.cb_coding.specs.Distance.{bit as bit_of, distance as distance_of, all_columns};
+ghost use Rattle.cb_coding.specs.Distance.{bit as bit_of, differ as differ_of, distance as distance_of, all_columns};
 
 use cb_model::List;
 
@@ -12,8 +12,8 @@ pub fn distance(a: &List<bool>, b: &List<bool>) -> u32
 {
     let (a, b) = (a.as_slice(), b.as_slice());
     let mut count = 0;
-    for k in 0..a.len() {
-        if a[k] != b[k] {
+    for column in 0..a.len() {
+        if a[column] != b[column] {
             count += 1;
         }
     }
@@ -28,7 +28,7 @@ pub fn distance_over(a: &List<bool>, b: &List<bool>, columns: &List<u32>) -> u32
     let (a, b) = (a.as_slice(), b.as_slice());
     let mut count = 0;
     for column in columns.as_slice() {
-        if bit(a, *column) != bit(b, *column) {
+        if differ(a, b, *column) {
             count += 1;
         }
     }
@@ -68,11 +68,18 @@ pub(crate) fn are_apart(a: &List<bool>, b: &List<bool>, columns: &List<u32>, d: 
         if lacking == 0 {
             return true;
         }
-        if bit(a, *column) != bit(b, *column) {
+        if differ(a, b, *column) {
             lacking -= 1;
         }
     }
     lacking == 0
+}
+
+// Whether two codes differ at a column.
+fn differ(a: &[bool], b: &[bool], column: u32) -> bool
+    ensures { result ≡ differ_of (bit_of a.now column) (bit_of b.now column) }
+{
+    bit(a, column) != bit(b, column)
 }
 
 // What a code says of a column.

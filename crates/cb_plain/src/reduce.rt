@@ -11,7 +11,12 @@ use cb_model::List;
 use std::alloc::{AllocError, Global};
 
 /// The book at a distance; there is none where two codes are closer over all columns.
-pub fn book(alloc: Global, codes: &List<List<bool>>, width: usize, distance: u32) -> Result<Option<Book>, AllocError>
+pub fn book(
+    alloc: Global,
+    codes: &List<List<bool>>,
+    width: usize,
+    distance: u32,
+) -> Result<Option<Book>, AllocError>
     requires { width < 2 ^ 32 }
     ensures book { IfOk result (λ made. IfSome made (IsBook width codes.now)) }
     ensures distance { IfOk result (λ made. IfSome made (λ book. book.distance ≡ distance)) }
@@ -43,7 +48,12 @@ pub fn is_good(codes: &List<List<bool>>, columns: &List<u32>, distance: u32) -> 
 }
 
 // Whether a code is at least that far from each code before it.
-fn is_far_from_earlier(codes: &List<List<bool>>, second: usize, columns: &List<u32>, distance: u32) -> bool
+fn is_far_from_earlier(
+    codes: &List<List<bool>>,
+    second: usize,
+    columns: &List<u32>,
+    distance: u32,
+) -> bool
     requires { second < length codes.now }
     ensures { IsTrue result ↔ ((first : ℕ) → first < second → distance ≤ apart columns.now codes.now first second) }
 {

@@ -18,7 +18,7 @@ loop-second-preserved c =
     let w = c.at-in-loop-second.result.now in
     let wide = width_is c.args.width codes i v c.requires.have_width c.at.ensures in
     let far : distance (all_columns (length v)) v w ≡ apart (all_columns c.args.width) codes i j =
-      ap (λ columns. distance columns v w) wide ∙ apart_is (all_columns c.args.width) codes i j v w c.at.ensures c.at-in-loop-second.ensures
+    ap (λ columns. distance columns v w) wide ∙ apart_is (all_columns c.args.width) codes i j v w c.at.ensures c.at-in-loop-second.ensures
     in
     let pair : IsPair codes i j = (omega arith, omega arith) in
     let limit = c.limit-limit.ensures in

@@ -1,4 +1,4 @@
-use Rattle.std.proofs.Common.{◌≡◌, ◌++◌, ◌∷◌, [], sym, ap, ◌∙◌, arith}
+use Rattle.std.proofs.Common.{◌++◌, ◌∷◌, [], ap, ◌∙◌, arith}
 use Rattle.cb_plain.proofs.Places.{from_word_is}
 use Rattle.cb_plain.proofs.AtDistance.{one_more_place, no_more_place}
 use Rattle.cb_plain.proofs.decode.all_at.Goals as goal

@@ -1,4 +1,4 @@
-use Rattle.std.proofs.Common.{◌≡◌, arith, below_more}
+use Rattle.std.proofs.Common.{arith, below_more}
 use Rattle.cb_plain.proofs.Places.{from_word_is}
 use Rattle.cb_plain.proofs.decode.least_distance.Goals as goal
 use Rattle.cb_plain.proofs.decode.least_distance.Goals.{then-distance-least, else-distance-least}

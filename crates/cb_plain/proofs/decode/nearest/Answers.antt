@@ -1,4 +1,4 @@
-use Rattle.std.proofs.Common.{◌≡◌, ◌-◌, ◌/◌, refl, ap, arith}
+use Rattle.std.proofs.Common.{◌/◌, refl, ap, arith}
 use Rattle.std.proofs.lemmas.Bool.{leb-true, le-leb}
 use Rattle.cb_plain.proofs.AtDistance.{nearest_is}
 use Rattle.cb_plain.proofs.decode.nearest.Goals as goal

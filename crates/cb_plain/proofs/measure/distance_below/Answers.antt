@@ -1,4 +1,4 @@
-use Rattle.std.proofs.Common.{◌≡◌, ◌+◌, arith, ap, cond, length}
+use Rattle.std.proofs.Common.{◌≡◌, ◌+◌, arith, ap, length}
 use Rattle.cb_coding.specs.Distance.{distance, all_columns}
 use Rattle.cb_coding.proofs.Distances.{distance_more, distance_grows}
 use Rattle.cb_plain.proofs.measure.distance_below.Goals as goal

@@ -1,12 +1,14 @@
-use Rattle.std.proofs.Common.{◌≡◌, ◌<◌, ◌≤◌, ℕ, arith, sym, subst, inl, inr}
+use Rattle.std.proofs.Common.{◌≡◌, ◌<◌, ◌≤◌, arith, subst, inl, inr}
 use Rattle.std.proofs.lemmas.Bool.{both_ways, cases_lt}
 use Rattle.cb_coding.specs.Distance.{apart}
 use Rattle.cb_plain.proofs.reduce.is_good.Goals as goal
 
 pub returns-then-not-is_far_from_earlier : goal.returns-then-not-is_far_from_earlier
-returns-then-not-is_far_from_earlier c =
-    (λ f. absurd (cc), λ good.
-    absurd (both_ways _ c.if-not-is_far_from_earlier.true (c.is_far_from_earlier.ensures.1 (λ i lt. good i c.loop-second.second (lt, omega arith)))))
+returns-then-not-is_far_from_earlier c = (
+  λ f. absurd (cc),
+  λ good.
+      absurd (both_ways _ c.if-not-is_far_from_earlier.true (c.is_far_from_earlier.ensures.1 (λ i lt. good i c.loop-second.second (lt, omega arith)))),
+)
 
 pub loop-second-preserved : goal.loop-second-preserved
 loop-second-preserved c =
