@@ -1,2 +1,3 @@
 pub mod Closest
 pub mod AtDistance
+pub mod Finds

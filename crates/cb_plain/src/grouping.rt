@@ -1,5 +1,5 @@
 //! Groups of problems that no symptom tells apart.
-ghost use Rattle.std.specs.Prelude.{◌≡◌, IfOk, replicate, false};
+ghost use Rattle.std.specs.Prelude.{◌≡◌, ◌≤◌, ◌+◌, IfOk, length, replicate, false};
 ghost use Rattle.std.specs.List.{list_any};
 ghost use Rattle.cb_coding.specs.Groups.{AreProblems, AreGroups, group_of as group_of_code, same_code, zeros as no_symptom, codes_of};
 
@@ -14,7 +14,8 @@ pub fn groups(
     width: usize,
 ) -> Result<List<Group>, AllocError>
     requires { AreProblems width problems.now }
-    ensures { IfOk result (AreGroups width problems.now) }
+    ensures groups { IfOk result (AreGroups width problems.now) }
+    ensures few { IfOk result (λ groups. length groups ≤ length problems.now + 1) }
 {
     let mut groups = List::new(alloc);
     groups.push(group_of(alloc, problems, zeros(alloc, width)?)?)?;

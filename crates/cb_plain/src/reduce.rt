@@ -65,8 +65,8 @@ fn is_far_from_earlier(
     true
 }
 
-// All columns, in order.
-fn every_column(alloc: Global, width: usize) -> Result<List<u32>, AllocError>
+/// All columns, in order.
+pub fn every_column(alloc: Global, width: usize) -> Result<List<u32>, AllocError>
     requires { width < 2 ^ 32 }
     ensures { IfOk result (λ columns. columns ≡ all_columns width) }
 {

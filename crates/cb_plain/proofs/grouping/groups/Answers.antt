@@ -1,4 +1,4 @@
-use Rattle.std.proofs.Common.{◌≡◌, refl, sym, subst}
+use Rattle.std.proofs.Common.{◌≡◌, refl, sym, subst, arith, length-append}
 use Rattle.std.proofs.lemmas.Option.{slice_get_read}
 use Rattle.cb_coding.specs.Groups.{AreProblems, group_of, zeros}
 use Rattle.cb_plain.proofs.Before.{none_yet, all_groups, has_group, opens_group}
@@ -9,7 +9,10 @@ pub loop-problem-init : goal.loop-problem-init
 loop-problem-init c =
     let problems = c.as_slice-problem-items.result.now in
     let quiet : c.in_ok-group_of.field-0 ≡ group_of problems (zeros c.args.width) = rw (c.as_slice-problem-items.ensures, c.in_ok-group_of.ensures, c.in_ok-zeros.ensures) refl in
-    rw (c.in_ok-push.ensures.ok, c.new-groups.ensures, quiet) (none_yet c.args.width problems)
+    record {
+      are = rw (c.in_ok-push.ensures.ok, c.new-groups.ensures, quiet) (none_yet c.args.width problems);
+      few = rw (c.in_ok-push.ensures.ok, c.new-groups.ensures) (omega arith);
+    }
 
 pub loop-problem-preserved : goal.loop-problem-preserved
 loop-problem-preserved c =
@@ -21,13 +24,19 @@ loop-problem-preserved c =
           let new : w.in_ok-group_of-2.field-0 ≡ group_of problems c.problem-item.result.code =
           rw (c.as_slice-problem-items.ensures, w.in_ok-group_of-2.ensures, w.in_ok-copy.ensures) refl
           in
-          rw (w.groups-is, w.in_ok-push-2.ensures.ok, new) (opens_group c.args.width problems are c.loop-problem.problem-index c.problem-item.result at
-          c.loop-problem.groups c.loop-problem.invariant (sym w.if-not-has_code.ensures))
+          record {
+            are = rw (w.groups-is, w.in_ok-push-2.ensures.ok, new) (opens_group c.args.width problems are c.loop-problem.problem-index c.problem-item.result at
+            c.loop-problem.groups c.loop-problem.invariant.are (sym w.if-not-has_code.ensures));
+            few = rw (w.groups-is, w.in_ok-push-2.ensures.ok, length-append) (omega (arith, c.loop-problem.invariant.few));
+          }
       | else-not-has_code w ↦
-          rw w.groups-is (has_group c.args.width problems are c.loop-problem.problem-index c.problem-item.result at
-          c.loop-problem.groups c.loop-problem.invariant (sym w.if-not-has_code.ensures))
+          record {
+            are = rw w.groups-is (has_group c.args.width problems are c.loop-problem.problem-index c.problem-item.result at
+            c.loop-problem.groups c.loop-problem.invariant.are (sym w.if-not-has_code.ensures));
+            few = rw w.groups-is (omega (arith, c.loop-problem.invariant.few));
+          }
     ]
 
-pub returns : goal.returns
-returns c =
-    rw (← c.as_slice-problem-items.ensures) (all_groups c.args.width c.as_slice-problem-items.result.now c.loop-problem.problem-index c.loop-problem-test.false c.loop-problem.groups c.loop-problem.invariant)
+pub returns-clause-groups : goal.returns-clause-groups
+returns-clause-groups c =
+    rw (← c.as_slice-problem-items.ensures) (all_groups c.args.width c.as_slice-problem-items.result.now c.loop-problem.problem-index c.loop-problem-test.false c.loop-problem.groups c.loop-problem.invariant.are)
