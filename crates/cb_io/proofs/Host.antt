@@ -1,14 +1,15 @@
 -- The faults of the machine's files after a change.
-use Rattle.std.proofs.Common.{◌≡◌, ◌≢◌, ℕ, ◌≤◌, List, [], ◌∷◌, ◌++◌, set, get_or, position, refl, sym, ◌∙◌, ap, arith, Bool, true, false}
+use Rattle.std.proofs.Common.{◌≡◌, ◌≢◌, ℕ, ◌≤◌, List, [], ◌∷◌, ◌++◌, set, refl, sym, ◌∙◌, ap, arith, Bool, true, false}
 use Rattle.std.proofs.lemmas.Slice.Eq.{bytes_eq-Decides}
-use Rattle.std.specs.Prelude.{None, Some, unwrap_or}
+use Rattle.std.specs.Prelude.{None, unwrap_or}
 use Rattle.std.specs.Str.{bytes_eq}
 use Rattle.cb_io.specs.Pairs.{look_up, put}
 use Rattle.cb_io.specs.Outside.{next_count, NoCountFalls, ReadFailed}
 use Rattle.cb_io.specs.Host.{host_told}
-use Rattle.cb_io.proofs.Pairs.{look_up-put, look_up-put_other, look_up-at, set-put, append-put}
+use Rattle.cb_io.proofs.Pairs.{AtPlace, look_up-put, look_up-put_other, look_up-at, set-put, append-put}
 
-count_beside : (opened : List (List ℕ × ℕ)) (name other : List ℕ) (faults : ℕ) (b : Bool) → bytes_eq other name ≡ b → unwrap_or (look_up opened name) 0 ≤ faults
+count_beside : (opened : List (List ℕ × ℕ)) (name other : List ℕ) (faults : ℕ) (b : Bool) → bytes_eq other name ≡ b
+    → unwrap_or (look_up opened name) 0 ≤ faults
     → unwrap_or (look_up opened other) 0 ≤ unwrap_or (look_up (put opened name faults) other) 0
 count_beside opened name other faults true e grown =
     let same : other ≡ name = (bytes_eq-Decides other name).0 e in
@@ -17,7 +18,8 @@ count_beside opened name other faults false e grown =
     let ne : other ≢ name = λ s. cc (sym e ∙ (bytes_eq-Decides other name).1 s) in
     rw (look_up-put_other opened name other faults ne) (omega arith)
 
-kept_beside : (opened : List (List ℕ × ℕ)) (name other : List ℕ) (b : Bool) → bytes_eq other name ≡ b → look_up opened name ≡ None
+kept_beside : (opened : List (List ℕ × ℕ)) (name other : List ℕ) (b : Bool) → bytes_eq other name ≡ b
+    → look_up opened name ≡ None
     → unwrap_or (look_up (put opened name 0) other) 0 ≡ unwrap_or (look_up opened other) 0
 kept_beside opened name other true e absent =
     let same : other ≡ name = (bytes_eq-Decides other name).0 e in
@@ -27,18 +29,22 @@ kept_beside opened name other false e absent =
     rw (look_up-put_other opened name other 0 ne) refl
 
 -- a new name has no faults, as before
-pub faults-new : (opened : List (List ℕ × ℕ)) (name other : List ℕ) → look_up opened name ≡ None → (host_told (opened ++ (name, 0) ∷ [])).faults other ≡ (host_told opened).faults other
+pub faults-new : (opened : List (List ℕ × ℕ)) (name other : List ℕ) → look_up opened name ≡ None
+    → (host_told (opened ++ (name, 0) ∷ [])).faults other ≡ (host_told opened).faults other
 faults-new opened name other absent =
-    ap (λ l. unwrap_or (look_up l other) 0) (append-put opened name 0 absent) ∙ kept_beside opened name other (bytes_eq other name) refl absent
+    ap (λ l. unwrap_or (look_up l other) 0) (append-put opened name 0 absent) ∙ kept_beside opened name other
+    (bytes_eq other name) refl absent
 
-module _ (opened : List (List ℕ × ℕ)) (name : List ℕ) (place : ℕ) (old new : List ℕ × ℕ) (here : position (λ o. bytes_eq o.0 name) opened ≡ Some place) (is' : old ≡ get_or opened place old) (same : new.0 ≡ old.0) where
+module _ {opened : List (List ℕ × ℕ)} {name : List ℕ} {place : ℕ} {old : List ℕ × ℕ} (at : AtPlace opened name place old)
+    (new : List ℕ × ℕ) (same : new.0 ≡ old.0) where
   -- where the count of a name doesn't fall, none does
   pub NoCountFalls-set : old.1 ≤ new.1 → NoCountFalls (host_told opened) (host_told (set opened place new))
   NoCountFalls-set grown = λ other.
-      rw (set-put opened name place new old here is' same)
-      (count_beside opened name other new.1 (bytes_eq other name) refl (rw (look_up-at opened name place old here is') grown))
+      rw (set-put at new same)
+      (count_beside opened name other new.1 (bytes_eq other name) refl (rw (look_up-at at) grown))
 
   -- where the count of a name rises, a read of it has failed
-  pub ReadFailed-set : new.1 ≡ next_count old.1 → ReadFailed (host_told opened) (host_told (set opened place new)) name
+  pub ReadFailed-set : new.1 ≡ next_count old.1
+      → ReadFailed (host_told opened) (host_told (set opened place new)) name
   ReadFailed-set rose =
-      rw (set-put opened name place new old here is' same, look_up-put opened name new.1, look_up-at opened name place old here is', rose) (omega arith)
+      rw (set-put at new same, look_up-put opened name new.1, look_up-at at, rose) (omega arith)

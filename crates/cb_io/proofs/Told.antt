@@ -1,5 +1,5 @@
 -- What follows of several calls on the same files or the same sink, one after the other.
-use Rattle.std.proofs.Common.{◌≡◌, ◌≢◌, ℕ, ◌+◌, ◌≤◌, ◌<◌, ◌||◌, Bool, true, false, List, [], ◌∷◌, ◌++◌, length, take, drop, refl, sym, ◌∙◌, ap, subst, arith, length-append, append-nil}
+use Rattle.std.proofs.Common.{◌≡◌, ◌≢◌, ℕ, ◌+◌, ◌<◌, ◌||◌, Bool, true, false, List, [], ◌∷◌, ◌++◌, length, take, drop, refl, sym, ◌∙◌, ap, subst, arith, length-append, append-nil}
 use Rattle.std.proofs.Math.Seq.{take-add, take-append-add, take-length}
 use Rattle.std.proofs.lemmas.List.{take-append-le}
 use Rattle.std.proofs.KnownBytes.{Appends-nil, Appends-trans, Consumes-nil, Consumes-trans, Consumes-kept, Keeps-refl, Keeps-trans}
@@ -11,7 +11,7 @@ use Rattle.std.specs.List.{list_any}
 use Rattle.std.specs.Str.{bytes_eq}
 use Rattle.std.proofs.Math.Bool.{or-true}
 use Rattle.std.proofs.lemmas.Slice.Eq.{bytes_eq-Decides}
-use Rattle.cb_io.specs.Outside.{FilesTold, SinkTold, bytes_of, contents, left_of, next_count, Rose, TakesAll, ReadsAll, ReadsFront, ReadsMoreThan, ReadsEach, KeepsOthers, NoCountFalls, ReadFailed, WritesAll, WritesFront, WriteFailed}
+use Rattle.cb_io.specs.Outside.{FilesTold, SinkTold, bytes_of, contents, left_of, TakesAll, ReadsAll, ReadsFront, ReadsMoreThan, ReadsEach, KeepsOthers, NoCountFalls, ReadFailed, WritesAll, WritesFront}
 
 -- ---- counts
 
@@ -22,11 +22,13 @@ pub NoCountFalls-trans : (a b c : FilesTold) → NoCountFalls a b → NoCountFal
 NoCountFalls-trans a b c first second = λ name. omega (arith, first name, second name)
 
 -- a read that failed after others
-pub ReadFailed-after : (a b c : FilesTold) (name : List ℕ) → NoCountFalls a b → ReadFailed b c name → ReadFailed a c name
+pub ReadFailed-after : (a b c : FilesTold) (name : List ℕ) → NoCountFalls a b → ReadFailed b c name
+    → ReadFailed a c name
 ReadFailed-after a b c name first second = omega (arith, first name, second)
 
 -- a read that failed before others
-pub ReadFailed-before : (a b c : FilesTold) (name : List ℕ) → ReadFailed a b name → NoCountFalls b c → ReadFailed a c name
+pub ReadFailed-before : (a b c : FilesTold) (name : List ℕ) → ReadFailed a b name → NoCountFalls b c
+    → ReadFailed a c name
 ReadFailed-before a b c name first second = omega (arith, first, second name)
 
 -- ---- what is left
@@ -35,14 +37,18 @@ pub KeepsOthers-refl : (a : FilesTold) (name : List ℕ) → KeepsOthers a a nam
 KeepsOthers-refl a name = λ other ne. Keeps-refl (left_of a other)
 
 -- two reads of one name
-pub KeepsOthers-trans : (a b c : FilesTold) (name : List ℕ) → KeepsOthers a b name → KeepsOthers b c name → KeepsOthers a c name
-KeepsOthers-trans a b c name first second = λ other ne. Keeps-trans (left_of a other) (left_of b other) (left_of c other) (first other ne) (second other ne)
+pub KeepsOthers-trans : (a b c : FilesTold) (name : List ℕ) → KeepsOthers a b name → KeepsOthers b c name
+    → KeepsOthers a c name
+KeepsOthers-trans a b c name first second =
+    λ other ne. Keeps-trans (left_of a other) (left_of b other) (left_of c other) (first other ne) (second other ne)
 
 pub ReadsFront-refl : (a : FilesTold) (name : List ℕ) → ReadsFront a a name
 ReadsFront-refl a name = ([], Consumes-nil (left_of a name))
 
-pub ReadsFront-trans : (a b c : FilesTold) (name : List ℕ) → ReadsFront a b name → ReadsFront b c name → ReadsFront a c name
-ReadsFront-trans a b c name (front, first) (more, second) = (front ++ more, Consumes-trans (left_of a name) (left_of b name) (left_of c name) front more first second)
+pub ReadsFront-trans : (a b c : FilesTold) (name : List ℕ) → ReadsFront a b name → ReadsFront b c name
+    → ReadsFront a c name
+ReadsFront-trans a b c name (front, first) (more, second) =
+    (front ++ more, Consumes-trans (left_of a name) (left_of b name) (left_of c name) front more first second)
 
 TakesAll-kept : (a b c : Option (List ℕ)) (all : List ℕ) → Keeps a b → TakesAll b c all → TakesAll a c all
 TakesAll-kept None b c all kept takes = tt
@@ -56,27 +62,35 @@ TakesAll-keeps (Some left) (Some rest) None all takes kept = absurd kept
 TakesAll-keeps (Some left) (Some rest) (Some same) all takes kept = (takes.0, ap (λ l. Some l) kept ∙ takes.1)
 
 -- a name that is read whole after another one gives what was left of it before both
-pub ReadsAll-after : (a b c : FilesTold) (first name all : List ℕ) → name ≢ first → KeepsOthers a b first → ReadsAll b c name all → ReadsAll a c name all
-ReadsAll-after a b c first name all ne others reads = TakesAll-kept (left_of a name) (left_of b name) (left_of c name) all (others name ne) reads
+pub ReadsAll-after : (a b c : FilesTold) (first name all : List ℕ) → name ≢ first → KeepsOthers a b first
+    → ReadsAll b c name all → ReadsAll a c name all
+ReadsAll-after a b c first name all ne others reads =
+    TakesAll-kept (left_of a name) (left_of b name) (left_of c name) all (others name ne) reads
 
 -- a name that was read whole stays so while another one is read
-pub ReadsAll-before : (a b c : FilesTold) (name second all : List ℕ) → name ≢ second → ReadsAll a b name all → KeepsOthers b c second → ReadsAll a c name all
-ReadsAll-before a b c name second all ne reads others = TakesAll-keeps (left_of a name) (left_of b name) (left_of c name) all reads (others name ne)
+pub ReadsAll-before : (a b c : FilesTold) (name second all : List ℕ) → name ≢ second → ReadsAll a b name all
+    → KeepsOthers b c second → ReadsAll a c name all
+ReadsAll-before a b c name second all ne reads others =
+    TakesAll-keeps (left_of a name) (left_of b name) (left_of c name) all reads (others name ne)
 
-again : (a b c : Option (List ℕ)) (all more : List ℕ) → TakesAll a b all → TakesAll b c more → (n : ℕ) → TakesAll a c all
+again : (a b c : Option (List ℕ)) (all more : List ℕ) → TakesAll a b all → TakesAll b c more → (n : ℕ)
+    → TakesAll a c all
 again None b c all more first second n = tt
 again (Some left) None c all more first second n = cc (first.1)
 again (Some left) (Some rest) c all more first second n = (first.0, second.1)
 
 -- a name that is read whole again
-pub ReadsAll-again : (a b c : FilesTold) (name all more : List ℕ) → ReadsAll a b name all → ReadsAll b c name more → ReadsAll a c name all
-ReadsAll-again a b c name all more first second = again (left_of a name) (left_of b name) (left_of c name) all more first second 0
+pub ReadsAll-again : (a b c : FilesTold) (name all more : List ℕ) → ReadsAll a b name all → ReadsAll b c name more
+    → ReadsAll a c name all
+ReadsAll-again a b c name all more first second =
+    again (left_of a name) (left_of b name) (left_of c name) all more first second 0
 
 -- what was consumed up to the end is all
 pub TakesAll-at_end : (a b : Option (List ℕ)) (all : List ℕ) → Consumes a b all → IsAtEnd b → TakesAll a b all
 TakesAll-at_end None b all consumed end = tt
 TakesAll-at_end (Some left) None all consumed end = absurd consumed
-TakesAll-at_end (Some left) (Some rest) all consumed end = (sym (consumed ∙ ap (λ l. all ++ l) end ∙ append-nil all), ap (λ l. Some l) end)
+TakesAll-at_end (Some left) (Some rest) all consumed end =
+    (sym (consumed ∙ ap (λ l. all ++ l) end ∙ append-nil all), ap (λ l. Some l) end)
 
 -- these bytes of the name came so far, and nothing else changed
 pub record HasRead (old new : FilesTold) (name bytes : List ℕ) : Type 0 where
@@ -85,10 +99,12 @@ pub record HasRead (old new : FilesTold) (name bytes : List ℕ) : Type 0 where
   pub counts : NoCountFalls old new
 
 pub HasRead-nil : (a : FilesTold) (name : List ℕ) → HasRead a a name []
-HasRead-nil a name = record { came = Consumes-nil (left_of a name); others = KeepsOthers-refl a name; counts = NoCountFalls-refl a }
+HasRead-nil a name =
+    record { came = Consumes-nil (left_of a name); others = KeepsOthers-refl a name; counts = NoCountFalls-refl a }
 
 -- more bytes came
-pub HasRead-more : {a b : FilesTold} (c : FilesTold) {name bytes : List ℕ} (more : List ℕ) → HasRead a b name bytes → Consumes (left_of b name) (left_of c name) more → KeepsOthers b c name → NoCountFalls b c
+pub HasRead-more : {a b : FilesTold} (c : FilesTold) {name bytes : List ℕ} (more : List ℕ) → HasRead a b name bytes
+    → Consumes (left_of b name) (left_of c name) more → KeepsOthers b c name → NoCountFalls b c
     → HasRead a c name (bytes ++ more)
 HasRead-more {a} {b} c {name} {bytes} more first came' others' counts' = record {
   came = Consumes-trans (left_of a name) (left_of b name) (left_of c name) bytes more first.came came';
@@ -97,7 +113,8 @@ HasRead-more {a} {b} c {name} {bytes} more first came' others' counts' = record 
 }
 
 -- no more bytes came
-pub HasRead-kept : {a b : FilesTold} (c : FilesTold) {name bytes : List ℕ} → HasRead a b name bytes → Keeps (left_of b name) (left_of c name) → KeepsOthers b c name → NoCountFalls b c → HasRead a c name bytes
+pub HasRead-kept : {a b : FilesTold} (c : FilesTold) {name bytes : List ℕ} → HasRead a b name bytes
+    → Keeps (left_of b name) (left_of c name) → KeepsOthers b c name → NoCountFalls b c → HasRead a c name bytes
 HasRead-kept {a} {b} c {name} {bytes} first kept others' counts' = record {
   came = Consumes-kept (left_of a name) (left_of b name) (left_of c name) bytes first.came kept;
   others = KeepsOthers-trans a b c name first.others others';
@@ -105,19 +122,23 @@ HasRead-kept {a} {b} c {name} {bytes} first kept others' counts' = record {
 }
 
 -- the end came
-pub HasRead-end : {a b : FilesTold} (c : FilesTold) {name bytes : List ℕ} (more : List ℕ) → HasRead a b name bytes → Consumes (left_of b name) (left_of c name) more → more ≡ [] → IsAtEnd (left_of c name)
+pub HasRead-end : {a b : FilesTold} (c : FilesTold) {name bytes : List ℕ} (more : List ℕ) → HasRead a b name bytes
+    → Consumes (left_of b name) (left_of c name) more → more ≡ [] → IsAtEnd (left_of c name)
     → ReadsAll a c name bytes
 HasRead-end {a} {b} c {name} {bytes} more first came' none end =
     TakesAll-at_end (left_of a name) (left_of c name) bytes
-    (rw append-nil at (rw none at (Consumes-trans (left_of a name) (left_of b name) (left_of c name) bytes more first.came came'))) end
+    (rw append-nil at (rw none at
+    (Consumes-trans (left_of a name) (left_of b name) (left_of c name) bytes more first.came came'))) end
 
 -- ---- several names, one after the other
 
-any-true : (name : List ℕ) (names : List (List ℕ)) (last : List ℕ) → bytes_eq last name ≡ true → list_any (λ other. bytes_eq other name) (names ++ last ∷ []) ≡ true
+any-true : (name : List ℕ) (names : List (List ℕ)) (last : List ℕ) → bytes_eq last name ≡ true
+    → list_any (λ other. bytes_eq other name) (names ++ last ∷ []) ≡ true
 any-true name [] last same = rw same refl
 any-true name (first ∷ names) last same = rw (any-true name names last same) (or-true (bytes_eq first name))
 
-any-false : (name : List ℕ) (names : List (List ℕ)) (last : List ℕ) → bytes_eq last name ≡ false → list_any (λ other. bytes_eq other name) (names ++ last ∷ []) ≡ list_any (λ other. bytes_eq other name) names
+any-false : (name : List ℕ) (names : List (List ℕ)) (last : List ℕ) → bytes_eq last name ≡ false
+    → list_any (λ other. bytes_eq other name) (names ++ last ∷ []) ≡ list_any (λ other. bytes_eq other name) names
 any-false name [] last other = rw other refl
 any-false name (first ∷ names) last other = ap (λ b. bytes_eq first name || b) (any-false name names last other)
 
@@ -134,7 +155,8 @@ whole : (a b : Option (List ℕ)) (bytes all : List ℕ) → a ≡ Some bytes �
 whole None b bytes all e t = cc
 whole (Some xs) b bytes all e t = t.0 ∙ (let f : Option (List ℕ) → List ℕ = λ o. unwrap_or o [] in ap f e)
 
-longer : (a b : Option (List ℕ)) (bytes front : List ℕ) (most : ℕ) → a ≡ Some bytes → Consumes a b front → most < length front → most < length bytes
+longer : (a b : Option (List ℕ)) (bytes front : List ℕ) (most : ℕ) → a ≡ Some bytes → Consumes a b front
+    → most < length front → most < length bytes
 longer None b bytes front most e k lt = cc
 longer (Some xs) None bytes front most e k lt = absurd k
 longer (Some xs) (Some ys) bytes front most e k lt =
@@ -142,19 +164,23 @@ longer (Some xs) (Some ys) bytes front most e k lt =
     let same : xs ≡ bytes = ap f e in
     omega (arith, length-append front ys, ap length k, ap length same)
 
-if_told : {P Q : List (List ℕ × List ℕ) → Type 0} (told : Option (List (List ℕ × List ℕ))) → IfSome told P → ((left : List (List ℕ × List ℕ)) → P left → Q left) → IfSome told Q
+if_told : {P Q : List (List ℕ × List ℕ) → Type 0} (told : Option (List (List ℕ × List ℕ))) → IfSome told P
+    → ((left : List (List ℕ × List ℕ)) → P left → Q left) → IfSome told Q
 if_told None known next = tt
 if_told (Some left) known next = next left known
 
-each_none : (told : Option (List (List ℕ × List ℕ))) → IfSome told (λ left. (name : List ℕ) → option_map (λ pairs. bytes_of pairs name) told ≡ Some (bytes_of left name))
+each_none : (told : Option (List (List ℕ × List ℕ)))
+    → IfSome told (λ left. (name : List ℕ) → option_map (λ pairs. bytes_of pairs name) told ≡ Some (bytes_of left name))
 each_none None = tt
 each_none (Some left) = λ name. refl
 
 pub ReadsEach-nil : (a : FilesTold) → ReadsEach a a []
 ReadsEach-nil a = each_none a.left
 
-next-at : (left : List (List ℕ × List ℕ)) (names : List (List ℕ)) (b c : FilesTold) (name all other : List ℕ) (same : Bool) → bytes_eq name other ≡ same
-    → ((n : List ℕ) → left_of b n ≡ Some (contents left names n)) → KeepsOthers b c name → ReadsAll b c name all → left_of c other ≡ Some (contents left (names ++ name ∷ []) other)
+next-at : (left : List (List ℕ × List ℕ)) (names : List (List ℕ)) (b c : FilesTold) (name all other : List ℕ) (same : Bool)
+    → bytes_eq name other ≡ same
+    → ((n : List ℕ) → left_of b n ≡ Some (contents left names n)) → KeepsOthers b c name → ReadsAll b c name all
+    → left_of c other ≡ Some (contents left (names ++ name ∷ []) other)
 next-at left names b c name all other true e each others reads =
     let same : name ≡ other = (bytes_eq-Decides name other).0 e in
     rw (any-true other names name e, ← same) (emptied (left_of b name) (left_of c name) _ all (each name) reads)
@@ -163,25 +189,31 @@ next-at left names b c name all other false e each others reads =
     rw (any-false other names name e) (kept (left_of b other) (left_of c other) _ (each other) (others other ne))
 
 -- one more name is read whole
-pub ReadsEach-next : (a b c : FilesTold) (names : List (List ℕ)) (name all : List ℕ) → ReadsEach a b names → KeepsOthers b c name → ReadsAll b c name all → ReadsEach a c (names ++ name ∷ [])
+pub ReadsEach-next : (a b c : FilesTold) (names : List (List ℕ)) (name all : List ℕ) → ReadsEach a b names
+    → KeepsOthers b c name → ReadsAll b c name all → ReadsEach a c (names ++ name ∷ [])
 ReadsEach-next a b c names name all each others reads =
-    if_told a.left each (λ left known other. next-at left names b c name all other (bytes_eq name other) refl known others reads)
+    if_told a.left each (λ left known other. next-at left names b c name all other
+    (bytes_eq name other) refl known others reads)
 
 -- what came is what the name gives after the others
-pub ReadsEach-gives : (a b c : FilesTold) (names : List (List ℕ)) (name all : List ℕ) → ReadsEach a b names → ReadsAll b c name all → IfSome a.left (λ left. all ≡ contents left names name)
+pub ReadsEach-gives : (a b c : FilesTold) (names : List (List ℕ)) (name all : List ℕ) → ReadsEach a b names
+    → ReadsAll b c name all → IfSome a.left (λ left. all ≡ contents left names name)
 ReadsEach-gives a b c names name all each reads =
     if_told a.left each (λ left known. whole (left_of b name) (left_of c name) _ all (known name) reads)
 
 -- where more came than so many bytes, the name gives more
-pub ReadsEach-more : (a b c : FilesTold) (names : List (List ℕ)) (name : List ℕ) (most : ℕ) → ReadsEach a b names → ReadsMoreThan b c name most → IfSome a.left (λ left. most < length (contents left names name))
+pub ReadsEach-more : (a b c : FilesTold) (names : List (List ℕ)) (name : List ℕ) (most : ℕ) → ReadsEach a b names
+    → ReadsMoreThan b c name most → IfSome a.left (λ left. most < length (contents left names name))
 ReadsEach-more a b c names name most each (front, more, came) =
     if_told a.left each (λ left known. longer (left_of b name) (left_of c name) _ front most (known name) came more)
 
 -- what a last read leaves of the other names
-pub ReadsEach-others : (a b c : FilesTold) (names : List (List ℕ)) (name : List ℕ) → ReadsEach a b names → KeepsOthers b c name
+pub ReadsEach-others : (a b c : FilesTold) (names : List (List ℕ)) (name : List ℕ) → ReadsEach a b names
+    → KeepsOthers b c name
     → IfSome a.left (λ left. (other : List ℕ) → other ≢ name → left_of c other ≡ Some (contents left names other))
 ReadsEach-others a b c names name each others =
-    if_told a.left each (λ left known other ne. kept (left_of b other) (left_of c other) _ (known other) (others other ne))
+    if_told a.left each (λ left known other ne. kept (left_of b other) (left_of c other) _ (known other)
+    (others other ne))
 
 -- ---- what was taken
 
@@ -189,7 +221,8 @@ pub WritesAll-nil : (a : SinkTold) → WritesAll a a []
 WritesAll-nil a = Appends-nil a.taken
 
 -- one text after another
-pub WritesAll-trans : (a b c : SinkTold) (first second : List ℕ) → WritesAll a b first → WritesAll b c second → WritesAll a c (first ++ second)
+pub WritesAll-trans : (a b c : SinkTold) (first second : List ℕ) → WritesAll a b first → WritesAll b c second
+    → WritesAll a c (first ++ second)
 WritesAll-trans a b c first second one two = Appends-trans a.taken b.taken c.taken first second one two
 
 pub WritesFront-none : (a : SinkTold) (bytes : List ℕ) → WritesFront a a bytes
@@ -199,16 +232,28 @@ pub WritesFront-all : (a b : SinkTold) (bytes : List ℕ) → WritesAll a b byte
 WritesFront-all a b bytes all = (length bytes, omega arith, rw take-length all)
 
 -- a front of the first text, where the second isn't written
-pub WritesFront-first : (a b : SinkTold) (first second : List ℕ) → WritesFront a b first → WritesFront a b (first ++ second)
-WritesFront-first a b first second (n, within, taken) =
-    (n, omega (arith, length-append first second), subst (Appends a.taken b.taken) (sym (take-append-le n first second within)) taken)
+pub WritesFront-first : (a b : SinkTold) (first second : List ℕ) → WritesFront a b first
+    → WritesFront a b (first ++ second)
+WritesFront-first a b first second (n, within, taken) = (
+  n,
+  omega (arith, length-append first second),
+  subst (Appends a.taken b.taken)
+      (sym (take-append-le n first second within)) taken,
+)
 
 -- the first text, and a front of the second
-pub WritesFront-second : (a b c : SinkTold) (first second : List ℕ) → WritesAll a b first → WritesFront b c second → WritesFront a c (first ++ second)
-WritesFront-second a b c first second all (n, within, taken) =
-    (length first + n, omega (arith, length-append first second),
-     subst (Appends a.taken c.taken) (sym (take-append-add first second n)) (Appends-trans a.taken b.taken c.taken first (take n second) all taken))
+pub WritesFront-second : (a b c : SinkTold) (first second : List ℕ) → WritesAll a b first → WritesFront b c second
+    → WritesFront a c (first ++ second)
+WritesFront-second a b c first second all (n, within, taken) = (
+  length first + n,
+  omega (arith, length-append first second),
+  subst (Appends a.taken c.taken) (sym (take-append-add first second n))
+      (Appends-trans a.taken b.taken c.taken first (take n second) all taken),
+)
 
 -- the next n bytes after the first i
-pub Appends-next : (a b c : Option (List ℕ)) (bytes : List ℕ) (i n : ℕ) → Appends a b (take i bytes) → Appends b c (take n (drop i bytes)) → Appends a c (take (i + n) bytes)
-Appends-next a b c bytes i n first second = subst (Appends a c) (sym (take-add i n bytes)) (Appends-trans a b c (take i bytes) (take n (drop i bytes)) first second)
+pub Appends-next : (a b c : Option (List ℕ)) (bytes : List ℕ) (i n : ℕ) → Appends a b (take i bytes)
+    → Appends b c (take n (drop i bytes)) → Appends a c (take (i + n) bytes)
+Appends-next a b c bytes i n first second =
+    subst (Appends a c) (sym (take-add i n bytes))
+    (Appends-trans a b c (take i bytes) (take n (drop i bytes)) first second)

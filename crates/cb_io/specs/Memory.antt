@@ -1,5 +1,5 @@
 -- What files and a sink in memory stand for.
-use Rattle.std.specs.Prelude.{◌≡◌, ℕ, ◌+◌, ◌++◌, ◌-◌, min, List, [], ◌∷◌, Contains, drop, length, map, Option, Some, None, unwrap_or}
+use Rattle.std.specs.Prelude.{ℕ, ◌++◌, ◌-◌, ◌^◌, List, [], ◌∷◌, Contains, drop, length, map, Option, Some, None, unwrap_or}
 use Rattle.cb_io.specs.Pairs.{look_up, put}
 use Rattle.cb_io.specs.Outside.{FilesTold, SinkTold, next_count}
 
@@ -32,7 +32,7 @@ pub record SinkState : Type 0 where
 abbrev pub next_call : CallsState → CallsState
 next_call calls = record calls { made = next_count calls.made }
 
--- one more call is to fail
+-- the calls, where one more is to fail
 abbrev pub with_failing : CallsState → ℕ → CallsState
 with_failing calls call = record calls { failing = calls.failing ++ call ∷ [] }
 
@@ -44,6 +44,10 @@ IsDue calls = Contains calls.failing (next_count calls.made)
 abbrev pub no_calls : CallsState
 no_calls = record { made = 0; failing = [] }
 
+-- files to which none was added, and which give as many bytes as the buffer holds
+abbrev pub no_files : FilesState
+no_files = record { files = []; unknown = 0; piece = 2 ^ 64 - 1; calls = no_calls }
+
 -- the file of a name; one that wasn't added has no bytes, and the faults of all such names
 abbrev pub file_of : FilesState → List ℕ → FileState
 file_of state name = unwrap_or (look_up state.files name) (record { left = []; faults = state.unknown })
@@ -54,7 +58,8 @@ with_file state name file = record state { files = put state.files name file }
 
 -- the files with these bytes behind those left of the name
 abbrev pub with_bytes : FilesState → List ℕ → List ℕ → FilesState
-with_bytes state name bytes = let file = file_of state name in with_file state name (record file { left = file.left ++ bytes })
+with_bytes state name bytes =
+    let file = file_of state name in with_file state name (record file { left = file.left ++ bytes })
 
 -- the files after one more call
 abbrev pub after_call : FilesState → FilesState
@@ -62,13 +67,15 @@ after_call state = record state { calls = next_call state.calls }
 
 -- the files after a call that moved n bytes of the name
 abbrev pub after_read : FilesState → List ℕ → ℕ → FilesState
-after_read state name n = let file = file_of state name in with_file (after_call state) name (record file { left = drop n file.left })
+after_read state name n =
+    let file = file_of state name in with_file (after_call state) name (record file { left = drop n file.left })
 
 -- the files after a failed call: one more fault of the name, or of all names that weren't added
 abbrev pub after_fault_at : FilesState → List ℕ → Option FileState → FilesState
 after_fault_at state name None = record (after_call state) { unknown = next_count state.unknown }
 after_fault_at state name (Some file) = with_file (after_call state) name (record file { faults = next_count file.faults })
 
+-- the same, whether the name was added or not
 abbrev pub after_fault : FilesState → List ℕ → FilesState
 after_fault state name = after_fault_at state name (look_up state.files name)
 
@@ -79,6 +86,22 @@ files_told state = record {
   faults = λ name. (file_of state name).faults;
 }
 
+-- a sink with so much room, which has taken nothing, and takes as many bytes as there is room for
+abbrev pub new_sink : ℕ → SinkState
+new_sink room = record { bytes = []; room = room; piece = 2 ^ 64 - 1; calls = no_calls; faults = 0 }
+
+-- how many bytes there is room for
+abbrev pub room_left : SinkState → ℕ
+room_left sink = sink.room - length sink.bytes
+
+-- the sink after a call that took these bytes
+abbrev pub after_write : SinkState → List ℕ → SinkState
+after_write sink bytes = record sink { bytes = sink.bytes ++ bytes; calls = next_call sink.calls }
+
+-- the sink after a failed call
+abbrev pub after_refused_write : SinkState → SinkState
+after_refused_write sink = record sink { calls = next_call sink.calls; faults = next_count sink.faults }
+
 -- what a sink in memory tells: all that was taken, and the faults
 abbrev pub sink_told : SinkState → SinkTold
-sink_told state = record { taken = Some state.bytes; faults = state.faults }
+sink_told sink = record { taken = Some sink.bytes; faults = sink.faults }

@@ -128,7 +128,8 @@ fn admit<R: rt::Files + Input>(
     name: &str,
 ) -> Result<usize, AllocError>
     ensures place { IfOk result (λ i. position (λ o. bytes_eq o.0 name.now) opened.new.items ≡ Some i) }
-    ensures faults { (other : List ℕ) → (host_told opened.new.items).faults other ≡ (host_told opened.old.items).faults other }
+    ensures faults { (other : List ℕ) →
+        (host_told opened.new.items).faults other ≡ (host_told opened.old.items).faults other }
 {
     if let Some(place) = place_of(opened, name) {
         return Ok(place);

@@ -20,5 +20,5 @@ pub use mem_sink::MemSink;
 pub use outside::{Failed, FileStop, Files, Sink};
 pub use whole::{ReadStop, read_whole, write_all};
 
-//T
-//mod tests;
+#[cfg(test)]
+mod tests;

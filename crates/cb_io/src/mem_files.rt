@@ -4,7 +4,7 @@ ghost use Rattle.std.specs.Io.{ReadsAtMost};
 ghost use Rattle.std.specs.Str.{bytes_eq};
 ghost use Rattle.cb_io.specs.Outside.{Reads, KeepsOthers, NoCountFalls, ReadFailed, next_count};
 ghost use Rattle.cb_io.specs.Pairs.{look_up};
-ghost use Rattle.cb_io.specs.Memory.{file_of, with_bytes, with_failing, no_calls, IsDue, after_read, after_fault, files_told};
+ghost use Rattle.cb_io.specs.Memory.{file_of, with_bytes, with_failing, no_files, IsDue, after_read, after_fault, files_told};
 
 use crate::calls::Calls;
 use crate::{FileStop, Files};
@@ -101,7 +101,8 @@ impl Model for MemFiles {
 
     ghost Value = { FilesState };
 
-    ghost view = { λ m. record { files = m.entries.items; unknown = m.unknown; piece = m.piece; calls = m.calls } };
+    ghost view = { λ m.
+        record { files = m.entries.items; unknown = m.unknown; piece = m.piece; calls = m.calls } };
 
     ghost invariant = { λ m. 0 < m.piece };
 }
@@ -109,7 +110,7 @@ impl Model for MemFiles {
 impl MemFiles {
     /// No file yet, and reads that give as many bytes as `buf` holds.
     pub fn new(alloc: Global) -> Self
-        ensures { result ≡ record { files = []; unknown = 0; piece = 2 ^ 64 - 1; calls = no_calls } }
+        ensures { result ≡ no_files }
     {
         MemFiles {
             alloc,
@@ -169,7 +170,8 @@ impl Files for MemFiles {
         // Which calls fail, how many bytes the others give, and that nothing else changes.
         ensures fails { IsErr result ↔ (IsDue self.old.calls ⊎ IsNone (look_up self.old.files name.now)) }
         ensures never { IfErr result (λ stop. stop ≡ FileStop.Failed) }
-        ensures count { IfOk result (λ n. n ≡ min (min (length (file_of self.old name.now).left) self.old.piece) (length buf.old)) }
+        ensures count { IfOk result (λ n. let left = (file_of self.old name.now).left in
+            n ≡ min (min (length left) self.old.piece) (length buf.old)) }
         ensures ok { IfOk result (λ n. self.new ≡ after_read self.old name.now n) }
         ensures err { OnErr result (self.new ≡ after_fault self.old name.now) }
     {

@@ -1,8 +1,8 @@
 //! A sink in memory.
 ghost use Rattle.std.specs.Prelude.{◌≡◌, ◌+◌, ◌-◌, ◌^◌, ◌<◌, ◌≤◌, ◌⊎◌, ◌↔◌, [], ◌∷◌, ◌++◌, length, take, min, IfOk, OnOk, OnErr, IsErr};
 ghost use Rattle.std.specs.Io.{WritesAtMost};
-ghost use Rattle.cb_io.specs.Outside.{Writes, WriteFailed, next_count};
-ghost use Rattle.cb_io.specs.Memory.{sink_told, next_call, with_failing, no_calls, IsDue};
+ghost use Rattle.cb_io.specs.Outside.{Writes, WriteFailed};
+ghost use Rattle.cb_io.specs.Memory.{IsDue, with_failing, new_sink, room_left, after_write, after_refused_write, sink_told};
 
 use crate::calls::Calls;
 use crate::{Failed, Sink};
@@ -26,7 +26,8 @@ impl Model for MemSink {
 
     ghost Value = { SinkState };
 
-    ghost view = { λ s. record { bytes = s.bytes.items; room = s.room; piece = s.piece; calls = s.calls; faults = s.faults } };
+    ghost view = { λ s.
+        record { bytes = s.bytes.items; room = s.room; piece = s.piece; calls = s.calls; faults = s.faults } };
 
     ghost invariant = { λ s. (vec_len s.bytes ≤ s.room) × (s.room ≤ vec_capacity s.bytes) × (0 < s.piece) };
 }
@@ -34,7 +35,7 @@ impl Model for MemSink {
 impl MemSink {
     /// A sink with room for so many bytes, which takes as many at once as there is room for.
     pub fn new(alloc: Global, room: usize) -> Result<Self, AllocError>
-        ensures { IfOk result (λ sink. sink ≡ record { bytes = []; room = room; piece = 2 ^ 64 - 1; calls = no_calls; faults = 0 }) }
+        ensures { IfOk result (λ sink. sink ≡ new_sink room) }
     {
         Ok(MemSink {
             bytes: Vec::with_capacity(alloc, room)?,
@@ -81,10 +82,10 @@ impl Sink for MemSink {
         ensures failed { OnErr result (WriteFailed (sink_told self.old) (sink_told self.new)) }
 
         // Which calls fail, how many bytes the others take, and that nothing else changes.
-        ensures fails { IsErr result ↔ (IsDue self.old.calls ⊎ (self.old.room ≤ length self.old.bytes)) }
-        ensures count { IfOk result (λ n. n ≡ min (min (length bytes.now) self.old.piece) (self.old.room - length self.old.bytes)) }
-        ensures ok { IfOk result (λ n. self.new ≡ record self.old { bytes = self.old.bytes ++ take n bytes.now; calls = next_call self.old.calls }) }
-        ensures err { OnErr result (self.new ≡ record self.old { faults = next_count self.old.faults; calls = next_call self.old.calls }) }
+        ensures fails { IsErr result ↔ (IsDue self.old.calls ⊎ (room_left self.old ≡ 0)) }
+        ensures count { IfOk result (λ n. n ≡ min (min (length bytes.now) self.old.piece) (room_left self.old)) }
+        ensures ok { IfOk result (λ n. self.new ≡ after_write self.old (take n bytes.now)) }
+        ensures err { OnErr result (self.new ≡ after_refused_write self.old) }
     {
         let due = self.calls.count();
         let free = self.room - self.bytes.len();

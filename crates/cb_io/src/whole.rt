@@ -78,8 +78,10 @@ pub fn read_whole<F: Files>(
 ) -> Result<Vec<u8>, ReadStop>
     ensures all { IfOk result (λ all. ReadsAll (F.tells files.old) (F.tells files.new) name.now all.items) }
     ensures fits { IfOk result (λ all. vec_len all ≤ most) }
-    ensures too_much { IsErrOf result ReadStop.TooMuch → ReadsMoreThan (F.tells files.old) (F.tells files.new) name.now most }
-    ensures failed { IsErrOf result ReadStop.ReadFault → ReadFailed (F.tells files.old) (F.tells files.new) name.now }
+    ensures too_much { IsErrOf result ReadStop.TooMuch →
+        ReadsMoreThan (F.tells files.old) (F.tells files.new) name.now most }
+    ensures failed { IsErrOf result ReadStop.ReadFault →
+        ReadFailed (F.tells files.old) (F.tells files.new) name.now }
 
     // In every case:
     ensures front { ReadsFront (F.tells files.old) (F.tells files.new) name.now }

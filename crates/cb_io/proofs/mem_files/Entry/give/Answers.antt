@@ -1,7 +1,6 @@
 use Rattle.std.proofs.Common.{arith, length-drop}
 use Rattle.std.proofs.lemmas.List.{take_rest}
-use Rattle.cb_io.proofs.Memory.{copied_front, Reads-after, NoCountFalls-with, KeepsOthers-with}
-use Rattle.cb_io.proofs.Told.{Appends-next}
+use Rattle.cb_io.proofs.Memory.{copied_front}
 use Rattle.cb_io.proofs.mem_files.Entry.give.Goals as goal
 
 pub returns-clause-given : goal.returns-clause-given

@@ -1,85 +1,113 @@
-use Rattle.std.proofs.Common.{arith, rules, sym, ◌∙◌, ap, refl, inl, inr, take, drop, length, ◌++◌, Some, Ok, ◌≡◌, subst}
+use Rattle.std.proofs.Common.{arith, sym, ◌∙◌, refl, inl, inr, take, drop, length, ◌++◌, Some, Ok, ◌≡◌, subst}
 use Rattle.cb_io.specs.declared.outside.FileStop.{FileStop}
 use Rattle.cb_io.specs.Pairs.{look_up}
 use Rattle.std.specs.Io.KnownBytes.{Keeps}
 use Rattle.cb_io.specs.Outside.{left_of, Reads, KeepsOthers, NoCountFalls, ReadFailed}
-use Rattle.cb_io.specs.Memory.{FilesState, files_told, file_of}
-use Rattle.cb_io.proofs.Pairs.{look_up-absent}
-use Rattle.cb_io.proofs.Memory.{at_place, given, blamed, blamed-unknown, look_up-found, moved_none, KeepsOthers-with, NoCountFalls-with, Reads-after, Keeps-after_fault, NoCountFalls-after_fault, ReadFailed-after_fault}
+use Rattle.cb_io.specs.Memory.{files_told, file_of}
+use Rattle.cb_io.proofs.Pairs.{at_place, look_up-at, look_up-absent}
+use Rattle.cb_io.proofs.Memory.{given, blamed, blamed-unknown, moved_none, KeepsOthers-with, NoCountFalls-with, Reads-after, Keeps-after_fault, NoCountFalls-after_fault, ReadFailed-after_fault}
 use Rattle.cb_io.proofs.mem_files.MemFilesFiles.read.Goals as goal
 
 -- ---- a name that wasn't added
 
 pub returns-in_default-clause-err : goal.returns-in_default-clause-err
 returns-in_default-clause-err c =
-    let absent = look_up-absent c.self.inside.entries.items c.args.name.now (rw c.deref.ensures.value at (sym c.in_default.ensures)) in
-    rw (← c.self.view_is, c.count-due.ensures.counted, c.saturating_add-self-inside.ensures) (blamed-unknown _ c.args.name.now absent)
+    let absent = look_up-absent c.self.inside.entries.items c.args.name.now
+    (rw c.deref.ensures.value at (sym c.in_default.ensures)) in
+    rw (← c.self.view_is, c.count-due.ensures.counted, c.saturating_add-self-inside.ensures)
+    (blamed-unknown _ c.args.name.now absent)
 
 pub returns-in_default-clause-failed : goal.returns-in_default-clause-failed
 returns-in_default-clause-failed c =
-    λ _. subst (λ state. ReadFailed (files_told c.args.self.now) (files_told state) c.args.name.now) (sym (returns-in_default-clause-err c)) (ReadFailed-after_fault c.args.self.now c.args.name.now)
+    λ _. subst (λ state. ReadFailed (files_told c.args.self.now) (files_told state) c.args.name.now)
+    (sym (returns-in_default-clause-err c)) (ReadFailed-after_fault c.args.self.now c.args.name.now)
 
 pub returns-in_default-clause-fails : goal.returns-in_default-clause-fails
 returns-in_default-clause-fails c =
-    let absent = look_up-absent c.self.inside.entries.items c.args.name.now (rw c.deref.ensures.value at (sym c.in_default.ensures)) in
+    let absent = look_up-absent c.self.inside.entries.items c.args.name.now
+    (rw c.deref.ensures.value at (sym c.in_default.ensures)) in
     (λ _. inr (rw (← c.self.view_is, absent) refl), λ _. refl)
 
 -- ---- a call that is to fail
 
 pub returns-then-due-clause-err : goal.returns-then-due-clause-err
 returns-then-due-clause-err c =
-    let at = at_place c.index_mut-entry.result.now (rw c.deref.ensures.value at (sym c.in-Some.ensures)) c.index_mut-entry.ensures.value in
+    let at = at_place c.index_mut-entry.result.now
+    (rw c.deref.ensures.value at (sym c.in-Some.ensures)) c.index_mut-entry.ensures.value in
     rw (← c.self.view_is, c.count-due.ensures.counted) (blamed _ at c.add_fault.new.self c.add_fault.ensures.counted)
 
 pub returns-then-due-clause-bytes : goal.returns-then-due-clause-bytes
 returns-then-due-clause-bytes c =
-    subst (λ state. Keeps (left_of (files_told c.args.self.now) c.args.name.now) (left_of (files_told state) c.args.name.now)) (sym (returns-then-due-clause-err c)) (Keeps-after_fault c.args.self.now c.args.name.now c.args.name.now)
+    subst (λ state. Keeps (left_of (files_told c.args.self.now) c.args.name.now)
+    (left_of (files_told state) c.args.name.now)) (sym
+    (returns-then-due-clause-err c)) (Keeps-after_fault c.args.self.now c.args.name.now c.args.name.now)
 
 pub returns-then-due-clause-others : goal.returns-then-due-clause-others
 returns-then-due-clause-others c =
-    subst (λ state. KeepsOthers (files_told c.args.self.now) (files_told state) c.args.name.now) (sym (returns-then-due-clause-err c)) (λ other _. Keeps-after_fault c.args.self.now c.args.name.now other)
+    subst (λ state. KeepsOthers (files_told c.args.self.now) (files_told state) c.args.name.now)
+    (sym (returns-then-due-clause-err c)) (λ other _. Keeps-after_fault c.args.self.now c.args.name.now other)
 
 pub returns-then-due-clause-counts : goal.returns-then-due-clause-counts
 returns-then-due-clause-counts c =
-    let at = at_place c.index_mut-entry.result.now (rw c.deref.ensures.value at (sym c.in-Some.ensures)) c.index_mut-entry.ensures.value in
-    let found : look_up c.args.self.now.files c.args.name.now ≡ Some c.index_mut-entry.result.now.1 = rw (← c.self.view_is) (look_up-found at) in
-    subst (λ state. NoCountFalls (files_told c.args.self.now) (files_told state)) (sym (returns-then-due-clause-err c)) (NoCountFalls-after_fault c.args.self.now c.args.name.now _ found (rw c.add_fault.ensures.counted at c.add_fault.ensures.later))
+    let at = at_place c.index_mut-entry.result.now
+    (rw c.deref.ensures.value at (sym c.in-Some.ensures)) c.index_mut-entry.ensures.value in
+    let found : look_up c.args.self.now.files c.args.name.now ≡ Some c.index_mut-entry.result.now.1 = rw
+    (← c.self.view_is) (look_up-at at) in
+    subst (λ state. NoCountFalls (files_told c.args.self.now) (files_told state))
+    (sym (returns-then-due-clause-err c))
+    (NoCountFalls-after_fault c.args.self.now c.args.name.now _ found
+    (rw c.add_fault.ensures.counted at c.add_fault.ensures.later))
 
 pub returns-then-due-clause-failed : goal.returns-then-due-clause-failed
 returns-then-due-clause-failed c =
-    λ _. subst (λ state. ReadFailed (files_told c.args.self.now) (files_told state) c.args.name.now) (sym (returns-then-due-clause-err c)) (ReadFailed-after_fault c.args.self.now c.args.name.now)
+    λ _. subst (λ state. ReadFailed (files_told c.args.self.now) (files_told state) c.args.name.now)
+    (sym (returns-then-due-clause-err c)) (ReadFailed-after_fault c.args.self.now c.args.name.now)
 
 -- ---- bytes that are moved
 
 pub returns-clause-ok : goal.returns-clause-ok
 returns-clause-ok c =
-    let at = at_place c.index_mut-entry.result.now (rw c.deref.ensures.value at (sym c.in-Some.ensures)) c.index_mut-entry.ensures.value in
+    let at = at_place c.index_mut-entry.result.now
+    (rw c.deref.ensures.value at (sym c.in-Some.ensures)) c.index_mut-entry.ensures.value in
     rw (← c.self.view_is, c.count-due.ensures.counted) (given _ at c.give.new.self c.give.result c.give.ensures.left)
 
 pub returns-clause-fails : goal.returns-clause-fails
 returns-clause-fails c =
-    let at = at_place c.index_mut-entry.result.now (rw c.deref.ensures.value at (sym c.in-Some.ensures)) c.index_mut-entry.ensures.value in
-    rw (← c.self.view_is, look_up-found at)
-    (λ e. cc (e), λ fails. elim fails [ inl due ↦ sym c.if-due.false ∙ c.count-due.ensures.due.1 due | inr absent ↦ sym absent ])
+    let at = at_place c.index_mut-entry.result.now
+    (rw c.deref.ensures.value at (sym c.in-Some.ensures)) c.index_mut-entry.ensures.value in
+    rw (← c.self.view_is, look_up-at at) (
+      λ e. cc (e),
+      λ fails. elim fails [
+        | inl due ↦ sym c.if-due.false
+            ∙ c.count-due.ensures.due.1 due
+        | inr absent ↦ sym absent
+      ],
+    )
 
 pub returns-clause-count : goal.returns-clause-count
 returns-clause-count c =
-    let at = at_place c.index_mut-entry.result.now (rw c.deref.ensures.value at (sym c.in-Some.ensures)) c.index_mut-entry.ensures.value in
-    rw (← c.self.view_is, look_up-found at) c.give.ensures.count
+    let at = at_place c.index_mut-entry.result.now
+    (rw c.deref.ensures.value at (sym c.in-Some.ensures)) c.index_mut-entry.ensures.value in
+    rw (← c.self.view_is, look_up-at at) c.give.ensures.count
 
 pub returns-clause-bytes : goal.returns-clause-bytes
 returns-clause-bytes c =
-    let at = at_place c.index_mut-entry.result.now (rw c.deref.ensures.value at (sym c.in-Some.ensures)) c.index_mut-entry.ensures.value in
+    let at = at_place c.index_mut-entry.result.now
+    (rw c.deref.ensures.value at (sym c.in-Some.ensures)) c.index_mut-entry.ensures.value in
     let moved : (file_of c.args.self.now c.args.name.now).left ≡ take c.give.result c.give.new.buf ++ drop c.give.result (file_of c.args.self.now c.args.name.now).left =
-    rw (← c.self.view_is, look_up-found at) (rw c.give.ensures.left at c.give.ensures.given) in
-    subst (λ state. Reads {E = FileStop} (files_told c.args.self.now) (files_told state) c.args.name.now (Ok c.give.result) c.give.new.buf) (sym (returns-clause-ok c))
+    rw (← c.self.view_is, look_up-at at) (rw c.give.ensures.left at c.give.ensures.given) in
+    subst (λ state. Reads {E = FileStop} (files_told c.args.self.now) (files_told state) c.args.name.now
+    (Ok c.give.result) c.give.new.buf) (sym (returns-clause-ok c))
     (Reads-after c.args.self.now c.args.name.now c.give.new.buf c.give.result moved
-    (λ zero room. moved_none (file_of c.args.self.now c.args.name.now).left c.give.result c.args.self.now.piece (length c.args.buf.now) (returns-clause-count c) (rw (← c.self.view_is) c.self.invariant) c.requires zero))
+    (λ zero room. moved_none (file_of c.args.self.now c.args.name.now).left c.give.result c.args.self.now.piece
+    (length c.args.buf.now) (returns-clause-count c) (rw (← c.self.view_is) c.self.invariant) c.requires zero))
 
 pub returns-clause-others : goal.returns-clause-others
 returns-clause-others c =
-    subst (λ state. KeepsOthers (files_told c.args.self.now) (files_told state) c.args.name.now) (sym (returns-clause-ok c)) (KeepsOthers-with c.args.self.now c.args.name.now _)
+    subst (λ state. KeepsOthers (files_told c.args.self.now) (files_told state) c.args.name.now)
+    (sym (returns-clause-ok c)) (KeepsOthers-with c.args.self.now c.args.name.now _)
 
 pub returns-clause-counts : goal.returns-clause-counts
 returns-clause-counts c =
-    subst (λ state. NoCountFalls (files_told c.args.self.now) (files_told state)) (sym (returns-clause-ok c)) (NoCountFalls-with c.args.self.now c.args.name.now _ (omega arith))
+    subst (λ state. NoCountFalls (files_told c.args.self.now) (files_told state)) (sym (returns-clause-ok c))
+    (NoCountFalls-with c.args.self.now c.args.name.now _ (omega arith))

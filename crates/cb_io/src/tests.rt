@@ -1,0 +1,105 @@
+ghost use Rattle.std.specs.Prelude.{◌<◌};
+
+use crate::*;
+use std::alloc::Global;
+use std::test::Fail;
+
+// Files with "abcde" under `a` and nothing under `b`, which give so many bytes at once and fail at one call, if not 0.
+fn sample(alloc: Global, piece: usize, failing: u64) -> Result<MemFiles, Fail>
+    requires { 0 < piece }
+{
+    let mut files = MemFiles::new(alloc);
+    files.add("a", b"abc")?;
+    files.add("b", b"")?;
+    files.add("a", b"de")?;
+    files.piece(piece);
+    if failing > 0 {
+        files.fail_at(failing)?;
+    }
+    Ok(files)
+}
+
+#[test]
+fn files_are_read_whole_in_any_pieces(rt: HostRuntime) -> Result<(), Fail> {
+    let alloc = rt.alloc();
+    // The piece, the call that fails, the name and the most that is allowed; and the answer, with the bytes that are
+    // left of `a`.
+    let cases: [(usize, u64, &str, usize, &str, usize); 10] = [
+        (1, 0, "a", 5, "abcde", 0),
+        (7, 0, "a", 5, "abcde", 0),
+        (1, 0, "a", 4, "too much", 0),
+        (7, 0, "a", 4, "too much", 0),
+        (1, 0, "a", 1, "too much", 3),
+        (1, 3, "a", 5, "read fault", 3),
+        (7, 1, "a", 5, "read fault", 5),
+        (7, 2, "a", 5, "read fault", 0),
+        (7, 0, "b", 0, "", 5),
+        (7, 0, "c", 5, "read fault", 5),
+    ];
+    for (piece, failing, name, most, answer, left) in cases {
+        assert!(rt; piece > 0);
+        let mut files = sample(alloc, piece, failing)?;
+        let told = match read_whole(alloc, &mut files, name, most) {
+            Ok(all) => String::from_utf8(all).unwrap_or(String::new(alloc)),
+            Err(stop) => format!(in alloc; "{stop}")?,
+        };
+        assert_eq!(rt; told.as_str(), answer, "{name} by {piece}");
+        let mut rest = [0; 9];
+        files.piece(9);
+        assert_eq!(rt; files.read("a", &mut rest), Ok(left), "{name} by {piece}");
+    }
+    Ok(())
+}
+
+#[test]
+fn a_sink_takes_a_front_before_a_fault(rt: HostRuntime) -> Result<(), Fail> {
+    let alloc = rt.alloc();
+    // The room, the piece, the call that fails, if not 0, and what is taken of "abcde".
+    let cases: [(usize, usize, u64, &[u8]); 7] = [
+        (5, 1, 0, b"abcde"),
+        (9, 7, 0, b"abcde"),
+        (4, 1, 0, b"abcd"),
+        (4, 7, 0, b"abcd"),
+        (0, 7, 0, b""),
+        (9, 2, 2, b"ab"),
+        (9, 7, 1, b""),
+    ];
+    for (room, piece, failing, taken) in cases {
+        assert!(rt; piece > 0);
+        let mut sink = MemSink::new(alloc, room)?;
+        sink.piece(piece);
+        if failing > 0 {
+            sink.fail_at(failing)?;
+        }
+        let all = write_all(&mut sink, b"abcde").is_ok();
+        assert_eq!(rt; sink.bytes(), taken, "{room} by {piece}");
+        assert_eq!(rt; all, taken.len() == 5, "{room} by {piece}");
+    }
+    Ok(())
+}
+
+#[test]
+fn a_host_sink_passes_on_what_it_takes(rt: HostRuntime) -> Result<(), Fail> {
+    let alloc = rt.alloc();
+    let mut bytes = Vec::new(alloc);
+    let mut sink = HostSink::new(&mut bytes);
+    assert!(rt; write_all(&mut sink, b"abc").is_ok());
+    drop(sink);
+    assert_eq!(rt; bytes.as_slice(), b"abc".as_slice());
+    Ok(())
+}
+
+#[test]
+fn host_files_go_on_where_they_were_left(rt: HostRuntime) -> Result<(), Fail> {
+    let alloc = rt.alloc();
+    std::fs::write(&rt, "here", "text").is_ok();
+    let mut files = HostFiles::new(alloc, &rt);
+    let mut two = [0; 2];
+    assert_eq!(rt; files.read("here", &mut two), Ok(2));
+    let Ok(rest) = read_whole(alloc, &mut files, "here", 2) else {
+        return Err(Fail::new("the rest of the file"));
+    };
+    assert_eq!(rt; rest.as_slice(), b"xt".as_slice());
+    assert_eq!(rt; files.read("absent", &mut two), Err(FileStop::Failed));
+    Ok(())
+}
