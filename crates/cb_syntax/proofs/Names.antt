@@ -1,11 +1,14 @@
 -- Names stand where their tokens say.
-use Rattle.std.proofs.Common.{◌≡◌, ap, sym, ◌∙◌, ℕ, ◌+◌, ◌≤◌, List, [], ◌∷◌, length, arith}
+use Rattle.std.proofs.Common.{◌≡◌, ap, sym, ◌∙◌, ℕ, ◌+◌, ◌≤◌, List, [], ◌∷◌, length, arith, drop}
 use Rattle.std.specs.Prelude.{slice_range}
 use Rattle.cb_grammar.specs.declared.tree.Token.{Token}
 use Rattle.cb_grammar.specs.declared.lexeme.Lexeme.{Lexeme}
 use Rattle.cb_grammar.specs.declared.lexeme.Lexeme.TheVariants as lexemes
 use Rattle.cb_lexer.specs.Places.{line_of}
-use Rattle.cb_lexer.specs.Tokens.{Stands, Reads}
+use Rattle.cb_lexer.specs.Tokens.{Stands, Reads, IsTokenAt}
+use Rattle.cb_grammar.specs.Grammar.{NameFits}
+use Rattle.std.specs.List.{All}
+use Rattle.std.proofs.lemmas.List.Elements.{All-cons}
 use Rattle.cb_syntax.specs.Spells.{NameStands, NamesStand}
 
 name_stands : (text : List ℕ) (from from' start : ℕ) (t : Token) (mid : ℕ) → from' ≤ from → Stands text from start (lexemes.Name t) mid → NameStands text from' t × (t.start + length t.name ≤ mid)
@@ -47,3 +50,30 @@ reads_names text (lexemes.Semicolon ∷ ks) from' from to low reads = reads_name
 reads_names text (lexemes.Colon ∷ ks) from' from to low reads = reads_names text ks from' reads.1 to (omega (arith, low, onward text from reads.0 lexemes.Colon reads.1 reads.2)) reads.3
 reads_names text (lexemes.Dot ∷ ks) from' from to low reads = reads_names text ks from' reads.1 to (omega (arith, low, onward text from reads.0 lexemes.Dot reads.1 reads.2)) reads.3
 reads_names text (lexemes.Arrow ∷ ks) from' from to low reads = reads_names text ks from' reads.1 to (omega (arith, low, onward text from reads.0 lexemes.Arrow reads.1 reads.2)) reads.3
+
+token_fits : (text rest : List ℕ) (start : ℕ) (k : Lexeme) → IsTokenAt text start k rest → NameFits k
+token_fits text rest start (lexemes.Name t) at = at.name
+token_fits text rest start lexemes.Class at = tt
+token_fits text rest start lexemes.Extends at = tt
+token_fits text rest start lexemes.Problem at = tt
+token_fits text rest start lexemes.Symptom at = tt
+token_fits text rest start lexemes.Event at = tt
+token_fits text rest start lexemes.Relation at = tt
+token_fits text rest start lexemes.To at = tt
+token_fits text rest start lexemes.One at = tt
+token_fits text rest start lexemes.Many at = tt
+token_fits text rest start lexemes.Inverse at = tt
+token_fits text rest start lexemes.Rule at = tt
+token_fits text rest start lexemes.Block at = tt
+token_fits text rest start lexemes.Hide at = tt
+token_fits text rest start lexemes.Open at = tt
+token_fits text rest start lexemes.Close at = tt
+token_fits text rest start lexemes.Semicolon at = tt
+token_fits text rest start lexemes.Colon at = tt
+token_fits text rest start lexemes.Dot at = tt
+token_fits text rest start lexemes.Arrow at = tt
+
+-- the names of tokens that stand in a text are names
+pub reads_fit : (text : List ℕ) (ks : List Lexeme) (from to : ℕ) → Reads text from ks to → All NameFits ks
+reads_fit text [] from to reads = λ k d low. absurd (omega (arith, low))
+reads_fit text (k ∷ ks) from to reads = All-cons NameFits k ks (token_fits text (drop reads.1 text) reads.0 k reads.2.whole) (reads_fit text ks reads.1 to reads.3)

@@ -3,7 +3,7 @@ use Rattle.std.proofs.Common.{◌≡◌, refl, ap, sym, ◌∙◌, subst, ℕ, L
 use Rattle.std.specs.Prelude.{◌⊎◌, Result, Ok, Err, MatchResult, IfOk}
 use Rattle.cb_grammar.specs.declared.lexeme.Lexeme.{Lexeme}
 use Rattle.cb_grammar.specs.declared.tree.Tree.{Tree}
-use Rattle.cb_grammar.specs.Grammar.{tree_tokens, IsTreeOf, IsModel, IsFront}
+use Rattle.cb_grammar.specs.Grammar.{tree_tokens, NamesFit, IsTreeOf, IsModel, IsFront}
 use Rattle.cb_grammar.proofs.Front.{one_tree}
 use Rattle.cb_lexer.specs.declared.found.Found.{Found}
 use Rattle.cb_lexer.specs.declared.found.Found.TheVariants.{Token, End, Bad, Long}
@@ -14,7 +14,7 @@ use Rattle.cb_lexer.proofs.Apart.{one_next, spot_at, token_next}
 use Rattle.cb_syntax.specs.declared.fault.SyntaxFault.{SyntaxFault}
 use Rattle.cb_syntax.specs.declared.fault.SyntaxFault.TheVariants.{BadByte, Unexpected, LongName, Unfinished, NoMemory}
 use Rattle.cb_syntax.specs.Spells.{Spells, IsMet, IsFault, NamesStand}
-use Rattle.cb_syntax.proofs.Names.{reads_names}
+use Rattle.cb_syntax.proofs.Names.{reads_names, reads_fit}
 use Rattle.cb_syntax.specs.Laws.{IsAnswer}
 
 -- one reading goes on from the other
@@ -114,3 +114,7 @@ only text (Err fault) answer (inr is) a = inl (one_answer text (Err fault) answe
 pub names : (text : List ℕ) (r : Result Tree SyntaxFault) → Answers text r → IfOk r (λ tree. NamesStand text 0 (tree_tokens tree))
 names text (Ok tree) is = reads_names text (tree_tokens tree) 0 0 is.to (omega arith) is.tokens
 names text (Err fault) is = tt
+
+pub names_fit : (text : List ℕ) (r : Result Tree SyntaxFault) → Answers text r → IfOk r (λ tree. NamesFit tree)
+names_fit text (Ok tree) is = reads_fit text (tree_tokens tree) 0 is.to is.tokens
+names_fit text (Err fault) is = tt

@@ -1,6 +1,6 @@
 //! Reads a model.
 ghost use Rattle.std.specs.Prelude.{◌≡◌, ◌≤◌, ◌⊎◌, length, IfOk, MatchResult};
-ghost use Rattle.cb_grammar.specs.Grammar.{tree_tokens};
+ghost use Rattle.cb_grammar.specs.Grammar.{tree_tokens, NamesFit};
 ghost use Rattle.cb_syntax.specs.Spells.{Spells, IsFault, NamesStand};
 ghost use Rattle.cb_syntax.specs.Laws.{OneAnswer};
 
@@ -13,7 +13,8 @@ use std::alloc::Global;
 pub fn parse(alloc: Global, text: &[u8]) -> Result<Tree, SyntaxFault>
     requires { length text.now ≤ LONGEST_TEXT }
     ensures answer { MatchResult result (λ tree. Spells text.now tree) (λ fault. (fault ≡ SyntaxFault.NoMemory) ⊎ IsFault text.now fault) }
-    ensures names { IfOk result (λ tree. NamesStand text.now 0 (tree_tokens tree)) }
+    ensures names_stand { IfOk result (λ tree. NamesStand text.now 0 (tree_tokens tree)) }
+    ensures names_fit { IfOk result (λ tree. NamesFit tree) }
 
     // There is no other answer.
     ensures only_tree { (tree : Tree) → Spells text.now tree → (result ≡ Ok tree) ⊎ (result ≡ Err SyntaxFault.NoMemory) }
