@@ -3,9 +3,8 @@ use Rattle.std.proofs.Common.{◌≡◌, refl, ap, sym, ◌∙◌, subst, List, 
 use Rattle.std.specs.Prelude.{if◌then◌else◌, nat_lt, length, IfSome}
 use Rattle.std.proofs.lemmas.List.{map-append, length-map}
 use Rattle.cb_grammar.specs.declared.tree.Token.{Token}
-use Rattle.cb_grammar.specs.declared.tree.Member.{Member}
-use Rattle.cb_grammar.specs.declared.tree.Member.TheVariants as members
 use Rattle.cb_grammar.specs.declared.tree.ClassDecl.{ClassDecl}
+use Rattle.cb_grammar.specs.declared.tree.Tree.{Tree}
 use Rattle.cb_grammar.specs.declared.lexeme.Lexeme.{Lexeme}
 use Rattle.cb_grammar.specs.declared.lexeme.Lexeme.TheVariants as lexemes
 use Rattle.cb_grammar.specs.declared.place.EventPlace.{EventPlace}
@@ -21,51 +20,35 @@ use Rattle.cb_grammar.specs.declared.place.Grown.TheVariants.{More, Whole, Wrong
 use Rattle.cb_grammar.specs.declared.machine.Part.{Part}
 use Rattle.cb_grammar.specs.declared.machine.Part.TheVariants as parts
 use Rattle.cb_grammar.specs.declared.machine.State.{State}
-use Rattle.cb_grammar.specs.Bare.{bare}
-use Rattle.cb_grammar.specs.Grammar.{tree_tokens, IsModel}
+use Rattle.cb_grammar.specs.Bare.{bare, bare_name, bare_parent, bare_member, bare_class, bare_tree}
+use Rattle.cb_grammar.proofs.Front.{classes_of, tree_of}
+use Rattle.cb_grammar.specs.Grammar.{tree_tokens, IsTreeOf, PathsFit}
 use Rattle.cb_grammar.specs.Table.{begun, next_event, next_relation, next_rule, next, next_head, next_inside, next_part, next_state, after_grown, with_part}
 use Rattle.cb_grammar.specs.Read.{so_far, IsSound}
 use Rattle.cb_grammar.proofs.Grows.{Grows, grows, stays_sound}
-use Rattle.cb_grammar.proofs.Runs.{run, then_step, run_none, start, tree_runs}
-
-abbrev tok : Token → Token
-tok t = record { name = t.name; line = 0; start = 0 }
-
-abbrev bare_parent : Option Token → Option Token
-bare_parent None = None
-bare_parent (Some t) = Some (tok t)
-
-abbrev bare_member : Member → Member
-bare_member (members.Event n p s) = members.Event (tok n) p s
-bare_member (members.Relation n g m i) = members.Relation (tok n) (tok g) m (tok i)
-bare_member (members.Rule n c path e) = members.Rule (tok n) (tok c) (map tok path) (tok e)
-bare_member (members.Block n) = members.Block (tok n)
-bare_member (members.Hide n) = members.Hide (tok n)
-
-abbrev bare_class : ClassDecl → ClassDecl
-bare_class c = record { name = tok c.name; parent = bare_parent c.parent; members = map bare_member c.members }
+use Rattle.cb_grammar.proofs.Runs.{run, then_step, run_none, start, between, tree_runs}
 
 abbrev bare_event : EventPlace → EventPlace
-bare_event (events.Named n p s) = events.Named (tok n) p s
+bare_event (events.Named n p s) = events.Named (bare_name n) p s
 bare_event p = p
 
 abbrev bare_relation : RelationPlace → RelationPlace
 bare_relation relations.Word = relations.Word
-bare_relation (relations.Named n) = relations.Named (tok n)
-bare_relation (relations.To n) = relations.To (tok n)
-bare_relation (relations.Target n g) = relations.Target (tok n) (tok g)
-bare_relation (relations.Count n g m) = relations.Count (tok n) (tok g) m
-bare_relation (relations.Inverse n g m) = relations.Inverse (tok n) (tok g) m
-bare_relation (relations.Whole n g m i) = relations.Whole (tok n) (tok g) m (tok i)
+bare_relation (relations.Named n) = relations.Named (bare_name n)
+bare_relation (relations.To n) = relations.To (bare_name n)
+bare_relation (relations.Target n g) = relations.Target (bare_name n) (bare_name g)
+bare_relation (relations.Count n g m) = relations.Count (bare_name n) (bare_name g) m
+bare_relation (relations.Inverse n g m) = relations.Inverse (bare_name n) (bare_name g) m
+bare_relation (relations.Whole n g m i) = relations.Whole (bare_name n) (bare_name g) m (bare_name i)
 
 abbrev bare_rule : RulePlace → RulePlace
 bare_rule rules.Word = rules.Word
-bare_rule (rules.Named n) = rules.Named (tok n)
-bare_rule (rules.Colon n) = rules.Colon (tok n)
-bare_rule (rules.Cause n c) = rules.Cause (tok n) (tok c)
-bare_rule (rules.Arrow n c) = rules.Arrow (tok n) (tok c)
-bare_rule (rules.Effect n c path e) = rules.Effect (tok n) (tok c) (map tok path) (tok e)
-bare_rule (rules.Dot n c path) = rules.Dot (tok n) (tok c) (map tok path)
+bare_rule (rules.Named n) = rules.Named (bare_name n)
+bare_rule (rules.Colon n) = rules.Colon (bare_name n)
+bare_rule (rules.Cause n c) = rules.Cause (bare_name n) (bare_name c)
+bare_rule (rules.Arrow n c) = rules.Arrow (bare_name n) (bare_name c)
+bare_rule (rules.Effect n c path e) = rules.Effect (bare_name n) (bare_name c) (map bare_name path) (bare_name e)
+bare_rule (rules.Dot n c path) = rules.Dot (bare_name n) (bare_name c) (map bare_name path)
 
 abbrev bare_place : Place → Place
 bare_place places.Start = places.Start
@@ -73,16 +56,16 @@ bare_place (places.Event p) = places.Event (bare_event p)
 bare_place (places.Relation p) = places.Relation (bare_relation p)
 bare_place (places.Rule p) = places.Rule (bare_rule p)
 bare_place places.Block = places.Block
-bare_place (places.BlockName n) = places.BlockName (tok n)
+bare_place (places.BlockName n) = places.BlockName (bare_name n)
 bare_place places.Hide = places.Hide
-bare_place (places.HideName n) = places.HideName (tok n)
+bare_place (places.HideName n) = places.HideName (bare_name n)
 
 abbrev bare_part : Part → Part
 bare_part parts.Between = parts.Between
 bare_part parts.Word = parts.Word
-bare_part (parts.Named n) = parts.Named (tok n)
-bare_part (parts.Extends n) = parts.Extends (tok n)
-bare_part (parts.Child n p) = parts.Child (tok n) (tok p)
+bare_part (parts.Named n) = parts.Named (bare_name n)
+bare_part (parts.Extends n) = parts.Extends (bare_name n)
+bare_part (parts.Child n p) = parts.Child (bare_name n) (bare_name p)
 bare_part (parts.Inside c p) = parts.Inside (bare_class c) (bare_place p)
 
 abbrev bare_state : State → State
@@ -132,8 +115,8 @@ bare_next_relation (relations.Whole n g m i) lexemes.Semicolon = refl
 bare_next_relation p k = refl
 
 bare_dot : (n c : Token) (path : List Token) (e : Token) (b : Bool) →
-    (if b then More (places.Rule (rules.Dot (tok n) (tok c) (map tok path ++ tok e ∷ []))) else Wrong) ≡ bare_grown (if b then More (places.Rule (rules.Dot n c (path ++ e ∷ []))) else Wrong)
-bare_dot n c path e true = ap (λ l. More (places.Rule (rules.Dot (tok n) (tok c) l))) (sym (map-append tok path (e ∷ [])))
+    (if b then More (places.Rule (rules.Dot (bare_name n) (bare_name c) (map bare_name path ++ bare_name e ∷ []))) else Wrong) ≡ bare_grown (if b then More (places.Rule (rules.Dot n c (path ++ e ∷ []))) else Wrong)
+bare_dot n c path e true = ap (λ l. More (places.Rule (rules.Dot (bare_name n) (bare_name c) l))) (sym (map-append bare_name path (e ∷ [])))
 bare_dot n c path e false = refl
 
 bare_next_rule : (p : RulePlace) (k : Lexeme) → next_rule (bare_rule p) (bare k) ≡ bare_grown (next_rule p k)
@@ -144,7 +127,7 @@ bare_next_rule (rules.Cause n c) lexemes.Arrow = refl
 bare_next_rule (rules.Arrow n c) (lexemes.Name t) = refl
 bare_next_rule (rules.Effect n c path e) lexemes.Semicolon = refl
 bare_next_rule (rules.Effect n c path e) lexemes.Dot =
-    ap (λ l. if nat_lt l 4 then More (places.Rule (rules.Dot (tok n) (tok c) (map tok path ++ tok e ∷ []))) else Wrong) (length-map path tok) ∙ bare_dot n c path e (nat_lt (length path) 4)
+    ap (λ l. if nat_lt l 4 then More (places.Rule (rules.Dot (bare_name n) (bare_name c) (map bare_name path ++ bare_name e ∷ []))) else Wrong) (length-map path bare_name) ∙ bare_dot n c path e (nat_lt (length path) 4)
 bare_next_rule (rules.Dot n c path) (lexemes.Name t) = refl
 bare_next_rule p k = refl
 
@@ -162,7 +145,7 @@ bare_next p k = refl
 bare_after : (cs : List ClassDecl) (c : ClassDecl) (g : Grown) → after_grown (map bare_class cs) (bare_class c) (bare_grown g) ≡ bare_option (after_grown cs c g)
 bare_after cs c (More p) = refl
 bare_after cs c (Whole m) =
-    ap (λ ms. Some (record { classes = map bare_class cs; part = parts.Inside (record { name = tok c.name; parent = bare_parent c.parent; members = ms }) places.Start })) (sym (map-append bare_member c.members (m ∷ [])))
+    ap (λ ms. Some (record { classes = map bare_class cs; part = parts.Inside (record { name = bare_name c.name; parent = bare_parent c.parent; members = ms }) places.Start })) (sym (map-append bare_member c.members (m ∷ [])))
 bare_after cs c Wrong = refl
 
 bare_inside : (cs : List ClassDecl) (c : ClassDecl) (p : Place) (k : Lexeme) → next_inside (map bare_class cs) (bare_class c) (bare_place p) (bare k) ≡ bare_option (next_inside cs c p k)
@@ -223,16 +206,22 @@ abbrev EndsOption : Option State → Type 0
 EndsOption None = ⊥
 EndsOption (Some s) = Ends s.part
 
-part_done : (cs : List ClassDecl) (part : Part) (ks : List Lexeme) → Ends (bare_part part) → so_far (record { classes = cs; part = part }) ≡ ks → IsSound (record { classes = cs; part = part }) → IsModel ks
-part_done cs parts.Between ks ends is sound = (record { classes = cs }, record { fits = sound.classes; tokens = sym (append-nil (tree_tokens (record { classes = cs }))) ∙ is })
+part_done : (cs : List ClassDecl) (part : Part) (ks : List Lexeme) → Ends (bare_part part) → so_far (record { classes = cs; part = part }) ≡ ks → IsSound (record { classes = cs; part = part }) →
+    IsTreeOf (tree_of cs) ks
+part_done cs parts.Between ks ends is sound = record { fits = sound.classes; tokens = sym (append-nil (tree_tokens (tree_of cs))) ∙ is }
 part_done cs part ks ends is sound = absurd ends
 
-done : (o : Option State) (ks : List Lexeme) → EndsOption (bare_option o) → ReadsAll o ks → IsModel ks
-done None ks ends is = absurd ends
-done (Some s) ks ends is = part_done s.classes s.part ks ends is.0 is.1
+-- these are the tokens of a tree with these classes but for their places
+abbrev IsBareTree : List Lexeme → List ClassDecl → Type 0
+IsBareTree ks cs = (again : Tree) × IsTreeOf again ks × (bare_tree again ≡ bare_tree (tree_of cs))
 
-pub same_tokens : (ks ks' : List Lexeme) → map bare ks ≡ map bare ks' → IsModel ks' → IsModel ks
-same_tokens ks ks' same model =
-    let there : bare_option (run start ks) ≡ bare_option (run start ks') = sym (bare_run ks start) ∙ ap (run start) same ∙ bare_run ks' start in
-    done (run start ks) ks (subst EndsOption (sym (there ∙ ap bare_option (tree_runs model.0 ks' model.1))) tt)
-    (run_reads ks (record { classes = []; part = parts.Between }) (record { classes = λ k d low. absurd (omega arith); part = tt }))
+done : (o : Option State) (ks : List Lexeme) (cs : List ClassDecl) → bare_option o ≡ bare_option (between cs) → ReadsAll o ks → IsBareTree ks cs
+done None ks cs same is = absurd (subst EndsOption (sym same) tt)
+done (Some s) ks cs same is = (tree_of s.classes, part_done s.classes s.part ks (subst EndsOption (sym same) tt) is.0 is.1, ap (λ o. tree_of (classes_of o)) same)
+
+pub same_but_places : (ks : List Lexeme) (tree : Tree) → PathsFit tree → map bare ks ≡ map bare (tree_tokens tree) → (again : Tree) × IsTreeOf again ks × (bare_tree again ≡ bare_tree tree)
+same_but_places ks tree fits same =
+    let whole : IsTreeOf tree (tree_tokens tree) = record { fits = fits; tokens = refl } in
+    let there : bare_option (run start ks) ≡ bare_option (between tree.classes) =
+    sym (bare_run ks start) ∙ ap (run start) same ∙ bare_run (tree_tokens tree) start ∙ ap bare_option (tree_runs tree (tree_tokens tree) whole) in
+    done (run start ks) ks tree.classes there (run_reads ks (record { classes = []; part = parts.Between }) (record { classes = λ k d low. absurd (omega arith); part = tt }))

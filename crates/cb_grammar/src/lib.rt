@@ -7,5 +7,5 @@ mod place;
 mod tree;
 
 pub use lexeme::Lexeme;
-pub use machine::{Machine, one_tree, same_tokens};
+pub use machine::{Machine, one_tree, same_but_places};
 pub use tree::{ClassDecl, Member, Token, Tree};

@@ -3,7 +3,7 @@ ghost use Rattle.std.specs.Prelude.{◌≡◌, ◌++◌, ◌∷◌, [], IfOk, Ma
 ghost use Rattle.std.specs.Option.{SomeIff};
 ghost use Rattle.cb_grammar.specs.Grammar.{IsFront, IsModel, IsTreeOf};
 ghost use Rattle.cb_grammar.specs.Table.{opened, next_head, next_inside, next_state};
-ghost use Rattle.cb_grammar.specs.Laws.{OneTree, SameTokens};
+ghost use Rattle.cb_grammar.specs.Laws.{OneTree, SameButPlaces};
 
 use crate::lexeme::Lexeme;
 use crate::place::{Grown, Place, grow};
@@ -176,12 +176,12 @@ fn step(alloc: Global, state: State, lexeme: Lexeme) -> Result<Option<State>, Al
     }
 }
 
-/// A model's tokens are those of no other tree.
+/// A tree's tokens are those of no other tree.
 pub fn one_tree()
     ensures { OneTree }
 {}
 
-/// Tokens that differ from a model's in their places alone are a model's.
-pub fn same_tokens()
-    ensures { SameTokens }
+/// Tokens that differ from a tree's in their places alone are those of a tree that differs in its places alone.
+pub fn same_but_places()
+    ensures { SameButPlaces }
 {}

@@ -140,3 +140,14 @@ one_next text from (Long s) End a b = absurd (not_end text from s a.0 (long_no_g
 one_next text from (Long s) (Bad s') a b = absurd (bad_long text from s' s b a)
 one_next text from (Long s) (Long s') a b =
     ap Long (same_spot text s s' a.0.spot b.0.spot (meets text from s s' a.0 b.0 (long_no_gap text s.at a.1.0 a.1.1) (long_no_gap text s'.at b.1.0 b.1.1)))
+
+-- a place with its line and its column
+abbrev pub spot_at : List ℕ → ℕ → Spot
+spot_at text at = record { at = at; line = line_of text at; column = column_of text at }
+
+is_spot_at : (text : List ℕ) (at : ℕ) → at ≤ length text → IsSpot text (spot_at text at)
+is_spot_at text at within = record { within = within; line = refl; column = refl }
+
+-- a token that stands in a text is what stands next
+pub token_next : (text : List ℕ) (from start : ℕ) (k : Lexeme) (end : ℕ) → Stands text from start k end → IsNext text from (Token k (spot_at text start) (spot_at text end))
+token_next text from start k end s = (record { spot = is_spot_at text start (omega (arith, s.length, s.within)); after = s.after; gap = s.gap }, is_spot_at text end s.within, s)
