@@ -1,7 +1,7 @@
 -- How the views are filled.
-use Rattle.std.proofs.Common.{◌≡◌, ◌≢◌, ℕ, ◌+◌, ◌*◌, ◌^◌, ◌<◌, ◌≤◌, Bool, true, false, cond, List, [], ◌∷◌, ◌++◌, length, get_or, set, map, replicate, Option, Some, None, refl, sym, ap, subst, ◌∙◌, inl, inr, arith}
-use Rattle.std.specs.Prelude.{◌⊎◌, ◌↔◌, slice_get, MatchOption}
-use Rattle.std.specs.List.{All, AllPairs, AllZip, Contains, sum_by}
+use Rattle.std.proofs.Common.{◌≡◌, ◌≢◌, ℕ, ◌+◌, ◌*◌, ◌<◌, ◌≤◌, Bool, true, false, cond, List, [], ◌∷◌, ◌++◌, length, get_or, set, map, Option, Some, None, refl, sym, ap, subst, ◌∙◌, inl, inr, arith}
+use Rattle.std.specs.Prelude.{slice_get, MatchOption}
+use Rattle.std.specs.List.{All, AllZip, sum_by}
 use Rattle.std.specs.Str.{bytes_eq}
 use Rattle.std.proofs.Math.Nat.{mul-zero}
 use Rattle.std.proofs.lemmas.Bool.{cases_eq, cases_lt, false≢true}
@@ -18,12 +18,11 @@ use Rattle.cb_model.specs.declared.tables.ClassRow.{ClassRow}
 use Rattle.cb_model.specs.declared.tables.EventRow.{EventRow}
 use Rattle.cb_model.specs.declared.tables.RuleRow.{RuleRow}
 use Rattle.cb_model.specs.declared.class_view.ClassView.{ClassView}
-use Rattle.cb_model.specs.declared.rule.Rule.{Rule}
 use Rattle.cb_model.specs.Classes.{HasEvent, HasRule, NamesClass, NamesEvent}
 use Rattle.cb_model.specs.NameMap.{value_named, PutsName}
 use Rattle.cb_model.specs.Flat.{IsFlat}
 use Rattle.cb_model.specs.Views.{ListsNumbers, IsRuleAt, rule_of}
-use Rattle.cb_model.specs.Sealed.{no_view, AddsEvent, FindsClasses, FindsEvents, IsViewOf, AreViewsOf}
+use Rattle.cb_model.specs.Sealed.{no_view, AddsEvent, FindsClasses, IsViewOf, AreViewsOf}
 use Rattle.cb_model.specs.Filling.{DeclaredIn, DeclaresEvent, DeclaresRule, DeclaresNamed, HoldsEvents, HoldsRules, AreFilled, AreEmpty, FindsFirst}
 use Rattle.cb_model.proofs.Numbers.{all_at, lists_none, lists_same, lists_more, zip_push, slice_get-set_other, slice_get-set_same, slice_get-replicate}
 use Rattle.cb_model.proofs.FlatLemmas.{class_is, stands_alone, has_event, has_rule}

@@ -1,6 +1,6 @@
 -- What classes that stand alone have.
-use Rattle.std.proofs.Common.{◌≡◌, ◌≢◌, ℕ, zero, suc, ◌+◌, ◌<◌, ◌≤◌, List, [], ◌∷◌, length, get_or, Option, Some, None, Bool, true, false, refl, sym, ap, subst, ◌∙◌, inl, inr, arith}
-use Rattle.std.specs.Prelude.{slice_get, ◌↔◌}
+use Rattle.std.proofs.Common.{◌≡◌, ℕ, zero, suc, List, [], length, Option, Some, None, true, refl, sym, ap, ◌∙◌, inl, inr, arith}
+use Rattle.std.specs.Prelude.{slice_get}
 use Rattle.std.specs.List.{All, Contains}
 use Rattle.std.proofs.lemmas.Option.{slice_get_cases}
 use Rattle.cb_model.specs.declared.id.ClassId.{ClassId}
@@ -9,9 +9,7 @@ use Rattle.cb_model.specs.declared.tables.Tables.{Tables}
 use Rattle.cb_model.specs.declared.tables.ClassRow.{ClassRow}
 use Rattle.cb_model.specs.declared.tables.EventRow.{EventRow}
 use Rattle.cb_model.specs.declared.tables.RuleRow.{RuleRow}
-use Rattle.cb_model.specs.declared.tables.BlockRow.{BlockRow}
-use Rattle.cb_model.specs.declared.tables.HideRow.{HideRow}
-use Rattle.cb_model.specs.Classes.{parent_of, parent_in_row, parent_of_some, ancestor, IsA, OnTheWay, HasEvent, HasRule, IsProblemOf, IsSymptomOf}
+use Rattle.cb_model.specs.Classes.{parent_of, parent_in_row, parent_of_some, ancestor, IsA, HasEvent, HasRule, IsSymptomOf}
 use Rattle.cb_model.specs.Flat.{IsFlat}
 
 -- classes of one number are one

@@ -1,22 +1,18 @@
 -- Flat tables keep the type rules.
-use Rattle.std.proofs.Common.{◌≡◌, ◌≢◌, ℕ, zero, suc, ◌<◌, ◌≤◌, List, [], ◌∷◌, length, get_or, Option, Some, None, refl, sym, ap, subst, ◌∙◌, arith}
-use Rattle.std.specs.Prelude.{slice_get, IfSome}
-use Rattle.std.specs.List.{All, AllPairs}
+use Rattle.std.proofs.Common.{◌≡◌, ◌≢◌, ℕ, ◌<◌, ◌≤◌, List, [], ◌∷◌, length, get_or, Some, refl, sym, ap, subst, arith}
+use Rattle.std.specs.Prelude.{slice_get}
+use Rattle.std.specs.List.{All}
 use Rattle.std.proofs.lemmas.Option.{slice_get_within, MatchOption-from_none}
 use Rattle.cb_model.specs.declared.limits.TheConstants.{MOST_ANCESTORS, MOST_EVENTS, MOST_RELATIONS, MOST_RULES}
 use Rattle.cb_model.specs.declared.id.ClassId.{ClassId}
 use Rattle.cb_model.specs.declared.id.EventId.{EventId}
 use Rattle.cb_model.specs.declared.id.RelId.{RelId}
 use Rattle.cb_model.specs.declared.tables.Tables.{Tables}
-use Rattle.cb_model.specs.declared.tables.ClassRow.{ClassRow}
 use Rattle.cb_model.specs.declared.tables.EventRow.{EventRow}
-use Rattle.cb_model.specs.declared.tables.RelRow.{RelRow}
-use Rattle.cb_model.specs.declared.tables.RuleRow.{RuleRow}
-use Rattle.cb_model.specs.declared.tables.BlockRow.{BlockRow}
-use Rattle.cb_model.specs.declared.tables.HideRow.{HideRow}
-use Rattle.cb_model.specs.Classes.{ancestor, IsA, HasEvent, HasRelation}
+use Rattle.cb_model.specs.Classes.{IsA, HasEvent, HasRelation}
 use Rattle.cb_model.specs.WellTyped.{IsClass, IsRelation, HasPlaces, HasInverse, InheritsRule, Declares, Member, Reaches, AtMost, KeepsTypeRules, WellTyped}
-use Rattle.cb_model.specs.Flat.{IsFlat, IsFlatRule, IsOwnRule, OwnsEvent, OwnsRule, HasFlatRows}
+use Rattle.cb_model.specs.WellTyped as members
+use Rattle.cb_model.specs.Flat.{IsFlat, OwnsEvent, OwnsRule, HasFlatRows}
 use Rattle.cb_model.proofs.FlatLemmas.{no_ancestor, stands_alone}
 
 -- an empty list has no place
@@ -49,9 +45,9 @@ module _ (t : Tables) (rows : HasFlatRows t) where
     events = rows.events;
     relations = λ k d low. absurd (no_place t.relations k rows.no_relations low);
     rules = λ k d low.
-      let own = rows.rules k d low in
-      let row = get_or t.rules k d in
-      (own.class, slice_get_within t.events row.cause.0 own.flat.cause own.flat.cause_is, (λ j e within. absurd (no_place row.path j own.flat.stays within)), slice_get_within t.events row.effect.0 own.flat.effect own.flat.effect_is);
+        let own = rows.rules k d low in
+        let row = get_or t.rules k d in
+        (own.class, slice_get_within t.events row.cause.0 own.flat.cause own.flat.cause_is, (λ j e within. absurd (no_place row.path j own.flat.stays within)), slice_get_within t.events row.effect.0 own.flat.effect own.flat.effect_is);
     blocks = λ k d low. absurd (no_place t.blocks k rows.no_blocks low);
     hides = λ k d low. absurd (no_place t.hides k rows.no_hides low);
   }
@@ -69,9 +65,9 @@ module _ (t : Tables) (rows : HasFlatRows t) where
     inverses = λ r row is. absurd (nowhere t.relations r.0 row rows.no_relations is);
     causes = λ k d low. let own = rows.rules k d low in owned _ _ own.flat.cause own.flat.cause_is own.own_cause;
     effects = λ k d low.
-      let own = rows.rules k d low in
-      let row = get_or t.rules k d in
-      (row.class, subst (λ (path : List RelId). Reaches t row.class path row.class) (sym own.flat.stays) refl, owned row.class row.effect own.flat.effect own.flat.effect_is own.own_effect);
+        let own = rows.rules k d low in
+        let row = get_or t.rules k d in
+        (row.class, subst (λ (path : List RelId). Reaches t row.class path row.class) (sym own.flat.stays) refl, owned row.class row.effect own.flat.effect own.flat.effect_is own.own_effect);
     blocked = λ k d low. absurd (no_place t.blocks k rows.no_blocks low);
     hidden = λ k d low. absurd (no_place t.hides k rows.no_hides low);
     few_classes = rows.few_classes;
@@ -90,3 +86,31 @@ module _ (t : Tables) (rows : HasFlatRows t) where
     one_mark = rows.one_mark;
     rules = λ k d low. (rows.rules k d low).flat;
   }
+
+-- tables without rows are flat
+pub nothing_is_flat : (t : Tables) → t.classes ≡ [] → t.events ≡ [] → t.relations ≡ [] → t.rules ≡ [] → t.blocks ≡ [] → t.hides ≡ [] → IsFlat t
+nothing_is_flat t classes events relations rules blocks hides = flat_from_rows t (record {
+  names = record {
+    classes = λ k d low. absurd (no_place t.classes k classes low);
+    events = λ k d low. absurd (no_place t.events k events low);
+    relations = λ k d low. absurd (no_place t.relations k relations low);
+    rules = λ k d low. absurd (no_place t.rules k rules low);
+  };
+  alone = λ k d low. absurd (no_place t.classes k classes low);
+  no_relations = relations;
+  no_blocks = blocks;
+  no_hides = hides;
+  one_mark = λ k d low. absurd (no_place t.events k events low);
+  class_names = λ i j d below low. absurd (no_place t.classes j classes low);
+  events = λ k d low. absurd (no_place t.events k events low);
+  rules = λ k d low. absurd (no_place t.rules k rules low);
+  member_names = none_declared;
+  few_classes = let none : length t.classes ≡ 0 = ap length classes in omega arith;
+  few_events = λ c xs apart. at_most_none MOST_EVENTS (OwnsEvent t c) (λ e own. nowhere t.events e.0 own.0 events own.1) xs;
+  few_rules = λ c xs apart. at_most_none MOST_RULES (OwnsRule t c) (λ n own. nowhere t.rules n own.0 rules own.1) xs;
+})
+  where
+    none_declared : (c : ClassId) (one other : Member) (name : List ℕ) → Declares t c one name → Declares t c other name → one ≡ other
+    none_declared c (members.event n) other name here there = absurd (nowhere t.events n here.0 events here.1)
+    none_declared c (members.relation n) other name here there = absurd (nowhere t.relations n here.0 relations here.1)
+    none_declared c (members.rule n) other name here there = absurd (nowhere t.rules n here.0 rules here.1)

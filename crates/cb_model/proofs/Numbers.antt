@@ -1,11 +1,18 @@
 -- Rising lists of numbers, and lists that are written at one place.
-use Rattle.std.proofs.Common.{◌≡◌, ◌≢◌, ℕ, zero, suc, ◌+◌, ◌<◌, ◌≤◌, List, [], ◌∷◌, ◌++◌, length, get_or, replicate, Option, Some, None, refl, sym, ap, subst, ◌∙◌, inl, inr, arith}
-use Rattle.std.specs.Prelude.{◌⊎◌, ◌↔◌, slice_get, slice_set, ⊤}
-use Rattle.std.specs.List.{All, AllPairs, AllZip, Contains}
-use Rattle.std.proofs.lemmas.List.{get_or-replicate, length-replicate}
+use Rattle.std.proofs.Common.{◌≡◌, ◌≢◌, ℕ, zero, suc, ◌<◌, ◌≤◌, List, [], ◌∷◌, ◌++◌, length, get_or, map, nat_eq, replicate, Some, refl, sym, ap, subst, ◌∙◌, inl, inr, arith}
+use Rattle.std.specs.Prelude.{◌⊎◌, ◌↔◌, slice_get, slice_set}
+use Rattle.std.specs.List.{All, AllPairs, AllZip, Contains, IsDistinct}
+use Rattle.std.proofs.lemmas.List.{get_or-replicate, length-replicate, length-map, get_or-map}
 use Rattle.std.proofs.lemmas.Option.{slice_get_within, slice_get_read, get_or_from_slice_get}
-use Rattle.std.proofs.lemmas.List.Elements.{Contains-push_cases, Contains-append_left, Contains-push, Contains-get_or}
+use Rattle.std.proofs.lemmas.List.Elements.{Contains-push_cases, Contains-append_left, Contains-push, Contains-get_or, All-contains}
 use Rattle.std.proofs.lemmas.List.Quantifiers.{all_pairs_push}
+use Rattle.std.specs.Cmp.{nat_eq_equiv}
+use Rattle.std.proofs.lemmas.Map.Keys.{IsDistinct-from_apart}
+use Rattle.std.proofs.lemmas.Map.Made.{length-le_from_is_member}
+use Rattle.std.proofs.lemmas.Map.Views.{Contains-from_any, list_any-from_Contains}
+use Rattle.std.proofs.lemmas.Bool.{false_from_ne_true, eqb-true}
+use Rattle.cb_model.specs.declared.id.EventId.{EventId}
+use Rattle.cb_model.specs.WellTyped.{AtMost}
 use Rattle.cb_model.specs.Views.{ListsNumbers}
 
 -- nothing is listed by the empty list
@@ -70,3 +77,28 @@ read_at {X} xs ys i x same low is = ap (λ (l : List X). slice_get l i) (sym sam
 -- what holds of all holds there
 pub all_at : {X : Type 0} (P : X → Type 0) (xs : List X) (i : ℕ) (x : X) → slice_get xs i ≡ Some x → All P xs → P x
 all_at P xs i x is all = subst P (get_or_from_slice_get xs i x x is) (all i x (slice_get_within xs i x is))
+
+-- numbers that differ are no more than those of a list that has them all
+pub fewer_than_listed : (ns listed : List ℕ) → AllPairs (λ one other. one ≢ other) ns → All (Contains listed) ns → length ns ≤ length listed
+fewer_than_listed ns listed apart all =
+    let distinct : IsDistinct nat_eq ns = IsDistinct-from_apart nat_eq ns (λ i j d below within.
+    false_from_ne_true (nat_eq (get_or ns i d) (get_or ns j d)) (λ is. apart i j d below within (eqb-true (get_or ns i d) (get_or ns j d) is))) in
+    length-le_from_is_member nat_eq_equiv ns listed distinct (λ q has.
+    let there : Contains ns q = Contains-from_any (λ x y is. eqb-true x y is) q ns has in
+    list_any-from_Contains nat_eq_equiv q listed (All-contains (Contains listed) ns q all there))
+
+-- so no more events meet P than a list has that has all their numbers
+pub at_most_listed : (P : EventId → Type 0) (most : ℕ) (listed : List ℕ) → ((e : EventId) → P e → Contains listed e.0) → length listed ≤ most → AtMost most P
+at_most_listed P most listed all few = λ xs apart each.
+    let ns : List ℕ = map (λ (e : EventId). e.0) xs in
+    let count : length ns ≡ length xs = length-map xs (λ (e : EventId). e.0) in
+    let differ : AllPairs (λ one other. one ≢ other) ns = λ i j d below within same.
+    let none : EventId = record { 0 = d } in
+    let one = get_or-map (λ (e : EventId). e.0) xs i none d (omega (arith, below, within, count)) in
+    let other = get_or-map (λ (e : EventId). e.0) xs j none d (omega (arith, within, count)) in
+    apart i j none below (omega (arith, within, count)) (ap (λ n. let e : EventId = record { 0 = n } in e) (sym one ∙ (same ∙ other))) in
+    let listed_all : All (Contains listed) ns = λ k d low.
+    let none : EventId = record { 0 = d } in
+    let here = get_or-map (λ (e : EventId). e.0) xs k none d (omega (arith, low, count)) in
+    subst (Contains listed) (sym here) (all (get_or xs k none) (each k none (omega (arith, low, count)))) in
+    omega (arith, fewer_than_listed ns listed differ listed_all, count)

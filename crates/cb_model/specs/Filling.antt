@@ -1,12 +1,9 @@
 -- How the views of the classes are filled, one row after another.
-use Rattle.std.specs.Prelude.{◌≡◌, ◌≢◌, ℕ, ◌<◌, List, [], length, map, replicate, Some, slice_get, MatchOption}
+use Rattle.std.specs.Prelude.{◌≡◌, ◌≢◌, ℕ, ◌<◌, List, length, map, replicate, Some, slice_get, MatchOption}
 use Rattle.std.specs.List.{AllZip, sum_by}
 use Rattle.cb_model.specs.declared.id.ClassId.{ClassId}
-use Rattle.cb_model.specs.declared.id.EventId.{EventId}
 use Rattle.cb_model.specs.declared.tables.Tables.{Tables}
 use Rattle.cb_model.specs.declared.tables.ClassRow.{ClassRow}
-use Rattle.cb_model.specs.declared.tables.EventRow.{EventRow}
-use Rattle.cb_model.specs.declared.tables.RuleRow.{RuleRow}
 use Rattle.cb_model.specs.declared.class_view.ClassView.{ClassView}
 use Rattle.cb_model.specs.NameMap.{value_named}
 use Rattle.cb_model.specs.Views.{ListsNumbers, IsRuleAt}

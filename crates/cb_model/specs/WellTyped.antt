@@ -1,5 +1,5 @@
 -- The rules that the tables of a model keep.
-use Rattle.std.specs.Prelude.{◌≡◌, ◌≢◌, ℕ, suc, ◌<◌, ◌≤◌, List, [], ◌∷◌, length, Option, Some, None, slice_get, IfSome, true}
+use Rattle.std.specs.Prelude.{◌≡◌, ◌≢◌, ℕ, suc, ◌<◌, ◌≤◌, List, [], ◌∷◌, length, Some, None, slice_get, IfSome, true}
 use Rattle.std.specs.List.{All, AllPairs}
 use Rattle.cb_text.specs.Names.{IsName}
 use Rattle.cb_model.specs.declared.limits.TheConstants.{MOST_CLASSES, MOST_ANCESTORS, MOST_EVENTS, MOST_RELATIONS, MOST_RULES}
@@ -7,12 +7,9 @@ use Rattle.cb_model.specs.declared.id.ClassId.{ClassId}
 use Rattle.cb_model.specs.declared.id.EventId.{EventId}
 use Rattle.cb_model.specs.declared.id.RelId.{RelId}
 use Rattle.cb_model.specs.declared.tables.Tables.{Tables}
-use Rattle.cb_model.specs.declared.tables.ClassRow.{ClassRow}
 use Rattle.cb_model.specs.declared.tables.EventRow.{EventRow}
 use Rattle.cb_model.specs.declared.tables.RelRow.{RelRow}
 use Rattle.cb_model.specs.declared.tables.RuleRow.{RuleRow}
-use Rattle.cb_model.specs.declared.tables.BlockRow.{BlockRow}
-use Rattle.cb_model.specs.declared.tables.HideRow.{HideRow}
 use Rattle.cb_model.specs.Classes.{ancestor, IsA, HasEvent, HasRelation}
 
 -- the numbers that are places of rows

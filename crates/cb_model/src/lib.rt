@@ -20,3 +20,6 @@ pub use name::Name;
 pub use node::{GroupName, NamedGroup, NodeName};
 pub use rule::{Marks, Rule};
 pub use tables::{BlockRow, ClassRow, EventRow, HideRow, RelRow, RuleRow, Tables};
+
+#[cfg(test)]
+mod tests;

@@ -1,4 +1,4 @@
-use Rattle.std.proofs.Common.{ap, length, sym, subst, refl, arith, List, ℕ}
+use Rattle.std.proofs.Common.{subst, refl, arith, List, ℕ}
 use Rattle.cb_model.specs.Sealed.{AddsEvent}
 use Rattle.cb_model.proofs.Fill.{filled_none, filled_event, few_events, view_of_event}
 use Rattle.cb_model.proofs.Numbers.{read_at}

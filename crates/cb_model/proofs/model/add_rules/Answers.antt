@@ -1,4 +1,4 @@
-use Rattle.std.proofs.Common.{◌+◌, ap, length, set, sym, subst, refl, arith, List, ℕ}
+use Rattle.std.proofs.Common.{◌+◌, length, set, sym, subst, refl, arith}
 use Rattle.cb_model.specs.declared.class_view.ClassView.{ClassView}
 use Rattle.cb_model.specs.Filling.{AreFilled}
 use Rattle.cb_model.proofs.Fill.{filled_rule, view_of_rule}

@@ -1,4 +1,4 @@
-use Rattle.std.proofs.Common.{ap, length, sym, subst, arith, List, ℕ}
+use Rattle.std.proofs.Common.{ap, length, subst, arith, List, ℕ}
 use Rattle.cb_model.specs.NameMap.{PutsName}
 use Rattle.cb_model.proofs.Fill.{finds_more, finds_all}
 use Rattle.cb_model.proofs.Numbers.{read_at}

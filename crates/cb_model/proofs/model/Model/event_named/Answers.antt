@@ -1,4 +1,4 @@
-use Rattle.std.proofs.Common.{ap, length, subst, refl, ◌∙◌, arith}
+use Rattle.std.proofs.Common.{subst, refl, ◌∙◌, arith}
 use Rattle.cb_model.specs.declared.tables.Tables.{Tables}
 use Rattle.cb_model.specs.Sealed.{AreViewsOf}
 use Rattle.cb_model.proofs.NameLemmas.{if_none}
