@@ -32,8 +32,8 @@ pub fn coding_theorem()
     ensures { CodingTheorem }
 {}
 
-/// What differs at no more than r of all columns differs at no more than r of any choice of them: a book needs no more
-/// symptoms to be right than all columns do.
+/// What differs at no more than r of all columns differs at no more than r of any choice of them: over a book no more
+/// symptoms count as lost or spurious than over all columns.
 pub fn fewer_columns_are_closer()
     ensures { FewerColumnsAreCloser }
 {}

@@ -39,7 +39,8 @@ pub fn distance_over(a: &List<bool>, b: &List<bool>, columns: &List<u32>) -> u32
 pub(crate) fn distance_below(a: &List<bool>, b: &List<bool>, limit: usize) -> Option<u32>
     requires same_width { length a.now ≡ length b.now }
     requires fits { length a.now < 2 ^ 32 }
-    ensures { let apart = distance_of (all_columns (length a.now)) a.now b.now in SomeIff result (apart < limit) apart }
+    ensures { let apart = distance_of (all_columns (length a.now)) a.now b.now in
+        SomeIff result (apart < limit) apart }
 {
     let (a, b) = (a.as_slice(), b.as_slice());
     let mut count: usize = 0;

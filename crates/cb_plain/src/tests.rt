@@ -30,10 +30,9 @@ fn finds_the_first_closest_pair(rt: HostRuntime) -> Result<(), Fail> {
 #[test]
 fn tells_how_far_codes_are_apart(rt: HostRuntime) -> Result<(), Fail> {
     let alloc = rt.alloc();
-    let mut columns = List::new(alloc);
-    for column in [0, 2, 3] {
-        columns.push(column)?;
-    }
+    let codes = codes_of(alloc, 5, &CODES)?;
+    let columns = book(alloc, &codes, 5, 2)?.ok_or("no book")?.columns;
+    assert_eq!(rt; columns.as_slice(), [0, 2, 3].as_slice());
     for (a, b, all, over) in [
         ("11100", "11011", 3, 2),
         ("00000", "10111", 4, 3),
@@ -45,7 +44,6 @@ fn tells_how_far_codes_are_apart(rt: HostRuntime) -> Result<(), Fail> {
             (all, over)
         );
     }
-    let codes = codes_of(alloc, 5, &CODES)?;
     assert_eq!(rt;
         (is_good(&codes, &columns, 2), is_good(&codes, &columns, 3)),
         (true, false)
@@ -149,7 +147,8 @@ fn are_problems(problems: &List<Problem>, width: usize) -> bool
 // Whether a problem comes after all those before it.
 fn comes_last(problems: &List<Problem>, i: usize) -> bool
     requires { i < length problems.now }
-    ensures { IsTrue result → (j : ℕ) (d : Problem_) → j < i → node_cmp (slice_index_or problems.now j d).name (slice_index_or problems.now i d).name ≡ Less }
+    ensures { IsTrue result → (j : ℕ) (d : Problem_) → j < i
+        → node_cmp (slice_index_or problems.now j d).name (slice_index_or problems.now i d).name ≡ Less }
 {
     for j in 0..i {
         if problems.at(j).name.cmp(&problems.at(i).name) != Ordering::Less {
