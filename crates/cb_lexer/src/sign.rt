@@ -1,12 +1,12 @@
 //! Signs.
-ghost use Rattle.std.specs.Prelude.{◌≡◌, MatchOption, length};
-ghost use Rattle.cb_lexer.specs.Tokens.{IsSign, NoSign, BeginsWith, bytes_of};
+ghost use Rattle.std.specs.Prelude.{MatchOption};
+ghost use Rattle.cb_lexer.specs.Tokens.{IsSignAt, NoSign};
 
 use cb_grammar::Lexeme;
 
 /// The sign at the front of the bytes, and its length.
 pub fn sign(bytes: &[u8]) -> Option<(Lexeme, usize)>
-    ensures { MatchOption result (NoSign bytes.now) (λ found. IsSign found.0 × (found.1 ≡ length (bytes_of found.0)) × BeginsWith bytes.now (bytes_of found.0)) }
+    ensures { MatchOption result (NoSign bytes.now) (λ found. IsSignAt bytes.now found.0 found.1) }
 {
     match bytes {
         [b'{', ..] => Some((Lexeme::Open, 1)),

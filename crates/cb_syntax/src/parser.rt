@@ -1,8 +1,8 @@
 //! Reads a model.
-ghost use Rattle.std.specs.Prelude.{◌≡◌, ◌≤◌, ◌⊎◌, length, IfOk, MatchResult};
+ghost use Rattle.std.specs.Prelude.{◌≤◌, length, Ok, Err, IfOk, MatchResult};
 ghost use Rattle.cb_grammar.specs.Grammar.{tree_tokens, NamesFit};
 ghost use Rattle.cb_syntax.specs.Spells.{Spells, IsFault, NamesStand};
-ghost use Rattle.cb_syntax.specs.Laws.{OneAnswer};
+ghost use Rattle.cb_syntax.specs.Laws.{TellsFault, IsUnlessMemory, OneAnswer};
 
 use crate::fault::SyntaxFault;
 use cb_grammar::{Machine, Tree};
@@ -12,13 +12,13 @@ use std::alloc::Global;
 /// The tree that the text spells, or the text's first fault.
 pub fn parse(alloc: Global, text: &[u8]) -> Result<Tree, SyntaxFault>
     requires { length text.now ≤ LONGEST_TEXT }
-    ensures answer { MatchResult result (λ tree. Spells text.now tree) (λ fault. (fault ≡ SyntaxFault.NoMemory) ⊎ IsFault text.now fault) }
+    ensures answer { MatchResult result (Spells text.now) (TellsFault text.now) }
     ensures names_stand { IfOk result (λ tree. NamesStand text.now 0 (tree_tokens tree)) }
     ensures names_fit { IfOk result (λ tree. NamesFit tree) }
 
     // There is no other answer.
-    ensures only_tree { (tree : Tree) → Spells text.now tree → (result ≡ Ok tree) ⊎ (result ≡ Err SyntaxFault.NoMemory) }
-    ensures only_fault { (fault : SyntaxFault) → IsFault text.now fault → (result ≡ Err fault) ⊎ (result ≡ Err SyntaxFault.NoMemory) }
+    ensures only_tree { (tree : Tree) → Spells text.now tree → IsUnlessMemory result (Ok tree) }
+    ensures only_fault { (fault : SyntaxFault) → IsFault text.now fault → IsUnlessMemory result (Err fault) }
 {
     read(alloc, text)
 }
@@ -26,7 +26,7 @@ pub fn parse(alloc: Global, text: &[u8]) -> Result<Tree, SyntaxFault>
 // The same, with no look at other answers.
 fn read(alloc: Global, text: &[u8]) -> Result<Tree, SyntaxFault>
     requires { length text.now ≤ LONGEST_TEXT }
-    ensures { MatchResult result (λ tree. Spells text.now tree) (λ fault. (fault ≡ SyntaxFault.NoMemory) ⊎ IsFault text.now fault) }
+    ensures { MatchResult result (Spells text.now) (TellsFault text.now) }
 {
     let mut spot = Spot::first();
     let mut machine = Machine::new(alloc);
