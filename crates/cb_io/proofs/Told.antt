@@ -73,17 +73,16 @@ pub ReadsAll-before : (a b c : FilesTold) (name second all : List ℕ) → name 
 ReadsAll-before a b c name second all ne reads others =
     TakesAll-keeps (left_of a name) (left_of b name) (left_of c name) all reads (others name ne)
 
-again : (a b c : Option (List ℕ)) (all more : List ℕ) → TakesAll a b all → TakesAll b c more → (n : ℕ)
-    → TakesAll a c all
-again None b c all more first second n = tt
-again (Some left) None c all more first second n = cc (first.1)
-again (Some left) (Some rest) c all more first second n = (first.0, second.1)
+TakesAll-again : (a b c : Option (List ℕ)) (all more : List ℕ) → TakesAll a b all → TakesAll b c more → TakesAll a c all
+TakesAll-again None b c all more first second = tt
+TakesAll-again (Some left) None c all more first second = cc (first.1)
+TakesAll-again (Some left) (Some rest) c all more first second = (first.0, second.1)
 
 -- a name that is read whole again
 pub ReadsAll-again : (a b c : FilesTold) (name all more : List ℕ) → ReadsAll a b name all → ReadsAll b c name more
     → ReadsAll a c name all
 ReadsAll-again a b c name all more first second =
-    again (left_of a name) (left_of b name) (left_of c name) all more first second 0
+    TakesAll-again (left_of a name) (left_of b name) (left_of c name) all more first second
 
 -- what was consumed up to the end is all
 pub TakesAll-at_end : (a b : Option (List ℕ)) (all : List ℕ) → Consumes a b all → IsAtEnd b → TakesAll a b all

@@ -86,7 +86,7 @@ fn place_of(entries: &[Entry], name: &str) -> Option<usize>
 
 /// Files that were added. They can be told to give small pieces, and to fail at certain calls; a read of a name that
 /// wasn't added fails always.
-#[derive(Drop)]
+#[derive(Debug, Drop)]
 pub struct MemFiles {
     alloc: Global,
     entries: Vec<Entry>,
@@ -169,7 +169,7 @@ impl Files for MemFiles {
 
         // Which calls fail, how many bytes the others give, and that nothing else changes.
         ensures fails { IsErr result ↔ (IsDue self.old.calls ⊎ IsNone (look_up self.old.files name.now)) }
-        ensures never { IfErr result (λ stop. stop ≡ FileStop.Failed) }
+        ensures only_failed { IfErr result (λ stop. stop ≡ FileStop.Failed) }
         ensures count { IfOk result (λ n. let left = (file_of self.old name.now).left in
             n ≡ min (min (length left) self.old.piece) (length buf.old)) }
         ensures ok { IfOk result (λ n. self.new ≡ after_read self.old name.now n) }
