@@ -17,6 +17,7 @@ pub use limits::{MOST_ANCESTORS, MOST_CLASSES, MOST_EVENTS, MOST_RELATIONS, MOST
 pub use list::List;
 pub use model::{Model, flat_rows_are_flat};
 pub use name::Name;
+pub use name_map::NameMap;
 pub use node::{GroupName, NamedGroup, NodeName};
 pub use rule::{Marks, Rule};
 pub use tables::{BlockRow, ClassRow, EventRow, HideRow, RelRow, RuleRow, Tables};

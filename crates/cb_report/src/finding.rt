@@ -27,7 +27,11 @@ fn push_numbers(out: &mut Vec<u8>, finding: &Finding) -> Result<(), AllocError>
     push_number(out, b" unknown ", finding.unknown)?;
     push_number(out, b" distance ", u64::from(finding.distance))?;
     push_number(out, b" radius ", u64::from(finding.radius))?;
-    push_number(out, words_before_groups(finding.sure), finding.groups.len() as u64)?;
+    push_number(
+        out,
+        words_before_groups(finding.sure),
+        finding.groups.len() as u64,
+    )?;
     out.extend_from_slice(b"\n")
 }
 

@@ -10,14 +10,9 @@ use Rattle.cb_top.specs.declared.halt.Halt.TheVariants as halts
 use Rattle.cb_top.specs.declared.status.Status.{Status}
 use Rattle.cb_top.specs.declared.status.Status.TheVariants.{Done, ReadFault, WriteFault, Memory, NotBuilt}
 use Rattle.cb_top.specs.Status.{OnReadFault}
-use Rattle.cb_top.specs.Outcome.{Outcome, IsOutcome, IsBurst, file_words, contents, done, not_built}
+use Rattle.cb_top.specs.Outcome.{Outcome, IsOutcome, BurstGives, file_words, contents, done, not_built}
+use Rattle.cb_top.proofs.Bursts.{gives_one}
 use Rattle.cb_top.specs.Run.{Shows, Concludes, OnStop, StopsAt, BlamesFile, TakesFront, TakesNothing, Says, read_line}
-
-burst_is_one : (model topology symptoms : List ℕ) (a b : Outcome) → IsBurst model topology symptoms a → IsBurst model topology symptoms b → a ≡ b
-burst_is_one [] [] [] a b p q = p ∙ sym q
-burst_is_one [] [] (s ∷ ss) a b p q = p ∙ sym q
-burst_is_one [] (t ∷ ts) s a b p q = p ∙ sym q
-burst_is_one (m ∷ ms) t s a b p q = p ∙ sym q
 
 -- of the facts by a test, each is of one value
 by_test : (t : Bool) (P : Outcome → Type 0) (a b c : Outcome) → (P a → P b → a ≡ b) → MatchBool t (P a) (a ≡ c) → MatchBool t (P b) (b ≡ c) → a ≡ b
@@ -30,8 +25,8 @@ outcome_is_one (c ∷ []) left a b p q = p ∙ sym q
 outcome_is_one (c ∷ m ∷ []) left a b p q = p ∙ sym q
 outcome_is_one (c ∷ m ∷ t ∷ []) left a b p q = p ∙ sym q
 outcome_is_one (c ∷ m ∷ t ∷ s ∷ []) left a b p q =
-    by_test (bytes_eq c (codes "burst")) (IsBurst (contents left [] m) (contents left (m ∷ []) t) (contents left (m ∷ t ∷ []) s)) a b not_built
-    (burst_is_one (contents left [] m) (contents left (m ∷ []) t) (contents left (m ∷ t ∷ []) s) a b) p q
+    by_test (bytes_eq c (codes "burst")) (BurstGives (contents left [] m) (contents left (m ∷ []) t) (contents left (m ∷ t ∷ []) s)) a b not_built
+    (gives_one (contents left [] m) (contents left (m ∷ []) t) (contents left (m ∷ t ∷ []) s) a b) p q
 outcome_is_one (c ∷ m ∷ t ∷ s ∷ x ∷ xs) left a b p q = p ∙ sym q
 
 front_of_nothing : (old new : SinkTold) (bytes : List ℕ) → TakesNothing old new → WritesFront old new bytes

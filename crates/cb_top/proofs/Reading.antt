@@ -105,7 +105,7 @@ stops_at names earlier name place old now new (halts.ReadFault at) is first befo
 stops_at names earlier name place old now new halts.NotBuilt is first before counts others fault = tt
 stops_at names earlier name place old now new halts.Memory is first before counts others fault = tt
 
-of_any : {T : Type 0} (o : Option T) → IfSome o (λ _. Unit {0})
+pub of_any : {T : Type 0} (o : Option T) → IfSome o (λ _. Unit {0})
 of_any None = tt
 of_any (Some x) = tt
 
@@ -119,3 +119,7 @@ halt_shows o IsIt halts.Memory h = of_any o
 pub if_some3 : {T : Type 0} (o : Option T) (P Q R S : T → Type 0) → ((x : T) → P x → Q x → R x → S x) → IfSome o P → IfSome o Q → IfSome o R → IfSome o S
 if_some3 None P Q R S f p q r = tt
 if_some3 (Some x) P Q R S f p q r = f x p q r
+
+pub if_some2 : {T : Type 0} (o : Option T) (P Q R : T → Type 0) → ((x : T) → P x → Q x → R x) → IfSome o P → IfSome o Q → IfSome o R
+if_some2 None P Q R f p q = tt
+if_some2 (Some x) P Q R f p q = f x p q

@@ -1,9 +1,12 @@
 -- What a run is to answer: a relation between the words, the bytes of the files, and the outcome.
-use Rattle.std.specs.Prelude.{◌≡◌, ℕ, List, [], ◌∷◌, if◌then◌else◌, map, unwrap_or, String, string_bytes, codes, MatchBool}
+use Rattle.std.specs.Prelude.{◌≡◌, ◌⊎◌, ℕ, List, [], ◌∷◌, if◌then◌else◌, map, unwrap_or, String, string_bytes, codes, MatchBool}
 use Rattle.std.specs.declared.alloc.Global.{Global}
 use Rattle.std.specs.Str.{bytes_eq}
 use Rattle.std.specs.List.{list_any}
 use Rattle.cb_io.specs.Pairs.{look_up}
+use Rattle.cb_network.specs.declared.finding.Finding.{Finding}
+use Rattle.cb_report.specs.Lines.{burst_text}
+use Rattle.cb_top.specs.Burst.{IsBurstOf}
 use Rattle.cb_top.specs.declared.status.Status.{Status}
 use Rattle.cb_top.specs.declared.status.Status.TheVariants.{Done, NotBuilt}
 
@@ -32,14 +35,11 @@ texts words = map string_bytes words
 abbrev pub contents : List (List ℕ × List ℕ) → List (List ℕ) → List ℕ → List ℕ
 contents left earlier name = if list_any (λ other. bytes_eq other name) earlier then [] else unwrap_or (look_up left name) []
 
--- the answer over no column and one group
-abbrev pub quiet_text : List ℕ
-quiet_text = codes "burst raised 0 unknown 0 distance 0 radius 0 sure groups 1\n  group quiet\n"
-
--- `burst`, by the bytes of its three files
-abbrev pub IsBurst : List ℕ → List ℕ → List ℕ → Outcome → Type 0
-IsBurst [] [] [] outcome = outcome ≡ done quiet_text
-IsBurst model topology symptoms outcome = outcome ≡ not_built
+-- `burst`, by the bytes of its three files: the lines of what is found, and no output where nothing is told for them yet
+abbrev pub BurstGives : List ℕ → List ℕ → List ℕ → Outcome → Type 0
+BurstGives model topology symptoms outcome =
+    ((finding : Finding) × IsBurstOf model topology symptoms finding × (outcome ≡ done (burst_text finding)))
+    ⊎ ((¬ ((finding : Finding) × IsBurstOf model topology symptoms finding)) × (outcome ≡ not_built))
 
 -- the words that name files, in the order in which they are read
 abbrev pub file_words : List (List ℕ) → List (List ℕ)
@@ -50,6 +50,6 @@ file_words words = []
 abbrev pub IsOutcome : List (List ℕ) → List (List ℕ × List ℕ) → Outcome → Type 0
 IsOutcome (command ∷ model ∷ topology ∷ symptoms ∷ []) left outcome =
     MatchBool (bytes_eq command (codes "burst"))
-    (IsBurst (contents left [] model) (contents left (model ∷ []) topology) (contents left (model ∷ topology ∷ []) symptoms) outcome)
+    (BurstGives (contents left [] model) (contents left (model ∷ []) topology) (contents left (model ∷ topology ∷ []) symptoms) outcome)
     (outcome ≡ not_built)
 IsOutcome words left outcome = outcome ≡ not_built

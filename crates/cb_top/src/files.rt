@@ -1,5 +1,5 @@
 //! The files of a command, each read whole.
-ghost use Rattle.std.specs.Prelude.{◌≡◌, ◌≢◌, ◌≤◌, ◌<◌, [], length, IfOk, OnOk, IfSome, IsErrOf};
+ghost use Rattle.std.specs.Prelude.{◌≡◌, ◌≤◌, ◌<◌, length, IfOk, IfSome, IsErrOf};
 ghost use Rattle.cb_io.specs.Outside.{left_of, ReadsAll, KeepsOthers, NoCountFalls, ReadFailed};
 ghost use Rattle.cb_top.specs.Run.{OnStop};
 
@@ -30,24 +30,4 @@ pub fn read_file<F: Files>(
         Err(ReadStop::ReadFault) => Err(Halt::ReadFault(place)),
         Err(ReadStop::NoMemory) => Err(Halt::Memory),
     }
-}
-
-/// Reads a file that may have no byte.
-pub fn read_nothing<F: Files>(
-    alloc: Global,
-    files: &mut F,
-    name: &str,
-    place: usize,
-) -> Result<(), Halt>
-    ensures ok { OnOk result (ReadsAll (F.tells files.old) (F.tells files.new) name.now []) }
-    ensures not_built { IsErrOf result Halt.NotBuilt → IfSome (left_of (F.tells files.old) name.now) (λ text. text ≢ []) }
-    ensures stop { OnStop result (λ at. (at ≡ place) × ReadFailed (F.tells files.old) (F.tells files.new) name.now) }
-    ensures others { KeepsOthers (F.tells files.old) (F.tells files.new) name.now }
-    ensures counts { NoCountFalls (F.tells files.old) (F.tells files.new) }
-{
-    let text = read_file(alloc, files, name, place)?;
-    if text.is_empty() {
-        return Ok(());
-    }
-    Err(Halt::NotBuilt)
 }

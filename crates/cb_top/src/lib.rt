@@ -6,6 +6,7 @@ mod command;
 mod conclude;
 mod files;
 mod halt;
+mod judge;
 mod status;
 mod top;
 

@@ -183,3 +183,84 @@ fn other_words_are_not_built(rt: HostRuntime) -> Result<(), Fail> {
     }
     Ok(())
 }
+
+#[test]
+fn a_pump_is_told_by_its_symptoms(rt: HostRuntime) -> Result<(), Fail> {
+    // The topology, the symptoms, and the answer.
+    let cases: [(&str, &str, &str); 6] = [
+        (
+            "create p1 Pump\n",
+            "Noise@p1\nHeat@p1\n",
+            "burst raised 2 unknown 0 distance 0 radius 0 sure groups 1\n  group Worn@p1\n",
+        ),
+        (
+            "create p1 Pump\n",
+            "Heat@p1\n",
+            "burst raised 1 unknown 0 distance 1 radius 0 unsure groups 3\n  group quiet\n  group Dry@p1\n  group Worn@p1\n",
+        ),
+        (
+            "create p1 Pump\n",
+            "Noise@p1\nNoise@p1\nHeat@p1\nNoise@p9\n",
+            "burst raised 3 unknown 1 distance 0 radius 0 sure groups 1\n  group Worn@p1\n",
+        ),
+        (
+            "# two\r\n\r\n\tcreate p2 Pump \r\ncreate p1 Pump",
+            " Heat@p2\r\n#\r\nLowFlow@p2",
+            "burst raised 2 unknown 0 distance 0 radius 0 sure groups 1\n  group Dry@p2\n",
+        ),
+        (
+            "",
+            "Heat@p1\n",
+            "burst raised 1 unknown 1 distance 0 radius 0 sure groups 1\n  group quiet\n",
+        ),
+        (
+            "create p1 Pump\n",
+            "",
+            "burst raised 0 unknown 0 distance 0 radius 0 sure groups 1\n  group quiet\n",
+        ),
+    ];
+    for (topology, symptoms, out) in cases {
+        let case = Case {
+            words: &["burst", "m", "t", "s"],
+            files: &[("m", PUMP), ("t", topology), ("s", symptoms)],
+            piece: 7,
+            failing_read: 0,
+            failing_write: 0,
+        };
+        let wanted = Wanted {
+            code: 0,
+            out,
+            err: "",
+        };
+        check(&rt, rt.alloc(), &case, &wanted)?;
+    }
+    Ok(())
+}
+
+#[test]
+fn other_files_are_not_built(rt: HostRuntime) -> Result<(), Fail> {
+    let cases: [(&str, &str, &str); 6] = [
+        (LINK, "create L1 Link\n", "Loss@L1\n"),
+        ("class Pump { }\n", "", ""),
+        ("class Pump {\n", "", ""),
+        (PUMP, "create p1 Pump\ncreate p1 Pump\n", ""),
+        (PUMP, "create p1 Pump\nlink p1 feeds p1\n", ""),
+        (PUMP, "create p1 Pump\n", "Heat@p1 Noise@p1\n"),
+    ];
+    for (model, topology, symptoms) in cases {
+        let case = Case {
+            words: &["burst", "m", "t", "s"],
+            files: &[("m", model), ("t", topology), ("s", symptoms)],
+            piece: 0,
+            failing_read: 0,
+            failing_write: 0,
+        };
+        let wanted = Wanted {
+            code: 11,
+            out: "",
+            err: "error 11 not-built\n",
+        };
+        check(&rt, rt.alloc(), &case, &wanted)?;
+    }
+    Ok(())
+}

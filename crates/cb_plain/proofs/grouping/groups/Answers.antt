@@ -26,13 +26,13 @@ loop-problem-preserved c =
           in
           record {
             are = rw (w.groups-is, w.in_ok-push-2.ensures.ok, new) (opens_group c.args.width problems are c.loop-problem.problem-index c.problem-item.result at
-            c.loop-problem.groups c.loop-problem.invariant.are (sym w.if-not-has_code.ensures));
+                c.loop-problem.groups c.loop-problem.invariant.are (sym w.if-not-has_code.ensures));
             few = rw (w.groups-is, w.in_ok-push-2.ensures.ok, length-append) (omega (arith, c.loop-problem.invariant.few));
           }
       | else-not-has_code w ↦
           record {
             are = rw w.groups-is (has_group c.args.width problems are c.loop-problem.problem-index c.problem-item.result at
-            c.loop-problem.groups c.loop-problem.invariant.are (sym w.if-not-has_code.ensures));
+                c.loop-problem.groups c.loop-problem.invariant.are (sym w.if-not-has_code.ensures));
             few = rw w.groups-is (omega (arith, c.loop-problem.invariant.few));
           }
     ]

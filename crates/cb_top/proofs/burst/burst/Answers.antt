@@ -1,73 +1,125 @@
-use Rattle.std.proofs.Common.{◌≡◌, ◌≢◌, List, ℕ, [], ◌∷◌, refl, ap, subst}
+use Rattle.std.proofs.Common.{◌≡◌, List, ℕ, [], ◌∷◌, refl, ap, subst, inl, sym, ◌∙◌}
 use Rattle.std.specs.Prelude.{IfSome, Err}
+use Rattle.cb_model.specs.declared.node.NodeName.{NodeName}
+use Rattle.cb_model.specs.declared.tables.Tables.{Tables}
+use Rattle.cb_network.specs.declared.finding.Finding.{Finding}
+use Rattle.cb_network.specs.Topology.{Topology}
+use Rattle.cb_flat.specs.FlatTopology.{topology_of}
 use Rattle.cb_io.proofs.Told.{NoCountFalls-trans}
-use Rattle.cb_top.specs.Outcome.{contents, IsBurst, not_built, done, quiet_text}
-use Rattle.cb_top.specs.Run.{OnStop, StopsAt, HaltShows, OnFileFault}
-use Rattle.cb_top.proofs.Reading.{if_some, if_some3, halt_shows, read_none, read_next, read_contents, judged, stops_at, err_is}
+use Rattle.cb_report.specs.Lines.{burst_text}
+use Rattle.cb_top.specs.Burst.{IsModelText, IsTopologyText, IsSymptomText, IsBurstOf}
+use Rattle.cb_top.specs.Outcome.{contents, BurstGives, done}
+use Rattle.cb_top.proofs.Reading.{if_some, if_some2, if_some3, halt_shows, read_none, read_next, read_contents, judged, stops_at, err_is, of_any}
+use Rattle.cb_top.specs.declared.halt.Halt.TheVariants.{Memory}
+use Rattle.cb_top.proofs.Bursts.{no_model, no_topology, no_symptoms}
 use Rattle.cb_top.proofs.burst.burst.Goals as goal
 
-third : (m t s : List ℕ) → s ≢ [] → IsBurst m t s not_built
-third [] [] [] some = absurd (some refl)
-third [] [] (s ∷ ss) some = refl
-third [] (t ∷ ts) s some = refl
-third (m ∷ ms) t s some = refl
-
-pub returns-in_err-read_nothing-2-clause-stop : goal.returns-in_err-read_nothing-2-clause-stop
-returns-in_err-read_nothing-2-clause-stop g c =
+pub returns-in_err-model-clause-answer : goal.returns-in_err-model-clause-answer
+returns-in_err-model-clause-answer g c =
     let old = g.F.Files.tells c.args.files.now in
-    let now = g.F.Files.tells c.read_nothing.new.files in
-    let new = g.F.Files.tells c.read_nothing-2.new.files in
+    rw (err_is _ _ c.from_residual.ensures.1)
+    (halt_shows old.left (λ left. BurstGives (contents left [] c.args.model.now) (contents left (c.args.model.now ∷ []) c.args.topology.now) (contents left (c.args.model.now ∷ c.args.topology.now ∷ []) c.args.symptoms.now)) c.in_err-model.field-0.0
+    (λ e. if_some old.left _ _ (λ left none. no_model _ _ _ none)
+    (judged old old [] c.args.model.now (λ text. (tables : Tables) → ¬ IsModelText text tables) (read_none old) (c.in_err-model.ensures.not_built (ap (λ h. Err h) e)))))
+
+pub returns-in_err-topology-clause-answer : goal.returns-in_err-topology-clause-answer
+returns-in_err-topology-clause-answer g c =
+    let old = g.F.Files.tells c.args.files.now in
+    let one = g.F.Files.tells c.read_model.new.files in
+    let model_text = c.in_ok-model.ensures.model in
+    let first = read_next old old one [] c.args.model.now model_text.0 (read_none old) c.in_ok-model.ensures.others model_text.1 in
+    let model_is = read_contents old old one [] c.args.model.now model_text.0 (read_none old) model_text.1 in
+    rw (err_is _ _ c.from_residual-in_err-topology.ensures.1)
+    (halt_shows old.left (λ left. BurstGives (contents left [] c.args.model.now) (contents left (c.args.model.now ∷ []) c.args.topology.now) (contents left (c.args.model.now ∷ c.args.topology.now ∷ []) c.args.symptoms.now)) c.in_err-topology.field-0.0
+    (λ e. if_some2 old.left _ _ _ (λ left is none. no_topology _ _ _ c.in_ok-model.model (subst (λ (x : List ℕ). IsModelText x c.in_ok-model.model) is model_text.2) none) model_is
+    (judged old one (c.args.model.now ∷ []) c.args.topology.now (λ text. (u : Topology) → ¬ IsTopologyText c.in_ok-model.model text u) first (c.in_err-topology.ensures.not_built (ap (λ h. Err h) e)))))
+
+pub returns-in_err-topology-clause-stop : goal.returns-in_err-topology-clause-stop
+returns-in_err-topology-clause-stop g c =
+    let old = g.F.Files.tells c.args.files.now in
+    let one = g.F.Files.tells c.read_model.new.files in
+    let two = g.F.Files.tells c.read_topology_file.new.files in
     let names = c.args.model.now ∷ c.args.topology.now ∷ c.args.symptoms.now ∷ [] in
-    let first = read_next old old now [] c.args.model.now [] (read_none old) c.in_ok-read_nothing.ensures.others c.in_ok-read_nothing.ensures.ok in
-    rw (err_is _ _ c.from_residual-in_err-read_nothing-2.ensures.1)
-    (stops_at names (c.args.model.now ∷ []) c.args.topology.now 1 old now new c.in_err-read_nothing-2.field-0.0 refl refl first c.in_ok-read_nothing.ensures.counts
-    c.in_err-read_nothing-2.ensures.others c.in_err-read_nothing-2.ensures.stop)
+    let model_text = c.in_ok-model.ensures.model in
+    let first = read_next old old one [] c.args.model.now model_text.0 (read_none old) c.in_ok-model.ensures.others model_text.1 in
+    rw (err_is _ _ c.from_residual-in_err-topology.ensures.1)
+    (stops_at names (c.args.model.now ∷ []) c.args.topology.now 1 old one two c.in_err-topology.field-0.0 refl refl first c.in_ok-model.ensures.counts
+    c.in_err-topology.ensures.others c.in_err-topology.ensures.stop)
 
-pub returns-in_err-read_nothing-3-clause-stop : goal.returns-in_err-read_nothing-3-clause-stop
-returns-in_err-read_nothing-3-clause-stop g c =
+pub returns-in_err-raised-clause-answer : goal.returns-in_err-raised-clause-answer
+returns-in_err-raised-clause-answer g c =
     let old = g.F.Files.tells c.args.files.now in
-    let one = g.F.Files.tells c.read_nothing.new.files in
-    let two = g.F.Files.tells c.read_nothing-2.new.files in
-    let new = g.F.Files.tells c.read_nothing-3.new.files in
+    let one = g.F.Files.tells c.read_model.new.files in
+    let two = g.F.Files.tells c.read_topology_file.new.files in
+    let model_text = c.in_ok-model.ensures.model in
+    let first = read_next old old one [] c.args.model.now model_text.0 (read_none old) c.in_ok-model.ensures.others model_text.1 in
+    let topology_text = c.in_ok-topology.ensures.topology in
+    let second = read_next old one two (c.args.model.now ∷ []) c.args.topology.now topology_text.0 first c.in_ok-topology.ensures.others topology_text.1 in
+    rw (err_is _ _ c.from_residual-in_err-raised.ensures.1)
+    (halt_shows old.left (λ left. BurstGives (contents left [] c.args.model.now) (contents left (c.args.model.now ∷ []) c.args.topology.now) (contents left (c.args.model.now ∷ c.args.topology.now ∷ []) c.args.symptoms.now)) c.in_err-raised.field-0.0
+    (λ e. if_some old.left _ _ (λ left none. no_symptoms _ _ _ none)
+    (judged old two (c.args.model.now ∷ c.args.topology.now ∷ []) c.args.symptoms.now (λ text. (nodes : List NodeName) → ¬ IsSymptomText text nodes) second (c.in_err-raised.ensures.not_built (ap (λ h. Err h) e)))))
+
+pub returns-in_err-raised-clause-stop : goal.returns-in_err-raised-clause-stop
+returns-in_err-raised-clause-stop g c =
+    let old = g.F.Files.tells c.args.files.now in
+    let one = g.F.Files.tells c.read_model.new.files in
+    let two = g.F.Files.tells c.read_topology_file.new.files in
+    let three = g.F.Files.tells c.read_symptom_file.new.files in
     let names = c.args.model.now ∷ c.args.topology.now ∷ c.args.symptoms.now ∷ [] in
-    let first = read_next old old one [] c.args.model.now [] (read_none old) c.in_ok-read_nothing.ensures.others c.in_ok-read_nothing.ensures.ok in
-    let second = read_next old one two (c.args.model.now ∷ []) c.args.topology.now [] first c.in_ok-read_nothing-2.ensures.others c.in_ok-read_nothing-2.ensures.ok in
-    let counts = NoCountFalls-trans old one two c.in_ok-read_nothing.ensures.counts c.in_ok-read_nothing-2.ensures.counts in
-    rw (err_is _ _ c.from_residual-in_err-read_nothing-3.ensures.1)
-    (stops_at names (c.args.model.now ∷ c.args.topology.now ∷ []) c.args.symptoms.now 2 old two new c.in_err-read_nothing-3.field-0.0 refl refl second counts
-    c.in_err-read_nothing-3.ensures.others c.in_err-read_nothing-3.ensures.stop)
+    let model_text = c.in_ok-model.ensures.model in
+    let first = read_next old old one [] c.args.model.now model_text.0 (read_none old) c.in_ok-model.ensures.others model_text.1 in
+    let topology_text = c.in_ok-topology.ensures.topology in
+    let second = read_next old one two (c.args.model.now ∷ []) c.args.topology.now topology_text.0 first c.in_ok-topology.ensures.others topology_text.1 in
+    let counts = NoCountFalls-trans old one two c.in_ok-model.ensures.counts c.in_ok-topology.ensures.counts in
+    rw (err_is _ _ c.from_residual-in_err-raised.ensures.1)
+    (stops_at names (c.args.model.now ∷ c.args.topology.now ∷ []) c.args.symptoms.now 2 old two three c.in_err-raised.field-0.0 refl refl second counts
+    c.in_err-raised.ensures.others c.in_err-raised.ensures.stop)
 
-pub returns-in_err-read_nothing-3-clause-answer : goal.returns-in_err-read_nothing-3-clause-answer
-returns-in_err-read_nothing-3-clause-answer g c =
+pub returns-clause-read : goal.returns-clause-read
+returns-clause-read g c =
     let old = g.F.Files.tells c.args.files.now in
-    let one = g.F.Files.tells c.read_nothing.new.files in
-    let two = g.F.Files.tells c.read_nothing-2.new.files in
-    let first = read_next old old one [] c.args.model.now [] (read_none old) c.in_ok-read_nothing.ensures.others c.in_ok-read_nothing.ensures.ok in
-    let second = read_next old one two (c.args.model.now ∷ []) c.args.topology.now [] first c.in_ok-read_nothing-2.ensures.others c.in_ok-read_nothing-2.ensures.ok in
-    rw (err_is _ _ c.from_residual-in_err-read_nothing-3.ensures.1)
-    (halt_shows old.left (λ left. IsBurst (contents left [] c.args.model.now) (contents left (c.args.model.now ∷ []) c.args.topology.now) (contents left (c.args.model.now ∷ c.args.topology.now ∷ []) c.args.symptoms.now)) c.in_err-read_nothing-3.field-0.0
-    (λ e. if_some old.left _ _ (λ left some. third _ _ _ some)
-    (judged old two (c.args.model.now ∷ c.args.topology.now ∷ []) c.args.symptoms.now (λ text. text ≢ []) second (c.in_err-read_nothing-3.ensures.not_built (ap (λ h. Err h) e)))))
+    let one = g.F.Files.tells c.read_model.new.files in
+    let two = g.F.Files.tells c.read_topology_file.new.files in
+    let three = g.F.Files.tells c.read_symptom_file.new.files in
+    let model_text = c.in_ok-model.ensures.model in
+    let first = read_next old old one [] c.args.model.now model_text.0 (read_none old) c.in_ok-model.ensures.others model_text.1 in
+    let topology_text = c.in_ok-topology.ensures.topology in
+    let second = read_next old one two (c.args.model.now ∷ []) c.args.topology.now topology_text.0 first c.in_ok-topology.ensures.others topology_text.1 in
+    let raised_text = c.in_ok-raised.ensures.raised in
+    read_next old two three (c.args.model.now ∷ c.args.topology.now ∷ []) c.args.symptoms.now raised_text.0 second c.in_ok-raised.ensures.others raised_text.1
 
-pub returns-in-Ok-clause-read : goal.returns-in-Ok-clause-read
-returns-in-Ok-clause-read g c =
+pub returns-clause-answer : goal.returns-clause-answer
+returns-clause-answer g c =
     let old = g.F.Files.tells c.args.files.now in
-    let one = g.F.Files.tells c.read_nothing.new.files in
-    let two = g.F.Files.tells c.read_nothing-2.new.files in
-    let new = g.F.Files.tells c.read_nothing-3.new.files in
-    let first = read_next old old one [] c.args.model.now [] (read_none old) c.in_ok-read_nothing.ensures.others c.in_ok-read_nothing.ensures.ok in
-    let second = read_next old one two (c.args.model.now ∷ []) c.args.topology.now [] first c.in_ok-read_nothing-2.ensures.others c.in_ok-read_nothing-2.ensures.ok in
-    read_next old two new (c.args.model.now ∷ c.args.topology.now ∷ []) c.args.symptoms.now [] second c.in_ok-read_nothing-3.ensures.others c.in_ok-read_nothing-3.ensures.ok
+    let one = g.F.Files.tells c.read_model.new.files in
+    let two = g.F.Files.tells c.read_topology_file.new.files in
+    let three = g.F.Files.tells c.read_symptom_file.new.files in
+    let model_text = c.in_ok-model.ensures.model in
+    let first = read_next old old one [] c.args.model.now model_text.0 (read_none old) c.in_ok-model.ensures.others model_text.1 in
+    let topology_text = c.in_ok-topology.ensures.topology in
+    let second = read_next old one two (c.args.model.now ∷ []) c.args.topology.now topology_text.0 first c.in_ok-topology.ensures.others topology_text.1 in
+    let raised_text = c.in_ok-raised.ensures.raised in
+    let model_is = read_contents old old one [] c.args.model.now model_text.0 (read_none old) model_text.1 in
+    let topology_is = read_contents old one two (c.args.model.now ∷ []) c.args.topology.now topology_text.0 first topology_text.1 in
+    let raised_are = read_contents old two three (c.args.model.now ∷ c.args.topology.now ∷ []) c.args.symptoms.now raised_text.0 second raised_text.1 in
+    let found = c.in_ok-lines_of_burst.ensures in
+    let tables : Tables = c.in_ok-model.model in
+    let network : Topology = topology_of tables c.in_ok-topology.topology in
+    if_some3 old.left _ _ _ _ (λ left m t s. inl (
+      found.0,
+      record {
+        tables = tables;
+        model_is = subst (λ (x : List ℕ). IsModelText x tables) m model_text.2;
+        network = network;
+        topology_is = subst (λ (x : List ℕ). IsTopologyText tables x network) t topology_text.2;
+        raised = c.in_ok-raised.raised;
+        raised_are = subst (λ (x : List ℕ). IsSymptomText x c.in_ok-raised.raised) s raised_text.2;
+        found = found.1;
+      },
+      ap done found.2,
+    )) model_is topology_is raised_are
 
-pub returns-in-Ok-clause-answer : goal.returns-in-Ok-clause-answer
-returns-in-Ok-clause-answer g c =
-    let old = g.F.Files.tells c.args.files.now in
-    let one = g.F.Files.tells c.read_nothing.new.files in
-    let two = g.F.Files.tells c.read_nothing-2.new.files in
-    let new = g.F.Files.tells c.read_nothing-3.new.files in
-    let first = read_next old old one [] c.args.model.now [] (read_none old) c.in_ok-read_nothing.ensures.others c.in_ok-read_nothing.ensures.ok in
-    let second = read_next old one two (c.args.model.now ∷ []) c.args.topology.now [] first c.in_ok-read_nothing-2.ensures.others c.in_ok-read_nothing-2.ensures.ok in
-    let model = read_contents old old one [] c.args.model.now [] (read_none old) c.in_ok-read_nothing.ensures.ok in
-    let topology = read_contents old one two (c.args.model.now ∷ []) c.args.topology.now [] first c.in_ok-read_nothing-2.ensures.ok in
-    let symptoms = read_contents old two new (c.args.model.now ∷ c.args.topology.now ∷ []) c.args.symptoms.now [] second c.in_ok-read_nothing-3.ensures.ok in
-    if_some3 old.left _ _ _ _ (λ left m t s. rw (← m, ← t, ← s) (ap done c.in-Ok.ensures.items)) model topology symptoms
+pub returns-in_err-lines_of_burst-clause-answer : goal.returns-in_err-lines_of_burst-clause-answer
+returns-in_err-lines_of_burst-clause-answer g c =
+    rw (err_is c.from_residual-in_err-lines_of_burst.result Memory c.from_residual-in_err-lines_of_burst.ensures.1) (of_any (g.F.Files.tells c.args.files.now).left)

@@ -1,0 +1,185 @@
+-- Where the rows of a class stand among those of all classes.
+use Rattle.std.proofs.Common.{◌≡◌, ℕ, zero, suc, ◌+◌, ◌<◌, ◌≤◌, Bool, true, false, not, List, [], ◌∷◌, ◌++◌, length, map, ◌*◌, Option, Some, None, refl, sym, ap, subst, ◌∙◌, inl, inr, add_assoc, append_assoc, append-nil, arith}
+use Rattle.std.specs.Prelude.{slice_get}
+use Rattle.std.specs.List.{All, filter_map}
+use Rattle.std.proofs.lemmas.List.{length-append}
+use Rattle.cb_model.specs.declared.id.ClassId.{ClassId}
+use Rattle.cb_model.specs.declared.tables.EventRow.{EventRow}
+use Rattle.cb_model.specs.WellTyped.{Member as Declaration, event, relation, rule}
+use Rattle.cb_grammar.specs.declared.tree.ClassDecl.{ClassDecl}
+use Rattle.cb_grammar.specs.declared.tree.Member.{Member}
+use Rattle.cb_grammar.specs.declared.tree.Member.TheVariants.{Event, Relation, Rule, Block, Hide}
+use Rattle.cb_check.specs.Stands.{RuleDecl, declared_from, event_in, rule_in}
+use Rattle.cb_check.specs.FlatTree.{IsPlain, name_of}
+use Rattle.cb_check.proofs.Places.{slice_get-left, slice_get-right, slice_get-joined, place, kept_at, kept_from, place_below}
+
+module _ {Row : Type 0} (kind : ClassId → Member → Option Row) where
+  -- what the class with this place declares
+  abbrev pub own : ℕ → ClassDecl → List Row
+  own k decl = filter_map (kind (record { 0 = k })) decl.members
+
+  -- the place of the first row of the n-th class
+  pub start : ℕ → List ClassDecl → ℕ → ℕ
+  start k [] n = 0
+  start k (d ∷ ds) zero = 0
+  start k (d ∷ ds) (suc n) = length (own k d) + start (suc k) ds n
+
+  -- the row is one of the n-th class
+  record Found (k : ℕ) (decls : List ClassDecl) (i : ℕ) (row : Row) : Type 0 where
+    n : ℕ
+    decl : ClassDecl
+    p : ℕ
+    is : slice_get decls n ≡ Some decl
+    place_is : i ≡ start k decls n + p
+    own_is : slice_get (own (k + n) decl) p ≡ Some row
+
+  found_in : (k : ℕ) (decls : List ClassDecl) (i : ℕ) (row : Row) → slice_get (declared_from kind k decls) i ≡ Some row → Found k decls i row
+  unfolding start
+  found_in k [] i row is = absurd (cc)
+  found_in k (d ∷ ds) i row is = elim (slice_get-joined (own k d) (declared_from kind (suc k) ds) i row is) [
+    | inl here ↦
+        let same : k ≡ k + 0 = omega arith in
+        record { n = zero; decl = d; p = i; is = refl; place_is = omega arith; own_is = subst (λ c. slice_get (own c d) i ≡ Some row) same here }
+    | inr there ↦
+        let f = found_in (suc k) ds there.0 row there.2 in
+        let same : suc k + f.n ≡ k + suc f.n = omega arith in
+        record {
+          n = suc f.n;
+          decl = f.decl;
+          p = f.p;
+          is = f.is;
+          place_is = omega (arith, there.1, f.place_is);
+          own_is = subst (λ c. slice_get (own c f.decl) f.p ≡ Some row) same f.own_is;
+        }
+  ]
+
+  found_at : (k : ℕ) (decls : List ClassDecl) (n : ℕ) (decl : ClassDecl) (p : ℕ) (row : Row) → slice_get decls n ≡ Some decl → slice_get (own (k + n) decl) p ≡ Some row →
+      slice_get (declared_from kind k decls) (start k decls n + p) ≡ Some row
+  unfolding start
+  found_at k [] n decl p row is own_is = absurd (cc)
+  found_at k (d ∷ ds) zero decl p row is own_is =
+      let same : decl ≡ d = cc in
+      let first : k + 0 ≡ k = omega arith in
+      let here = subst (λ c. slice_get (own c d) p ≡ Some row) first (subst (λ v. slice_get (own (k + 0) v) p ≡ Some row) same own_is) in
+      let at : 0 + p ≡ p = omega arith in
+      ap (slice_get (own k d ++ declared_from kind (suc k) ds)) at ∙ slice_get-left (own k d) (declared_from kind (suc k) ds) p row here
+  found_at k (d ∷ ds) (suc n) decl p row is own_is =
+      let same : k + suc n ≡ suc k + n = omega arith in
+      let there = found_at (suc k) ds n decl p row is (subst (λ c. slice_get (own c decl) p ≡ Some row) same own_is) in
+      let at : (length (own k d) + start (suc k) ds n) + p ≡ length (own k d) + (start (suc k) ds n + p) = omega arith in
+      ap (slice_get (own k d ++ declared_from kind (suc k) ds)) at ∙ (slice_get-right (own k d) (declared_from kind (suc k) ds) (start (suc k) ds n + p) ∙ there)
+
+  -- one class more at the end
+  pub declared_push : (k : ℕ) (decls : List ClassDecl) (d : ClassDecl) → declared_from kind k (decls ++ d ∷ []) ≡ declared_from kind k decls ++ own (k + length decls) d
+  declared_push k [] d =
+      let same : k ≡ k + 0 = omega arith in
+      append-nil (own k d) ∙ ap (λ c. own c d) same
+  declared_push k (e ∷ ds) d =
+      let same : suc k + length ds ≡ k + length (e ∷ ds) = omega arith in
+      ap (λ rows. own k e ++ rows) (declared_push (suc k) ds d ∙ ap (λ c. declared_from kind (suc k) ds ++ own c d) same)
+      ∙ sym (append_assoc (own k e) (declared_from kind (suc k) ds) (own (k + length (e ∷ ds)) d))
+
+  -- a class has no more rows than this, so all together have no more than so many times that
+  pub length-declared : (k most : ℕ) (decls : List ClassDecl) → ((i : ℕ) (decl : ClassDecl) → slice_get decls i ≡ Some decl → (c : ℕ) → length (own c decl) ≤ most) →
+      length (declared_from kind k decls) ≤ length decls * most
+  length-declared k most [] few = omega arith
+  length-declared k most (d ∷ ds) few =
+      let here = few zero d refl k in
+      let there = length-declared (suc k) most ds (λ i decl is. few (suc i) decl is) in
+      simp length-append (omega arith)
+
+  -- the row's place, by the member that declares it
+  pub index : List ClassDecl → ℕ → ClassDecl → ℕ → ℕ
+  index decls n decl j = start 0 decls n + place (kind (record { 0 = n })) decl.members j
+
+  -- the row is declared by a member of a class
+  pub record IsDeclared (decls : List ClassDecl) (i : ℕ) (row : Row) : Type 0 where
+    pub class : ClassId
+    pub decl : ClassDecl
+    pub at : ℕ
+    pub member : Member
+    pub decl_is : slice_get decls class.0 ≡ Some decl
+    pub member_is : slice_get decl.members at ≡ Some member
+    pub gives : kind class member ≡ Some row
+    pub index_is : i ≡ index decls class.0 decl at
+    pub own_at : ℕ
+    pub own_is : slice_get (filter_map (kind class) decl.members) own_at ≡ Some row
+    pub own_index : i ≡ start 0 decls class.0 + own_at
+
+  pub declared_by : (decls : List ClassDecl) (i : ℕ) (row : Row) → slice_get (declared_from kind 0 decls) i ≡ Some row → IsDeclared decls i row
+  unfolding index
+  declared_by decls i row is =
+      let f = found_in 0 decls i row is in
+      let same : 0 + f.n ≡ f.n = omega arith in
+      let own_is = subst (λ c. slice_get (own c f.decl) f.p ≡ Some row) same f.own_is in
+      let kept = kept_from (kind (record { 0 = f.n })) f.decl.members f.p row own_is in
+      record {
+        class = record { 0 = f.n };
+        decl = f.decl;
+        at = kept.at;
+        member = kept.from;
+        decl_is = f.is;
+        member_is = kept.is;
+        gives = kept.gives;
+        index_is = f.place_is ∙ ap (λ p. start 0 decls f.n + p) kept.place_is;
+        own_at = f.p;
+        own_is = own_is;
+        own_index = f.place_is;
+      }
+
+  pub own_found : (decls : List ClassDecl) (c : ClassId) (decl : ClassDecl) (p : ℕ) (row : Row) → slice_get decls c.0 ≡ Some decl →
+      slice_get (filter_map (kind c) decl.members) p ≡ Some row → slice_get (declared_from kind 0 decls) (start 0 decls c.0 + p) ≡ Some row
+  own_found decls c decl p row is own_is =
+      let same : c.0 ≡ 0 + c.0 = omega arith in
+      found_at 0 decls c.0 decl p row is (subst (λ k. slice_get (own k decl) p ≡ Some row) same own_is)
+
+  pub declared_at : (decls : List ClassDecl) (c : ClassId) (decl : ClassDecl) (j : ℕ) (member : Member) (row : Row) → slice_get decls c.0 ≡ Some decl →
+      slice_get decl.members j ≡ Some member → kind c member ≡ Some row → slice_get (declared_from kind 0 decls) (index decls c.0 decl j) ≡ Some row
+  unfolding index
+  declared_at decls c decl j member row decl_is member_is gives =
+      own_found decls c decl (place (kind c) decl.members j) row decl_is (kept_at (kind c) decl.members j member row member_is gives)
+
+  pub index_below : (decls : List ClassDecl) (c : ClassId) (decl : ClassDecl) (i j : ℕ) (member : Member) (row : Row) →
+      slice_get decl.members i ≡ Some member → kind c member ≡ Some row → i < j → index decls c.0 decl i < index decls c.0 decl j
+  unfolding index
+  index_below decls c decl i j member row member_is gives below =
+      let less = place_below (kind c) decl.members i j member row member_is gives below in omega arith
+
+-- an event's row has the event's class, name and marks
+pub event_class : (c : ClassId) (member : Member) (row : EventRow) → event_in c member ≡ Some row → row.class ≡ c
+event_class c (Event name problem symptom) row is = let same : row ≡ record { class = c; name = name.name; problem = problem; symptom = symptom } = cc in ap (λ (r : EventRow). r.class) same
+event_class c member row is = absurd (cc)
+
+pub event_name : (c : ClassId) (member : Member) (row : EventRow) → event_in c member ≡ Some row → row.name ≡ name_of member
+event_name c (Event name problem symptom) row is = let same : row ≡ record { class = c; name = name.name; problem = problem; symptom = symptom } = cc in ap (λ (r : EventRow). r.name) same
+event_name c member row is = absurd (cc)
+
+pub event_marks : (c : ClassId) (member : Member) (row : EventRow) → event_in c member ≡ Some row → IsPlain member → row.symptom ≡ not row.problem
+event_marks c (Event name problem symptom) row is plain =
+    let same : record { class = c; name = name.name; problem = problem; symptom = symptom } ≡ row = cc in
+    subst (λ (r : EventRow). r.symptom ≡ not r.problem) same plain
+event_marks c member row is plain = absurd (cc)
+
+pub rule_class : (c : ClassId) (member : Member) (decl : RuleDecl) → rule_in c member ≡ Some decl → decl.class ≡ c
+rule_class c (Rule name cause path effect) decl is =
+    let same : record { class = c; name = name.name; cause = cause.name; path = map (λ t. t.name) path; effect = effect.name } ≡ decl = cc in
+    subst (λ (d : RuleDecl). d.class ≡ c) same refl
+rule_class c member decl is = absurd (cc)
+
+pub rule_name : (c : ClassId) (member : Member) (decl : RuleDecl) → rule_in c member ≡ Some decl → decl.name ≡ name_of member
+rule_name c (Rule name cause path effect) decl is =
+    let same : record { class = c; name = name.name; cause = cause.name; path = map (λ t. t.name) path; effect = effect.name } ≡ decl = cc in
+    subst (λ (d : RuleDecl). d.name ≡ name.name) same refl
+rule_name c member decl is = absurd (cc)
+
+pub rule_path : (c : ClassId) (member : Member) (decl : RuleDecl) → rule_in c member ≡ Some decl → IsPlain member → decl.path ≡ []
+rule_path c (Rule name cause path effect) decl is plain =
+    let same : record { class = c; name = name.name; cause = cause.name; path = map (λ t. t.name) path; effect = effect.name } ≡ decl = cc in
+    subst (λ (d : RuleDecl). d.path ≡ []) same (ap (map (λ t. t.name)) plain)
+rule_path c member decl is plain = absurd (cc)
+
+-- the row of what a member of a class declares
+abbrev pub declaration : List ClassDecl → ℕ → ClassDecl → ℕ → Member → Declaration
+declaration decls n decl j (Event name problem symptom) = event (index event_in decls n decl j)
+declaration decls n decl j (Rule name cause path effect) = rule (index rule_in decls n decl j)
+declaration decls n decl j member = relation 0

@@ -1,0 +1,4 @@
+pub mod Stands
+pub mod FlatTree
+pub mod Rows
+pub mod Laws

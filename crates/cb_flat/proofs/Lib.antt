@@ -1,0 +1,12 @@
+pub mod Alone
+pub mod Trees
+pub mod Walk
+pub mod Listed
+pub mod Stops
+pub mod Marked
+pub mod Entries
+pub mod Regular
+pub mod Created
+pub mod Rules
+pub mod Built
+pub mod Coded

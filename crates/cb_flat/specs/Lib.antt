@@ -1,0 +1,5 @@
+pub mod Lines
+pub mod Flat
+pub mod FlatTopology
+pub mod Steps
+pub mod Laws
