@@ -12,6 +12,14 @@ use std::test::Fail;
 
 const QUIET: &str = "burst raised 0 unknown 0 distance 0 radius 0 sure groups 1\n  group quiet\n";
 
+// A worn pump makes noise and heat, and one that runs dry makes heat and low flow.
+const PUMP: &str =
+    "class Pump {\n  problem Worn;\n  problem Dry;\n  symptom Noise;\n  symptom Heat;\n  symptom LowFlow;\n  rule n: Worn => Noise;\n  rule h: Worn => Heat;\n  rule h2: Dry => Heat;\n  rule f: Dry => LowFlow;\n}\n";
+
+// A cut link silences both its ports.
+const LINK: &str =
+    "class Link {\n  problem Cut;\n  symptom Loss;\n  relation ends to Port many inverse on;\n  rule here: Cut => Loss;\n  rule far: Cut => ends.NoSignal;\n}\nclass Port {\n  problem Fail;\n  symptom NoSignal;\n  relation on to Link one inverse ends;\n  rule down: Fail => NoSignal;\n}\n";
+
 /// What a run is made on: the words, the files, and what the outside does to it.
 #[derive(Clone, Copy)]
 struct Case<'a> {
