@@ -1,15 +1,12 @@
 -- What judging a file shows.
-use Rattle.std.proofs.Common.{◌≡◌, List, ℕ, refl, sym, ap, subst, Result, Ok, Err, Option, Some, None, true, false}
-use Rattle.std.specs.Prelude.{IfSome, IfOk, IsErrOf}
+use Rattle.std.proofs.Common.{◌≡◌, List, ℕ, refl, subst, Result, Ok, Err, Option, Some, None}
+use Rattle.std.specs.Prelude.{IfSome, IfOk}
 use Rattle.cb_io.specs.Outside.{TakesAll}
-use Rattle.cb_syntax.specs.declared.fault.SyntaxFault.{SyntaxFault}
-use Rattle.cb_syntax.specs.declared.fault.SyntaxFault.TheVariants as syntax
 use Rattle.cb_check.specs.declared.stop.FlatStop.{FlatStop as CheckStop}
 use Rattle.cb_check.specs.declared.stop.FlatStop.TheVariants as check
 use Rattle.cb_flat.specs.declared.stop.FlatStop.{FlatStop}
 use Rattle.cb_flat.specs.declared.stop.FlatStop.TheVariants as flat
-use Rattle.cb_top.specs.declared.halt.Halt.{Halt}
-use Rattle.cb_top.specs.declared.halt.Halt.TheVariants.{NotBuilt, Memory, ReadFault}
+use Rattle.cb_top.specs.declared.halt.Halt.TheVariants.{NotBuilt}
 use Rattle.cb_top.specs.Judged.{halt_of_check, halt_of_lines}
 
 -- the model isn't flat where the run isn't built for it

@@ -4,3 +4,4 @@ pub mod Writing
 pub mod Judged
 pub mod Bursts
 pub mod Outcomes
+pub mod Cause

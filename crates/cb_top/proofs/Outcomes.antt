@@ -1,9 +1,9 @@
 -- The outcome of the words and the files is one, and what a run writes is a front of its bytes.
-use Rattle.std.proofs.Common.{◌≡◌, ◌≢◌, ◌<◌, ◌+◌, ℕ, zero, suc, List, [], ◌∷◌, length, Bool, true, false, refl, sym, ◌∙◌, ap, subst, arith, Result, Ok, Err, Vec, slice_get, Option, Some, None}
+use Rattle.std.proofs.Common.{◌≡◌, ◌<◌, ◌+◌, ℕ, zero, suc, List, [], ◌∷◌, length, Bool, true, false, sym, ◌∙◌, subst, arith, Result, Ok, Err, Vec, slice_get, Some}
 use Rattle.std.specs.Prelude.{codes, MatchBool, if◌then◌else◌}
 use Rattle.std.specs.Str.{bytes_eq}
 use Rattle.std.specs.declared.alloc.Global.{Global}
-use Rattle.cb_io.specs.Outside.{SinkTold, FilesTold, WritesAll, WritesFront}
+use Rattle.cb_io.specs.Outside.{SinkTold, FilesTold, WritesFront}
 use Rattle.cb_io.proofs.Told.{WritesFront-all}
 use Rattle.cb_top.specs.declared.halt.Halt.{Halt}
 use Rattle.cb_top.specs.declared.halt.Halt.TheVariants as halts

@@ -1,8 +1,5 @@
 -- Words by their number.
-use Rattle.std.proofs.Common.{◌≡◌, ◌<◌, ◌≤◌, ◌+◌, ℕ, zero, suc, List, [], ◌∷◌, length, get_or, slice_get, Some, map, arith, refl, ap, sym}
-use Rattle.std.specs.Prelude.{codes, Bool, true, false}
-use Rattle.std.specs.Str.{bytes_eq}
-use Rattle.cb_top.specs.Outcome.{file_words}
+use Rattle.std.proofs.Common.{◌≡◌, ◌<◌, ◌≤◌, ℕ, zero, suc, List, [], ◌∷◌, length, get_or, slice_get, Some, map, arith, refl, ap, sym}
 
 pub four : {X : Type 0} (xs : List X) (a b c d : X) → 4 ≤ length xs → length xs < 5 → a ≡ get_or xs 0 a → b ≡ get_or xs 1 b → c ≡ get_or xs 2 c → d ≡ get_or xs 3 d
     → xs ≡ a ∷ b ∷ c ∷ d ∷ []

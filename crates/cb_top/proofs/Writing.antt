@@ -1,5 +1,5 @@
 -- A line that is written part after part.
-use Rattle.std.proofs.Common.{◌≡◌, ◌⊎◌, inl, inr, ◌≤◌, List, ℕ, ◌++◌, arith, true, false, Result, is_err, OnErr, OnOk}
+use Rattle.std.proofs.Common.{◌≡◌, inl, inr, ◌≤◌, List, ℕ, ◌++◌, arith, true, false, Result, is_err, OnErr, OnOk}
 use Rattle.std.specs.declared.result.Result.TheVariants.{Ok, Err}
 use Rattle.cb_io.specs.Outside.{SinkTold, WritesAll, WritesFront, WriteFailed}
 use Rattle.cb_io.proofs.Told.{WritesAll-trans, WritesFront-first, WritesFront-second}

@@ -2,7 +2,7 @@
 use Rattle.std.specs.Prelude.{◌≡◌, ℕ, List, [], ◌∷◌, codes}
 use Rattle.cb_top.specs.declared.command.Command.{Command}
 use Rattle.cb_top.specs.declared.command.Command.TheVariants.{Burst}
-use Rattle.cb_top.specs.Outcome.{Outcome, IsOutcome, file_words, not_built}
+use Rattle.cb_top.specs.Outcome.{IsOutcome, file_words, not_built}
 
 -- the words that give a command
 abbrev pub words_of : Command → List (List ℕ)

@@ -4,3 +4,4 @@ pub mod Outcome
 pub mod Commands
 pub mod Run
 pub mod Judged
+pub mod Cause

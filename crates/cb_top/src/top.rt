@@ -2,6 +2,7 @@
 ghost use Rattle.std.specs.Prelude.{◌≡◌, [], OnOk, IfSome};
 ghost use Rattle.cb_top.specs.Status.{OnAnswer, OnDone, OnReadFault, OnWriteFault, OnMemory};
 ghost use Rattle.cb_top.specs.Outcome.{texts, file_words, IsOutcome};
+ghost use Rattle.cb_top.specs.Cause.{FindsTheCause};
 ghost use Rattle.cb_top.specs.Run.{Answers, TakesFront, TakesNothing, HasRead, BlamesFile, BlamesOut, Says, StopsAt, Shows, OnStop, memory_line};
 
 use crate::burst::burst;
@@ -31,6 +32,10 @@ pub fn run<F: Files, O: Sink, E: Sink, L: Ledger>(
     ensures front { IfSome (F.tells files.old).left (λ left. TakesFront (texts words.now) left (O.tells out.old) (O.tells out.new)) }
     // Where the words are no command, nothing else matters.
     ensures no_command { file_words (texts words.now) ≡ [] → result ≡ Status.NotBuilt }
+    // The headline: what is printed are exactly the groups nearest to what is raised, by codes from what causes what; and
+    // where no more symptoms of one group are lost or spurious than the radius says, that group alone, and it is sure.
+    ensures cause { OnDone result (IfSome (F.tells files.old).left (λ left.
+        FindsTheCause (file_words (texts words.now)) left (O.tells out.old) (O.tells out.new))) }
     ensures read_whole { OnDone result (HasRead (file_words (texts words.now)) (F.tells files.old) (F.tells files.new)) }
     ensures read_fault { OnReadFault result (BlamesFile (texts words.now) (F.tells files.old) (F.tells files.new) (E.tells err.old) (E.tells err.new)) }
     ensures read_quiet { OnReadFault result (TakesNothing (O.tells out.old) (O.tells out.new)) }

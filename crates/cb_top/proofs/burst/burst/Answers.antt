@@ -1,13 +1,11 @@
-use Rattle.std.proofs.Common.{◌≡◌, List, ℕ, [], ◌∷◌, refl, ap, subst, inl, sym, ◌∙◌}
-use Rattle.std.specs.Prelude.{IfSome, Err}
+use Rattle.std.proofs.Common.{List, ℕ, [], ◌∷◌, refl, ap, subst, inl}
+use Rattle.std.specs.Prelude.{Err}
 use Rattle.cb_model.specs.declared.node.NodeName.{NodeName}
 use Rattle.cb_model.specs.declared.tables.Tables.{Tables}
-use Rattle.cb_network.specs.declared.finding.Finding.{Finding}
 use Rattle.cb_network.specs.Topology.{Topology}
 use Rattle.cb_flat.specs.FlatTopology.{topology_of}
 use Rattle.cb_io.proofs.Told.{NoCountFalls-trans}
-use Rattle.cb_report.specs.Lines.{burst_text}
-use Rattle.cb_top.specs.Burst.{IsModelText, IsTopologyText, IsSymptomText, IsBurstOf}
+use Rattle.cb_top.specs.Burst.{IsModelText, IsTopologyText, IsSymptomText}
 use Rattle.cb_top.specs.Outcome.{contents, BurstGives, done}
 use Rattle.cb_top.proofs.Reading.{if_some, if_some2, if_some3, halt_shows, read_none, read_next, read_contents, judged, stops_at, err_is, of_any}
 use Rattle.cb_top.specs.declared.halt.Halt.TheVariants.{Memory}

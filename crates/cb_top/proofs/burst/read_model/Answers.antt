@@ -1,4 +1,3 @@
-use Rattle.std.proofs.Common.{List}
 use Rattle.cb_model.specs.declared.tables.Tables.{Tables}
 use Rattle.cb_top.specs.Burst.{IsModelText}
 use Rattle.cb_io.specs.Outside.{left_of}

@@ -1,4 +1,3 @@
-use Rattle.std.proofs.Common.{List}
 use Rattle.cb_network.specs.Topology.{Topology}
 use Rattle.cb_top.specs.Burst.{IsTopologyText}
 use Rattle.cb_io.specs.Outside.{left_of}

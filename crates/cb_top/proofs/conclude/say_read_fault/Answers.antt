@@ -1,5 +1,4 @@
-use Rattle.std.proofs.Common.{inr, inl, codes, ◌++◌, [], ◌∷◌, arith}
-use Rattle.cb_io.proofs.Told.{WritesFront-first}
+use Rattle.std.proofs.Common.{codes, [], ◌∷◌}
 use Rattle.cb_top.proofs.Writing.{on_err, on_ok, says_first, says_second}
 use Rattle.cb_top.proofs.conclude.say_read_fault.Goals as goal
 

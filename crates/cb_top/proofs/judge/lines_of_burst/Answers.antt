@@ -1,4 +1,4 @@
-use Rattle.std.proofs.Common.{◌≡◌, ap, map, length, arith}
+use Rattle.std.proofs.Common.{ap, map, length, arith}
 use Rattle.std.proofs.lemmas.List.{length-map}
 use Rattle.cb_model.specs.declared.node.NodeName.{NodeName}
 use Rattle.cb_coding.specs.declared.group.Problem.{Problem}

@@ -1,6 +1,6 @@
-use Rattle.std.specs.Prelude.{IfSome}
 use Rattle.cb_top.specs.Outcome.{texts}
 use Rattle.cb_top.proofs.Reading.{if_some}
+use Rattle.cb_top.proofs.Cause.{names_the_cause}
 use Rattle.cb_top.proofs.Outcomes.{takes_front, blames_file}
 use Rattle.cb_top.proofs.top.run.Goals as goal
 
@@ -11,3 +11,7 @@ returns-clause-front g c =
 
 pub returns-clause-read_fault : goal.returns-clause-read_fault
 returns-clause-read_fault g c = blames_file (texts c.args.words.now) _ _ c.answer-answer.result c.conclude.result _ _ _ _ c.answer-answer.ensures.stop c.conclude.ensures
+
+pub returns-clause-cause : goal.returns-clause-cause
+returns-clause-cause g c =
+    names_the_cause (texts c.args.words.now) (g.F.Files.tells c.args.files.now).left c.answer-answer.result c.conclude.result _ _ _ _ c.answer-answer.ensures.answer c.conclude.ensures
