@@ -1,0 +1,4 @@
+pub mod Classes
+pub mod Rules
+pub mod Fault
+pub mod Laws

@@ -1,0 +1,92 @@
+-- The fourteen type rules: what each forbids, and the line that is blamed. Six are of a class, at place k of the text, and
+-- eight of a member, at place i of that class. A rule is of interest only where those before it are kept.
+use Rattle.std.specs.Prelude.{◌≡◌, ◌≢◌, ◌⊎◌, ℕ, suc, ◌<◌, List, [], ◌∷◌, length, take, map, Some, slice_get}
+use Rattle.std.specs.List.{All, AllPairs}
+use Rattle.cb_model.specs.declared.limits.TheConstants.{MOST_CLASSES, MOST_ANCESTORS, MOST_EVENTS, MOST_RELATIONS, MOST_RULES}
+use Rattle.cb_grammar.specs.declared.tree.Token.{Token}
+use Rattle.cb_grammar.specs.declared.tree.Tree.{Tree}
+use Rattle.cb_grammar.specs.declared.tree.ClassDecl.{ClassDecl}
+use Rattle.cb_grammar.specs.declared.tree.Member.{Member}
+use Rattle.cb_grammar.specs.declared.tree.Member.TheVariants.{Event, Relation, Rule, Block, Hide}
+use Rattle.cb_rules.specs.Classes.{ClassAt, IsNamed, IsAbove, MemberAt, HasAt, Has, declared, Declares, IsEvent, IsEventNamed, IsSymptomNamed, IsRelation, IsRelationNamed, IsRelationBack, IsRule, IsRuleNamed, Leads}
+
+-- an earlier class has the class's name
+abbrev pub IsSecondClass : Tree → ℕ → ClassDecl → ℕ → Type 0
+IsSecondClass tree k decl line = (line ≡ decl.name.line) × ((earlier : ℕ) × (earlier < k) × IsNamed tree decl.name.name earlier)
+
+-- no class has this name
+abbrev pub IsNoClass : Tree → List ℕ → Type 0
+IsNoClass tree name = (k : ℕ) → ¬ IsNamed tree name k
+
+-- no class has the name of the parent
+abbrev pub HasNoParent : Tree → ℕ → ClassDecl → ℕ → Type 0
+HasNoParent tree k decl line = (parent : Token) × (decl.parent ≡ Some parent) × (line ≡ parent.line) × IsNoClass tree parent.name
+
+-- the class is its own ancestor
+abbrev pub IsInLoop : Tree → ℕ → ClassDecl → ℕ → Type 0
+IsInLoop tree k decl line = (line ≡ decl.name.line) × ((n : ℕ) × IsAbove tree k (suc n) k)
+
+-- the class has too many ancestors
+abbrev pub IsTooDeep : Tree → ℕ → ClassDecl → ℕ → Type 0
+IsTooDeep tree k decl line = (line ≡ decl.name.line) × ((j : ℕ) × IsAbove tree k (suc MOST_ANCESTORS) j)
+
+-- the member's name is declared earlier in the class, or in an ancestor
+abbrev pub IsSecondName : Tree → ℕ → ℕ → Member → ℕ → Type 0
+IsSecondName tree k i member line = (name : Token) × (declared member ≡ Some name) × (line ≡ name.line)
+    × (((earlier : ℕ) × (other : Member) × (earlier < i) × MemberAt tree k earlier other × Declares name.name other)
+    ⊎ ((n : ℕ) × (j : ℕ) × (place : ℕ) × (other : Member) × IsAbove tree k (suc n) j × MemberAt tree j place other × Declares name.name other))
+
+-- no class has the name of the relation's target
+abbrev pub HasNoTarget : Tree → ℕ → ℕ → Member → ℕ → Type 0
+HasNoTarget tree k i (Relation name target many inverse) line = (line ≡ target.line) × IsNoClass tree target.name
+HasNoTarget tree k i member line = ⊥
+
+-- the class at place k itself declares such a member
+abbrev pub Owns : Tree → ℕ → (Member → Type 0) → Type 0
+Owns tree k P = (i : ℕ) × (member : Member) × MemberAt tree k i member × P member
+
+-- the target itself declares no relation of the inverse's name that leads to this class and has this relation as its inverse
+abbrev pub HasBadInverse : Tree → ℕ → ℕ → Member → ℕ → Type 0
+HasBadInverse tree k i (Relation name target many inverse) line = (decl : ClassDecl) × (j : ℕ) × ClassAt tree k decl × IsNamed tree target.name j
+    × (line ≡ inverse.line) × (¬ Owns tree j (IsRelationBack inverse.name decl.name.name name.name))
+HasBadInverse tree k i member line = ⊥
+
+-- the rule's cause is no event of the class
+abbrev pub HasNoCause : Tree → ℕ → ℕ → Member → ℕ → Type 0
+HasNoCause tree k i (Rule name cause path effect) line = (line ≡ cause.line) × (¬ Has tree k (IsEventNamed cause.name))
+HasNoCause tree k i member line = ⊥
+
+-- a place of the rule's path is no relation of the class that is reached there
+abbrev pub HasNoRelation : Tree → ℕ → ℕ → Member → ℕ → Type 0
+HasNoRelation tree k i (Rule name cause path effect) line = (m : ℕ) × (step : Token) × (j : ℕ) × (slice_get path m ≡ Some step)
+    × Leads tree k (take m path) j × (line ≡ step.line) × (¬ Has tree j (IsRelationNamed step.name))
+HasNoRelation tree k i member line = ⊥
+
+-- the rule's effect is no event of the class that its path reaches
+abbrev pub HasNoEffect : Tree → ℕ → ℕ → Member → ℕ → Type 0
+HasNoEffect tree k i (Rule name cause path effect) line = (j : ℕ) × Leads tree k path j × (line ≡ effect.line) × (¬ Has tree j (IsEventNamed effect.name))
+HasNoEffect tree k i member line = ⊥
+
+-- the block names no rule of the class
+abbrev pub BlocksNothing : Tree → ℕ → ℕ → Member → ℕ → Type 0
+BlocksNothing tree k i (Block name) line = (line ≡ name.line) × (¬ Has tree k (IsRuleNamed name.name))
+BlocksNothing tree k i member line = ⊥
+
+-- the hide names no event of the class that is marked symptom
+abbrev pub HidesNothing : Tree → ℕ → ℕ → Member → ℕ → Type 0
+HidesNothing tree k i (Hide name) line = (line ≡ name.line) × (¬ Has tree k (IsSymptomNamed name.name))
+HidesNothing tree k i member line = ⊥
+
+-- the class is the first of too many
+abbrev pub IsOneTooMany : Tree → ℕ → ClassDecl → ℕ → Type 0
+IsOneTooMany tree k decl line = (k ≡ MOST_CLASSES) × (line ≡ decl.name.line)
+
+-- the class has more members such that P than so many: the list has different places of such, by class and place in it
+abbrev pub HasMoreThan : Tree → ℕ → ℕ → (Member → Type 0) → Type 0
+HasMoreThan tree k most P = (places : List (ℕ × ℕ)) × AllPairs (λ one other. one ≢ other) places × All (λ place. HasAt tree k P place.0 place.1) places
+    × (most < length places)
+
+-- the class has too many events, relations or rules
+abbrev pub HasTooMany : Tree → ℕ → ClassDecl → ℕ → Type 0
+HasTooMany tree k decl line = (line ≡ decl.name.line)
+    × (HasMoreThan tree k MOST_EVENTS IsEvent ⊎ HasMoreThan tree k MOST_RELATIONS IsRelation ⊎ HasMoreThan tree k MOST_RULES IsRule)
