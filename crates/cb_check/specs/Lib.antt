@@ -1,4 +1,4 @@
 pub mod Stands
-pub mod FlatTree
-pub mod Rows
-pub mod Laws
+pub mod Denotes
+pub mod Numbers
+pub mod Fault

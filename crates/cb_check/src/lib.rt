@@ -1,10 +1,7 @@
 //! From the tree of a text to the checked model.
 #![tactic(auto)]
 
-mod flat;
-mod named;
-mod rows;
-mod stop;
+mod fault;
+mod numbers;
 
-pub use flat::{check_flat, one_flat_model};
-pub use stop::FlatStop;
+pub use fault::TypeFault;
