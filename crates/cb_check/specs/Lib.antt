@@ -1,4 +1,5 @@
 pub mod Stands
 pub mod Denotes
 pub mod Numbers
+pub mod Finder
 pub mod Fault

@@ -2,6 +2,7 @@
 #![tactic(auto)]
 
 mod fault;
+mod finder;
 mod numbers;
 
 pub use fault::TypeFault;
