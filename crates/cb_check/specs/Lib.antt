@@ -1,4 +1,2 @@
 pub mod Stands
-pub mod FlatTree
-pub mod Rows
 pub mod Laws

@@ -1,10 +1,6 @@
 //! From the tree of a text to the checked model.
 #![tactic(auto)]
 
-mod flat;
-mod named;
-mod rows;
-mod stop;
+mod laws;
 
-pub use flat::{check_flat, one_flat_model};
-pub use stop::FlatStop;
+pub use laws::{one_model, stands_is_typed};
