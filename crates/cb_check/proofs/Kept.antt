@@ -1,7 +1,6 @@
 -- In a tree that keeps the rules, a name denotes one class, and one member of a class and its ancestors.
 use Rattle.std.proofs.Common.{◌≡◌, ℕ, zero, suc, ◌+◌, ◌-◌, ◌<◌, List, Option, Some, refl, sym, ap, subst, ◌∙◌, inl, inr, arith}
 use Rattle.std.specs.Prelude.{slice_get}
-use Rattle.std.proofs.lemmas.Bool.{cases_lt}
 use Rattle.cb_grammar.specs.declared.tree.Token.{Token}
 use Rattle.cb_grammar.specs.declared.tree.Tree.{Tree}
 use Rattle.cb_grammar.specs.declared.tree.ClassDecl.{ClassDecl}
@@ -30,13 +29,10 @@ module _ (tree : Tree) (keeps : KeepsAll tree) where
       keeps TwoClasses decl'.name.line (k, decl', is', (refl, (j, below, (decl, is, named ∙ sym named'))))
 
   pub one_class : (name : List ℕ) (j k : ℕ) → IsNamed tree name j → IsNamed tree name k → j ≡ k
-  one_class name j k here there = elim (cases_lt j k) [
-    | inl below ↦ absurd (not_second_class name j k below here there)
-    | inr past ↦ elim (cases_lt k j) [
-      | inl below ↦ absurd (not_second_class name k j below there here)
-      | inr equal ↦ omega arith
-    ]
-  ]
+  one_class name j k here there =
+      let not_below : ¬ (j < k) = λ below. not_second_class name j k below here there in
+      let not_past : ¬ (k < j) = λ below. not_second_class name k j below there here in
+      omega arith
 
   one_parent : (k i j : ℕ) → Extends tree k i → Extends tree k j → i ≡ j
   one_parent k i j (decl, parent, is, extends, named) (decl', parent', is', extends', named') =
@@ -69,23 +65,17 @@ module _ (tree : Tree) (keeps : KeepsAll tree) where
       keeps TwoNames token.line (j, i', other, at', (token, is, refl, inl (i, one, below, at, declares_same other one token name is same named)))
 
   one_place : (j i i' : ℕ) (name : List ℕ) (one other : Member) → MemberAt tree j i one → MemberAt tree j i' other → Declares name one → Declares name other → i ≡ i'
-  one_place j i i' name one other at at' named named' = elim (cases_lt i i') [
-    | inl below ↦ absurd (not_earlier j i i' name one other below at at' named named')
-    | inr past ↦ elim (cases_lt i' i) [
-      | inl below ↦ absurd (not_earlier j i' i name other one below at' at named' named)
-      | inr equal ↦ omega arith
-    ]
-  ]
+  one_place j i i' name one other at at' named named' =
+      let not_below : ¬ (i < i') = λ below. not_earlier j i i' name one other below at at' named named' in
+      let not_past : ¬ (i' < i) = λ below. not_earlier j i' i name other one below at' at named' named in
+      omega arith
 
   one_step : (k n n' j i j' i' : ℕ) (name : List ℕ) (one other : Member) → IsAbove tree k n j → IsAbove tree k n' j' →
       MemberAt tree j i one → MemberAt tree j' i' other → Declares name one → Declares name other → n ≡ n'
-  one_step k n n' j i j' i' name one other above above' at at' named named' = elim (cases_lt n n') [
-    | inl below ↦ absurd (not_above k n n' j i j' i' name one other below above above' at at' named named')
-    | inr past ↦ elim (cases_lt n' n) [
-      | inl below ↦ absurd (not_above k n' n j' i' j i name other one below above' above at' at named' named)
-      | inr equal ↦ omega arith
-    ]
-  ]
+  one_step k n n' j i j' i' name one other above above' at at' named named' =
+      let not_below : ¬ (n < n') = λ below. not_above k n n' j i j' i' name one other below above above' at at' named named' in
+      let not_past : ¬ (n' < n) = λ below. not_above k n' n j' i' j i name other one below above' above at' at named' named in
+      omega arith
 
   -- what a class has under a name stands at one place
   pub one_member : (k : ℕ) (name : List ℕ) (j i j' i' : ℕ) → HasAt tree k (Declares name) j i → HasAt tree k (Declares name) j' i' → (j ≡ j') × (i ≡ i')

@@ -1,3 +1,5 @@
 pub mod Places
 pub mod Sections
 pub mod Kept
+pub mod Given
+pub mod Above

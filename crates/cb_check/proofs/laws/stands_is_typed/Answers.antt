@@ -1,5 +1,5 @@
-use Rattle.cb_check.proofs.Kept.{one_member}
+use Rattle.cb_check.proofs.Above.{relation_given, rule_given}
 use Rattle.cb_check.proofs.laws.stands_is_typed.Goals as goal
 
 pub returns : goal.returns
-returns c = let h = one_member in ?
+returns c = ?
