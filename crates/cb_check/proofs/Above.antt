@@ -3,19 +3,22 @@ use Rattle.std.proofs.Common.{◌≡◌, ℕ, zero, suc, ◌<◌, List, length, 
 use Rattle.std.specs.Prelude.{slice_get}
 use Rattle.std.proofs.lemmas.Option.{same_Some, slice_get_within}
 use Rattle.cb_model.specs.declared.id.ClassId.{ClassId}
+use Rattle.cb_model.specs.declared.id.EventId.{EventId}
+use Rattle.cb_model.specs.declared.id.RelId.{RelId}
 use Rattle.cb_model.specs.declared.tables.Tables.{Tables}
 use Rattle.cb_model.specs.declared.tables.ClassRow.{ClassRow}
 use Rattle.cb_model.specs.declared.tables.EventRow.{EventRow}
 use Rattle.cb_model.specs.declared.tables.RelRow.{RelRow}
 use Rattle.cb_model.specs.declared.tables.RuleRow.{RuleRow}
-use Rattle.cb_model.specs.Classes.{parent_in_row, parent_of, parent_of_some, ancestor, IsA, NamesClass}
+use Rattle.cb_model.specs.declared.tables.BlockRow.{BlockRow}
+use Rattle.cb_model.specs.Classes.{parent_in_row, parent_of, parent_of_some, ancestor, IsA, NamesClass, NamesEvent, NamesRelation}
 use Rattle.cb_model.specs.WellTyped.{event, relation, rule, IsClass}
 use Rattle.cb_grammar.specs.declared.tree.Token.{Token}
 use Rattle.cb_grammar.specs.declared.tree.Tree.{Tree}
 use Rattle.cb_grammar.specs.declared.tree.ClassDecl.{ClassDecl}
 use Rattle.cb_grammar.specs.declared.tree.Member.{Member}
 use Rattle.cb_rules.specs.Classes.{ClassAt, IsNamed, Extends, IsAbove}
-use Rattle.cb_check.specs.Stands.{Stands, StandsClass, StandsParent, StandsRelation, StandsRule, RelationDecl, RuleDecl, relations_declared, rules_declared, event_in, relation_in, rule_in}
+use Rattle.cb_check.specs.Stands.{Stands, StandsClass, StandsParent, StandsRelation, StandsInverse, StandsRule, StandsBlock, NameDecl, RelationDecl, RuleDecl, relations_declared, rules_declared, event_in, relation_in, rule_in}
 use Rattle.cb_check.proofs.Places.{slice_at, zip_left, zip_long}
 use Rattle.cb_check.proofs.Given.{Gives, given, event_tells, relation_tells, rule_tells}
 
@@ -79,3 +82,16 @@ module _ (tree : Tree) (t : Tables) (stands : Stands tree t) where
       let has = given rule_in (λ (d : RuleDecl). d.class) (λ (d : RuleDecl). d.name) rule rule_tells tree c.0 n r decl decl_is way in
       let (g, class, is) = subst (λ name. (g : Gives tree c.0 (rule r) name) × (g.class ≡ decl.class.0) × (rule_in decl.class g.member ≡ Some decl)) (sym says.name) has in
       (decl, says, g, class, is)
+
+  -- and so under each name
+  pub event_named : (c : ClassId) (name : List ℕ) (e : EventId) → NamesEvent t c name e → Gives tree c.0 (event e.0) name
+  event_named c name e (has, named) = subst (Gives tree c.0 (event e.0)) named (event_given c e.0 has.row has.is has.from_c).0
+
+  pub relation_named : (c : ClassId) (name : List ℕ) (r : RelId) → NamesRelation t c name r → Gives tree c.0 (relation r.0) name
+  relation_named c name r (has, named) = subst (Gives tree c.0 (relation r.0)) named (relation_given c r.0 has.row has.is has.from_c).2
+
+  pub inverse_named : (target : ClassId) (name : List ℕ) (r : RelId) → StandsInverse t target name r → Gives tree target.0 (relation r.0) name
+  inverse_named target name r (row, is, class, named) = subst (Gives tree target.0 (relation r.0)) named (relation_given target r.0 row is (0, ap Some (sym class))).2
+
+  pub block_named : (decl : NameDecl) (row : BlockRow) → StandsBlock t decl row → Gives tree row.class.0 (rule row.rule) decl.name
+  block_named decl row says = subst (Gives tree row.class.0 (rule row.rule)) says.named (rule_given row.class row.rule says.rule says.is says.from_class).2

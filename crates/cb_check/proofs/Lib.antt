@@ -3,3 +3,5 @@ pub mod Sections
 pub mod Kept
 pub mod Given
 pub mod Above
+pub mod Same
+pub mod One
