@@ -5,3 +5,4 @@ pub mod Given
 pub mod Above
 pub mod Same
 pub mod One
+pub mod Few

@@ -1,4 +1,4 @@
-use Rattle.cb_check.proofs.Above.{relation_given, rule_given}
+use Rattle.cb_check.proofs.Few.{few, not_more_rules}
 use Rattle.cb_check.proofs.laws.stands_is_typed.Goals as goal
 
 pub returns : goal.returns
