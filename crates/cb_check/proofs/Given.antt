@@ -53,7 +53,7 @@ module _ (tree : Tree) where
       let place = one_member tree keeps k name g.class g.at g'.class g'.at (has_at k which name (Declares name) g g.named) (has_at k which' name (Declares name) g' g'.named) in
       same_row k which which' name name g g' place.0 place.1
 
-from_some : {X : Type 0} {x y : X} (P : X → Type 0) → Some x ≡ Some y → P x → P y
+pub from_some : {X : Type 0} {x y : X} (P : X → Type 0) → Some x ≡ Some y → P x → P y
 from_some {X} {x} {y} P is = subst P (same_Some x y is)
 
 -- what a row of a kind tells of the member that declares it

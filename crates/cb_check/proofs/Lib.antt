@@ -6,3 +6,4 @@ pub mod Above
 pub mod Same
 pub mod One
 pub mod Few
+pub mod Rows
