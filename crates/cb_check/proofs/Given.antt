@@ -3,6 +3,8 @@ use Rattle.std.proofs.Common.{◌≡◌, ℕ, zero, suc, List, Option, Some, Non
 use Rattle.std.specs.Prelude.{slice_get}
 use Rattle.std.proofs.lemmas.Option.{same_Some}
 use Rattle.cb_model.specs.declared.id.ClassId.{ClassId}
+use Rattle.cb_model.specs.declared.id.EventId.{EventId}
+use Rattle.cb_model.specs.declared.id.RelId.{RelId}
 use Rattle.cb_model.specs.declared.tables.EventRow.{EventRow}
 use Rattle.cb_model.specs.WellTyped.{Member as Declaration, event, relation, rule}
 use Rattle.cb_grammar.specs.declared.tree.Token.{Token}
@@ -14,6 +16,7 @@ use Rattle.cb_rules.specs.Classes.{ClassAt, IsAbove, HasAt, Declares}
 use Rattle.cb_rules.specs.Fault.{KeepsAll}
 use Rattle.cb_check.specs.Stands.{RelationDecl, RuleDecl, declared_from, event_in, relation_in, rule_in}
 use Rattle.cb_check.proofs.Sections.{index, declaration, declared_by}
+use Rattle.cb_check.proofs.Same.{same_event_id, same_relation_id}
 use Rattle.cb_check.proofs.Kept.{one_decl, one_at, one_member}
 
 -- the class at place k has the row under this name: a member of it or of an ancestor is so declared
@@ -55,6 +58,16 @@ module _ (tree : Tree) where
 
 pub from_some : {X : Type 0} {x y : X} (P : X → Type 0) → Some x ≡ Some y → P x → P y
 from_some {X} {x} {y} P is = subst P (same_Some x y is)
+
+-- a row has one number
+pub one_event : (e e' : EventId) → event e.0 ≡ event e'.0 → e ≡ e'
+one_event e e' same = same_event_id e e' (cc)
+
+pub one_relation : (r r' : RelId) → relation r.0 ≡ relation r'.0 → r ≡ r'
+one_relation r r' same = same_relation_id r r' (cc)
+
+pub one_rule : (n n' : ℕ) → rule n ≡ rule n' → n ≡ n'
+one_rule n n' same = cc
 
 -- what a row of a kind tells of the member that declares it
 abbrev pub Tells : {Row : Type 0} → (ClassId → Member → Option Row) → (Row → ClassId) → (Row → List ℕ) → (ℕ → Declaration) → ClassId → Member → Row → Type 0

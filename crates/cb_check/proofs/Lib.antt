@@ -1,9 +1,10 @@
 pub mod Places
 pub mod Sections
+pub mod Same
 pub mod Kept
 pub mod Given
 pub mod Above
-pub mod Same
-pub mod One
-pub mod Few
 pub mod Rows
+pub mod Few
+pub mod Typed
+pub mod One

@@ -19,9 +19,9 @@ use Rattle.cb_grammar.specs.declared.tree.Tree.{Tree}
 use Rattle.cb_grammar.specs.declared.tree.ClassDecl.{ClassDecl}
 use Rattle.cb_rules.specs.Fault.{KeepsAll}
 use Rattle.cb_check.specs.Stands.{Stands, StandsClass, StandsParent, StandsRelation, StandsPath, StandsRule, StandsBlock, StandsHide, RelationDecl, RuleDecl, NameDecl, relations_declared, rules_declared, blocks_declared, hides_declared}
-use Rattle.cb_check.proofs.Same.{same_class_id, same_event_id, same_relation_id, same_class_row, same_relation_row, same_rule_row, same_block_row, same_hide_row, same_tables}
+use Rattle.cb_check.proofs.Same.{same_class_id, same_class_row, same_relation_row, same_rule_row, same_block_row, same_hide_row, same_tables}
 use Rattle.cb_check.proofs.Kept.{one_class}
-use Rattle.cb_check.proofs.Given.{Gives, one_row}
+use Rattle.cb_check.proofs.Given.{Gives, one_row, one_event, one_relation, one_rule}
 use Rattle.cb_check.proofs.Above.{class_named, event_named, relation_named, inverse_named, block_named}
 
 -- two lists that are paired with a third alike are one
@@ -33,26 +33,17 @@ zip_same R S (x ∷ xs) [] zs here there same = absurd here
 zip_same R S (x ∷ xs) (y ∷ ys) [] here there same = absurd there
 zip_same R S (x ∷ xs) (y ∷ ys) (z ∷ zs) here there same = ap (λ v. v ∷ ys) (same x y z here.0 there.0) ∙ ap (λ l. z ∷ l) (zip_same R S xs ys zs here.1 there.1 same)
 
-same_event_number : (m n : ℕ) → event m ≡ event n → m ≡ n
-same_event_number m n same = cc
-
-same_relation_number : (m n : ℕ) → relation m ≡ relation n → m ≡ n
-same_relation_number m n same = cc
-
-same_rule_number : (m n : ℕ) → rule m ≡ rule n → m ≡ n
-same_rule_number m n same = cc
-
 module _ (tree : Tree) (one other : Tables) (keeps : KeepsAll tree) (s : Stands tree one) (s' : Stands tree other) where
   same_class : (name : List ℕ) (c c' : ClassId) → NamesClass one name c → NamesClass other name c' → c ≡ c'
   same_class name c c' named named' = same_class_id c c' (one_class tree keeps name c.0 c'.0 (class_named tree one s name c named) (class_named tree other s' name c' named'))
 
   same_event : (c : ClassId) (name : List ℕ) (e e' : EventId) → NamesEvent one c name e → NamesEvent other c name e' → e ≡ e'
   same_event c name e e' named named' =
-      same_event_id e e' (same_event_number e.0 e'.0 (one_row tree keeps c.0 name (event e.0) (event e'.0) (event_named tree one s c name e named) (event_named tree other s' c name e' named')).1)
+      one_event e e' (one_row tree keeps c.0 name (event e.0) (event e'.0) (event_named tree one s c name e named) (event_named tree other s' c name e' named')).1
 
   same_relation : (c : ClassId) (name : List ℕ) (r r' : RelId) → NamesRelation one c name r → NamesRelation other c name r' → r ≡ r'
   same_relation c name r r' named named' =
-      same_relation_id r r' (same_relation_number r.0 r'.0 (one_row tree keeps c.0 name (relation r.0) (relation r'.0) (relation_named tree one s c name r named) (relation_named tree other s' c name r' named')).1)
+      one_relation r r' (one_row tree keeps c.0 name (relation r.0) (relation r'.0) (relation_named tree one s c name r named) (relation_named tree other s' c name r' named')).1
 
   same_parent : (o : Option Token) (p p' : Option ClassId) → StandsParent one o p → StandsParent other o p' → p ≡ p'
   same_parent None None None says says' = refl
@@ -73,7 +64,7 @@ module _ (tree : Tree) (one other : Tables) (keeps : KeepsAll tree) (s : Stands 
       let there_here = subst (λ (c : ClassId). Gives tree c.0 (relation row'.inverse.0) decl.inverse) (sym target) there in
       let inverse = (one_row tree keeps row.target.0 decl.inverse (relation row.inverse.0) (relation row'.inverse.0) here there_here).1 in
       same_relation_row row row' (says.class ∙ sym says'.class) (says.name ∙ sym says'.name) target (says.many ∙ sym says'.many)
-      (same_relation_id row.inverse row'.inverse (same_relation_number row.inverse.0 row'.inverse.0 inverse))
+      (one_relation row.inverse row'.inverse inverse)
 
   relations_same : one.relations ≡ other.relations
   relations_same = zip_same (StandsRelation one) (StandsRelation other) (relations_declared tree) one.relations other.relations s.relations s'.relations same_relations
@@ -111,7 +102,7 @@ module _ (tree : Tree) (one other : Tables) (keeps : KeepsAll tree) (s : Stands 
       let class : row'.class ≡ row.class = says'.class ∙ sym says.class in
       let there = subst (λ (c : ClassId). Gives tree c.0 (rule row'.rule) decl.name) class (block_named tree other s' decl row' says') in
       let blocked = (one_row tree keeps row.class.0 decl.name (rule row.rule) (rule row'.rule) (block_named tree one s decl row says) there).1 in
-      same_block_row row row' (sym class) (same_rule_number row.rule row'.rule blocked)
+      same_block_row row row' (sym class) (one_rule row.rule row'.rule blocked)
 
   same_hides : (decl : NameDecl) (row row' : HideRow) → StandsHide one decl row → StandsHide other decl row' → row ≡ row'
   same_hides decl row row' says says' =

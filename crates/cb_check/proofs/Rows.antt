@@ -66,7 +66,7 @@ block_class : (c : ClassId) (member : Member) (decl : NameDecl) → block_in c m
 block_class c (Block name) decl is = from_some (λ (d : NameDecl). d.class ≡ c) is refl
 block_class c member decl is = absurd (cc)
 
-hide_class : (c : ClassId) (member : Member) (decl : NameDecl) → hide_in c member ≡ Some decl → decl.class ≡ c
+pub hide_class : (c : ClassId) (member : Member) (decl : NameDecl) → hide_in c member ≡ Some decl → decl.class ≡ c
 hide_class c (Hide name) decl is = from_some (λ (d : NameDecl). d.class ≡ c) is refl
 hide_class c member decl is = absurd (cc)
 
