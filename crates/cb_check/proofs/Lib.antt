@@ -1,3 +1,11 @@
 pub mod Places
 pub mod Sections
+pub mod Same
+pub mod Kept
+pub mod Given
+pub mod Above
+pub mod Rows
+pub mod Few
+pub mod Typed
+pub mod One
 pub mod Numbering

@@ -4,9 +4,12 @@ use Rattle.std.specs.Prelude.{slice_get}
 use Rattle.std.specs.List.{All, filter_map}
 use Rattle.std.proofs.lemmas.List.{length-append}
 use Rattle.cb_model.specs.declared.id.ClassId.{ClassId}
+use Rattle.cb_model.specs.declared.tables.EventRow.{EventRow}
+use Rattle.cb_model.specs.WellTyped.{Member as Declaration, event, relation, rule}
 use Rattle.cb_grammar.specs.declared.tree.ClassDecl.{ClassDecl}
 use Rattle.cb_grammar.specs.declared.tree.Member.{Member}
-use Rattle.cb_check.specs.Stands.{declared_from}
+use Rattle.cb_grammar.specs.declared.tree.Member.TheVariants.{Event, Relation, Rule, Block, Hide}
+use Rattle.cb_check.specs.Stands.{declared_from, event_in, relation_in, rule_in}
 use Rattle.cb_check.proofs.Places.{slice_get-left, slice_get-right, slice_get-joined, place, kept_at, kept_from, place_below}
 
 module _ {Row : Type 0} (kind : ClassId → Member → Option Row) where
@@ -140,3 +143,9 @@ module _ {Row : Type 0} (kind : ClassId → Member → Option Row) where
   unfolding index
   index_below decls c decl i j member row member_is gives below =
       let less = place_below (kind c) decl.members i j member row member_is gives below in omega arith
+
+-- the row of what a member of a class declares
+abbrev pub declaration : List ClassDecl → ℕ → ClassDecl → ℕ → Member → Declaration
+declaration decls n decl j (Event name problem symptom) = event (index event_in decls n decl j)
+declaration decls n decl j (Rule name cause path effect) = rule (index rule_in decls n decl j)
+declaration decls n decl j member = relation (index relation_in decls n decl j)

@@ -3,3 +3,4 @@ pub mod Denotes
 pub mod Numbers
 pub mod Finder
 pub mod Fault
+pub mod Laws

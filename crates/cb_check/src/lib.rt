@@ -3,6 +3,8 @@
 
 mod fault;
 mod finder;
+mod laws;
 mod numbers;
 
 pub use fault::TypeFault;
+pub use laws::{one_model, stands_is_typed};
