@@ -53,10 +53,14 @@ pub record IsEntry (classes : List (List ℕ × ℕ)) (decl : ClassDecl) (entry 
   pub relations : entry.relations ≡ count_by is_relation decl.members
   pub rules : entry.rules ≡ count_by is_rule decl.members
 
+-- so is the entry at this place, of the class there
+abbrev pub IsEntryAt : List (List ℕ × ℕ) → List ClassDecl → ℕ → Entry → Type 0
+IsEntryAt classes decls k entry = (decl : ClassDecl) × (slice_get decls k ≡ Some decl) × IsEntry classes decl entry
+
 -- there is an entry of each class
 pub record AreEntries (classes : List (List ℕ × ℕ)) (decls : List ClassDecl) (entries : List Entry) : Type 0 where
   pub all : length entries ≡ length decls
-  pub each : (k : ℕ) (entry : Entry) → slice_get entries k ≡ Some entry → (decl : ClassDecl) × (slice_get decls k ≡ Some decl) × IsEntry classes decl entry
+  pub each : (k : ℕ) (entry : Entry) → slice_get entries k ≡ Some entry → IsEntryAt classes decls k entry
 
 -- each name of a class leads to the first of that name, and there is an entry of each class
 pub record IsDirectory (tree : Tree) (classes : List (List ℕ × ℕ)) (entries : List Entry) : Type 0 where

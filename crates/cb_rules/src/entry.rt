@@ -1,12 +1,10 @@
 //! What the directory keeps of one class.
-ghost use Rattle.std.specs.Prelude.{◌≡◌, IfOk, Option as Maybe, option_copied, count_by};
-ghost use Rattle.cb_rules.specs.Directory.{parent_place, is_event as counts_event, is_relation as counts_relation, is_rule as counts_rule, IsEntry};
-ghost use Rattle.cb_grammar.specs.declared.tree.Member.{Member as TheMember};
-ghost use Rattle.std.specs.Prelude.{List as Items};
+ghost use Rattle.std.specs.Prelude.{◌≡◌, IfOk, count_by};
+ghost use Rattle.cb_rules.specs.Directory.{parent_place, is_event, is_relation, is_rule, IsEntry};
 
 use crate::places::first_places;
 use cb_grammar::{ClassDecl, Member, Token};
-use cb_model::{NameMap};
+use cb_model::NameMap;
 use std::alloc::{AllocError, Global};
 
 /// A class: the place of the class that it extends, the places of its members by their names, and how many of these
@@ -29,9 +27,9 @@ impl Entry {
         Ok(Entry {
             parent: place_of(classes, &decl.parent),
             members: first_places(alloc, members)?,
-            events: members.iter().filter(|member| is_event(member)).count(),
-            relations: members.iter().filter(|member| is_relation(member)).count(),
-            rules: members.iter().filter(|member| is_rule(member)).count(),
+            events: count_events(members),
+            relations: count_relations(members),
+            rules: count_rules(members),
         })
     }
 }
@@ -46,20 +44,20 @@ fn place_of(classes: &NameMap<usize>, parent: &Option<Token>) -> Option<usize>
     }
 }
 
-fn is_event(member: &Member) -> bool
-    ensures { result ≡ counts_event member.now }
+fn count_events(members: &[Member]) -> usize
+    ensures { result ≡ count_by is_event members.now }
 {
-    matches!(member, Member::Event { .. })
+    members.iter().filter(|member| matches!(member, Member::Event { .. })).count()
 }
 
-fn is_relation(member: &Member) -> bool
-    ensures { result ≡ counts_relation member.now }
+fn count_relations(members: &[Member]) -> usize
+    ensures { result ≡ count_by is_relation members.now }
 {
-    matches!(member, Member::Relation { .. })
+    members.iter().filter(|member| matches!(member, Member::Relation { .. })).count()
 }
 
-fn is_rule(member: &Member) -> bool
-    ensures { result ≡ counts_rule member.now }
+fn count_rules(members: &[Member]) -> usize
+    ensures { result ≡ count_by is_rule members.now }
 {
-    matches!(member, Member::Rule { .. })
+    members.iter().filter(|member| matches!(member, Member::Rule { .. })).count()
 }

@@ -18,6 +18,6 @@ loop-place-preserved g c =
           let adds = subst (λ (name : List ℕ). AddsPlace c.loop-place.places w.add_place.new.places name n) w.bytes.ensures w.in_ok-add_place.ensures in
           subst (FindsAmong called xs (n + 1)) (sym w.places-is) (finds_one_more called xs n x w.in-Some.name.now c.loop-place.places w.add_place.new.places x_is is adds c.loop-place.invariant)
       | in_default w ↦
-          let none : called x ≡ None = let h = w.in_default in ? in
+          let none : called x ≡ None = sym w.in_default.ensures in
           subst (FindsAmong called xs (n + 1)) (sym w.places-is) (finds_none_more called xs n x c.loop-place.places x_is none c.loop-place.invariant)
     ]
