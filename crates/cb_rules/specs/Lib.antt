@@ -2,3 +2,5 @@ pub mod Classes
 pub mod Rules
 pub mod Fault
 pub mod Laws
+pub mod Places
+pub mod Directory

@@ -1,8 +1,12 @@
 //! The fourteen type rules of models, over the tree of a text.
 #![tactic(auto)]
 
+mod directory;
+mod entry;
 mod laws;
+mod places;
 mod rule;
 
+pub use directory::{Directory, Place};
 pub use laws::one_fault;
 pub use rule::{BrokenRule, TypeRule};
