@@ -9,3 +9,5 @@ pub mod Few
 pub mod Typed
 pub mod One
 pub mod Numbering
+pub mod Found
+pub mod Small

@@ -128,7 +128,8 @@ impl<'t> Finder<'t> {
     // Where what the class has under this name is declared.
     fn place(&self, class: ClassId, name: &Token) -> Place
         requires { ¬ (¬ Has self.now class.0 (Declares name.now.name)) }
-        ensures { HasAt self.now class.0 (Declares name.now.name) result.class result.member }
+        ensures keeps { KeepsAll self.now }
+        ensures place { HasAt self.now class.0 (Declares name.now.name) result.class result.member }
     {
         self.directory
             .member_named(class.0 as usize, name.name.bytes())
