@@ -95,7 +95,10 @@ module _ (tree : Tree) where
   pub owns_map : (P Q : Member → Type 0) → ((member : Member) → P member → Q member) → (k : ℕ) → ¬ (¬ Owns tree k P) → ¬ (¬ Owns tree k Q)
   owns_map P Q also k needs none = needs (λ owns. let (i, member, at, is) = owns in none (i, member, at, also member is))
 
-  -- what the rules of members ask for
+  -- what the rules ask for
+  pub needs_parent : KeepsAll tree → (k : ℕ) (decl : ClassDecl) (parent : Token) → ClassAt tree k decl → decl.parent ≡ Some parent → ¬ IsNoClass tree parent.name
+  needs_parent keeps k decl parent at is none = keeps NoParent parent.line (k, decl, at, (parent, is, refl, none))
+
   module _ (keeps : KeepsAll tree) (k i : ℕ) where
     pub needs_target : (name target inverse : Token) (many : _) → MemberAt tree k i (Relation name target many inverse) → ¬ IsNoClass tree target.name
     needs_target name target inverse many at none = keeps NoTarget target.line (k, i, Relation name target many inverse, at, (refl, none))
@@ -119,9 +122,6 @@ module _ (tree : Tree) where
 
     pub needs_hidden : (name : Token) → MemberAt tree k i (Hide name) → NeedsEvent tree k name.name
     needs_hidden name at = needs_map (IsSymptomNamed name.name) (IsEventNamed name.name) (symptom_event name.name) k (λ none. keeps NoHidden name.line (k, i, Hide name, at, (refl, none)))
-
-    pub needs_parent : (decl : ClassDecl) (parent : Token) → ClassAt tree k decl → decl.parent ≡ Some parent → ¬ IsNoClass tree parent.name
-    needs_parent decl parent at is none = keeps NoParent parent.line (k, decl, at, (parent, is, refl, none))
 
   -- the member that a class has under a name is such, if it has such a one of that name
   pub surely : KeepsAll tree → (P : Member → Type 0) (name : List ℕ) → ((member : Member) → P member → Declares name member) → (k j i n : ℕ) (member : Member) →

@@ -11,3 +11,5 @@ pub mod One
 pub mod Numbering
 pub mod Found
 pub mod Small
+pub mod Adding
+pub mod Standing

@@ -51,6 +51,13 @@ impl<'t> Finder<'t> {
         })
     }
 
+    pub fn tree(&self) -> &Tree
+        ensures tree { result.now ≡ self.now }
+        ensures keeps { KeepsAll self.now }
+    {
+        self.tree
+    }
+
     pub fn class(&self, name: &Token) -> ClassId
         requires { ¬ IsNoClass self.now name.now.name }
         ensures { IsNamed self.now name.now.name result.0 }
