@@ -1,9 +1,8 @@
 -- Where no more than so many members of a class are such, no more rows of the class are.
-use Rattle.std.proofs.Common.{◌≡◌, ◌≢◌, ℕ, zero, suc, ◌<◌, ◌≤◌, List, [], ◌∷◌, length, get_or, Some, refl, sym, ap, subst, ◌∙◌, inl, inr, arith}
-use Rattle.std.specs.Prelude.{slice_get}
-use Rattle.std.specs.List.{All, AllPairs, AllZip}
+use Rattle.std.proofs.Common.{◌≡◌, ℕ, zero, suc, List, [], ◌∷◌, length, get_or, refl, sym, subst, ◌∙◌, inl, inr, arith}
+use Rattle.std.specs.List.{All, AllZip}
 use Rattle.std.proofs.lemmas.Bool.{cases_lt}
-use Rattle.std.proofs.lemmas.Option.{slice_get-get_or, slice_get_within, get_or_from_slice_get}
+use Rattle.std.proofs.lemmas.Option.{slice_get-get_or, get_or_from_slice_get}
 use Rattle.cb_model.specs.declared.limits.TheConstants.{MOST_EVENTS, MOST_RELATIONS, MOST_RULES}
 use Rattle.cb_model.specs.WellTyped.{Member as Declaration, AtMost}
 use Rattle.cb_grammar.specs.declared.tree.Tree.{Tree}
@@ -83,8 +82,8 @@ module _ {X : Type 0} (tree : Tree) (k : ℕ) (P : Member → Type 0) (number : 
               let one = once x y (one_number x y (get_or places j d) (subst (StemsAt x) same x_at) y_at) in
               apart i j x below (omega arith) (get_or_from_slice_get xs i x x x_is ∙ (one ∙ sym (get_or_from_slice_get xs j y x y_is)))),
           all_from (λ place. HasAt tree k P place.0 place.1) places (λ i place is.
-          let (x, x_is, x_at) = zip_left StemsAt xs places i place zip is in
-          has_place x place x_at),
+              let (x, x_is, x_at) = zip_left StemsAt xs places i place zip is in
+              has_place x place x_at),
           omega arith,
         ))
   ]

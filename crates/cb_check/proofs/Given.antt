@@ -1,5 +1,5 @@
 -- The rows that the members of a class and of its ancestors give, under the names that they are declared by.
-use Rattle.std.proofs.Common.{◌≡◌, ℕ, zero, suc, List, Option, Some, None, refl, sym, ap, subst, ◌∙◌}
+use Rattle.std.proofs.Common.{◌≡◌, ℕ, List, Option, Some, refl, sym, ap, subst, ◌∙◌}
 use Rattle.std.specs.Prelude.{slice_get}
 use Rattle.std.proofs.lemmas.Option.{same_Some}
 use Rattle.cb_model.specs.declared.id.ClassId.{ClassId}
@@ -7,17 +7,16 @@ use Rattle.cb_model.specs.declared.id.EventId.{EventId}
 use Rattle.cb_model.specs.declared.id.RelId.{RelId}
 use Rattle.cb_model.specs.declared.tables.EventRow.{EventRow}
 use Rattle.cb_model.specs.WellTyped.{Member as Declaration, event, relation, rule}
-use Rattle.cb_grammar.specs.declared.tree.Token.{Token}
 use Rattle.cb_grammar.specs.declared.tree.Tree.{Tree}
 use Rattle.cb_grammar.specs.declared.tree.ClassDecl.{ClassDecl}
 use Rattle.cb_grammar.specs.declared.tree.Member.{Member}
-use Rattle.cb_grammar.specs.declared.tree.Member.TheVariants.{Event, Relation, Rule, Block, Hide}
+use Rattle.cb_grammar.specs.declared.tree.Member.TheVariants.{Event, Relation, Rule}
 use Rattle.cb_rules.specs.Classes.{ClassAt, IsAbove, HasAt, Declares}
 use Rattle.cb_rules.specs.Fault.{KeepsAll}
 use Rattle.cb_check.specs.Stands.{RelationDecl, RuleDecl, declared_from, event_in, relation_in, rule_in}
 use Rattle.cb_check.proofs.Sections.{index, declaration, declared_by}
 use Rattle.cb_check.proofs.Same.{same_event_id, same_relation_id}
-use Rattle.cb_check.proofs.Kept.{one_decl, one_at, one_member}
+use Rattle.cb_check.proofs.Kept.{one_decl, one_member}
 
 -- the class at place k has the row under this name: a member of it or of an ancestor is so declared
 pub record Gives (tree : Tree) (k : ℕ) (which : Declaration) (name : List ℕ) : Type 0 where

@@ -1,5 +1,5 @@
 -- Every number in a row is the place of a row, and every name in it is a name.
-use Rattle.std.proofs.Common.{◌≡◌, ℕ, zero, suc, ◌+◌, ◌<◌, Bool, true, false, List, [], ◌∷◌, ◌++◌, length, Option, Some, None, refl, sym, ap, subst, ◌∙◌, arith}
+use Rattle.std.proofs.Common.{◌≡◌, ℕ, zero, suc, ◌+◌, ◌<◌, true, false, List, [], ◌∷◌, ◌++◌, length, Option, Some, None, refl, sym, ap, subst, ◌∙◌, arith}
 use Rattle.std.specs.Prelude.{slice_get, IfSome}
 use Rattle.std.specs.List.{All, flat_map}
 use Rattle.std.proofs.lemmas.Option.{slice_get_within}
@@ -18,7 +18,7 @@ use Rattle.cb_grammar.specs.declared.lexeme.Lexeme.{Lexeme}
 use Rattle.cb_grammar.specs.declared.lexeme.Lexeme.TheVariants as lexemes
 use Rattle.cb_grammar.specs.Grammar.{NameFits, NamesFit, member_tokens, parent_tokens, class_tokens, tree_tokens}
 use Rattle.cb_rules.specs.Classes.{ClassAt, declared}
-use Rattle.cb_check.specs.Stands.{Stands, StandsClass, StandsParent, StandsRelation, StandsPath, StandsRule, StandsBlock, StandsHide, NameDecl, relations_declared, rules_declared, blocks_declared, hides_declared, declared_from, block_in, hide_in}
+use Rattle.cb_check.specs.Stands.{Stands, StandsParent, StandsPath, StandsBlock, StandsHide, NameDecl, blocks_declared, hides_declared, declared_from, block_in, hide_in}
 use Rattle.cb_check.proofs.Places.{slice_get-left, slice_get-right, all_from, at_all, zip_left, among_flat_map}
 use Rattle.cb_check.proofs.Sections.{declared_by}
 use Rattle.cb_check.proofs.Given.{Gives, from_some}
@@ -109,16 +109,18 @@ module _ (tree : Tree) (t : Tables) (stands : Stands tree t) where
         let (g, class, gives) = event_given tree t stands row.class i row is (0, refl) in
         given_class row.class row.class.0 _ row.name g class);
     relations = all_from (λ row. IsClass t row.class × IsClass t row.target × IsRelation t row.inverse) t.relations (λ i row is.
-        let (decl, says, g, class, gives) = relation_given tree t stands row.class i row is (0, refl) in
-        (given_class row.class row.class.0 _ row.name g (class ∙ ap (λ (c : ClassId). c.0) (sym says.class)),
-        named_is_class decl.target row.target says.target,
-        slice_get_within t.relations row.inverse.0 says.inverse.0 says.inverse.1));
+        let (decl, says, g, class, gives) = relation_given tree t stands row.class i row is (0, refl) in (
+          given_class row.class row.class.0 _ row.name g (class ∙ ap (λ (c : ClassId). c.0) (sym says.class)),
+          named_is_class decl.target row.target says.target,
+          slice_get_within t.relations row.inverse.0 says.inverse.0 says.inverse.1,
+        ));
     rules = all_from (λ row. IsClass t row.class × IsEvent t row.cause × All (IsRelation t) row.path × IsEvent t row.effect) t.rules (λ i row is.
-        let (decl, says, g, class, gives) = rule_given tree t stands row.class i row is (0, refl) in
-        (given_class row.class row.class.0 _ row.name g (class ∙ ap (λ (c : ClassId). c.0) (sym says.class)),
-        slice_get_within t.events row.cause.0 says.cause.0.row says.cause.0.is,
-        all_from (IsRelation t) row.path (path_places row.class decl.path row.path says.reached says.path),
-        slice_get_within t.events row.effect.0 says.effect.0.row says.effect.0.is));
+        let (decl, says, g, class, gives) = rule_given tree t stands row.class i row is (0, refl) in (
+          given_class row.class row.class.0 _ row.name g (class ∙ ap (λ (c : ClassId). c.0) (sym says.class)),
+          slice_get_within t.events row.cause.0 says.cause.0.row says.cause.0.is,
+          all_from (IsRelation t) row.path (path_places row.class decl.path row.path says.reached says.path),
+          slice_get_within t.events row.effect.0 says.effect.0.row says.effect.0.is,
+        ));
     blocks = all_from (λ row. IsClass t row.class × (row.rule < length t.rules)) t.blocks (λ i row is.
         let (decl, decl_is, says) = zip_left (StandsBlock t) (blocks_declared tree) t.blocks i row stands.blocks is in
         (subst (IsClass t) (sym says.class) (name_class block_in block_class i decl decl_is), slice_get_within t.rules row.rule says.rule says.is));

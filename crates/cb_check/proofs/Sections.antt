@@ -1,14 +1,13 @@
 -- Where the rows of a class stand among those of all classes.
-use Rattle.std.proofs.Common.{◌≡◌, ℕ, zero, suc, ◌+◌, ◌<◌, ◌≤◌, Bool, true, false, not, List, [], ◌∷◌, ◌++◌, length, map, ◌*◌, Option, Some, None, refl, sym, ap, subst, ◌∙◌, inl, inr, add_assoc, append_assoc, append-nil, arith}
+use Rattle.std.proofs.Common.{◌≡◌, ℕ, zero, suc, ◌+◌, ◌<◌, ◌≤◌, List, [], ◌∷◌, ◌++◌, length, ◌*◌, Option, Some, refl, sym, ap, subst, ◌∙◌, inl, inr, append_assoc, append-nil, arith}
 use Rattle.std.specs.Prelude.{slice_get}
-use Rattle.std.specs.List.{All, filter_map}
+use Rattle.std.specs.List.{filter_map}
 use Rattle.std.proofs.lemmas.List.{length-append}
 use Rattle.cb_model.specs.declared.id.ClassId.{ClassId}
-use Rattle.cb_model.specs.declared.tables.EventRow.{EventRow}
 use Rattle.cb_model.specs.WellTyped.{Member as Declaration, event, relation, rule}
 use Rattle.cb_grammar.specs.declared.tree.ClassDecl.{ClassDecl}
 use Rattle.cb_grammar.specs.declared.tree.Member.{Member}
-use Rattle.cb_grammar.specs.declared.tree.Member.TheVariants.{Event, Relation, Rule, Block, Hide}
+use Rattle.cb_grammar.specs.declared.tree.Member.TheVariants.{Event, Rule}
 use Rattle.cb_check.specs.Stands.{declared_from, event_in, relation_in, rule_in}
 use Rattle.cb_check.proofs.Places.{slice_get-left, slice_get-right, slice_get-joined, place, kept_at, kept_from, place_below}
 

@@ -1,9 +1,9 @@
 -- The tables that a tree stands for keep the type rules where the tree does.
-use Rattle.std.proofs.Common.{◌≡◌, ◌≢◌, ℕ, zero, suc, ◌<◌, ◌≤◌, Bool, true, false, List, [], ◌∷◌, length, get_or, Option, Some, None, refl, sym, ap, subst, ◌∙◌, inl, inr, arith}
+use Rattle.std.proofs.Common.{◌≡◌, ◌≢◌, ℕ, suc, ◌≤◌, Bool, true, List, [], ◌∷◌, length, get_or, Option, Some, None, refl, sym, ap, subst, ◌∙◌, inl, inr, arith}
 use Rattle.std.specs.Prelude.{slice_get}
-use Rattle.std.specs.List.{All, AllPairs}
+use Rattle.std.specs.List.{AllPairs}
 use Rattle.std.proofs.lemmas.Bool.{cases_lt, cases_eq, cases_Bool}
-use Rattle.std.proofs.lemmas.Option.{same_Some, slice_get-get_or}
+use Rattle.std.proofs.lemmas.Option.{slice_get-get_or}
 use Rattle.cb_model.specs.declared.limits.TheConstants.{MOST_CLASSES, MOST_ANCESTORS, MOST_EVENTS, MOST_RELATIONS, MOST_RULES}
 use Rattle.cb_model.specs.declared.id.ClassId.{ClassId}
 use Rattle.cb_model.specs.declared.id.EventId.{EventId}
@@ -14,28 +14,28 @@ use Rattle.cb_model.specs.declared.tables.EventRow.{EventRow}
 use Rattle.cb_model.specs.declared.tables.RelRow.{RelRow}
 use Rattle.cb_model.specs.declared.tables.HideRow.{HideRow}
 use Rattle.cb_model.specs.Classes.{ancestor, IsA, HasEvent, HasRelation}
-use Rattle.cb_model.specs.WellTyped.{Member as Declaration, event, relation, rule, Declares as DeclaresRow, InheritsRule, Reaches, AtMost, HasInverse, KeepsTypeRules, WellTyped}
+use Rattle.cb_model.specs.WellTyped.{Member as Declaration, event, relation, rule, Declares as DeclaresRow, InheritsRule, Reaches, HasInverse, KeepsTypeRules, WellTyped}
 use Rattle.cb_grammar.specs.declared.tree.Tree.{Tree}
 use Rattle.cb_grammar.specs.declared.tree.ClassDecl.{ClassDecl}
 use Rattle.cb_grammar.specs.declared.tree.Member.{Member}
-use Rattle.cb_grammar.specs.declared.tree.Member.TheVariants.{Event, Relation, Rule, Block, Hide}
+use Rattle.cb_grammar.specs.declared.tree.Member.TheVariants.{Event, Relation, Rule, Hide}
 use Rattle.cb_grammar.specs.Grammar.{NamesFit}
 use Rattle.cb_rules.specs.declared.rule.TypeRule.TheVariants.{Loop, Depth, BadInverse, NoHidden, TooManyClasses}
 use Rattle.cb_rules.specs.Classes.{ClassAt, IsNamed, IsAbove, MemberAt, HasAt, Has, Declares, IsSymptomNamed, IsRelationBack}
 use Rattle.cb_rules.specs.Classes as tree_words
 use Rattle.cb_rules.specs.Rules.{Owns}
 use Rattle.cb_rules.specs.Fault.{KeepsAll}
-use Rattle.cb_check.specs.Stands.{Stands, StandsPath, StandsRule, StandsBlock, StandsHide, RelationDecl, RuleDecl, NameDecl, rules_declared, blocks_declared, hides_declared, event_in, relation_in, rule_in, hide_in}
-use Rattle.cb_check.proofs.Places.{all_from, at_all, slice_at, zip_left}
+use Rattle.cb_check.specs.Stands.{Stands, StandsPath, StandsRelation, StandsRule, StandsBlock, StandsHide, RelationDecl, RuleDecl, NameDecl, rules_declared, blocks_declared, hides_declared, event_in, relation_in, rule_in, hide_in}
+use Rattle.cb_check.proofs.Places.{all_from, slice_at, zip_left}
 use Rattle.cb_check.proofs.Sections.{declared_by}
 use Rattle.cb_check.proofs.Kept.{one_class, one_member, one_at}
 use Rattle.cb_check.proofs.Given.{Gives, has_at, one_row, one_event, one_relation, one_rule, from_some}
-use Rattle.cb_check.proofs.Above.{class_row, class_named, as_many, above, event_given, relation_given, rule_given, event_named, inverse_named}
+use Rattle.cb_check.proofs.Above.{class_row, class_named, as_many, above, event_given, relation_given, rule_given, inverse_named}
 use Rattle.cb_check.proofs.Few.{below_decl, few, Stems, not_more_events, not_more_relations, not_more_rules}
 use Rattle.cb_check.proofs.Rows.{hide_class, have_names, have_places}
 use Rattle.cb_check.proofs.Same.{same_class_id, same_relation_id}
 
--- equations of numbers and of marks need no proof of their own where they can't fail
+-- an equation of numbers that can't fail holds, and so does a mark
 stable : (m n : ℕ) → ¬ ¬ (m ≡ n) → m ≡ n
 stable m n some = elim (cases_eq m n) [ inl same ↦ same | inr other ↦ absurd (some other) ]
 
@@ -152,34 +152,54 @@ module _ (tree : Tree) (t : Tables) (keeps : KeepsAll tree) (stands : Stands tre
       let there = hides_symptom tree keeps from.class.0 from.at from.member (from.decl, from.decl_is, from.member_is) from.class decl from.gives in
       let here = subst (λ (c : ClassId). ¬ ¬ Has tree c.0 (IsSymptomNamed decl.name)) (sym class) there in
       let some = subst (λ name. ¬ ¬ Has tree row.class.0 (IsSymptomNamed name)) (sym named) here in
-      let (g, g_class, gives) = event_given tree t stands row.class row.event.0 has.row has.is has.from_c in
-      (has, marked has.row.symptom (λ not. some (λ (j, place, at). not (symptom_row has.row.class g.member has.row has.row.name gives
-      (same_member row.class.0 j place has.row.name (IsSymptomNamed has.row.name) (event row.event.0) g (symptom_named has.row.name) at)))))
+      let (g, g_class, gives) = event_given tree t stands row.class row.event.0 has.row has.is has.from_c in (
+        has,
+        marked has.row.symptom (λ not. some (λ (j, place, at). not (symptom_row has.row.class g.member has.row has.row.name gives
+            (same_member row.class.0 j place has.row.name (IsSymptomNamed has.row.name) (event row.event.0) g (symptom_named has.row.name) at)))),
+      )
+
+  -- the inverse that a relation stands with is declared as the one that leads back
+  told_back : (r : RelId) (row : RelRow) → slice_get t.relations r.0 ≡ Some row → (decl : RelationDecl) → StandsRelation t decl row → (name : List ℕ) →
+      ¬ ¬ Owns tree row.target.0 (IsRelationBack decl.inverse name decl.name) →
+      (back : RelRow) × (slice_get t.relations row.inverse.0 ≡ Some back) × (back.class ≡ row.target)
+      × ((back_decl : RelationDecl) × StandsRelation t back_decl back × (¬ ¬ ((back_decl.target ≡ name) × (back_decl.inverse ≡ decl.name))))
+  told_back r row is decl says name owns =
+      let (back, back_is, back_class, back_name) = says.inverse in
+      let (back_decl, back_says, g, class, gives) = relation_given tree t stands row.target row.inverse.0 back back_is (0, ap Some (sym back_class)) in
+      let some = subst (λ called. ¬ ¬ Owns tree row.target.0 (IsRelationBack called name decl.name)) (sym back_name) owns in
+      let found = same_member row.target.0 row.target.0 in (
+        back,
+        back_is,
+        back_class,
+        (
+          back_decl,
+          back_says,
+          λ not. some (λ (place, member, at, leads). not (back_row back_decl.class g.member back_decl back.name name decl.name gives
+              (found place back.name (IsRelationBack back.name name decl.name) (relation row.inverse.0) g (back_named back.name name decl.name) (0, member, refl, at, leads)))),
+        ),
+      )
 
   inverses : (r : RelId) (row : RelRow) → slice_get t.relations r.0 ≡ Some row → HasInverse t r row
   inverses r row is =
       let (decl, says, g, class, gives) = relation_given tree t stands row.class r.0 row is (0, refl) in
-      let (back, back_is, back_class, back_name) = says.inverse in
-      let (decl', says', g', class', gives') = relation_given tree t stands row.target row.inverse.0 back back_is (0, ap Some (sym back_class)) in
       let called = g.decl.name.name in
-      let is_back = IsRelationBack back.name called decl.name in
-      let owns = leads_back tree keeps g.class g.at g.member (g.decl, g.decl_is, g.member_is) decl.class decl gives g.decl g.decl_is row.target.0 (class_named tree t stands decl.target row.target says.target) in
-      let some = subst (λ name. ¬ ¬ Owns tree row.target.0 (IsRelationBack name called decl.name)) (sym back_name) owns in
-      let told : ¬ ¬ ((decl'.target ≡ called) × (decl'.inverse ≡ decl.name)) = λ not. some (λ (place, member, at, leads). not (back_row decl'.class g'.member decl' back.name called decl.name gives'
-      (same_member row.target.0 row.target.0 place back.name is_back (relation row.inverse.0) g' (back_named back.name called decl.name) (0, member, refl, at, leads)))) in
-      let here : g.class ≡ row.class.0 = class ∙ ap (λ (c : ClassId). c.0) (sym says.class) in
-      let to_class = same_class_id back.target row.class (stable back.target.0 row.class.0 (λ not. told (λ (target, inverse). not (one_class tree keeps called back.target.0 row.class.0
-      (subst (λ name. IsNamed tree name back.target.0) target (class_named tree t stands decl'.target back.target says'.target))
-      (subst (IsNamed tree called) here (g.decl, g.decl_is, refl)))))) in
-      let there = inverse_named tree t stands back.target decl'.inverse back.inverse says'.inverse in
-      let again = subst (λ (c : ClassId). Gives tree c.0 (relation back.inverse.0) decl'.inverse) to_class there in
+      let target = class_named tree t stands decl.target row.target says.target in
+      let owns = leads_back tree keeps g.class g.at g.member (g.decl, g.decl_is, g.member_is) decl.class decl gives g.decl g.decl_is row.target.0 target in
+      let (back, back_is, back_class, (back_decl, back_says, told)) = told_back r row is decl says called owns in
+      let here = subst (IsNamed tree called) (class ∙ ap (λ (c : ClassId). c.0) (sym says.class)) (g.decl, g.decl_is, refl) in
+      let there = class_named tree t stands back_decl.target back.target back_says.target in
+      let to_class = same_class_id back.target row.class (stable back.target.0 row.class.0 (λ not. told (λ (target, inverse).
+      not (one_class tree keeps called back.target.0 row.class.0 (subst (λ name. IsNamed tree name back.target.0) target there) here)))) in
+      let back_of_back = inverse_named tree t stands back.target back_decl.inverse back.inverse back_says.inverse in
+      let again = subst (λ (c : ClassId). Gives tree c.0 (relation back.inverse.0) back_decl.inverse) to_class back_of_back in
       record {
         back = back;
         is = back_is;
         from_target = back_class;
         to_class = to_class;
         again = same_relation_id back.inverse r (stable back.inverse.0 r.0 (λ not. told (λ (target, inverse).
-            let one = one_row tree keeps row.class.0 row.name (relation back.inverse.0) (relation r.0) (subst (Gives tree row.class.0 (relation back.inverse.0)) (inverse ∙ sym says.name) again) g in
+            let named = subst (Gives tree row.class.0 (relation back.inverse.0)) (inverse ∙ sym says.name) again in
+            let one = one_row tree keeps row.class.0 row.name (relation back.inverse.0) (relation r.0) named g in
             not (ap (λ (r : RelId). r.0) (one_relation back.inverse r one.1)))));
       }
 
