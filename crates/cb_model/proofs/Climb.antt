@@ -26,6 +26,10 @@ pub record HasClimbed (t : Tables) (c : ClassId) (n : ℕ) (line : List ℕ) (at
   pub size : length line ≡ n
   pub within : at.0 < length t.classes
 
+-- classes of one number are one
+pub class_is : (a c : ClassId) → a.0 ≡ c.0 → a ≡ c
+class_is a c same = ap (λ n. let id : ClassId = record { 0 = n } in id) same
+
 -- steps add up
 pub ancestor_add : (t : Tables) (c a : ClassId) (m n all : ℕ) → all ≡ n + m → ancestor t c m ≡ Some a → ancestor t c all ≡ ancestor t a n
 ancestor_add t c a m zero all sum is = let same : m ≡ all = omega arith in subst (λ k. ancestor t c k ≡ Some a) same is
@@ -110,6 +114,15 @@ module _ (t : Tables) (c : ClassId) where
         );
       }
 
+-- the classes up to at are not b
+pub passed : (t : Tables) (c b at : ClassId) (n : ℕ) → IsAbove t c b n at → at ≢ b → (m : ℕ) → m < n + 1 → ancestor t c m ≢ Some b
+passed t c b at n above other m low is = elim (cases_lt m n) [
+  | inl early ↦ above.before m early is
+  | inr late ↦
+      let here : n ≡ m = omega arith in
+      other (cc (sym above.here ∙ (ap (ancestor t c) here ∙ is)))
+]
+
 -- one step more
 module _ (t : Tables) (parents : All (λ row. IfSome row.parent (IsClass t)) t.classes) (c at p : ClassId) (row : ClassRow) (row_is : slice_get t.classes at.0 ≡ Some row) (up : row.parent ≡ Some p) where
   parent_within : p.0 < length t.classes
@@ -126,11 +139,6 @@ module _ (t : Tables) (parents : All (λ row. IfSome row.parent (IsClass t)) t.c
   pub is_above_more : (b : ClassId) (n : ℕ) → IsAbove t c b n at → at ≢ b → IsAbove t c b (n + 1) p
   is_above_more b n above other = record {
     here = ancestor_more t c n at above.here ∙ (ap parent_in_row row_is ∙ up);
-    before = λ m low is. elim (cases_lt m n) [
-      | inl early ↦ above.before m early is
-      | inr late ↦
-          let here : n ≡ m = omega arith in
-          other (cc (sym above.here ∙ (ap (ancestor t c) here ∙ is)))
-    ];
+    before = passed t c b at n above other;
     within = parent_within;
   }

@@ -111,11 +111,16 @@ impl Model {
         ensures symptom { IsTrue result.symptom ↔ IsSymptomOf self.now class event }
     {
         let row = self.tables.events.at(event.0 as usize);
-        let has = self.is_a(class, row.class);
+        if !self.is_a(class, row.class) {
+            return Marks {
+                problem: false,
+                symptom: false,
+            };
+        }
         let hidden = self.views[class.0 as usize].hidden.contains(&event.0);
         Marks {
-            problem: has && row.problem,
-            symptom: has && row.symptom && !hidden,
+            problem: row.problem,
+            symptom: row.symptom && !hidden,
         }
     }
 
