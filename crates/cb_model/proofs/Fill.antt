@@ -1,296 +1,281 @@
--- How the views are filled.
-use Rattle.std.proofs.Common.{◌≡◌, ◌≢◌, ℕ, ◌+◌, ◌*◌, ◌<◌, ◌≤◌, Bool, true, false, cond, List, [], ◌∷◌, ◌++◌, length, get_or, set, map, Option, Some, None, refl, sym, ap, subst, ◌∙◌, inl, inr, arith}
-use Rattle.std.specs.Prelude.{slice_get, MatchOption}
-use Rattle.std.specs.List.{All, AllZip, sum_by}
+-- How the view of a class is filled.
+use Rattle.std.proofs.Common.{◌≡◌, ◌≢◌, ℕ, ◌+◌, ◌*◌, ◌<◌, ◌≤◌, Bool, true, false, cond, List, [], ◌∷◌, ◌++◌, length, get_or, map, take, Option, Some, None, refl, sym, ap, subst, ◌∙◌, inl, inr, arith}
+use Rattle.std.specs.Prelude.{◌⊎◌, ◌↔◌, slice_get, MatchOption, zero, suc}
+use Rattle.std.specs.List.{All, AllPairs, AllZip, Contains, sum_by}
 use Rattle.std.specs.Str.{bytes_eq}
-use Rattle.std.proofs.Math.Nat.{mul-zero}
-use Rattle.std.proofs.lemmas.Bool.{cases_eq, cases_lt, false≢true}
-use Rattle.std.proofs.lemmas.List.{map_push, length_push, length-set, length-map, length-replicate, get_or-map}
-use Rattle.std.proofs.lemmas.List.Elements.{Contains-get_or}
-use Rattle.std.proofs.lemmas.List.Folds.{sum_by-replicate}
-use Rattle.std.proofs.lemmas.List.Sums.{sum_by-set, sum_by-le}
-use Rattle.std.proofs.lemmas.Option.{slice_get-get_or, slice_get_within, get_or_from_slice_get}
+use Rattle.std.specs.BTreeSet.{BTreeSet, Updates}
+use Rattle.std.specs.Cmp.{tied_itself, Equal-is}
+use Rattle.std.specs.FinMap.{nat_cmp-IsAntisymmetric}
+use Rattle.std.specs.Ordering.{nat_cmp, eq_by_cmp, is_eq}
+use Rattle.std.proofs.lemmas.Bool.{cases_Bool, false≢true}
+use Rattle.std.proofs.lemmas.Cmp.{nat_cmp_total}
+use Rattle.std.proofs.lemmas.List.{get_or-map, length-map}
+use Rattle.std.proofs.lemmas.List.Elements.{Contains-get_or, Contains-push_cases, Contains-append_left, Contains-push}
+use Rattle.std.proofs.lemmas.List.Sums.{sum_by-le}
+use Rattle.std.proofs.lemmas.Map.Views.{btree_set_contains_iff}
+use Rattle.std.proofs.lemmas.Option.{slice_get-get_or, slice_get_within}
 use Rattle.std.proofs.lemmas.Slice.Eq.{bytes_eq-Decides}
 use Rattle.cb_model.specs.declared.id.ClassId.{ClassId}
 use Rattle.cb_model.specs.declared.id.EventId.{EventId}
+use Rattle.cb_model.specs.declared.id.RelId.{RelId}
+use Rattle.cb_model.specs.declared.rule.Rule.{Rule}
 use Rattle.cb_model.specs.declared.tables.Tables.{Tables}
-use Rattle.cb_model.specs.declared.tables.ClassRow.{ClassRow}
 use Rattle.cb_model.specs.declared.tables.EventRow.{EventRow}
+use Rattle.cb_model.specs.declared.tables.RelRow.{RelRow}
 use Rattle.cb_model.specs.declared.tables.RuleRow.{RuleRow}
-use Rattle.cb_model.specs.declared.class_view.ClassView.{ClassView}
-use Rattle.cb_model.specs.Classes.{HasEvent, HasRule, NamesClass, NamesEvent}
+use Rattle.cb_model.specs.declared.tables.BlockRow.{BlockRow}
+use Rattle.cb_model.specs.declared.tables.HideRow.{HideRow}
+use Rattle.cb_model.specs.Classes.{IsA, OnTheWay, HasEvent, HasRelation, HasRule, NamesEvent, NamesRelation}
 use Rattle.cb_model.specs.NameMap.{value_named, PutsName}
-use Rattle.cb_model.specs.Flat.{IsFlat}
-use Rattle.cb_model.specs.Views.{ListsNumbers, IsRuleAt, rule_of}
-use Rattle.cb_model.specs.Sealed.{no_view, AddsEvent, FindsClasses, IsViewOf, AreViewsOf}
-use Rattle.cb_model.specs.Filling.{DeclaredIn, DeclaresEvent, DeclaresRule, DeclaresNamed, HoldsEvents, HoldsRules, AreFilled, AreEmpty, FindsFirst}
-use Rattle.cb_model.proofs.Numbers.{all_at, lists_none, lists_same, lists_more, zip_push, slice_get-set_other, slice_get-set_same, slice_get-replicate}
-use Rattle.cb_model.proofs.FlatLemmas.{class_is, stands_alone, has_event, has_rule}
+use Rattle.cb_model.specs.WellTyped.{AtMost, InheritsRule, WellTyped}
+use Rattle.cb_model.specs.Views.{ListsNumbers, IsRuleAt, AreEventsOf, AreRulesOf, rule_of}
+use Rattle.cb_model.specs.Rows.{HasRow, AreRowsOf}
+use Rattle.cb_model.specs.Filling.{ArePlaces, IsNamedAt, FindsAmong, IsShown, AreShown, AreFree}
+use Rattle.cb_model.specs.Sealed.{FindsEvents, FindsRelations, IsHiddenFrom}
+use Rattle.cb_model.proofs.Climb.{on_the_way}
+use Rattle.cb_model.proofs.Numbers.{all_at, lists_same, lists_more, zip_push, read_at, contains_at, place_in}
 
--- one row more, which is row n
-module _ {Row : Type 0} (class_of : Row → ClassId) (rows : List Row) (n : ℕ) (row : Row) (row_is : slice_get rows n ≡ Some row) where
-  -- the row itself is declared in its class
-  last_declared : (k : ℕ) → (class_of row).0 ≡ k → DeclaredIn class_of rows k (n + 1) n
-  last_declared k of_k = (row, row_is, of_k, omega arith)
+-- the front of a list that reaches to its end
+pub take_whole : {X : Type 0} (xs : List X) (n : ℕ) → length xs ≤ n → take n xs ≡ xs
+take_whole [] zero low = refl
+take_whole [] (suc n) low = refl
+take_whole (x ∷ xs) zero low = absurd (omega arith)
+take_whole (x ∷ xs) (suc n) low = ap (λ l. x ∷ l) (take_whole xs n (omega arith))
 
-  -- what is declared in another class stands before it
-  stands_before : (k i : ℕ) → (class_of row).0 ≢ k → DeclaredIn class_of rows k (n + 1) i → i < n
-  stands_before k i other declared = elim (cases_lt i n) [
-    | inl early ↦ early
-    | inr late ↦
-        let here : i ≡ n = omega (arith, declared.3) in
-        let same : declared.0 ≡ row = cc (sym declared.1 ∙ (ap (slice_get rows) here ∙ row_is)) in
-        absurd (other (ap (λ (r : Row). (class_of r).0) (sym same) ∙ declared.2))
-  ]
+-- names of rows at more places
+module _ {Row V : Type 0} (name_of : Row → List ℕ) (place_of : V → ℕ) (rows : List Row) (places : List ℕ) (place : ℕ) (row : Row) (row_is : slice_get rows place ≡ Some row) (v : V) (v_is : place_of v ≡ place) where
+  abbrev Finds : List ℕ → List ℕ → Option V → Type 0
+  Finds among name found = MatchOption found ((n : ℕ) → ¬ IsNamedAt name_of rows among name n) (λ w. IsNamedAt name_of rows among name (place_of w))
 
-  -- the class of the row lists it behind the others
-  pub lists_own : (k : ℕ) (ns : List ℕ) → (class_of row).0 ≡ k → ListsNumbers (DeclaredIn class_of rows k n) ns → ListsNumbers (DeclaredIn class_of rows k (n + 1)) (ns ++ n ∷ [])
-  lists_own k ns of_k =
-      lists_more (DeclaredIn class_of rows k n) (DeclaredIn class_of rows k (n + 1)) ns n (λ i declared. declared.3)
-      (λ i. (
-        λ declared. elim (cases_lt i n) [
-          | inl early ↦ inl (declared.0, declared.1, declared.2, early)
-          | inr late ↦ inr (omega (arith, declared.3))
-        ],
-        λ either. elim either [
-          | inl before ↦ (before.0, before.1, before.2, omega (arith, before.3))
-          | inr last ↦ subst (DeclaredIn class_of rows k (n + 1)) last (last_declared k of_k)
-        ],
-      ))
+  finds_more : (name : List ℕ) (b : Bool) (old new : Option V) → bytes_eq name (name_of row) ≡ b → new ≡ cond b (Some v) old → Finds places name old → Finds (places ++ place ∷ []) name new
+  finds_more name true old new named is was =
+      let same = (bytes_eq-Decides name (name_of row)).0 named in
+      let here : IsNamedAt name_of rows (places ++ place ∷ []) name place = (Contains-push places place, row, row_is, sym same) in
+      subst (Finds (places ++ place ∷ []) name) (sym is) (subst (IsNamedAt name_of rows (places ++ place ∷ []) name) (sym v_is) here)
+  finds_more name false None new named is was = subst (Finds (places ++ place ∷ []) name) (sym is) (λ n (has, other, other_is, same). elim (Contains-push_cases places place n has) [
+    | inl early ↦ was n (early, other, other_is, same)
+    | inr last ↦
+        let one : other ≡ row = cc (sym other_is ∙ (ap (slice_get rows) (sym last) ∙ row_is)) in
+        false≢true (sym named ∙ (bytes_eq-Decides name (name_of row)).1 (sym same ∙ ap name_of one))
+  ])
+  finds_more name false (Some w) new named is (has, other, other_is, same) = subst (Finds (places ++ place ∷ []) name) (sym is) (Contains-append_left places (place ∷ []) (place_of w) has, other, other_is, same)
 
-  -- and each other class lists what it listed
-  pub lists_other : (k : ℕ) (ns : List ℕ) → (class_of row).0 ≢ k → ListsNumbers (DeclaredIn class_of rows k n) ns → ListsNumbers (DeclaredIn class_of rows k (n + 1)) ns
-  lists_other k ns other =
-      lists_same (DeclaredIn class_of rows k n) (DeclaredIn class_of rows k (n + 1)) ns
-      (λ i. (
-        λ declared. (declared.0, declared.1, declared.2, omega (arith, declared.3)),
-        λ declared. (declared.0, declared.1, declared.2, stands_before k i other declared),
-      ))
+  pub names_more : (old new : List (List ℕ × V)) → PutsName old new (name_of row) v → FindsAmong name_of place_of rows places old → FindsAmong name_of place_of rows (places ++ place ∷ []) new
+  names_more old new puts finds = λ name. finds_more name (bytes_eq name (name_of row)) (value_named old name) (value_named new name) refl (puts name) (finds name)
 
-module _ (t : Tables) (n : ℕ) (row : EventRow) (row_is : slice_get t.events n ≡ Some row) where
-  -- where a name leads among the first m events of a class
-  abbrev Finds : ℕ → ℕ → List ℕ → Option EventId → Type 0
-  Finds k m name found = MatchOption found ((i : ℕ) → ¬ DeclaresNamed t k m name i) (λ e. DeclaresNamed t k m name e.0)
+-- a number that was put into a set
+pub inserted : (old new : BTreeSet ℕ) (k : ℕ) → Updates nat_cmp old new k true → (n : ℕ) → Contains new.keys n ↔ Contains old.keys n ⊎ (k ≡ n)
+inserted old new k updates n =
+    let before = btree_set_contains_iff nat_cmp_total nat_cmp-IsAntisymmetric old n in
+    let after = btree_set_contains_iff nat_cmp_total nat_cmp-IsAntisymmetric new n in
+    let is = updates.0 n in
+    elim (cases_Bool (eq_by_cmp nat_cmp k n)) [
+      | inl here ↦
+          let now = rw here at is in
+          (λ _. inr (nat_cmp-IsAntisymmetric k n ((Equal-is (nat_cmp k n)).0 here)), λ _. after.0 now)
+      | inr other ↦
+          let now = rw other at is in (
+            λ c. inl (before.0 (sym now ∙ after.1 c)),
+            λ h. elim h [
+              | inl c ↦ after.0 (now ∙ before.1 c)
+              | inr e ↦
+                  let here = subst (λ z. eq_by_cmp nat_cmp k z ≡ true) e (ap is_eq (tied_itself nat_cmp_total k)) in
+                  absurd (cc)
+            ],
+          )
+    ]
 
-  -- a name that does not lead to the row leads where it led
-  still_finds : (k : ℕ) (name : List ℕ) (found : Option EventId) → ((declared : DeclaresEvent t k (n + 1) n) → declared.0.name ≢ name) → Finds k n name found → Finds k (n + 1) name found
-  still_finds k name None other was = λ i named. elim (cases_lt i n) [
-    | inl early ↦ was i ((named.0.0, named.0.1, named.0.2, early), named.1)
-    | inr late ↦
-        let here : i ≡ n = omega (arith, named.0.3) in
-        other (named.0.0, ap (slice_get t.events) (sym here) ∙ named.0.1, named.0.2, omega arith) named.1
-  ]
-  still_finds k name (Some e) other was = ((was.0.0, was.0.1, was.0.2, omega (arith, was.0.3)), was.1)
+-- rows at more places show their number too
+pub shown_more : {Row : Type 0} (shown_by : Row → ℕ) (rows : List Row) (places : List ℕ) (place : ℕ) (row : Row) (old new : List ℕ) → slice_get rows place ≡ Some row →
+    ((n : ℕ) → Contains new n ↔ Contains old n ⊎ (shown_by row ≡ n)) → AreShown shown_by rows places old → AreShown shown_by rows (places ++ place ∷ []) new
+shown_more shown_by rows places place row old new row_is puts shown n = (
+  λ has. elim ((puts n).0 has) [
+    | inl before ↦ let it = (shown n).0 before in (it.0, it.1, Contains-append_left places (place ∷ []) it.0 it.2, it.3, it.4)
+    | inr here ↦ (place, row, Contains-push places place, row_is, here)
+  ],
+  λ (at, other, has, other_is, shows). elim (Contains-push_cases places place at has) [
+    | inl early ↦ (puts n).1 (inl ((shown n).1 (at, other, early, other_is, shows)))
+    | inr last ↦
+        let one : other ≡ row = cc (sym other_is ∙ (ap (slice_get rows) (sym last) ∙ row_is)) in
+        (puts n).1 (inr (ap shown_by (sym one) ∙ shows))
+  ],
+)
 
-  row_once : (k : ℕ) (declared : DeclaresEvent t k (n + 1) n) → declared.0 ≡ row
-  row_once k declared = cc (sym declared.1 ∙ row_is)
+module _ (t : Tables) (places : List ℕ) (place : ℕ) (blocked : List ℕ) (rules : List Rule) (free : AreFree t places blocked rules) where
+  -- a blocked rule is left out
+  pub free_without : Contains blocked place → AreFree t (places ++ place ∷ []) blocked rules
+  free_without is_blocked = (
+    free.0,
+    lists_same (λ n. Contains places n × ¬ Contains blocked n) (λ n. Contains (places ++ place ∷ []) n × ¬ Contains blocked n) free.0
+        (λ n. (
+          λ (has, none). (Contains-append_left places (place ∷ []) n has, none),
+          λ (has, none). elim (Contains-push_cases places place n has) [
+            | inl early ↦ (early, none)
+            | inr last ↦ absurd (none (subst (Contains blocked) last is_blocked))
+          ],
+        )) free.1,
+    free.2,
+  )
 
-  finds_own : (k : ℕ) (name : List ℕ) (b : Bool) (old new : Option EventId) → bytes_eq name row.name ≡ b → row.class.0 ≡ k →
-      new ≡ cond b (Some (record { 0 = n })) old → Finds k n name old → Finds k (n + 1) name new
-  finds_own k name true old new named of_k is was =
-      let same = (bytes_eq-Decides name row.name).0 named in
-      subst (Finds k (n + 1) name) (sym is) ((row, row_is, of_k, omega arith), sym same)
-  finds_own k name false old new named of_k is was =
-      subst (Finds k (n + 1) name) (sym is)
-      (still_finds k name old (λ declared same. false≢true (sym named ∙ (bytes_eq-Decides name row.name).1 (sym same ∙ ap (λ (r : EventRow). r.name) (row_once k declared)))) was)
+  -- another is listed behind the others
+  pub free_with : (row : RuleRow) → slice_get t.rules place ≡ Some row → ¬ Contains blocked place → ((n : ℕ) → Contains places n → n < place) →
+      AreFree t (places ++ place ∷ []) blocked (rules ++ rule_of row ∷ [])
+  free_with row row_is not_blocked above = (
+    free.0 ++ place ∷ [],
+    lists_more (λ n. Contains places n × ¬ Contains blocked n) (λ n. Contains (places ++ place ∷ []) n × ¬ Contains blocked n) free.0 place (λ n has. above n has.0)
+        (λ n. (
+          λ (has, none). elim (Contains-push_cases places place n has) [
+            | inl early ↦ inl (early, none)
+            | inr last ↦ inr last
+          ],
+          λ either. elim either [
+            | inl before ↦ (Contains-append_left places (place ∷ []) n before.0, before.1)
+            | inr last ↦ (subst (Contains (places ++ place ∷ [])) last (Contains-push places place), subst (λ k. ¬ Contains blocked k) last not_blocked)
+          ],
+        )) free.1,
+    zip_push (IsRuleAt t) free.0 rules place (rule_of row) free.2 (row, row_is, refl),
+  )
 
-  holds_own : (k : ℕ) (old new : ClassView) → row.class.0 ≡ k → AddsEvent old new row.name (record { 0 = n }) → HoldsEvents t k n old → HoldsEvents t k (n + 1) new
-  holds_own k old new of_k adds holds =
-      let numbers : map (λ (e : EventId). e.0) new.events ≡ map (λ e. e.0) old.events ++ n ∷ [] = ap (map (λ (e : EventId). e.0)) adds.events ∙ map_push (λ (e : EventId). e.0) old.events (record { 0 = n }) in
-      record {
-        events = subst (ListsNumbers (DeclaresEvent t k (n + 1))) (sym numbers) (lists_own (λ r. r.class) t.events n row row_is k (map (λ e. e.0) old.events) of_k holds.events);
-        names = λ name. finds_own k name (bytes_eq name row.name) (value_named old.names name) (value_named new.names name) refl of_k (adds.names name) (holds.names name);
-      }
+-- the rows that a class has, where they were read
+module _ {Row : Type 0} (class_of : Row → ClassId) (t : Tables) (rows : List Row) where
+  pub listed : (lists : List (List ℕ)) → AreRowsOf class_of t rows lists → (k : ℕ) → k < length t.classes → (list places : List ℕ) → list ≡ get_or lists k list → places ≡ list →
+      ListsNumbers (HasRow class_of t rows (record { 0 = k })) places
+  listed lists are k low list places read same =
+      let list_is = read_at lists lists k list refl (omega (arith, low, are.all)) read in
+      subst (ListsNumbers (HasRow class_of t rows (record { 0 = k }))) (sym same) (are.each (record { 0 = k }) list list_is)
 
-  holds_other : (k : ℕ) (view : ClassView) → row.class.0 ≢ k → HoldsEvents t k n view → HoldsEvents t k (n + 1) view
-  holds_other k view other holds = record {
-    events = lists_other (λ r. r.class) t.events n row row_is k (map (λ e. e.0) view.events) other holds.events;
-    names = λ name. still_finds k name (value_named view.names name)
-        (λ declared same. other (ap (λ (r : EventRow). r.class.0) (sym (row_once k declared)) ∙ declared.2)) (holds.names name);
-  }
+  pub are_places : (c : ClassId) (places : List ℕ) → ListsNumbers (HasRow class_of t rows c) places → ArePlaces rows places
+  are_places c places lists k d low =
+      let has = (lists.exactly (get_or places k d)).0 (Contains-get_or places k d low) in
+      slice_get_within rows (get_or places k d) has.0 has.1
 
-  -- the event is put into the view of its class
-  pub filled_event : (rules : ℕ) (views : List ClassView) (view new : ClassView) → slice_get views row.class.0 ≡ Some view → AddsEvent view new row.name (record { 0 = n }) →
-      AreFilled t n rules views → AreFilled t (n + 1) rules (set views row.class.0 new)
-  filled_event rules views view new view_is adds filled =
-      let at = row.class.0 in
-      let within = slice_get_within views at view view_is in
-      record {
-        all = length-set views at new ∙ filled.all;
-        events_of = λ k v is. elim (cases_eq at k) [
-          | inl same ↦
-              let here : new ≡ v = slice_get-set_same views at new v (ap (slice_get (set views at new)) same ∙ is) in
-              let was = filled.events_of k view (ap (slice_get views) (sym same) ∙ view_is) in
-              subst (HoldsEvents t k (n + 1)) here (holds_own k view new same adds was)
-          | inr other ↦ holds_other k v other (filled.events_of k v (sym (slice_get-set_other views at k new other) ∙ is))
-        ];
-        rules_of = λ k v is. elim (cases_eq at k) [
-          | inl same ↦
-              let here : new ≡ v = slice_get-set_same views at new v (ap (slice_get (set views at new)) same ∙ is) in
-              let was = filled.rules_of k view (ap (slice_get views) (sym same) ∙ view_is) in
-              (was.0, was.1, subst (AllZip (IsRuleAt t) was.0) (sym adds.rules ∙ ap (λ (w : ClassView). w.rules) here) was.2)
-          | inr other ↦ filled.rules_of k v (sym (slice_get-set_other views at k new other) ∙ is)
-        ];
-        total =
-            let sizes = sum_by-set (λ (v : ClassView). length v.events) views at new view within in
-            let old_is = ap (λ (v : ClassView). length v.events) (get_or_from_slice_get views at view view view_is) in
-            let more = ap length adds.events ∙ length_push view.events (record { 0 = n }) in
-            omega (arith, sizes, old_is, more, filled.total);
-      }
+-- where no more than so many things meet P, no more of their numbers are listed
+pub few_listed : {X : Type 0} (id : ℕ → X) (number_of : X → ℕ) → ((n : ℕ) → number_of (id n) ≡ n) → (P : X → Type 0) (most : ℕ) (list : List ℕ) → AtMost most P →
+    AllPairs (λ one other. one < other) list → All (λ n. P (id n)) list → length list ≤ most
+few_listed id number_of back P most list few rising each =
+    let xs = map id list in
+    let size = length-map list id in
+    let count = few xs
+    (λ i j d below within same.
+    let one = get_or-map id list i 0 d (omega (arith, below, within, size)) in
+    let other = get_or-map id list j 0 d (omega (arith, within, size)) in
+    let numbers : get_or list i 0 ≡ get_or list j 0 = sym (back (get_or list i 0)) ∙ (ap number_of (sym one ∙ (same ∙ other)) ∙ back (get_or list j 0)) in
+    omega (arith, rising i j 0 below (omega (arith, within, size)), numbers))
+    (λ k d low. subst P (sym (get_or-map id list k 0 d (omega (arith, low, size)))) (each k 0 (omega (arith, low, size)))) in
+    omega (arith, count, size)
 
-module _ (t : Tables) (n : ℕ) (row : RuleRow) (row_is : slice_get t.rules n ≡ Some row) where
-  -- the rule is put into the view of its class
-  pub filled_rule : (events : ℕ) (views : List ClassView) (view : ClassView) → slice_get views row.class.0 ≡ Some view →
-      AreFilled t events n views → AreFilled t events (n + 1) (set views row.class.0 (record view { rules = view.rules ++ rule_of row ∷ [] }))
-  filled_rule events views view view_is filled =
-      let at = row.class.0 in
-      let new : ClassView = record view { rules = view.rules ++ rule_of row ∷ [] } in
-      let within = slice_get_within views at view view_is in
-      record {
-        all = length-set views at new ∙ filled.all;
-        events_of = λ k v is. elim (cases_eq at k) [
-          | inl same ↦
-              let here : new ≡ v = slice_get-set_same views at new v (ap (slice_get (set views at new)) same ∙ is) in
-              let was = filled.events_of k view (ap (slice_get views) (sym same) ∙ view_is) in
-              subst (HoldsEvents t k events) here (record { events = was.events; names = was.names })
-          | inr other ↦ filled.events_of k v (sym (slice_get-set_other views at k new other) ∙ is)
-        ];
-        rules_of = λ k v is. elim (cases_eq at k) [
-          | inl same ↦
-              let here : new ≡ v = slice_get-set_same views at new v (ap (slice_get (set views at new)) same ∙ is) in
-              let was = filled.rules_of k view (ap (slice_get views) (sym same) ∙ view_is) in
-              let more : HoldsRules t k (n + 1) new = (was.0 ++ n ∷ [], lists_own (λ (r : RuleRow). r.class) t.rules n row row_is k was.0 same was.1, zip_push (IsRuleAt t) was.0 view.rules n (rule_of row) was.2 (row, row_is, refl)) in
-              subst (HoldsRules t k (n + 1)) here more
-          | inr other ↦
-              let was = filled.rules_of k v (sym (slice_get-set_other views at k new other) ∙ is) in
-              (was.0, lists_other (λ (r : RuleRow). r.class) t.rules n row row_is k was.0 other was.1, was.2)
-        ];
-        total =
-            let sizes = sum_by-set (λ (v : ClassView). length v.events) views at new view within in
-            let old_is = ap (λ (v : ClassView). length v.events) (get_or_from_slice_get views at view view view_is) in
-            omega (arith, sizes, old_is, filled.total);
-      }
+module _ (t : Tables) (typed : WellTyped t) where
+  few_classes : length t.classes ≤ 1024
+  few_classes = typed.rules.few_classes
 
--- a row's class has a view
-pub view_of_event : (t : Tables) (n i rules : ℕ) (row : EventRow) (views : List ClassView) → IsFlat t → slice_get t.events i ≡ Some row →
-    AreFilled t n rules views → row.class.0 < length views
-view_of_event t n i rules row views flat is filled =
-    let low : row.class.0 < length t.classes = all_at (λ (r : EventRow). r.class.0 < length t.classes) t.events i row is flat.typed.places.events in
-    omega (arith, low, filled.all)
+  abbrev event_of_row : (c : ClassId) (n : ℕ) → HasRow (λ (row : EventRow). row.class) t t.events c n → HasEvent t c (record { 0 = n })
+  event_of_row c n (row, is, up) = record { row = row; is = is; from_c = up }
 
-pub view_of_rule : (t : Tables) (n i events : ℕ) (row : RuleRow) (views : List ClassView) → IsFlat t → slice_get t.rules i ≡ Some row →
-    AreFilled t events n views → row.class.0 < length views
-view_of_rule t n i events row views flat is filled =
-    let rules = λ (k : ℕ) (d : RuleRow) (low : k < length t.rules). (flat.typed.places.rules k d low).0 in
-    let low : row.class.0 < length t.classes = all_at (λ (r : RuleRow). r.class.0 < length t.classes) t.rules i row is rules in
-    omega (arith, low, filled.all)
+  abbrev relation_of_row : (c : ClassId) (n : ℕ) → HasRow (λ (row : RelRow). row.class) t t.relations c n → HasRelation t c (record { 0 = n })
+  relation_of_row c n (row, is, up) = record { row = row; is = is; from_c = up }
 
--- views of nothing hold no row
-pub filled_none : (t : Tables) (views : List ClassView) → AreEmpty t views → AreFilled t 0 0 views
-filled_none t views empty = record {
-  all = ap length empty ∙ length-replicate (length t.classes) no_view;
-  events_of = λ k view is.
-      let none : no_view ≡ view = slice_get-replicate (length t.classes) k no_view view (ap (λ (vs : List ClassView). slice_get vs k) (sym empty) ∙ is) in
-      let holds : HoldsEvents t k 0 no_view = record { events = lists_none (DeclaresEvent t k 0) (λ i declared. omega (arith, declared.3)); names = λ name i named. omega (arith, named.0.3) } in
-      subst (HoldsEvents t k 0) none holds;
-  rules_of = λ k view is.
-      let none : no_view ≡ view = slice_get-replicate (length t.classes) k no_view view (ap (λ (vs : List ClassView). slice_get vs k) (sym empty) ∙ is) in
-      let holds : HoldsRules t k 0 no_view = ([], lists_none (DeclaresRule t k 0) (λ i declared. omega (arith, declared.3)), tt) in
-      subst (HoldsRules t k 0) none holds;
-  total = ap (sum_by (λ (view : ClassView). length view.events)) empty ∙ (sum_by-replicate (λ (view : ClassView). length view.events) (length t.classes) no_view ∙ mul-zero (length t.classes));
-}
+  -- there are few events, and few relations
+  pub few_events : (lists : List (List ℕ)) → AreRowsOf (λ (row : EventRow). row.class) t t.events lists → length t.events ≤ 1024 * 256
+  few_events lists are =
+      let each : All (λ (list : List ℕ). length list ≤ 256) lists = λ k d low.
+      let c : ClassId = record { 0 = k } in
+      let list = get_or lists k d in
+      let lists_rows = are.each c list (slice_get-get_or lists k d low) in
+      few_listed (λ n. let e : EventId = record { 0 = n } in e) (λ e. e.0) (λ n. refl) (HasEvent t c) 256 list (typed.rules.few_events c) lists_rows.rising
+      (λ i e within. event_of_row c (get_or list i e) ((lists_rows.exactly (get_or list i e)).0 (Contains-get_or list i e within))) in
+      let sum = sum_by-le length 256 lists each in
+      omega (arith, sum, few_classes, are.all, are.total)
 
-module _ (t : Tables) (flat : IsFlat t) where
-  has_declared : (c : ClassId) (n i : ℕ) → DeclaresEvent t c.0 n i → HasEvent t c (record { 0 = i })
-  has_declared c n i declared = has_event t flat c (record { 0 = i }) declared.0 declared.1 (class_is declared.0.class c declared.2)
+  pub few_relations : (lists : List (List ℕ)) → AreRowsOf (λ (row : RelRow). row.class) t t.relations lists → length t.relations ≤ 1024 * 256
+  few_relations lists are =
+      let each : All (λ (list : List ℕ). length list ≤ 256) lists = λ k d low.
+      let c : ClassId = record { 0 = k } in
+      let list = get_or lists k d in
+      let lists_rows = are.each c list (slice_get-get_or lists k d low) in
+      few_listed (λ n. let r : RelId = record { 0 = n } in r) (λ r. r.0) (λ n. refl) (HasRelation t c) 256 list (typed.rules.few_relations c) lists_rows.rising
+      (λ i e within. relation_of_row c (get_or list i e) ((lists_rows.exactly (get_or list i e)).0 (Contains-get_or list i e within))) in
+      let sum = sum_by-le length 256 lists each in
+      omega (arith, sum, few_classes, are.all, are.total)
 
-  -- a class does not declare more events than it may have
-  few_of_view : (c : ClassId) (n : ℕ) (view : ClassView) → HoldsEvents t c.0 n view → length view.events ≤ 256
-  few_of_view c n view holds =
-      let ids = view.events in
-      let at : (k : ℕ) (d : EventId) → k < length ids → get_or (map (λ (e : EventId). e.0) ids) k 0 ≡ (get_or ids k d).0 = λ k d low. get_or-map (λ (e : EventId). e.0) ids k d 0 low in
-      flat.typed.rules.few_events c ids
-      (λ i j d below within same.
-      let rises = holds.events.rising i j 0 below (omega (arith, within, length-map ids (λ (e : EventId). e.0))) in
-      omega (arith, rises, at i d (omega arith), at j d within, ap (λ (e : EventId). e.0) same))
-      (λ k d low.
-      let listed = (holds.events.exactly (get_or (map (λ (e : EventId). e.0) ids) k 0)).0 (Contains-get_or (map (λ (e : EventId). e.0) ids) k 0 (omega (arith, low, length-map ids (λ (e : EventId). e.0)))) in
-      has_declared c n (get_or ids k d).0 (subst (DeclaresEvent t c.0 n) (at k d low) listed))
+  module _ (c : ClassId) where
+    -- the events of the rows are those of the class
+    pub events_are : (places : List ℕ) (ids : List EventId) → ListsNumbers (HasRow (λ (row : EventRow). row.class) t t.events c) places → map (λ (e : EventId). e.0) ids ≡ places → AreEventsOf t c ids
+    events_are places ids lists same = subst (ListsNumbers (λ n. HasEvent t c (record { 0 = n }))) (sym same)
+        (lists_same (HasRow (λ (row : EventRow). row.class) t t.events c) (λ n. HasEvent t c (record { 0 = n })) places (λ n. (event_of_row c n, λ has. (has.row, has.is, has.from_c))) lists)
 
-  -- so their places are far below the limit of their numbers
-  pub few_events : (n rules : ℕ) (views : List ClassView) → AreFilled t n rules views → n ≤ 1024 * 256
-  few_events n rules views filled =
-      let each : All (λ (view : ClassView). length view.events ≤ 256) views = λ k d low.
-      few_of_view (record { 0 = k }) n (get_or views k d) (filled.events_of k (get_or views k d) (slice_get-get_or views k d low)) in
-      let sum = sum_by-le (λ (view : ClassView). length view.events) 256 views each in
-      let classes : length t.classes ≤ 1024 = flat.typed.rules.few_classes in
-      omega (arith, sum, classes, filled.all, filled.total)
+    event_found : (places : List ℕ) → ListsNumbers (HasRow (λ (row : EventRow). row.class) t t.events c) places → (name : List ℕ) (found : Option EventId) →
+        MatchOption found ((n : ℕ) → ¬ IsNamedAt (λ (row : EventRow). row.name) t.events places name n) (λ e. IsNamedAt (λ (row : EventRow). row.name) t.events places name e.0) →
+        MatchOption found ((e : EventId) → ¬ NamesEvent t c name e) (NamesEvent t c name)
+    event_found places lists name None none = λ e (has, named). none e.0 ((lists.exactly e.0).1 (has.row, has.is, has.from_c), has.row, has.is, named)
+    event_found places lists name (Some e) (has, row, row_is, named) =
+        let it = (lists.exactly e.0).0 has in
+        let same : row ≡ it.0 = cc (sym row_is ∙ it.1) in
+        (event_of_row c e.0 it, ap (λ (r : EventRow). r.name) (sym same) ∙ named)
 
-  abbrev declared_event : (c : ClassId) (i : ℕ) → HasEvent t c (record { 0 = i }) → DeclaresEvent t c.0 (length t.events) i
-  declared_event c i has = (has.row, has.is, ap (λ (a : ClassId). a.0) (sym (stands_alone t flat.alone c has.row.class has.from_c)), slice_get_within t.events i has.row has.is)
+    pub event_names_are : (places : List ℕ) (names : List (List ℕ × EventId)) → ListsNumbers (HasRow (λ (row : EventRow). row.class) t t.events c) places →
+        FindsAmong (λ (row : EventRow). row.name) (λ (e : EventId). e.0) t.events places names → FindsEvents t c names
+    event_names_are places names lists finds name = event_found places lists name (value_named names name) (finds name)
 
-  declared_rule : (c : ClassId) (i : ℕ) → HasRule t c i → DeclaresRule t c.0 (length t.rules) i
-  declared_rule c i has = (has.row, has.is, ap (λ (a : ClassId). a.0) (sym (stands_alone t flat.alone c has.row.class has.from_c)), slice_get_within t.rules i has.row has.is)
+    relation_found : (places : List ℕ) → ListsNumbers (HasRow (λ (row : RelRow). row.class) t t.relations c) places → (name : List ℕ) (found : Option RelId) →
+        MatchOption found ((n : ℕ) → ¬ IsNamedAt (λ (row : RelRow). row.name) t.relations places name n) (λ r. IsNamedAt (λ (row : RelRow). row.name) t.relations places name r.0) →
+        MatchOption found ((r : RelId) → ¬ NamesRelation t c name r) (NamesRelation t c name)
+    relation_found places lists name None none = λ r (has, named). none r.0 ((lists.exactly r.0).1 (has.row, has.is, has.from_c), has.row, has.is, named)
+    relation_found places lists name (Some r) (has, row, row_is, named) =
+        let it = (lists.exactly r.0).0 has in
+        let same : row ≡ it.0 = cc (sym row_is ∙ it.1) in
+        (relation_of_row c r.0 it, ap (λ (r : RelRow). r.name) (sym same) ∙ named)
 
-  finds_event : (c : ClassId) (name : List ℕ) (found : Option EventId) →
-      MatchOption found ((i : ℕ) → ¬ DeclaresNamed t c.0 (length t.events) name i) (λ e. DeclaresNamed t c.0 (length t.events) name e.0) →
-      MatchOption found ((e : EventId) → ¬ NamesEvent t c name e) (NamesEvent t c name)
-  unfolding has_declared
-  finds_event c name None none = λ e named. none e.0 (declared_event c e.0 named.0, named.1)
-  finds_event c name (Some e) named = (has_declared c (length t.events) e.0 named.0, named.1)
+    pub relation_names_are : (places : List ℕ) (names : List (List ℕ × RelId)) → ListsNumbers (HasRow (λ (row : RelRow). row.class) t t.relations c) places →
+        FindsAmong (λ (row : RelRow). row.name) (λ (r : RelId). r.0) t.relations places names → FindsRelations t c names
+    relation_names_are places names lists finds name = relation_found places lists name (value_named names name) (finds name)
 
-  view_is : (c : ClassId) (view : ClassView) → HoldsEvents t c.0 (length t.events) view → HoldsRules t c.0 (length t.rules) view → IsViewOf t c view
-  view_is c view events rules = record {
-    events = lists_same (DeclaresEvent t c.0 (length t.events)) (λ i. HasEvent t c (record { 0 = i })) (map (λ e. e.0) view.events)
-        (λ i. (has_declared c (length t.events) i, declared_event c i)) events.events;
-    names = λ name. finds_event c name (value_named view.names name) (events.names name);
-    rules = (
-      rules.0,
-      lists_same (DeclaresRule t c.0 (length t.rules)) (HasRule t c) rules.0
-          (λ i. (λ declared. has_rule t flat c i declared.0 declared.1 (class_is declared.0.class c declared.2), declared_rule c i)) rules.1,
-      rules.2,
-    );
-  }
+    -- a blocked rule is one that a class on the way blocks
+    pub rules_are : (places blocks blocked : List ℕ) (rules : List Rule) → ListsNumbers (HasRow (λ (row : RuleRow). row.class) t t.rules c) places →
+        ListsNumbers (HasRow (λ (row : BlockRow). row.class) t t.blocks c) blocks → AreShown (λ (row : BlockRow). row.rule) t.blocks blocks blocked → AreFree t places blocked rules → AreRulesOf t c rules
+    rules_are places blocks blocked rules lists lists_blocks shown free = (
+      free.0,
+      lists_same (λ n. Contains places n × ¬ Contains blocked n) (HasRule t c) free.0
+          (λ n. (
+            λ (has, none).
+                let it = (lists.exactly n).0 has in
+                record {
+                  row = it.0;
+                  is = it.1;
+                  from_c = it.2;
+                  free = λ (_, m, b, _, _, up, block).
+                      let at = place_in t.blocks (record { class = b; rule = n }) block in
+                      none ((shown n).1 (at.0, record { class = b; rule = n }, (lists_blocks.exactly at.0).1 (record { class = b; rule = n }, at.1, (m, up)), at.1, refl));
+                },
+            λ has. (
+              (lists.exactly n).1 (has.row, has.is, has.from_c),
+              λ is_blocked.
+                  let by = (shown n).0 is_blocked in
+                  let row = by.1 in
+                  let it = (lists_blocks.exactly by.0).0 by.2 in
+                  let same : it.0 ≡ row = cc (sym it.1 ∙ by.3) in
+                  let up : IsA t c row.class = subst (λ (r : BlockRow). IsA t c r.class) same it.2 in
+                  let inherits : InheritsRule t row.class row.rule = all_at (λ (r : BlockRow). InheritsRule t r.class r.rule) t.blocks by.0 row by.3 typed.rules.blocked in
+                  let one : inherits.0 ≡ has.row = cc (sym inherits.1 ∙ (ap (slice_get t.rules) by.4 ∙ has.is)) in
+                  let block : Contains t.blocks (record { class = row.class; rule = n }) = contains_at t.blocks by.0 (record { class = row.class; rule = n })
+                  (by.3 ∙ ap (λ r. let b : BlockRow = record { class = row.class; rule = r } in Some b) by.4) in
+                  has.free (on_the_way t c row.class has.row.class (λ b. Contains t.blocks (record { class = b; rule = n })) up (subst (λ (r : RuleRow). IsA t row.class r.class) one inherits.2) block),
+            ),
+          )) free.1,
+      free.2,
+    )
 
-  -- views that hold all rows are those of the classes
-  pub filled_all : (views : List ClassView) → AreFilled t (length t.events) (length t.rules) views → AreViewsOf t views
-  filled_all views filled = record {
-    each = λ c view is. view_is c view (filled.events_of c.0 view is) (filled.rules_of c.0 view is);
-    all = filled.all;
-  }
-
-module _ (t : Tables) where
-  finds_class : (name : List ℕ) (found : Option ClassId) (n : ℕ) → length t.classes ≤ n →
-      MatchOption found ((i : ℕ) (row : ClassRow) → i < n → slice_get t.classes i ≡ Some row → row.name ≢ name) (NamesClass t name) →
-      MatchOption found ((c : ClassId) → ¬ NamesClass t name c) (NamesClass t name)
-  finds_class name None n all none = λ c named. none c.0 named.0 (omega (arith, all, slice_get_within t.classes c.0 named.0 named.1)) named.1 named.2
-  finds_class name (Some c) n all named = named
-
-  -- names of all classes
-  pub finds_all : (n : ℕ) (names : List (List ℕ × ClassId)) → length t.classes ≤ n → FindsFirst t n names → FindsClasses t names
-  finds_all n names all first = λ name. finds_class name (value_named names name) n all (first name)
-
-  finds_one_more : (n : ℕ) (row : ClassRow) (name : List ℕ) (b : Bool) (old new : Option ClassId) → slice_get t.classes n ≡ Some row → bytes_eq name row.name ≡ b →
-      new ≡ cond b (Some (record { 0 = n })) old →
-      MatchOption old ((i : ℕ) (r : ClassRow) → i < n → slice_get t.classes i ≡ Some r → r.name ≢ name) (NamesClass t name) →
-      MatchOption new ((i : ℕ) (r : ClassRow) → i < n + 1 → slice_get t.classes i ≡ Some r → r.name ≢ name) (NamesClass t name)
-  finds_one_more n row name true old new row_is named is was =
-      let same = (bytes_eq-Decides name row.name).0 named in
-      subst (λ (o : Option ClassId). MatchOption o ((i : ℕ) (r : ClassRow) → i < n + 1 → slice_get t.classes i ≡ Some r → r.name ≢ name) (NamesClass t name)) (sym is) (row, row_is, sym same)
-  finds_one_more n row name false None new row_is named is was =
-      subst (λ (o : Option ClassId). MatchOption o ((i : ℕ) (r : ClassRow) → i < n + 1 → slice_get t.classes i ≡ Some r → r.name ≢ name) (NamesClass t name)) (sym is)
-      (λ i r low r_is same. elim (cases_lt i n) [
-        | inl early ↦ was i r early r_is same
-        | inr late ↦
-            let here : i ≡ n = omega arith in
-            let rows : r ≡ row = cc (sym r_is ∙ (ap (slice_get t.classes) here ∙ row_is)) in
-            false≢true (sym named ∙ (bytes_eq-Decides name row.name).1 (sym same ∙ ap (λ (x : ClassRow). x.name) rows))
-      ])
-  finds_one_more n row name false (Some c) new row_is named is was =
-      subst (λ (o : Option ClassId). MatchOption o ((i : ℕ) (r : ClassRow) → i < n + 1 → slice_get t.classes i ≡ Some r → r.name ≢ name) (NamesClass t name)) (sym is) was
-
-  -- one class more leads its name to it
-  pub finds_more : (n : ℕ) (row : ClassRow) (old new : List (List ℕ × ClassId)) → slice_get t.classes n ≡ Some row → PutsName old new row.name (record { 0 = n }) →
-      FindsFirst t n old → FindsFirst t (n + 1) new
-  finds_more n row old new row_is puts first = λ name.
-      finds_one_more n row name (bytes_eq name row.name) (value_named old name) (value_named new name) row_is refl (puts name) (first name)
+    -- the events that hides show are hidden
+    pub hidden_are : (hides keys : List ℕ) → ListsNumbers (HasRow (λ (row : HideRow). row.class) t t.hides c) hides → AreShown (λ (row : HideRow). row.event.0) t.hides hides keys →
+        (n : ℕ) → Contains keys n ↔ IsHiddenFrom t c (record { 0 = n })
+    hidden_are hides keys lists shown n = (
+      λ is_hidden.
+          let by = (shown n).0 is_hidden in
+          let row = by.1 in
+          let it = (lists.exactly by.0).0 by.2 in
+          let same : it.0 ≡ row = cc (sym it.1 ∙ by.3) in
+          (row.class, subst (λ (r : HideRow). IsA t c r.class) same it.2, contains_at t.hides by.0 (record { class = row.class; event = record { 0 = n } })
+              (by.3 ∙ ap (λ e. let h : HideRow = record { class = row.class; event = record { 0 = e } } in Some h) by.4)),
+      λ (b, up, hide).
+          let at = place_in t.hides (record { class = b; event = record { 0 = n } }) hide in
+          (shown n).1 (at.0, record { class = b; event = record { 0 = n } }, (lists.exactly at.0).1 (record { class = b; event = record { 0 = n } }, at.1, up), at.1, refl),
+    )
