@@ -4,3 +4,4 @@ pub mod Fault
 pub mod Laws
 pub mod Places
 pub mod Directory
+pub mod Least

@@ -4,6 +4,7 @@
 mod directory;
 mod entry;
 mod laws;
+mod least;
 mod places;
 mod rule;
 
