@@ -1,5 +1,5 @@
 -- The least of the lines that are blamed.
-use Rattle.std.proofs.Common.{◌≡◌, ℕ, ◌+◌, ◌<◌, ◌≤◌, Bool, true, false, List, length, Option, Some, None, refl, sym, ap, subst, ◌∙◌, inl, inr, arith}
+use Rattle.std.proofs.Common.{◌≡◌, ℕ, ◌+◌, ◌<◌, ◌≤◌, Bool, true, false, not, List, length, Option, Some, None, refl, sym, ap, subst, ◌∙◌, inl, inr, arith}
 use Rattle.std.specs.Prelude.{◌⊎◌, ◌↔◌, IsTrue, min, slice_get}
 use Rattle.std.proofs.lemmas.Option.{slice_get_within}
 use Rattle.std.proofs.lemmas.Bool.{cases_lt}
@@ -52,12 +52,17 @@ module _ (P : ℕ → ℕ → Type 0) where
   pub least_all : (n : ℕ) (best : Option ℕ) → ((i line : ℕ) → P i line → i < n) → IsLeast (OneOfFirst P n) best → IsLeast (OneOf P) best
   least_all n best within least = least_same (OneOfFirst P n) (OneOf P) best (λ m one. (one.0, one.2)) (λ m one. (one.0, within one.0 m one.1, one.1)) least
 
--- a line is blamed unless H holds
-pub least_blamed : (H : Type 0) (kept : Bool) (l : ℕ) → IsTrue kept ↔ H → IsLeast (λ line. (line ≡ l) × (¬ H)) (blamed kept l)
-least_blamed H true l is = λ n both. both.1 (is.0 refl)
-least_blamed H false l is = ((refl, λ h. absurd (never (is.1 h))), λ n both. omega (arith, both.0)) where
+-- a line is blamed where the rule is broken
+pub least_blamed : (broken : Bool) (l : ℕ) (C : Type 0) → IsTrue broken ↔ C → IsLeast (λ line. (line ≡ l) × C) (blamed broken l)
+least_blamed true l C is = ((refl, is.0 refl), λ n both. omega (arith, both.0))
+least_blamed false l C is = λ n both. never (is.1 both.1) where
   never : IsTrue false → ⊥
-  never is = cc
+  never true_is = cc
+
+-- it is broken where what it asks for is not so
+pub broken_unless : (kept broken : Bool) (H : Type 0) → broken ≡ not kept → IsTrue kept ↔ H → IsTrue broken ↔ (¬ H)
+broken_unless true broken H is kept = (λ so. absurd (cc), λ none. absurd (none (kept.0 refl)))
+broken_unless false broken H is kept = (λ so has. (let never : IsTrue false = kept.1 has in absurd (cc)), λ none. is)
 
 module _ (tree : Tree) (P : ℕ → ClassDecl → ℕ → Type 0) where
   -- one class more

@@ -16,10 +16,10 @@ lesser None other = other
 lesser (Some one) None = Some one
 lesser (Some one) (Some other) = Some (min one other)
 
--- the line, unless the rule is kept there
+-- the line, where the rule is broken there
 abbrev pub blamed : Bool → ℕ → Option ℕ
-blamed true line = None
-blamed false line = Some line
+blamed true line = Some line
+blamed false line = None
 
 -- so is a class, by its place
 abbrev pub IsClass : Tree → (ℕ → ClassDecl → ℕ → Type 0) → ℕ → ℕ → Type 0

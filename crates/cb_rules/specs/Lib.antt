@@ -5,3 +5,4 @@ pub mod Laws
 pub mod Places
 pub mod Directory
 pub mod Least
+pub mod Finds

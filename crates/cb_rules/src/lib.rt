@@ -3,6 +3,7 @@
 
 mod directory;
 mod entry;
+mod finds;
 mod laws;
 mod least;
 mod places;
