@@ -4,7 +4,10 @@ use Rattle.cb_grammar.specs.declared.tree.Token.{Token}
 use Rattle.cb_grammar.specs.declared.tree.Tree.{Tree}
 use Rattle.cb_grammar.specs.declared.tree.Member.{Member}
 use Rattle.cb_grammar.specs.declared.tree.Member.TheVariants.{Event, Relation, Rule, Block, Hide}
-use Rattle.cb_rules.specs.Classes.{IsNamed, IsAbove, MemberAt, Has, Declares, IsRelationTo, IsRelationNamed, Leads}
+use Rattle.cb_model.specs.declared.limits.TheConstants.{MOST_ANCESTORS}
+use Rattle.cb_grammar.specs.declared.tree.ClassDecl.{ClassDecl}
+use Rattle.cb_rules.specs.Classes.{ClassAt, IsNamed, IsAbove, MemberAt, Has, Declares, IsEventNamed, IsRelationTo, IsRelationNamed, IsRelationBack, Leads}
+use Rattle.cb_rules.specs.Rules.{Owns}
 
 -- whether a member is an event marked symptom
 abbrev pub is_symptom : Member → Bool
@@ -36,3 +39,16 @@ LeadsOn tree k name j = (to : List ℕ) × Has tree k (IsRelationTo name to) × 
 abbrev pub StopsAt : Tree → ℕ → List Token → ℕ → Type 0
 StopsAt tree k path line = (m : ℕ) × (step : Token) × (j : ℕ) × (slice_get path m ≡ Some step) × Leads tree k (take m path) j × (line ≡ step.line)
     × (¬ Has tree j (IsRelationNamed step.name))
+
+-- the class has an ancestor that is farther than the rules allow
+abbrev pub IsDeep : Tree → ℕ → Type 0
+IsDeep tree k = (n : ℕ) × (j : ℕ) × (MOST_ANCESTORS < n) × IsAbove tree k n j
+
+-- the relation's inverse doesn't lead back, and this line is blamed
+abbrev pub IsBadInverse : Tree → ℕ → Token → Token → Token → ℕ → Type 0
+IsBadInverse tree k name target inverse line = (decl : ClassDecl) × (j : ℕ) × ClassAt tree k decl × IsNamed tree target.name j × (line ≡ inverse.line)
+    × (¬ Owns tree j (IsRelationBack inverse.name decl.name.name name.name))
+
+-- the effect is no event of the class that the path reaches, and this line is blamed
+abbrev pub IsBadEffect : Tree → ℕ → List Token → Token → ℕ → Type 0
+IsBadEffect tree k path effect line = (j : ℕ) × Leads tree k path j × (line ≡ effect.line) × (¬ Has tree j (IsEventNamed effect.name))

@@ -1,7 +1,7 @@
 use Rattle.std.proofs.Common.{length, ap, sym, ◌∙◌, arith}
 use Rattle.cb_grammar.specs.declared.tree.Tree.{Tree}
 use Rattle.cb_model.proofs.Numbers.{read_at}
-use Rattle.cb_rules.proofs.Blame.{class_more, class_all}
+use Rattle.cb_rules.proofs.Lines.{class_more, class_all}
 use Rattle.cb_rules.proofs.least.least_class_line.Goals as goal
 
 pub loop-class-preserved : goal.loop-class-preserved

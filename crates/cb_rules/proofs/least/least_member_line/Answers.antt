@@ -1,7 +1,7 @@
 use Rattle.std.proofs.Common.{length, ap, ◌∙◌, arith}
 use Rattle.cb_grammar.specs.declared.tree.Tree.{Tree}
 use Rattle.cb_model.proofs.Numbers.{read_at}
-use Rattle.cb_rules.proofs.Blame.{members_more, all_members}
+use Rattle.cb_rules.proofs.Lines.{members_more, all_members}
 use Rattle.cb_rules.proofs.least.least_member_line.Goals as goal
 
 pub loop-class-preserved : goal.loop-class-preserved
