@@ -7,7 +7,7 @@ use Rattle.cb_grammar.specs.declared.tree.ClassDecl.{ClassDecl}
 use Rattle.cb_grammar.specs.declared.tree.Member.{Member}
 use Rattle.cb_grammar.specs.declared.tree.Member.TheVariants.{Event, Relation, Rule, Block, Hide}
 use Rattle.cb_rules.specs.declared.entry.Entry.{Entry}
-use Rattle.cb_rules.specs.Classes.{IsNamed, MemberAt, declared, Declares}
+use Rattle.cb_rules.specs.Classes.{IsNamed, MemberAt, HasAt, declared, Declares}
 use Rattle.cb_rules.specs.Places.{FindsFirst}
 
 -- the class at place k has this name, and none before it does
@@ -19,6 +19,10 @@ abbrev pub OwnsFirst : Tree → ℕ → List ℕ → ℕ → Type 0
 OwnsFirst tree k name i =
     ((member : Member) × MemberAt tree k i member × Declares name member)
     × ((earlier : ℕ) (member : Member) → earlier < i → MemberAt tree k earlier member → ¬ Declares name member)
+
+-- the class has this member, own or inherited, which declares the name
+abbrev pub HasMember : Tree → ℕ → List ℕ → Member → Type 0
+HasMember tree k name member = (j : ℕ) × (i : ℕ) × HasAt tree k (Declares name) j i × MemberAt tree j i member
 
 -- whether a member is an event, a relation, a rule
 abbrev pub is_event : Member → Bool

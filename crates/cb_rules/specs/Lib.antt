@@ -4,3 +4,5 @@ pub mod Fault
 pub mod Laws
 pub mod Places
 pub mod Directory
+pub mod Least
+pub mod Finds

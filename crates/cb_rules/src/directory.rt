@@ -4,11 +4,11 @@ ghost use Rattle.cb_rules.specs.declared.rule.TypeRule.TheVariants.{TwoNames};
 ghost use Rattle.cb_rules.specs.Classes.{Declares, HasAt, Has, Extends};
 ghost use Rattle.cb_rules.specs.Rules.{IsNoClass, Owns};
 ghost use Rattle.cb_rules.specs.Fault.{KeepsBefore};
-ghost use Rattle.cb_rules.specs.Directory.{IsFirstNamed, OwnsFirst, AreEntries};
+ghost use Rattle.cb_rules.specs.Directory.{IsFirstNamed, OwnsFirst, HasMember, AreEntries};
 
 use crate::entry::Entry;
 use crate::places::first_places;
-use cb_grammar::{ClassDecl, Tree};
+use cb_grammar::{ClassDecl, Member, Tree};
 use cb_model::{MOST_ANCESTORS, NameMap};
 use std::alloc::{AllocError, Global};
 use std::marker::Model;
@@ -105,6 +105,19 @@ impl<'t> Directory<'t> {
             at = parent;
         }
         None
+    }
+
+    /// The event, relation or rule of this name that the class declares or inherits.
+    pub fn member(&self, class: usize, name: &[u8]) -> Option<&Member>
+        requires class { class < length self.now.classes }
+        requires keeps { KeepsBefore self.now TwoNames }
+        ensures found { IfSome result (λ member. HasMember self.now class name.now member.now) }
+        ensures absent { IfNone result (¬ Has self.now class (Declares name.now)) }
+    {
+        let Some(place) = self.member_named(class, name) else {
+            return None;
+        };
+        Some(self.tree.classes.at(place.class).members.at(place.member))
     }
 }
 

@@ -1,9 +1,14 @@
 //! The fourteen type rules of models, over the tree of a text.
 #![tactic(auto)]
 
+mod blame;
+mod class_rules;
 mod directory;
 mod entry;
+mod finds;
 mod laws;
+mod least;
+mod member_rules;
 mod places;
 mod rule;
 
