@@ -1,0 +1,23 @@
+-- Truth values packed into words of 64 bits.
+use Rattle.std.specs.Prelude.{◌≡◌, ℕ, ◌+◌, ◌*◌, ◌/◌, ◌%◌, ◌<◌, ◌≤◌, ◌^◌, ◌==◌, Bool, false, List, length, map, slice_index_or}
+use Rattle.std.specs.List.{All, range_with_len}
+use Rattle.std.specs.Int.{bit_at}
+
+-- value k is bit k % 64, counted from the least, of word k / 64
+abbrev pub bit_of : List ℕ → ℕ → Bool
+bit_of words k = bit_at (slice_index_or words (k / 64) 0) (k % 64) == 1
+
+-- the first n values
+abbrev pub values : List ℕ → ℕ → List Bool
+values words n = map (bit_of words) (range_with_len 0 n)
+
+-- the words hold n values: as many words as they need, with no bit set past the last value
+pub record Holds (words : List ℕ) (n : ℕ) : Type 0 where
+  pub enough : n ≤ 64 * length words
+  pub no_more : 64 * length words < n + 64
+  pub rest : (k : ℕ) → n ≤ k → bit_of words k ≡ false
+
+-- the words are those of these values
+pub record Packs (row : List Bool) (words : List ℕ) : Type 0 where
+  pub holds : Holds words (length row)
+  pub bits : (k : ℕ) → k < length row → bit_of words k ≡ slice_index_or row k false

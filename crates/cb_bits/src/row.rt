@@ -1,0 +1,74 @@
+//! A row of truth values.
+ghost use Rattle.std.specs.Prelude.{◌≡◌, ◌<◌, ◌≤◌, ◌-◌, ◌++◌, ◌↔◌, ◌||◌, length, replicate, IfOk, OnOk, OnErr, IsTrue, true, false, slice_index_or, slice_set, count_by};
+ghost use Rattle.std.specs.Simd.Lanes.{zip2};
+ghost use Rattle.cb_bits.specs.Bits.{Packs};
+
+use crate::words::{clear_bit, is_set, set_bit};
+use std::alloc::{AllocError, Global};
+use std::marker::Model;
+
+/// Truth values in order, 64 to a word. Contracts see the list of them.
+#[derive(Debug, Drop)]
+pub struct Row {
+    len: usize,
+    words: Vec<u64>,
+}
+
+impl Model for Row {
+    ghost use Rattle.std.specs.Prelude.{List, Bool};
+    ghost use Rattle.cb_bits.specs.Bits.{values, Holds};
+
+    ghost Value = { List Bool };
+
+    ghost view = { λ r. values r.words.items r.len };
+
+    ghost invariant = { λ r. Holds r.words.items r.len };
+}
+
+impl Row {
+    /// A row of `n` values, all false.
+    pub fn zeroed(alloc: Global, n: usize) -> Result<Row, AllocError>
+        ensures { IfOk result (λ row. row ≡ replicate n false) }
+    {
+        Ok(Row {
+            len: n,
+            words: vec![in alloc; 0; n.div_ceil(64)]?,
+        })
+    }
+
+    pub fn len(&self) -> usize
+        ensures { result ≡ length self.now }
+    {
+        self.len
+    }
+
+    pub fn get(&self, i: usize) -> bool
+        requires { i < length self.now }
+        ensures { result ≡ slice_index_or self.now i false }
+    {
+        is_set(&self.words, i)
+    }
+
+    /// Makes the value at a place true.
+    pub fn set(&mut self, i: usize)
+        requires { i < length self.old }
+        ensures { self.new ≡ slice_set self.old i true }
+    {
+        set_bit(&mut self.words, i);
+    }
+
+    /// Makes the value at a place false.
+    pub fn clear(&mut self, i: usize)
+        requires { i < length self.old }
+        ensures { self.new ≡ slice_set self.old i false }
+    {
+        clear_bit(&mut self.words, i);
+    }
+
+    /// The words of the values, with zeros past the last one.
+    pub fn words(&self) -> &[u64]
+        ensures { Packs self.now result.now }
+    {
+        &self.words
+    }
+}
