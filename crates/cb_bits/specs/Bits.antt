@@ -1,5 +1,5 @@
 -- Truth values packed into words of 64 bits.
-use Rattle.std.specs.Prelude.{◌≡◌, ℕ, ◌+◌, ◌*◌, ◌/◌, ◌%◌, ◌<◌, ◌≤◌, ◌^◌, ◌==◌, Bool, false, List, length, map, slice_index_or}
+use Rattle.std.specs.Prelude.{◌≡◌, ℕ, ◌+◌, ◌*◌, ◌/◌, ◌%◌, ◌<◌, ◌≤◌, ◌^◌, ◌==◌, Bool, false, List, length, map, min, slice_index_or}
 use Rattle.std.specs.List.{All, range_with_len}
 use Rattle.std.specs.Int.{bit_at}
 
@@ -10,6 +10,10 @@ bit_of words k = bit_at (slice_index_or words (k / 64) 0) (k % 64) == 1
 -- the first n values
 abbrev pub values : List ℕ → ℕ → List Bool
 values words n = map (bit_of words) (range_with_len 0 n)
+
+-- how many words n values need
+abbrev pub words_for : ℕ → ℕ
+words_for n = n / 64 + min 1 (n % 64)
 
 -- the words hold n values: as many words as they need, with no bit set past the last value
 pub record Holds (words : List ℕ) (n : ℕ) : Type 0 where

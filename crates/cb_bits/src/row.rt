@@ -3,7 +3,7 @@ ghost use Rattle.std.specs.Prelude.{◌≡◌, ◌<◌, ◌≤◌, ◌-◌, ◌+
 ghost use Rattle.std.specs.Simd.Lanes.{zip2};
 ghost use Rattle.cb_bits.specs.Bits.{Packs};
 
-use crate::words::{clear_bit, is_set, set_bit};
+use crate::words::{clear_bit, is_set, set_bit, unite, zero_words};
 use std::alloc::{AllocError, Global};
 use std::marker::Model;
 
@@ -30,10 +30,8 @@ impl Row {
     pub fn zeroed(alloc: Global, n: usize) -> Result<Row, AllocError>
         ensures { IfOk result (λ row. row ≡ replicate n false) }
     {
-        Ok(Row {
-            len: n,
-            words: vec![in alloc; 0; n.div_ceil(64)]?,
-        })
+        let words = zero_words(alloc, n)?;
+        Ok(Row { len: n, words })
     }
 
     pub fn len(&self) -> usize
@@ -63,6 +61,14 @@ impl Row {
         ensures { self.new ≡ slice_set self.old i false }
     {
         clear_bit(&mut self.words, i);
+    }
+
+    /// Makes true what is true in `other`.
+    pub fn or_from(&mut self, other: &Row)
+        requires { length self.old ≡ length other.now }
+        ensures { self.new ≡ zip2 (λ one other. one || other) self.old other.now }
+    {
+        unite(&mut self.words, &other.words);
     }
 
     /// The words of the values, with zeros past the last one.

@@ -1,6 +1,9 @@
 //! Single bits of a slice of words: bit k is bit k % 64, counted from the least, of word k / 64.
-ghost use Rattle.std.specs.Prelude.{◌≡◌, ◌≢◌, ◌<◌, ◌*◌, ℕ, length, true, false};
-ghost use Rattle.cb_bits.specs.Bits.{bit_of};
+ghost use Rattle.std.specs.Prelude.{◌≡◌, ◌≢◌, ◌<◌, ◌*◌, ℕ, length, true, false, replicate, bit_or, IfOk};
+ghost use Rattle.std.specs.Simd.Lanes.{zip2};
+ghost use Rattle.cb_bits.specs.Bits.{bit_of, words_for};
+
+use std::alloc::{AllocError, Global};
 
 /// The bit at a place.
 pub fn is_set(words: &[u64], k: usize) -> bool
@@ -26,4 +29,21 @@ pub fn clear_bit(words: &mut [u64], k: usize)
     ensures others { (i : ℕ) → i ≢ k → bit_of words.new i ≡ bit_of words.old i }
 {
     words[k / 64] &= !(1 << (k % 64));
+}
+
+/// As many zeros as `n` bits need words.
+pub fn zero_words(alloc: Global, n: usize) -> Result<Vec<u64>, AllocError>
+    ensures { IfOk result (λ words. words.items ≡ replicate (words_for n) 0) }
+{
+    vec![in alloc; 0; n.div_ceil(64)]
+}
+
+/// Makes one what is one in `other`.
+pub fn unite(words: &mut [u64], other: &[u64])
+    requires { length words.old ≡ length other.now }
+    ensures { words.new ≡ zip2 bit_or words.old other.now }
+{
+    for i in 0..words.len() {
+        words[i] |= other[i];
+    }
 }
