@@ -1,7 +1,8 @@
 -- Truth values packed into words of 64 bits.
-use Rattle.std.specs.Prelude.{◌≡◌, ℕ, ◌+◌, ◌*◌, ◌/◌, ◌%◌, ◌<◌, ◌≤◌, ◌^◌, ◌==◌, Bool, false, List, length, map, min, slice_index_or}
-use Rattle.std.specs.List.{All, range_with_len}
+use Rattle.std.specs.Prelude.{◌≡◌, ℕ, ◌+◌, ◌*◌, ◌/◌, ◌%◌, ◌<◌, ◌≤◌, ◌^◌, ◌==◌, Bool, false, not, List, length, map, min, slice_index_or}
+use Rattle.std.specs.List.{count_by, range_with_len}
 use Rattle.std.specs.Int.{bit_at}
+use mathlib.Core.Bool.{beq}
 
 -- value k is bit k % 64, counted from the least, of word k / 64
 abbrev pub bit_of : List ℕ → ℕ → Bool
@@ -25,3 +26,7 @@ pub record Holds (words : List ℕ) (n : ℕ) : Type 0 where
 pub record Packs (row : List Bool) (words : List ℕ) : Type 0 where
   pub holds : Holds words (length row)
   pub bits : (k : ℕ) → k < length row → bit_of words k ≡ slice_index_or row k false
+
+-- at how many places two rows differ
+abbrev pub differing : List Bool → List Bool → ℕ
+differing row other = count_by (λ k. not (beq (slice_index_or row k false) (slice_index_or other k false))) (range_with_len 0 (length row))

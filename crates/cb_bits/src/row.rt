@@ -1,9 +1,9 @@
 //! A row of truth values.
 ghost use Rattle.std.specs.Prelude.{◌≡◌, ◌<◌, ◌≤◌, ◌-◌, ◌++◌, ◌↔◌, ◌||◌, length, replicate, IfOk, OnOk, OnErr, IsTrue, true, false, slice_index_or, slice_set, count_by};
 ghost use Rattle.std.specs.Simd.Lanes.{zip2};
-ghost use Rattle.cb_bits.specs.Bits.{Packs};
+ghost use Rattle.cb_bits.specs.Bits.{Packs, differing};
 
-use crate::words::{clear_bit, is_set, set_bit, unite, zero_words};
+use crate::words::{clear_bit, count_differing, count_ones, is_set, set_bit, unite, zero_words};
 use std::alloc::{AllocError, Global};
 use std::marker::Model;
 
@@ -69,6 +69,39 @@ impl Row {
         ensures { self.new ≡ zip2 (λ one other. one || other) self.old other.now }
     {
         unite(&mut self.words, &other.words);
+    }
+
+    pub fn equal(&self, other: &Row) -> bool
+        requires { length self.now ≡ length other.now }
+        ensures { IsTrue result ↔ (self.now ≡ other.now) }
+    {
+        self.words.as_slice() == other.words.as_slice()
+    }
+
+    /// How many values are true.
+    pub fn ones(&self) -> usize
+        ensures { result ≡ count_by (λ value. value) self.now }
+    {
+        count_ones(&self.words)
+    }
+
+    /// At how many places the two differ.
+    pub fn distance(&self, other: &Row) -> usize
+        requires { length self.now ≡ length other.now }
+        ensures { result ≡ differing self.now other.now }
+    {
+        count_differing(&self.words, &other.words)
+    }
+
+    /// Adds values at the end, all false, so that there are `n`.
+    pub fn grow(&mut self, n: usize) -> Result<(), AllocError>
+        requires { length self.old ≤ n }
+        ensures ok { OnOk result (self.new ≡ self.old ++ replicate (n - length self.old) false) }
+        ensures err { OnErr result (self.new ≡ self.old) }
+    {
+        self.words.resize(n.div_ceil(64), 0)?;
+        self.len = n;
+        Ok(())
     }
 
     /// The words of the values, with zeros past the last one.

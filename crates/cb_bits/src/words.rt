@@ -1,5 +1,6 @@
 //! Single bits of a slice of words: bit k is bit k % 64, counted from the least, of word k / 64.
-ghost use Rattle.std.specs.Prelude.{◌≡◌, ◌≢◌, ◌<◌, ◌*◌, ℕ, length, true, false, replicate, bit_or, IfOk};
+ghost use Rattle.std.specs.Prelude.{◌≡◌, ◌≢◌, ◌<◌, ◌*◌, ◌^◌, ℕ, length, true, false, replicate, bit_or, bit_xor, count_ones as ones, IfOk};
+ghost use Rattle.std.specs.List.{sum_by};
 ghost use Rattle.std.specs.Simd.Lanes.{zip2};
 ghost use Rattle.cb_bits.specs.Bits.{bit_of, words_for};
 
@@ -46,4 +47,29 @@ pub fn unite(words: &mut [u64], other: &[u64])
     for i in 0..words.len() {
         words[i] |= other[i];
     }
+}
+
+/// How many bits are one.
+pub fn count_ones(words: &[u64]) -> usize
+    requires { sum_by ones words.now < 2 ^ 64 }
+    ensures { result ≡ sum_by ones words.now }
+{
+    let mut count = 0;
+    for i in 0..words.len() {
+        count += words[i].count_ones() as usize;
+    }
+    count
+}
+
+/// How many bits differ.
+pub fn count_differing(words: &[u64], other: &[u64]) -> usize
+    requires same { length words.now ≡ length other.now }
+    requires few { sum_by ones (zip2 bit_xor words.now other.now) < 2 ^ 64 }
+    ensures { result ≡ sum_by ones (zip2 bit_xor words.now other.now) }
+{
+    let mut count = 0;
+    for i in 0..words.len() {
+        count += (words[i] ^ other[i]).count_ones() as usize;
+    }
+    count
 }
