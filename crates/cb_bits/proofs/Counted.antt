@@ -1,17 +1,16 @@
 -- The ones of words are the true values that they hold.
-use Rattle.std.proofs.Common.{◌≡◌, ◌≢◌, ℕ, zero, suc, ◌+◌, ◌-◌, ◌*◌, ◌/◌, ◌%◌, ◌^◌, ◌<◌, ◌≤◌, ◌==◌, cond, Bool, true, false, List, [], ◌∷◌, ◌++◌, length, map, replicate, slice_index_or, refl, inl, inr, sym, ap, subst, ◌∙◌, w64, Fits, arith}
+use Rattle.std.proofs.Common.{◌≡◌, ℕ, zero, suc, ◌+◌, ◌-◌, ◌*◌, ◌/◌, ◌%◌, ◌^◌, ◌<◌, ◌==◌, cond, Bool, false, List, [], ◌∷◌, length, map, slice_index_or, bit_xor, refl, sym, ap, subst, ◌∙◌, arith}
 use Rattle.std.specs.Prelude.{count_ones}
 use Rattle.std.specs.Int.{bit_at}
 use Rattle.std.specs.List.{count_by, sum_by, range_with_len}
-use Rattle.std.specs.Simd.Lanes.{mask_l}
-use Rattle.std.proofs.lemmas.Bool.{cases_lt, cases_eq}
-use Rattle.std.proofs.lemmas.List.{get_or_past}
+use Rattle.std.specs.Simd.Lanes.{mask_l, zip2}
 use Rattle.std.proofs.lemmas.List.Sums.{sum_by-cons, count_by-le-length}
 use Rattle.std.proofs.lemmas.List.FromFn.{length-map-range_with_len, get_or-map-range_with_len}
-use Rattle.std.proofs.lemmas.Simd.{ones-mask_l, bit_mask_l, mask_l-lt}
+use Rattle.std.proofs.lemmas.Simd.{ones-mask_l, bit_mask_l, mask_l-lt, length-zip2, get_or-zip2}
+use Rattle.std.proofs.lemmas.Nat.{xor_lt}
 use Rattle.std.proofs.lemmas.Nat.Bits.{same_from_bits_below, bit_at-lt}
-use Rattle.cb_bits.specs.Bits.{bit_of, values, Holds}
-use Rattle.cb_bits.proofs.Values.{length-values, row_len}
+use Rattle.cb_bits.specs.Bits.{bit_of, values, count_bits, Holds}
+use Rattle.cb_bits.proofs.Values.{row_len}
 use Rattle.cb_bits.proofs.Totals.{total, total_parts, total_alike, total_nothing, sum_by-map}
 
 -- a truth value as a number, and the bits that words have
@@ -33,8 +32,8 @@ mask_of_bits word fits =
     let long = length-map-range_with_len (λ i. bit_at word i == 1) 0 64 in
     same_from_bits_below 64 (mask_l (bits_of word)) word (subst (λ n. mask_l (bits_of word) < 2 ^ n) long (mask_l-lt (bits_of word))) fits
     (λ i lt. bit_mask_l (bits_of word) i
-      ∙ ap (λ b. cond b 1 0) (get_or-map-range_with_len (λ k. bit_at word k == 1) 0 64 i i false lt (omega arith))
-      ∙ as_digit (bit_at word i) (bit_at-lt word i))
+    ∙ ap (λ b. cond b 1 0) (get_or-map-range_with_len (λ k. bit_at word k == 1) 0 64 i i false lt (omega arith))
+    ∙ as_digit (bit_at word i) (bit_at-lt word i))
 
 pub ones_of_word : (word : ℕ) → word < 2 ^ 64 → count_ones word ≡ count_by (λ i. bit_at word i == 1) (range_with_len 0 64)
 ones_of_word word fits = ap count_ones (sym (mask_of_bits word fits)) ∙ ones-mask_l (λ i. bit_at word i == 1) (range_with_len 0 64)
@@ -78,3 +77,20 @@ ones_of_values words n holds =
 pub true_values : (words : List ℕ) (n : ℕ) (row : List Bool) → values words n ≡ row → Holds words n → total (digit words) 0 (64 * length words) ≡ count_by (λ b. b) row
 true_values words n row is holds =
     ones_of_values words n holds ∙ sym (sum_by-map (λ b. cond b 1 0) (bit_of words) (range_with_len 0 n)) ∙ ap (count_by (λ b. b)) is
+
+-- the same of words that differ
+pub ones_of_zip : (a b : List ℕ) → length a ≡ length b → ((k : ℕ) → slice_index_or a k 0 < 2 ^ 64) → ((k : ℕ) → slice_index_or b k 0 < 2 ^ 64)
+    → sum_by count_ones (zip2 bit_xor a b) ≡ count_bits (zip2 bit_xor a b)
+ones_of_zip a b same fits_a fits_b =
+    let long = length-zip2 bit_xor a b same in
+    ones_of_words (zip2 bit_xor a b)
+    (λ k lt. subst (λ w. w < 2 ^ 64) (sym (get_or-zip2 bit_xor a b k 0 0 0 (omega arith) (omega arith))) (xor_lt 64 _ _ (fits_a k) (fits_b k)))
+
+-- a row has no more true values than values
+pub few_bits : (words : List ℕ) (n : ℕ) (row : List Bool) → values words n ≡ row → Holds words n → count_bits words < 2 ^ 64
+few_bits words n row is holds =
+    let count = true_values words n row is holds in
+    let most = count_by-le-length (λ b. b) row in
+    let long = row_len words n row is in
+    let fits = holds.fits in
+    omega arith

@@ -1,5 +1,5 @@
 -- The place of a value: its word, and its bit there.
-use Rattle.std.proofs.Common.{◌≡◌, ◌≢◌, ℕ, ◌+◌, ◌*◌, ◌/◌, ◌%◌, ◌<◌, ◌≤◌, arith}
+use Rattle.std.proofs.Common.{◌≡◌, ◌≢◌, ℕ, ◌*◌, ◌/◌, ◌%◌, ◌<◌, arith}
 
 -- a value has a word, where the words are enough
 pub word_within : (k words : ℕ) → k < 64 * words → k / 64 < words

@@ -1,5 +1,5 @@
 -- Sums over neighbouring numbers.
-use Rattle.std.proofs.Common.{◌≡◌, ℕ, zero, suc, ◌+◌, ◌*◌, ◌<◌, ◌≤◌, List, [], ◌∷◌, map, refl, sym, ap, ◌∙◌, subst, arith}
+use Rattle.std.proofs.Common.{◌≡◌, ℕ, zero, suc, ◌+◌, ◌<◌, List, [], ◌∷◌, map, refl, sym, ap, ◌∙◌, arith}
 use Rattle.std.specs.List.{sum_by, range_with_len}
 use Rattle.std.proofs.lemmas.List.Sums.{sum_by-cons}
 
@@ -28,11 +28,11 @@ total_alike f g a b (suc n) same =
     let first = total_next f a n in
     let second = total_next g b n in
     let here : f a ≡ g b = (let ea : a + 0 ≡ a = omega arith in let eb : b + 0 ≡ b = omega arith in
-        sym (ap f ea) ∙ same 0 (omega arith) ∙ ap g eb) in
+    sym (ap f ea) ∙ same 0 (omega arith) ∙ ap g eb) in
     let rest = total_alike f g (a + 1) (b + 1) n (λ i lt.
-        let ea : a + 1 + i ≡ a + (i + 1) = omega arith in
-        let eb : b + 1 + i ≡ b + (i + 1) = omega arith in
-        ap f ea ∙ same (i + 1) (omega arith) ∙ sym (ap g eb)) in
+    let ea : a + 1 + i ≡ a + (i + 1) = omega arith in
+    let eb : b + 1 + i ≡ b + (i + 1) = omega arith in
+    ap f ea ∙ same (i + 1) (omega arith) ∙ sym (ap g eb)) in
     omega arith
 
 pub total_nothing : (f : ℕ → ℕ) (a n : ℕ) → ((i : ℕ) → i < n → f (a + i) ≡ 0) → total f a n ≡ 0

@@ -1,10 +1,10 @@
 -- The values that words hold, one by one.
-use Rattle.std.proofs.Common.{◌≡◌, ◌≢◌, ℕ, ◌+◌, ◌*◌, ◌<◌, ◌≤◌, Bool, false, List, length, slice_index_or, slice_set, inl, inr, sym, ap, ◌∙◌, arith}
+use Rattle.std.proofs.Common.{◌≡◌, ◌≢◌, ℕ, ◌<◌, Bool, false, List, length, slice_index_or, slice_set, inl, inr, sym, ap, ◌∙◌, arith}
 use Rattle.std.proofs.lemmas.Bool.{cases_eq}
 use Rattle.std.proofs.lemmas.Grind.{get_or-set_at}
 use Rattle.std.proofs.lemmas.List.{same_lists, get_or_default, get_or-set_other, length-set}
 use Rattle.std.proofs.lemmas.List.FromFn.{length-map-range_with_len, get_or-map-range_with_len}
-use Rattle.cb_bits.specs.Bits.{bit_of, values, Holds, Packs}
+use Rattle.cb_bits.specs.Bits.{bit_of, values, Holds}
 
 pub length-values : (words : List ℕ) (n : ℕ) → length (values words n) ≡ n
 length-values words n = length-map-range_with_len (bit_of words) 0 n
@@ -36,11 +36,13 @@ module _ (words after : List ℕ) (n : ℕ) (row : List Bool) (is : values words
       let long = row_len words n row is in
       values-are after n (slice_set row k b) (length-set row k b ∙ long)
       (λ i within. elim (cases_eq i k) [
-          inl same ↦ ap (bit_of after) same ∙ there ∙ sym (get_or-set_at row k i b false same (omega arith))
-        | inr other ↦ elsewhere i other ∙ row_bit words n row is i within ∙ sym (get_or-set_other row k i b false other) ])
+        | inl same ↦ ap (bit_of after) same ∙ there ∙ sym (get_or-set_at row k i b false same (omega arith))
+        | inr other ↦ elsewhere i other ∙ row_bit words n row is i within ∙ sym (get_or-set_other row k i b false other)
+      ])
 
   pub set_holds : length after ≡ length words → Holds words n → Holds after n
   set_holds same holds = record {
+    fits = holds.fits;
     enough = let e = holds.enough in omega arith;
     no_more = let e = holds.no_more in omega arith;
     rest = λ i past. elsewhere i (λ is_k. let e = is_k in omega arith) ∙ holds.rest i past;

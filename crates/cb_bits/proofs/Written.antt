@@ -1,5 +1,5 @@
 -- A word of a slice that is written, and the bits of the slice then.
-use Rattle.std.proofs.Common.{◌≡◌, ◌≢◌, ◌⊎◌, ℕ, ◌+◌, ◌*◌, ◌/◌, ◌%◌, ◌<◌, ◌==◌, nat_eq, Bool, List, length, slice_index_or, slice_set, inl, inr, sym, ap, ◌∙◌, arith}
+use Rattle.std.proofs.Common.{◌≡◌, ◌≢◌, ℕ, ◌*◌, ◌/◌, ◌%◌, ◌<◌, ◌==◌, List, length, slice_index_or, slice_set, inl, inr, sym, ap, ◌∙◌, arith}
 use Rattle.std.specs.Int.{bit_at}
 use Rattle.std.proofs.lemmas.Bool.{cases_eq}
 use Rattle.std.proofs.lemmas.List.{get_or-set_same, get_or-set_other}
@@ -18,7 +18,8 @@ module _ (words : List ℕ) (k word : ℕ) (within : k < 64 * length words)
 
   pub bit_elsewhere : (i : ℕ) → i ≢ k → bit_of (slice_set words (k / 64) word) i ≡ bit_of words i
   bit_elsewhere i differ = elim (cases_eq (i / 64) (k / 64)) [
-      inl same ↦ ap (λ w. bit_at w (i % 64) == 1) (get_or-set_at words (k / 64) (i / 64) word 0 same (word_within k (length words) within))
+    | inl same ↦ ap (λ w. bit_at w (i % 64) == 1) (get_or-set_at words (k / 64) (i / 64) word 0 same (word_within k (length words) within))
         ∙ ap (λ b. b == 1) (keeps (i % 64) (omega arith) (bits_apart i k differ same))
         ∙ ap (λ n. bit_at (slice_index_or words n 0) (i % 64) == 1) (sym same)
-    | inr other ↦ ap (λ w. bit_at w (i % 64) == 1) (get_or-set_other words (k / 64) (i / 64) word 0 other) ]
+    | inr other ↦ ap (λ w. bit_at w (i % 64) == 1) (get_or-set_other words (k / 64) (i / 64) word 0 other)
+  ]

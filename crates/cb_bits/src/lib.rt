@@ -5,3 +5,6 @@ mod row;
 mod words;
 
 pub use row::Row;
+
+#[cfg(test)]
+mod tests;

@@ -3,7 +3,9 @@ ghost use Rattle.std.specs.Prelude.{◌≡◌, ◌<◌, ◌≤◌, ◌-◌, ◌+
 ghost use Rattle.std.specs.Simd.Lanes.{zip2};
 ghost use Rattle.cb_bits.specs.Bits.{Packs, differing};
 
-use crate::words::{clear_bit, count_differing, count_ones, is_set, set_bit, unite, zero_words};
+use crate::words::{
+    are_same, clear_bit, count_differing, count_ones, is_set, set_bit, unite, zero_words,
+};
 use std::alloc::{AllocError, Global};
 use std::marker::Model;
 
@@ -75,7 +77,7 @@ impl Row {
         requires { length self.now ≡ length other.now }
         ensures { IsTrue result ↔ (self.now ≡ other.now) }
     {
-        self.words.as_slice() == other.words.as_slice()
+        are_same(&self.words, &other.words)
     }
 
     /// How many values are true.

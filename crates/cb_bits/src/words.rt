@@ -1,8 +1,7 @@
 //! Single bits of a slice of words: bit k is bit k % 64, counted from the least, of word k / 64.
-ghost use Rattle.std.specs.Prelude.{◌≡◌, ◌≢◌, ◌<◌, ◌*◌, ◌^◌, ℕ, length, true, false, replicate, bit_or, bit_xor, count_ones as ones, IfOk};
-ghost use Rattle.std.specs.List.{sum_by};
+ghost use Rattle.std.specs.Prelude.{◌≡◌, ◌≢◌, ◌<◌, ◌↔◌, ◌*◌, ◌^◌, ℕ, length, true, false, replicate, bit_or, bit_xor, IfOk, IsTrue};
 ghost use Rattle.std.specs.Simd.Lanes.{zip2};
-ghost use Rattle.cb_bits.specs.Bits.{bit_of, words_for};
+ghost use Rattle.cb_bits.specs.Bits.{bit_of, words_for, count_bits, HaveSameBits};
 
 use std::alloc::{AllocError, Global};
 
@@ -51,8 +50,8 @@ pub fn unite(words: &mut [u64], other: &[u64])
 
 /// How many bits are one.
 pub fn count_ones(words: &[u64]) -> usize
-    requires { sum_by ones words.now < 2 ^ 64 }
-    ensures { result ≡ sum_by ones words.now }
+    requires { count_bits words.now < 2 ^ 64 }
+    ensures { result ≡ count_bits words.now }
 {
     let mut count = 0;
     for i in 0..words.len() {
@@ -64,12 +63,25 @@ pub fn count_ones(words: &[u64]) -> usize
 /// How many bits differ.
 pub fn count_differing(words: &[u64], other: &[u64]) -> usize
     requires same { length words.now ≡ length other.now }
-    requires few { sum_by ones (zip2 bit_xor words.now other.now) < 2 ^ 64 }
-    ensures { result ≡ sum_by ones (zip2 bit_xor words.now other.now) }
+    requires few { count_bits (zip2 bit_xor words.now other.now) < 2 ^ 64 }
+    ensures { result ≡ count_bits (zip2 bit_xor words.now other.now) }
 {
     let mut count = 0;
     for i in 0..words.len() {
         count += (words[i] ^ other[i]).count_ones() as usize;
     }
     count
+}
+
+/// Whether all bits are the same.
+pub fn are_same(words: &[u64], other: &[u64]) -> bool
+    requires { length words.now ≡ length other.now }
+    ensures { IsTrue result ↔ HaveSameBits words.now other.now }
+{
+    for i in 0..words.len() {
+        if words[i] != other[i] {
+            return false;
+        }
+    }
+    true
 }

@@ -1,4 +1,4 @@
-use Rattle.std.proofs.Common.{◌≡◌, ℕ, ◌%◌, ◌/◌, ◌==◌, slice_index_or, ap, ◌∙◌, w64, arith}
+use Rattle.std.proofs.Common.{◌%◌, ◌/◌, ◌==◌, slice_index_or, ap, ◌∙◌, w64, arith}
 use Rattle.std.proofs.lemmas.Nat.Bits.{bit_at_clear_same, bit_at_clear_other}
 use Rattle.cb_bits.proofs.Written.{bit_there, bit_elsewhere}
 use Rattle.cb_bits.proofs.words.clear_bit.Goals as goal

@@ -1,4 +1,4 @@
-use Rattle.std.proofs.Common.{◌≡◌, ◌<◌, length, bit_or, arith}
+use Rattle.std.proofs.Common.{bit_or, arith}
 use Rattle.cb_bits.proofs.United.{united}
 use Rattle.cb_bits.proofs.words.unite.Goals as goal
 

@@ -1,4 +1,4 @@
-use Rattle.std.proofs.Common.{◌≡◌, ◌*◌, ◌<◌, ◌≤◌, length, sym, ap, ◌∙◌, arith}
+use Rattle.std.proofs.Common.{length, ap, ◌∙◌, arith}
 use Rattle.cb_bits.specs.Bits.{bit_of}
 use Rattle.cb_bits.proofs.Values.{row_len, row_bit}
 use Rattle.cb_bits.proofs.row.Row.get.Goals as goal

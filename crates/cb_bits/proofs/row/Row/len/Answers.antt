@@ -1,4 +1,4 @@
-use Rattle.std.proofs.Common.{◌≡◌, sym}
+use Rattle.std.proofs.Common.{sym}
 use Rattle.cb_bits.proofs.Values.{row_len}
 use Rattle.cb_bits.proofs.row.Row.len.Goals as goal
 

@@ -1,5 +1,5 @@
-use Rattle.std.proofs.Common.{◌≡◌, ◌<◌, ℕ, List, length, sym, subst, ap, ◌∙◌, arith}
-use Rattle.cb_bits.specs.Bits.{bit_of, Holds, Packs}
+use Rattle.std.proofs.Common.{sym, subst, arith}
+use Rattle.cb_bits.specs.Bits.{Holds, Packs}
 use Rattle.cb_bits.proofs.Values.{row_len, row_bit}
 use Rattle.cb_bits.proofs.row.Row.words.Goals as goal
 
