@@ -14,3 +14,6 @@ mod topology;
 pub use stop::FlatStop;
 pub use symptoms::read_symptoms;
 pub use topology::{FlatTopology, read_topology};
+
+#[cfg(test)]
+mod tests;
