@@ -35,7 +35,10 @@ fn stand_alone(classes: &List<ClassRow>) -> bool
 fn have_one_mark(events: &List<EventRow>) -> bool
     ensures { IsTrue result ↔ All (λ row. row.symptom ≡ not row.problem) events.now }
 {
-    events.as_slice().iter().all(|row| row.symptom != row.problem)
+    events
+        .as_slice()
+        .iter()
+        .all(|row| row.symptom != row.problem)
 }
 
 // Whether all rules are flat.
