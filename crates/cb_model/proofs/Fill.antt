@@ -272,9 +272,12 @@ module _ (t : Tables) (typed : WellTyped t) where
           let by = (shown n).0 is_hidden in
           let row = by.1 in
           let it = (lists.exactly by.0).0 by.2 in
-          let same : it.0 ≡ row = cc (sym it.1 ∙ by.3) in
-          (row.class, subst (λ (r : HideRow). IsA t c r.class) same it.2, contains_at t.hides by.0 (record { class = row.class; event = record { 0 = n } })
-              (by.3 ∙ ap (λ e. let h : HideRow = record { class = row.class; event = record { 0 = e } } in Some h) by.4)),
+          let same : it.0 ≡ row = cc (sym it.1 ∙ by.3) in (
+            row.class,
+            subst (λ (r : HideRow). IsA t c r.class) same it.2,
+            contains_at t.hides by.0 (record { class = row.class; event = record { 0 = n } })
+                (by.3 ∙ ap (λ e. let h : HideRow = record { class = row.class; event = record { 0 = e } } in Some h) by.4),
+          ),
       λ (b, up, hide).
           let at = place_in t.hides (record { class = b; event = record { 0 = n } }) hide in
           (shown n).1 (at.0, record { class = b; event = record { 0 = n } }, (lists.exactly at.0).1 (record { class = b; event = record { 0 = n } }, at.1, up), at.1, refl),

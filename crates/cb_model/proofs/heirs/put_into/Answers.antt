@@ -19,9 +19,9 @@ loop-place-preserved c =
     let low = c.requires.within i 0 c.loop-place-test.true in
     let was_is = read_at mid mid place was refl (omega (arith, low, c.loop-place.invariant.all)) c.index_mut.ensures.value in
     let more = puts_more (take i places) place number old mid was c.loop-place.invariant
-        (λ has.
-        let before = take_contains places i place has in
-        c.requires.apart before.0 i 0 before.1 c.loop-place-test.true (get_or_from_slice_get places before.0 place 0 before.2))
-        was_is in
+    (λ has.
+    let before = take_contains places i place has in
+    c.requires.apart before.0 i 0 before.1 c.loop-place-test.true (get_or_from_slice_get places before.0 place 0 before.2))
+    was_is in
     let there = subst (λ (front : List ℕ). PutsInto front number old (set mid place (was ++ number ∷ []))) (sym (take_more places i place place_is)) more in
     subst (λ (list : List ℕ). PutsInto (take (i + 1) places) number old (set mid place list)) (sym c.in_ok-push.ensures.ok) there
