@@ -6,3 +6,4 @@ pub mod Places
 pub mod Directory
 pub mod Least
 pub mod Finds
+pub mod Loops
