@@ -105,8 +105,13 @@ module _ (tree : Tree) where
 
     pub needs_inverse : (name target inverse : Token) (many : _) (j : ℕ) → MemberAt tree k i (Relation name target many inverse) → IsNamed tree target.name j → NeedsOwn tree j inverse.name
     needs_inverse name target inverse many j at named none =
-        keeps BadInverse inverse.line (k, i, Relation name target many inverse, at,
-        (at.0, j, at.1, named, refl, λ owns. let (m, member, there, is) = owns in none (m, member, there, back_named inverse.name at.0.name.name name.name member is)))
+        keeps BadInverse inverse.line (
+          k,
+          i,
+          Relation name target many inverse,
+          at,
+          (at.0, j, at.1, named, refl, λ owns. let (m, member, there, is) = owns in none (m, member, there, back_named inverse.name at.0.name.name name.name member is)),
+        )
 
     pub needs_cause : (name cause effect : Token) (path : List Token) → MemberAt tree k i (Rule name cause path effect) → NeedsEvent tree k cause.name
     needs_cause name cause effect path at none = keeps NoCause cause.line (k, i, Rule name cause path effect, at, (refl, none))
@@ -163,9 +168,13 @@ module _ (tree : Tree) where
   rule_at k j i n number name (Event called problem symptom) above at named is numbers = absurd (is (λ x. x))
   rule_at k j i n number name (Relation called target many inverse) above at named is numbers = absurd (is (λ x. x))
   rule_at k j i n number name (Rule called cause path effect) above at named is numbers =
-      let same : called ≡ named.0 = cc (named.1) in
-      (record { class = record { 0 = j }; name = called.name; cause = cause.name; path = map (λ t. t.name) path; effect = effect.name }, n,
-      numbers (Rule called cause path effect) _ at refl, ap (λ (t : Token). t.name) same ∙ named.2, above)
+      let same : called ≡ named.0 = cc (named.1) in (
+        record { class = record { 0 = j }; name = called.name; cause = cause.name; path = map (λ t. t.name) path; effect = effect.name },
+        n,
+        numbers (Rule called cause path effect) _ at refl,
+        ap (λ (t : Token). t.name) same ∙ named.2,
+        above,
+      )
   rule_at k j i n number name (Block called) above at named is numbers = absurd (is (λ x. x))
   rule_at k j i n number name (Hide called) above at named is numbers = absurd (is (λ x. x))
 

@@ -78,8 +78,12 @@ module _ {Row : Type 0} (kind : Member → Option Row) (P : Member → Type 0) (
     | inl more ↦
         let all = places_from 0 decl.members (λ j m here. let same : 0 + j ≡ j = omega arith in ap (slice_get decl.members) same ∙ here) in
         let long = places_long 0 decl.members in
-        absurd (few (kind_places 0 decl.members, all.1,
-        all_from (λ place. HasAt tree k P place.0 place.1) (kind_places 0 decl.members) (λ n place here. (all.0 n place here).2), omega (arith, long, more)))
+        absurd (few (
+          kind_places 0 decl.members,
+          all.1,
+          all_from (λ place. HasAt tree k P place.0 place.1) (kind_places 0 decl.members) (λ n place here. (all.0 n place here).2),
+          omega (arith, long, more),
+        ))
   ]
 
 event_such : (c : ClassId) (member : Member) (row : EventRow) → event_in c member ≡ Some row → IsEvent member
