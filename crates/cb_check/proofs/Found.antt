@@ -1,5 +1,5 @@
 -- What is found by name in a tree that keeps the rules.
-use Rattle.std.proofs.Common.{◌≡◌, ℕ, zero, suc, ◌<◌, ◌≤◌, List, [], ◌∷◌, ◌++◌, length, map, take, Option, Some, None, refl, sym, ap, subst, ◌∙◌, inl, inr, arith}
+use Rattle.std.proofs.Common.{◌≡◌, ℕ, zero, suc, ◌<◌, List, [], ◌∷◌, ◌++◌, length, map, Option, Some, None, refl, sym, ap, subst, ◌∙◌, inl, inr, arith}
 use Rattle.std.specs.Prelude.{slice_get, IfNone, IsSome}
 use Rattle.std.proofs.lemmas.Bool.{cases_lt}
 use Rattle.std.proofs.lemmas.Option.{slice_get_within}
@@ -11,7 +11,7 @@ use Rattle.cb_grammar.specs.declared.tree.ClassDecl.{ClassDecl}
 use Rattle.cb_grammar.specs.declared.tree.Member.{Member}
 use Rattle.cb_grammar.specs.declared.tree.Member.TheVariants.{Event, Relation, Rule, Block, Hide}
 use Rattle.cb_rules.specs.declared.rule.TypeRule.TheVariants.{NoParent, NoTarget, BadInverse, NoCause, NoRelation, NoEffect, NoBlocked, NoHidden}
-use Rattle.cb_rules.specs.Classes.{ClassAt, IsNamed, IsAbove, MemberAt, HasAt, Has, declared, Declares, IsEventNamed, IsSymptomNamed, IsRelation, IsRelationNamed, IsRelationTo, IsRelationBack, IsRuleNamed, Leads}
+use Rattle.cb_rules.specs.Classes.{ClassAt, IsNamed, IsAbove, MemberAt, HasAt, Has, Declares, IsEventNamed, IsSymptomNamed, IsRelation, IsRelationNamed, IsRelationTo, IsRelationBack, IsRuleNamed, Leads}
 use Rattle.cb_rules.specs.Rules.{IsNoClass, Owns}
 use Rattle.cb_rules.specs.Fault.{KeepsAll}
 use Rattle.cb_check.specs.Stands.{RelationDecl, declared_from, event_in, relation_in, rule_in}
