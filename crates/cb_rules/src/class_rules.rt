@@ -1,6 +1,6 @@
 //! The rules on classes, but for the one on loops.
 ghost use Rattle.std.specs.Prelude.{◌≡◌, ◌↔◌, ◌<◌, ℕ, suc, length, IsTrue};
-ghost use Rattle.cb_rules.specs.declared.rule.TypeRule.TheVariants.{TwoClasses, NoParent, Depth, TooManyClasses, TooManyMembers};
+ghost use Rattle.cb_rules.specs.declared.rule.TypeRule.TheVariants.{TwoClasses, NoParent, TooManyClasses};
 ghost use Rattle.cb_rules.specs.Classes.{ClassAt, IsAbove};
 ghost use Rattle.cb_rules.specs.Rules.{IsSecondClass, HasNoParent, IsTooDeep, IsOneTooMany};
 ghost use Rattle.cb_rules.specs.Fault.{KeepsBefore, Keeps};
@@ -50,7 +50,7 @@ pub struct FewAncestors;
 impl ClassRule for FewAncestors {
     ghost forbids = { IsTooDeep };
 
-    ghost needs = { λ _ tree. KeepsBefore tree Depth };
+    ghost needs = { λ _ tree. Keeps tree TwoClasses };
 
     fn line(&self, directory: &Directory<'_>, class: usize, decl: &ClassDecl) -> Option<u32> {
         blame(is_deep(directory, class), &decl.name)

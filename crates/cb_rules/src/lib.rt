@@ -5,13 +5,16 @@ mod blame;
 mod class_rules;
 mod directory;
 mod entry;
+mod fault;
 mod finds;
 mod laws;
 mod least;
+mod loops;
 mod member_rules;
 mod places;
 mod rule;
 
 pub use directory::{Directory, Place};
+pub use fault::first_fault;
 pub use laws::one_fault;
 pub use rule::{BrokenRule, TypeRule};
