@@ -6,7 +6,8 @@ use Rattle.std.proofs.lemmas.Bool.{cases_lt}
 use Rattle.cb_grammar.specs.declared.tree.Tree.{Tree}
 use Rattle.cb_rules.specs.declared.rule.TypeRule.{TypeRule}
 use Rattle.cb_rules.specs.declared.rule.TypeRule.TheVariants.{TwoClasses, NoParent, Loop, Depth, TwoNames, NoTarget, BadInverse, NoCause, NoRelation, NoEffect, NoBlocked, NoHidden, TooManyClasses, TooManyMembers}
-use Rattle.cb_rules.specs.Fault.{number_of, Breaks, Keeps, KeepsBefore}
+use Rattle.cb_rules.specs.declared.rule.BrokenRule.{BrokenRule}
+use Rattle.cb_rules.specs.Fault.{number_of, Breaks, Keeps, KeepsBefore, IsFault}
 use Rattle.cb_rules.specs.Least.{IsLeast}
 
 -- the rules by their numbers
@@ -63,21 +64,21 @@ module _ (tree : Tree) (items : List TypeRule) (n : ℕ) (d : TypeRule) (same : 
   ]
   kept_more (Some line) within none keeps other low = absurd (cc)
 
-  -- all rules are kept
-  pub kept_all : length items ≤ n → (rule : TypeRule) → Keeps tree rule
-  kept_all all rule = before rule (few rule (omega (arith, all, ap length same))) where
-    few : (rule : TypeRule) → 14 ≤ n → number_of rule ≤ n
-    few TwoClasses all = omega arith
-    few NoParent all = omega arith
-    few Loop all = omega arith
-    few Depth all = omega arith
-    few TwoNames all = omega arith
-    few NoTarget all = omega arith
-    few BadInverse all = omega arith
-    few NoCause all = omega arith
-    few NoRelation all = omega arith
-    few NoEffect all = omega arith
-    few NoBlocked all = omega arith
-    few NoHidden all = omega arith
-    few TooManyClasses all = omega arith
-    few TooManyMembers all = omega arith
+-- a tree has one fault
+pub one_fault_is : (tree : Tree) (one other : BrokenRule) → IsFault tree one → IsFault tree other → one ≡ other
+one_fault_is tree one other is also =
+    let low : number_of one.rule ≤ number_of other.rule = not_before one other is also in
+    let high : number_of other.rule ≤ number_of one.rule = not_before other one also is in
+    let numbers : number_of one.rule - 1 ≡ number_of other.rule - 1 = omega arith in
+    let rule : one.rule ≡ other.rule = cc (sym (at_number one.rule) ∙ (ap (slice_get rules) numbers ∙ at_number other.rule)) in
+    let line : one.line ≡ other.line = omega (arith, is.least other.line (subst (λ (r : TypeRule). Breaks tree r other.line) (sym rule) also.broken), also.least one.line (subst (λ (r : TypeRule). Breaks tree r one.line) rule is.broken)) in
+    subst (λ (r : TypeRule). one ≡ mk r other.line) rule (ap (mk one.rule) line)
+  where
+    mk : TypeRule → ℕ → BrokenRule
+    mk rule line = record { rule = rule; line = line }
+
+    not_before : (a b : BrokenRule) → IsFault tree a → IsFault tree b → number_of a.rule ≤ number_of b.rule
+    not_before a b is also = elim (cases_lt (number_of b.rule) (number_of a.rule)) [
+      | inl less ↦ absurd (is.first b.rule less b.line also.broken)
+      | inr more ↦ more
+    ]

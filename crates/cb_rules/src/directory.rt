@@ -5,8 +5,9 @@ ghost use Rattle.cb_rules.specs.Classes.{Declares, HasAt, Has, Extends};
 ghost use Rattle.cb_rules.specs.Rules.{IsNoClass, Owns};
 ghost use Rattle.cb_rules.specs.Fault.{KeepsBefore};
 ghost use Rattle.cb_rules.specs.Directory.{IsFirstNamed, OwnsFirst, HasMember, AreEntries};
+ghost use Rattle.cb_rules.specs.Many.{CountsOwn};
 
-use crate::entry::Entry;
+use crate::entry::{Entry, Kind};
 use crate::places::first_places;
 use cb_grammar::{ClassDecl, Member, Tree};
 use cb_model::{MOST_ANCESTORS, NameMap};
@@ -85,6 +86,14 @@ impl<'t> Directory<'t> {
         ensures absent { IfNone result (¬ Owns self.now class (Declares name.now)) }
     {
         self.entries[class].members.get(name).copied()
+    }
+
+    /// How many of the kind the class itself declares.
+    pub fn count(&self, class: usize, kind: Kind) -> usize
+        requires { class < length self.now.classes }
+        ensures { CountsOwn self.now class kind result }
+    {
+        self.entries[class].count(kind)
     }
 
     /// Where the event, relation or rule of this name stands that the class declares or inherits.

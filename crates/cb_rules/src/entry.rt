@@ -1,11 +1,20 @@
 //! What the directory keeps of one class.
 ghost use Rattle.std.specs.Prelude.{◌≡◌, IfOk, count_by};
 ghost use Rattle.cb_rules.specs.Directory.{parent_place, is_event, is_relation, is_rule, IsEntry};
+ghost use Rattle.cb_rules.specs.Many.{count_of};
 
 use crate::places::first_places;
 use cb_grammar::{ClassDecl, Member, Token};
 use cb_model::NameMap;
 use std::alloc::{AllocError, Global};
+
+/// What a class may have too many of.
+#[derive(Clone, Copy, Debug, PartialEq, Eq)]
+pub enum Kind {
+    Event,
+    Relation,
+    Rule,
+}
 
 /// A class: the place of the class that it extends, the places of its members by their names, and how many of these
 /// are events, relations and rules.
@@ -31,6 +40,17 @@ impl Entry {
             relations: count_relations(members),
             rules: count_rules(members),
         })
+    }
+
+    /// How many of the kind the class itself declares.
+    pub fn count(&self, kind: Kind) -> usize
+        ensures { result ≡ count_of kind self.now }
+    {
+        match kind {
+            Kind::Event => self.events,
+            Kind::Relation => self.relations,
+            Kind::Rule => self.rules,
+        }
     }
 }
 

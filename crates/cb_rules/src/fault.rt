@@ -3,7 +3,7 @@ ghost use Rattle.std.specs.Prelude.{◌≡◌, ℕ, IfOk, IfSome, IfNone, Some, 
 ghost use Rattle.cb_rules.specs.Fault.{Breaks, KeepsAll, KeepsBefore, IsFault};
 ghost use Rattle.cb_rules.specs.Least.{IsLeast};
 
-use crate::class_rules::{FewAncestors, FewClasses, OneClass, ParentDeclared};
+use crate::class_rules::{FewAncestors, FewClasses, FewMembers, OneClass, ParentDeclared};
 use crate::directory::Directory;
 use crate::least::{least_class_line, least_member_line};
 use crate::loops::least_loop_line;
@@ -49,13 +49,6 @@ fn least_line(alloc: Global, directory: &Directory<'_>, rule: TypeRule) -> Resul
         TypeRule::NoBlocked => Ok(least_member_line::<BlockedKnown>(directory)),
         TypeRule::NoHidden => Ok(least_member_line::<HiddenKnown>(directory)),
         TypeRule::TooManyClasses => Ok(least_class_line(&FewClasses, directory)),
-        TypeRule::TooManyMembers => least_loop_line2(alloc, directory),
+        TypeRule::TooManyMembers => Ok(least_class_line(&FewMembers, directory)),
     }
-}
-
-fn least_loop_line2(alloc: Global, directory: &Directory<'_>) -> Result<Option<u32>, AllocError>
-    requires { KeepsBefore directory.now TypeRule.TooManyMembers }
-    ensures { IfOk result (IsLeast (Breaks directory.now TypeRule.TooManyMembers)) }
-{
-    Err(AllocError)
 }

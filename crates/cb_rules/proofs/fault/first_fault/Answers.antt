@@ -1,6 +1,6 @@
 use Rattle.std.proofs.Common.{arith}
 use Rattle.cb_rules.specs.declared.rule.TypeRule.TheVariants.{TwoClasses}
-use Rattle.cb_rules.proofs.Order.{kept_before, kept_more, kept_all}
+use Rattle.cb_rules.proofs.Order.{kept_before, kept_more}
 use Rattle.cb_rules.proofs.fault.first_fault.Goals as goal
 
 pub loop-rule-preserved : goal.loop-rule-preserved

@@ -49,4 +49,4 @@ pub returns-in-Loop : goal.returns-in-Loop
 returns-in-Loop c = subst (λ (r : TypeRule). IfOk c.least_loop_line.result (IsLeast (Breaks c.args.directory.now r))) (sym c.in-Loop.is) c.least_loop_line.ensures
 
 pub returns-in-TooManyMembers : goal.returns-in-TooManyMembers
-returns-in-TooManyMembers c = subst (λ (r : TypeRule). IfOk c.least_loop_line2.result (IsLeast (Breaks c.args.directory.now r))) (sym c.in-TooManyMembers.is) c.least_loop_line2.ensures
+returns-in-TooManyMembers c = subst (λ (r : TypeRule). IsLeast (Breaks c.args.directory.now r) c.least_class_line-in-TooManyMembers.result) (sym c.in-TooManyMembers.is) c.least_class_line-in-TooManyMembers.ensures
