@@ -1,5 +1,5 @@
 -- How rows are added.
-use Rattle.std.proofs.Common.{◌≡◌, ℕ, suc, ◌+◌, List, [], ◌∷◌, ◌++◌, length, take, Option, Some, None, refl, sym, ap, subst, ◌∙◌, append_assoc, arith}
+use Rattle.std.proofs.Common.{◌≡◌, ℕ, ◌+◌, List, [], ◌∷◌, ◌++◌, length, take, Option, Some, sym, ap, subst, ◌∙◌, append_assoc, arith}
 use Rattle.std.specs.Prelude.{slice_get}
 use Rattle.std.specs.List.{AllZip, filter_map}
 use Rattle.std.proofs.lemmas.List.{length-take-le}
@@ -58,17 +58,17 @@ module _ (tree : Tree) where
     hides = adds_more (GivesHide tree) (hide_in class) members n member old.hides now.hides new.hides is first.hides second.hides;
   }
 
-  pub rows_more : (decls : List ClassDecl) (n : ℕ) (decl : ClassDecl) (row : ClassRow) (old now new : Tables) → slice_get decls n ≡ Some decl → AreRowsOf tree (take n decls) old →
-      GivesClass tree decl row → now ≡ record { classes = old.classes ++ row ∷ []; events = old.events; relations = old.relations; rules = old.rules; blocks = old.blocks; hides = old.hides } → AddsMembers tree (record { 0 = n }) decl.members now new → AreRowsOf tree (take (n + 1) decls) new
-  rows_more decls n decl row old now new is rows gives now_is adds =
-      let pushed = zip_push (GivesClass tree) (take n decls) old.classes decl row rows.classes gives in
-      let classes = adds.classes ∙ ap (λ (t : Tables). t.classes) now_is in
-      record {
-        classes = subst (λ l. AllZip (GivesClass tree) l new.classes) (sym (take_step decls n decl is)) (subst (AllZip (GivesClass tree) (take n decls ++ decl ∷ [])) (sym classes) pushed);
-        events = zip_more GivesEvent event_in decls n decl now.events new.events is (subst (AllZip GivesEvent (declared_from event_in 0 (take n decls))) (ap (λ (t : Tables). t.events) (sym now_is)) rows.events) adds.events;
-        relations = zip_more (GivesRelation tree) relation_in decls n decl now.relations new.relations is
-            (subst (AllZip (GivesRelation tree) (declared_from relation_in 0 (take n decls))) (ap (λ (t : Tables). t.relations) (sym now_is)) rows.relations) adds.relations;
-        rules = zip_more (GivesRule tree) rule_in decls n decl now.rules new.rules is (subst (AllZip (GivesRule tree) (declared_from rule_in 0 (take n decls))) (ap (λ (t : Tables). t.rules) (sym now_is)) rows.rules) adds.rules;
-        blocks = zip_more (GivesBlock tree) block_in decls n decl now.blocks new.blocks is (subst (AllZip (GivesBlock tree) (declared_from block_in 0 (take n decls))) (ap (λ (t : Tables). t.blocks) (sym now_is)) rows.blocks) adds.blocks;
-        hides = zip_more (GivesHide tree) hide_in decls n decl now.hides new.hides is (subst (AllZip (GivesHide tree) (declared_from hide_in 0 (take n decls))) (ap (λ (t : Tables). t.hides) (sym now_is)) rows.hides) adds.hides;
+  -- a class's row, and the rows of what it declares
+  pub rows_more : (decls : List ClassDecl) (n : ℕ) (decl : ClassDecl) (row : ClassRow) (old new : Tables) (classes : List ClassRow) → slice_get decls n ≡ Some decl → AreRowsOf tree (take n decls) old →
+      GivesClass tree decl row → classes ≡ old.classes ++ row ∷ [] →
+      AddsMembers tree (record { 0 = n }) decl.members (record { classes = classes; events = old.events; relations = old.relations; rules = old.rules; blocks = old.blocks; hides = old.hides }) new →
+      AreRowsOf tree (take (n + 1) decls) new
+  rows_more decls n decl row old new classes is rows gives pushed adds =
+      let longer = zip_push (GivesClass tree) (take n decls) old.classes decl row rows.classes gives in record {
+        classes = subst (λ l. AllZip (GivesClass tree) l new.classes) (sym (take_step decls n decl is)) (subst (AllZip (GivesClass tree) (take n decls ++ decl ∷ [])) (sym (adds.classes ∙ pushed)) longer);
+        events = zip_more GivesEvent event_in decls n decl old.events new.events is rows.events adds.events;
+        relations = zip_more (GivesRelation tree) relation_in decls n decl old.relations new.relations is rows.relations adds.relations;
+        rules = zip_more (GivesRule tree) rule_in decls n decl old.rules new.rules is rows.rules adds.rules;
+        blocks = zip_more (GivesBlock tree) block_in decls n decl old.blocks new.blocks is rows.blocks adds.blocks;
+        hides = zip_more (GivesHide tree) hide_in decls n decl old.hides new.hides is rows.hides adds.hides;
       }

@@ -1,5 +1,5 @@
 -- What is found by name in a tree that keeps the rules.
-use Rattle.std.proofs.Common.{◌≡◌, ℕ, zero, suc, ◌<◌, ◌≤◌, List, [], ◌∷◌, ◌++◌, length, map, take, Option, Some, None, refl, sym, ap, subst, ◌∙◌, inl, inr, arith}
+use Rattle.std.proofs.Common.{◌≡◌, ℕ, zero, suc, ◌<◌, List, [], ◌∷◌, ◌++◌, length, map, Option, Some, None, refl, sym, ap, subst, ◌∙◌, inl, inr, arith}
 use Rattle.std.specs.Prelude.{slice_get, IfNone, IsSome}
 use Rattle.std.proofs.lemmas.Bool.{cases_lt}
 use Rattle.std.proofs.lemmas.Option.{slice_get_within}
@@ -11,7 +11,7 @@ use Rattle.cb_grammar.specs.declared.tree.ClassDecl.{ClassDecl}
 use Rattle.cb_grammar.specs.declared.tree.Member.{Member}
 use Rattle.cb_grammar.specs.declared.tree.Member.TheVariants.{Event, Relation, Rule, Block, Hide}
 use Rattle.cb_rules.specs.declared.rule.TypeRule.TheVariants.{NoParent, NoTarget, BadInverse, NoCause, NoRelation, NoEffect, NoBlocked, NoHidden}
-use Rattle.cb_rules.specs.Classes.{ClassAt, IsNamed, IsAbove, MemberAt, HasAt, Has, declared, Declares, IsEventNamed, IsSymptomNamed, IsRelation, IsRelationNamed, IsRelationTo, IsRelationBack, IsRuleNamed, Leads}
+use Rattle.cb_rules.specs.Classes.{ClassAt, IsNamed, IsAbove, MemberAt, HasAt, Has, Declares, IsEventNamed, IsSymptomNamed, IsRelation, IsRelationNamed, IsRelationTo, IsRelationBack, IsRuleNamed, Leads}
 use Rattle.cb_rules.specs.Rules.{IsNoClass, Owns}
 use Rattle.cb_rules.specs.Fault.{KeepsAll}
 use Rattle.cb_check.specs.Stands.{RelationDecl, declared_from, event_in, relation_in, rule_in}
@@ -105,8 +105,13 @@ module _ (tree : Tree) where
 
     pub needs_inverse : (name target inverse : Token) (many : _) (j : ℕ) → MemberAt tree k i (Relation name target many inverse) → IsNamed tree target.name j → NeedsOwn tree j inverse.name
     needs_inverse name target inverse many j at named none =
-        keeps BadInverse inverse.line (k, i, Relation name target many inverse, at,
-        (at.0, j, at.1, named, refl, λ owns. let (m, member, there, is) = owns in none (m, member, there, back_named inverse.name at.0.name.name name.name member is)))
+        keeps BadInverse inverse.line (
+          k,
+          i,
+          Relation name target many inverse,
+          at,
+          (at.0, j, at.1, named, refl, λ owns. let (m, member, there, is) = owns in none (m, member, there, back_named inverse.name at.0.name.name name.name member is)),
+        )
 
     pub needs_cause : (name cause effect : Token) (path : List Token) → MemberAt tree k i (Rule name cause path effect) → NeedsEvent tree k cause.name
     needs_cause name cause effect path at none = keeps NoCause cause.line (k, i, Rule name cause path effect, at, (refl, none))
@@ -163,9 +168,13 @@ module _ (tree : Tree) where
   rule_at k j i n number name (Event called problem symptom) above at named is numbers = absurd (is (λ x. x))
   rule_at k j i n number name (Relation called target many inverse) above at named is numbers = absurd (is (λ x. x))
   rule_at k j i n number name (Rule called cause path effect) above at named is numbers =
-      let same : called ≡ named.0 = cc (named.1) in
-      (record { class = record { 0 = j }; name = called.name; cause = cause.name; path = map (λ t. t.name) path; effect = effect.name }, n,
-      numbers (Rule called cause path effect) _ at refl, ap (λ (t : Token). t.name) same ∙ named.2, above)
+      let same : called ≡ named.0 = cc (named.1) in (
+        record { class = record { 0 = j }; name = called.name; cause = cause.name; path = map (λ t. t.name) path; effect = effect.name },
+        n,
+        numbers (Rule called cause path effect) _ at refl,
+        ap (λ (t : Token). t.name) same ∙ named.2,
+        above,
+      )
   rule_at k j i n number name (Block called) above at named is numbers = absurd (is (λ x. x))
   rule_at k j i n number name (Hide called) above at named is numbers = absurd (is (λ x. x))
 

@@ -1,5 +1,5 @@
 -- How members are numbered.
-use Rattle.std.proofs.Common.{◌≡◌, ◌≢◌, ℕ, zero, suc, ◌+◌, ◌<◌, ◌≤◌, List, [], ◌∷◌, ◌++◌, length, take, Option, Some, None, refl, sym, ap, subst, ◌∙◌, inl, inr, append_assoc, append-nil, arith}
+use Rattle.std.proofs.Common.{◌≡◌, ℕ, zero, suc, ◌+◌, ◌<◌, ◌≤◌, List, [], ◌∷◌, ◌++◌, length, take, Option, Some, None, refl, sym, ap, subst, ◌∙◌, inl, inr, append-nil, arith}
 use Rattle.std.specs.Prelude.{◌⊎◌, slice_get, is_some}
 use Rattle.std.specs.List.{filter_map, cons_option}
 use Rattle.std.proofs.lemmas.List.{length-append, length-take-le}
@@ -70,15 +70,18 @@ module _ {Row : Type 0} (kind : Member → Option Row) where
         total = omega (arith, next.1, takes.total, ap length kept, longer);
         each = λ i member row at gives. elim (at_push xs x i member at) [
           | inl before ↦
-              let (place, number_is, row_is) = takes.each i member row before gives in
-              (place, slice_get-left numbers (number ∷ []) i (old + place) number_is,
-              ap (λ l. slice_get l place) kept ∙ slice_get-left (filter_map kind xs) (r ∷ []) place row row_is)
+              let (place, number_is, row_is) = takes.each i member row before gives in (
+                place,
+                slice_get-left numbers (number ∷ []) i (old + place) number_is,
+                ap (λ l. slice_get l place) kept ∙ slice_get-left (filter_map kind xs) (r ∷ []) place row row_is,
+              )
           | inr last ↦
               let same : Some r ≡ Some row = sym is ∙ (ap kind last.1 ∙ gives) in
-              let at_end : i ≡ length numbers = last.0 ∙ sym takes.long in
-              (length (filter_map kind xs),
-              ap (slice_get (numbers ++ number ∷ [])) at_end ∙ (last_at numbers number ∙ ap Some (next.0 ∙ takes.total)),
-              ap (λ l. slice_get l (length (filter_map kind xs))) kept ∙ (last_at (filter_map kind xs) r ∙ same))
+              let at_end : i ≡ length numbers = last.0 ∙ sym takes.long in (
+                length (filter_map kind xs),
+                ap (slice_get (numbers ++ number ∷ [])) at_end ∙ (last_at numbers number ∙ ap Some (next.0 ∙ takes.total)),
+                ap (λ l. slice_get l (length (filter_map kind xs))) kept ∙ (last_at (filter_map kind xs) r ∙ same),
+              )
         ];
         long = omega (arith, length-append numbers (number ∷ []), length-append xs (x ∷ []), takes.long);
       }
@@ -125,19 +128,25 @@ module _ {Row : Type 0} (kind : ClassId → Member → Option Row) where
     total = omega (arith, takes.total, numbered.total, ap length rows, length-append (declared_from kind 0 decls) (filter_map (kind c) decl.members));
     each = λ class d i member row d_is member_is gives. elim (at_push decls decl class.0 d d_is) [
       | inl before ↦
-          let (list, number, list_is, number_is, row_is) = numbered.each class d i member row before member_is gives in
-          (list, number, slice_get-left lists (numbers ∷ []) class.0 list list_is, number_is,
-          ap (λ l. slice_get l number) rows ∙ slice_get-left (declared_from kind 0 decls) (filter_map (kind c) decl.members) number row row_is)
+          let (list, number, list_is, number_is, row_is) = numbered.each class d i member row before member_is gives in (
+            list,
+            number,
+            slice_get-left lists (numbers ∷ []) class.0 list list_is,
+            number_is,
+            ap (λ l. slice_get l number) rows ∙ slice_get-left (declared_from kind 0 decls) (filter_map (kind c) decl.members) number row row_is,
+          )
       | inr last ↦
           let same : class ≡ c = ap (λ n. let k : ClassId = record { 0 = n } in k) (last.0 ∙ sym place) in
           let here = ap (λ (v : ClassDecl). slice_get v.members i) last.1 ∙ member_is in
-          let (at, number_is, row_is) = takes.each i member row here (ap (λ k. kind k member) (sym same) ∙ gives) in
-          (numbers, now + at,
-          ap (slice_get (lists ++ numbers ∷ [])) (last.0 ∙ sym numbered.long) ∙ last_at lists numbers,
-          number_is,
-          ap (λ l. slice_get l (now + at)) rows
-          ∙ (ap (λ n. slice_get (declared_from kind 0 decls ++ filter_map (kind c) decl.members) (n + at)) numbered.total
-          ∙ (slice_get-right (declared_from kind 0 decls) (filter_map (kind c) decl.members) at ∙ row_is)))
+          let (at, number_is, row_is) = takes.each i member row here (ap (λ k. kind k member) (sym same) ∙ gives) in (
+            numbers,
+            now + at,
+            ap (slice_get (lists ++ numbers ∷ [])) (last.0 ∙ sym numbered.long) ∙ last_at lists numbers,
+            number_is,
+            ap (λ l. slice_get l (now + at)) rows
+                ∙ (ap (λ n. slice_get (declared_from kind 0 decls ++ filter_map (kind c) decl.members) (n + at)) numbered.total
+                ∙ (slice_get-right (declared_from kind 0 decls) (filter_map (kind c) decl.members) at ∙ row_is)),
+          )
     ];
     long = omega (arith, length-append lists (numbers ∷ []), length-append decls (decl ∷ []), numbered.long);
   }

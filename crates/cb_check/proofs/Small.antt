@@ -1,7 +1,7 @@
 -- A tree that keeps the rules has few declarations.
-use Rattle.std.proofs.Common.{◌≡◌, ◌≢◌, ℕ, zero, suc, ◌+◌, ◌*◌, ◌<◌, ◌≤◌, List, [], ◌∷◌, length, get_or, Option, Some, None, refl, sym, ap, subst, ◌∙◌, inl, inr, arith}
+use Rattle.std.proofs.Common.{◌≡◌, ◌≢◌, ℕ, zero, suc, ◌+◌, ◌≤◌, List, [], ◌∷◌, length, Option, Some, None, refl, ap, subst, ◌∙◌, inl, inr, arith}
 use Rattle.std.specs.Prelude.{slice_get}
-use Rattle.std.specs.List.{All, AllPairs, filter_map, cons_option}
+use Rattle.std.specs.List.{AllPairs, filter_map, cons_option}
 use Rattle.std.proofs.lemmas.Bool.{cases_lt}
 use Rattle.std.proofs.lemmas.List.Kept.{AllPairs-cons}
 use Rattle.cb_model.specs.declared.limits.TheConstants.{MOST_CLASSES, MOST_EVENTS, MOST_RELATIONS, MOST_RULES}
@@ -12,12 +12,12 @@ use Rattle.cb_grammar.specs.declared.tree.ClassDecl.{ClassDecl}
 use Rattle.cb_grammar.specs.declared.tree.Member.{Member}
 use Rattle.cb_grammar.specs.declared.tree.Member.TheVariants.{Event, Relation, Rule, Block, Hide}
 use Rattle.cb_rules.specs.declared.rule.TypeRule.TheVariants.{TooManyClasses}
-use Rattle.cb_rules.specs.Classes.{ClassAt, HasAt, MemberAt, IsEvent, IsRelation, IsRule}
+use Rattle.cb_rules.specs.Classes.{ClassAt, HasAt, IsEvent, IsRelation, IsRule}
 use Rattle.cb_rules.specs.Rules.{HasMoreThan}
 use Rattle.cb_rules.specs.Fault.{KeepsAll}
-use Rattle.cb_check.specs.Stands.{RelationDecl, RuleDecl, declared_from, event_in, relation_in, rule_in}
+use Rattle.cb_check.specs.Stands.{RelationDecl, RuleDecl, event_in, relation_in, rule_in}
 use Rattle.cb_check.specs.Numbers.{IsSmall}
-use Rattle.cb_check.proofs.Places.{slice_at, all_from, at_all}
+use Rattle.cb_check.proofs.Places.{slice_at, all_from}
 use Rattle.cb_check.proofs.Sections.{length-declared}
 use Rattle.cb_check.proofs.Few.{not_more_events, not_more_relations, not_more_rules}
 
@@ -78,8 +78,12 @@ module _ {Row : Type 0} (kind : Member → Option Row) (P : Member → Type 0) (
     | inl more ↦
         let all = places_from 0 decl.members (λ j m here. let same : 0 + j ≡ j = omega arith in ap (slice_get decl.members) same ∙ here) in
         let long = places_long 0 decl.members in
-        absurd (few (kind_places 0 decl.members, all.1,
-        all_from (λ place. HasAt tree k P place.0 place.1) (kind_places 0 decl.members) (λ n place here. (all.0 n place here).2), omega (arith, long, more)))
+        absurd (few (
+          kind_places 0 decl.members,
+          all.1,
+          all_from (λ place. HasAt tree k P place.0 place.1) (kind_places 0 decl.members) (λ n place here. (all.0 n place here).2),
+          omega (arith, long, more),
+        ))
   ]
 
 event_such : (c : ClassId) (member : Member) (row : EventRow) → event_in c member ≡ Some row → IsEvent member

@@ -1,14 +1,11 @@
 -- Tables with the rows that the declarations of a tree give are those that the tree stands for.
 use Rattle.std.proofs.Common.{◌≡◌, ℕ, zero, suc, List, [], ◌∷◌, Option, Some, None, refl, sym, ap, subst, ◌∙◌}
-use Rattle.std.specs.Prelude.{slice_get}
 use Rattle.std.specs.List.{AllZip}
-use Rattle.std.proofs.lemmas.Option.{same_Some}
 use Rattle.cb_model.specs.declared.id.ClassId.{ClassId}
 use Rattle.cb_model.specs.declared.id.EventId.{EventId}
 use Rattle.cb_model.specs.declared.id.RelId.{RelId}
 use Rattle.cb_model.specs.declared.tables.Tables.{Tables}
 use Rattle.cb_model.specs.declared.tables.ClassRow.{ClassRow}
-use Rattle.cb_model.specs.declared.tables.EventRow.{EventRow}
 use Rattle.cb_model.specs.declared.tables.RelRow.{RelRow}
 use Rattle.cb_model.specs.declared.tables.RuleRow.{RuleRow}
 use Rattle.cb_model.specs.declared.tables.BlockRow.{BlockRow}
@@ -17,12 +14,12 @@ use Rattle.cb_model.specs.Classes.{IsA, ancestor, parent_in_row, parent_of, pare
 use Rattle.cb_grammar.specs.declared.tree.Token.{Token}
 use Rattle.cb_grammar.specs.declared.tree.Tree.{Tree}
 use Rattle.cb_grammar.specs.declared.tree.ClassDecl.{ClassDecl}
-use Rattle.cb_rules.specs.Classes.{ClassAt, IsNamed, Extends, IsAbove}
+use Rattle.cb_rules.specs.Classes.{IsNamed, Extends, IsAbove}
 use Rattle.cb_rules.specs.Fault.{KeepsAll}
 use Rattle.cb_check.specs.Stands.{RelationDecl, RuleDecl, NameDecl, StandsParent, StandsClass, StandsInverse, StandsRelation, StandsPath, StandsRule, StandsBlock, StandsHide, Stands, declared_from, event_in, relation_in, rule_in, block_in, hide_in}
-use Rattle.cb_check.specs.Denotes.{DenotesEvent, DenotesRelation, DenotesRule, DenotesOwn, DenotesPath}
+use Rattle.cb_check.specs.Denotes.{DenotesEvent, DenotesRelation, DenotesOwn, DenotesPath}
 use Rattle.cb_check.specs.Rows.{GivesParent, GivesClass, GivesEvent, GivesRelation, GivesRule, GivesBlock, GivesHide, AreRowsOf}
-use Rattle.cb_check.proofs.Places.{zip_left, zip_right, zip_map}
+use Rattle.cb_check.proofs.Places.{zip_right, zip_map}
 use Rattle.cb_check.proofs.Kept.{one_class}
 
 zip_same : {X : Type 0} (xs ys : List X) → AllZip (λ x y. x ≡ y) xs ys → ys ≡ xs

@@ -1,5 +1,5 @@
 -- What the names of a tree denote, as numbers of rows: the k-th declaration of a kind has the number k.
-use Rattle.std.specs.Prelude.{◌≡◌, ℕ, List, [], ◌∷◌, Option, None, Some, slice_get}
+use Rattle.std.specs.Prelude.{◌≡◌, ℕ, List, [], ◌∷◌, Option, Some, slice_get}
 use Rattle.cb_model.specs.declared.id.ClassId.{ClassId}
 use Rattle.cb_model.specs.declared.id.RelId.{RelId}
 use Rattle.cb_grammar.specs.declared.tree.Tree.{Tree}

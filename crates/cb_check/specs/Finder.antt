@@ -4,7 +4,7 @@ use Rattle.cb_model.specs.declared.id.ClassId.{ClassId}
 use Rattle.cb_grammar.specs.declared.tree.Token.{Token}
 use Rattle.cb_grammar.specs.declared.tree.Tree.{Tree}
 use Rattle.cb_grammar.specs.declared.tree.Member.{Member}
-use Rattle.cb_grammar.specs.declared.tree.Member.TheVariants.{Event, Relation, Rule, Block, Hide}
+use Rattle.cb_grammar.specs.declared.tree.Member.TheVariants.{Relation}
 use Rattle.cb_rules.specs.Classes.{IsNamed, MemberAt, Has, IsEventNamed, IsRelationNamed, IsRuleNamed, Leads, declared}
 use Rattle.cb_rules.specs.Rules.{Owns}
 use Rattle.cb_rules.specs.Fault.{KeepsAll}

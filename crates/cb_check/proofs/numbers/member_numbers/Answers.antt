@@ -1,4 +1,4 @@
-use Rattle.std.proofs.Common.{◌+◌, refl, ap, sym, subst, take, ◌∷◌, [], ◌++◌}
+use Rattle.std.proofs.Common.{◌+◌, refl, sym, subst, take, []}
 use Rattle.std.proofs.lemmas.List.{take_all}
 use Rattle.cb_model.proofs.Numbers.{read_at}
 use Rattle.cb_check.specs.Stands.{event_in, relation_in, rule_in}

@@ -1,4 +1,4 @@
-use Rattle.std.proofs.Common.{ℕ, List, ◌+◌, ◌≡◌, ◌∷◌, [], ◌++◌, length, take, ap, sym, subst, refl, ◌∙◌, arith}
+use Rattle.std.proofs.Common.{◌+◌, ◌≡◌, [], length, take, ap, sym, subst, refl, arith}
 use Rattle.std.specs.Prelude.{is_some}
 use Rattle.std.proofs.lemmas.List.{take_all}
 use Rattle.cb_model.specs.declared.id.ClassId.{ClassId}
@@ -6,7 +6,7 @@ use Rattle.cb_model.proofs.Numbers.{read_at}
 use Rattle.cb_grammar.specs.declared.tree.Member.{Member}
 use Rattle.cb_grammar.specs.declared.tree.Member.TheVariants.{Event, Relation, Rule, Block, Hide}
 use Rattle.cb_check.specs.Stands.{event_in, relation_in, rule_in}
-use Rattle.cb_check.specs.Numbers.{HaveRoom, TakeNumbers, AreNumbers}
+use Rattle.cb_check.specs.Numbers.{HaveRoom, TakeNumbers}
 use Rattle.cb_check.proofs.Numbering.{Numbered, number_none, number_more, class_room, numbers_are}
 use Rattle.cb_check.proofs.numbers.numbers_of.Goals as goal
 

@@ -1,4 +1,4 @@
-use Rattle.std.proofs.Common.{sym, subst}
+use Rattle.std.proofs.Common.{subst}
 use Rattle.cb_rules.specs.Classes.{IsRelationNamed}
 use Rattle.cb_check.specs.Finder.{IsRelationInto}
 use Rattle.cb_check.proofs.Kept.{one_at}

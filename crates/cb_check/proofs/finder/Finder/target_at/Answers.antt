@@ -1,6 +1,4 @@
-use Rattle.std.proofs.Common.{◌≡◌, Some, ap, subst, sym, ◌∙◌}
-use Rattle.std.specs.Prelude.{slice_get}
-use Rattle.cb_grammar.specs.declared.tree.Tree.{Tree}
+use Rattle.std.proofs.Common.{Some, ap, subst, ◌∙◌}
 use Rattle.cb_grammar.specs.declared.tree.Member.TheVariants.{Relation}
 use Rattle.cb_rules.specs.Fault.{KeepsAll}
 use Rattle.cb_rules.specs.Classes.{MemberAt}
