@@ -2,3 +2,4 @@ pub mod Pairs
 pub mod Told
 pub mod Memory
 pub mod Host
+pub mod Failures

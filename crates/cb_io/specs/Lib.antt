@@ -3,3 +3,4 @@ pub mod Outside
 pub mod Stops
 pub mod Memory
 pub mod Host
+pub mod Never

@@ -103,3 +103,19 @@ fn host_files_go_on_where_they_were_left(rt: HostRuntime) -> Result<(), Fail> {
     assert_eq!(rt; files.read("absent", &mut two), Err(FileStop::Failed));
     Ok(())
 }
+
+#[test]
+fn what_never_fails_gives_all_and_takes_all(rt: HostRuntime) -> Result<(), Fail> {
+    let alloc = rt.alloc();
+    let mut files = NeverFiles::new(alloc);
+    files.add("a", b"abc")?;
+    files.add("a", b"de")?;
+    for (name, bytes) in [("a", "abcde"), ("a", ""), ("b", "")] {
+        let Ok(all) = read_whole(alloc, &mut files, name, 5) else {
+            return Err(Fail::new("a file that never fails"));
+        };
+        assert_eq!(rt; all.as_slice(), bytes.as_bytes(), "{name}");
+    }
+    assert!(rt; write_all(&mut NeverSink::new(), b"abcde").is_ok());
+    Ok(())
+}

@@ -1,11 +1,13 @@
-//! Readers over slices of bytes: words, names, nodes and lines. None of them takes memory.
+//! Readers over slices of bytes: words, names, nodes, numbers and lines. None of them takes memory.
 #![tactic(auto)]
 
+mod decimal;
 mod line;
 mod name;
 mod node;
 mod word;
 
+pub use decimal::decimal_of;
 pub use line::{LineAt, line_from, lines_are_met};
 pub use name::{is_instance, is_name};
 pub use node::{node_parts, nodes_are_read_once};

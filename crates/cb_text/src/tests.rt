@@ -1,4 +1,6 @@
-use crate::{LineAt, is_instance, is_name, is_passed_over, line_from, node_parts, words};
+use crate::{
+    LineAt, decimal_of, is_instance, is_name, is_passed_over, line_from, node_parts, words,
+};
 
 const LONG: &[u8] = b"a234567890123456789012345678901234567890123456789012345678901234";
 
@@ -78,4 +80,25 @@ fn lines(rt: HostRuntime) {
     assert_eq!(rt; line_from(text, 8), None);
     assert_eq!(rt; line_from(b"\n", 1), None);
     assert_eq!(rt; line_from(b"", 0), None);
+}
+
+#[test]
+fn decimals(rt: HostRuntime) {
+    let table: [(&[u8], Option<u64>); 12] = [
+        (b"0", Some(0)),
+        (b"9999", Some(9999)),
+        (b"1000000000000", Some(1_000_000_000_000)),
+        (b"18446744073709551615", Some(u64::MAX)),
+        (b"18446744073709551616", None),
+        (b"", None),
+        (b"00", None),
+        (b"01", None),
+        (b"+1", None),
+        (b"-0", None),
+        (b"1 ", None),
+        (b"\xc3\xa9", None),
+    ];
+    for (bytes, number) in table {
+        assert_eq!(rt; decimal_of(bytes), number, "{bytes:?}");
+    }
 }

@@ -1,0 +1,90 @@
+//! Files and a sink that never fail.
+ghost use Rattle.std.specs.Prelude.{◌≡◌, ◌<◌, ◌≤◌, length, IfOk, IsOk, OnOk, OnErr, IsErrOf};
+ghost use Rattle.std.specs.Io.{ReadsAtMost, WritesAtMost};
+ghost use Rattle.cb_io.specs.Outside.{Reads, KeepsOthers, NoCountFalls, ReadFailed, Writes, WriteFailed};
+ghost use Rattle.cb_io.specs.Memory.{no_files, with_bytes};
+ghost use Rattle.cb_io.specs.Never.{never_told, sink_never_told};
+
+use crate::mem_files::MemFiles;
+use crate::{Failed, FileStop, Files, Sink};
+use std::alloc::{AllocError, Global};
+use std::marker::Model;
+
+/// Files in memory of which each read succeeds: a name that wasn't added has no bytes.
+#[derive(Debug, Drop)]
+pub struct NeverFiles {
+    files: MemFiles,
+}
+
+impl Model for NeverFiles {
+    ghost use Rattle.std.specs.Prelude.{◌≡◌, []};
+    ghost use Rattle.cb_io.specs.Memory.{FilesState};
+
+    ghost Value = { FilesState };
+
+    ghost view = { λ never. never.files };
+
+    ghost invariant = { λ never. never.files.calls.failing ≡ [] };
+}
+
+impl NeverFiles {
+    /// No file yet.
+    pub fn new(alloc: Global) -> Self
+        ensures { result ≡ no_files }
+    {
+        NeverFiles {
+            files: MemFiles::new(alloc),
+        }
+    }
+
+    /// Adds bytes behind those left of a name.
+    pub fn add(&mut self, name: &str, bytes: &[u8]) -> Result<(), AllocError>
+        ensures ok { OnOk result (self.new ≡ with_bytes self.old name.now bytes.now) }
+        ensures err { OnErr result (self.new ≡ self.old) }
+    {
+        self.files.add(name, bytes)
+    }
+}
+
+impl Files for NeverFiles {
+    ghost tells = { never_told };
+
+    fn read(&mut self, name: &str, buf: &mut [u8]) -> Result<usize, FileStop>
+        requires { 0 < length buf.old }
+        ensures never_fails { IsOk result }
+        ensures bound { ReadsAtMost result buf.new }
+        ensures bytes { Reads (never_told self.old) (never_told self.new) name.now result buf.new }
+        ensures others { KeepsOthers (never_told self.old) (never_told self.new) name.now }
+        ensures counts { NoCountFalls (never_told self.old) (never_told self.new) }
+        ensures failed { IsErrOf result FileStop.Failed → ReadFailed (never_told self.old) (never_told self.new) name.now }
+    {
+        // No read is to fail, so one that does is of a name that wasn't added.
+        Ok(self.files.read(name, buf).unwrap_or(0))
+    }
+}
+
+/// A sink that throws away what it takes.
+#[derive(Clone, Copy, Debug)]
+pub struct NeverSink;
+
+impl NeverSink {
+    pub fn new() -> Self {
+        NeverSink
+    }
+}
+
+impl Sink for NeverSink {
+    ghost tells = { λ _. sink_never_told };
+
+    fn write(&mut self, bytes: &[u8]) -> Result<usize, Failed>
+        requires { 0 < length bytes.now }
+        ensures never_fails { IsOk result }
+        ensures some { IfOk result (λ n. 0 < n) }
+        ensures bound { WritesAtMost result bytes.now }
+        ensures bytes { Writes sink_never_told sink_never_told result bytes.now }
+        ensures counts { sink_never_told.faults ≤ sink_never_told.faults }
+        ensures failed { OnErr result (WriteFailed sink_never_told sink_never_told) }
+    {
+        Ok(bytes.len())
+    }
+}
