@@ -3,7 +3,8 @@ ghost use Rattle.cb_model.specs.WellTyped.{IsClass, IsEvent};
 ghost use Rattle.cb_model.specs.Sample.{sample_classes, sample_events, sample_relations, sample_rules, sample};
 
 use crate::{
-    BlockRow, ClassId, ClassRow, EventId, EventRow, HideRow, List, Model, Name, NodeName, RelId, RelRow, RuleRow, Tables,
+    BlockRow, ClassId, ClassRow, EventId, EventRow, HideRow, List, Model, Name, NodeName, RelId,
+    RelRow, RuleRow, Tables,
 };
 use std::alloc::{AllocError, Global};
 
@@ -18,10 +19,22 @@ fn classes(alloc: Global) -> Result<List<ClassRow>, AllocError>
     ensures { IfOk result (λ rows. rows ≡ sample_classes) }
 {
     let mut rows = List::new(alloc);
-    rows.push(ClassRow { name: Name::of(alloc, b"Base")?, parent: None })?;
-    rows.push(ClassRow { name: Name::of(alloc, b"Mid")?, parent: Some(ClassId(0)) })?;
-    rows.push(ClassRow { name: Name::of(alloc, b"Low")?, parent: Some(ClassId(1)) })?;
-    rows.push(ClassRow { name: Name::of(alloc, b"Port")?, parent: None })?;
+    rows.push(ClassRow {
+        name: Name::of(alloc, b"Base")?,
+        parent: None,
+    })?;
+    rows.push(ClassRow {
+        name: Name::of(alloc, b"Mid")?,
+        parent: Some(ClassId(0)),
+    })?;
+    rows.push(ClassRow {
+        name: Name::of(alloc, b"Low")?,
+        parent: Some(ClassId(1)),
+    })?;
+    rows.push(ClassRow {
+        name: Name::of(alloc, b"Port")?,
+        parent: None,
+    })?;
     Ok(rows)
 }
 
@@ -30,9 +43,24 @@ fn events(alloc: Global) -> Result<List<EventRow>, AllocError>
 {
     let class = ClassId(0);
     let mut rows = List::new(alloc);
-    rows.push(EventRow { class, name: Name::of(alloc, b"P")?, problem: true, symptom: false })?;
-    rows.push(EventRow { class, name: Name::of(alloc, b"S")?, problem: false, symptom: true })?;
-    rows.push(EventRow { class, name: Name::of(alloc, b"T")?, problem: false, symptom: true })?;
+    rows.push(EventRow {
+        class,
+        name: Name::of(alloc, b"P")?,
+        problem: true,
+        symptom: false,
+    })?;
+    rows.push(EventRow {
+        class,
+        name: Name::of(alloc, b"S")?,
+        problem: false,
+        symptom: true,
+    })?;
+    rows.push(EventRow {
+        class,
+        name: Name::of(alloc, b"T")?,
+        problem: false,
+        symptom: true,
+    })?;
     Ok(rows)
 }
 
@@ -40,8 +68,20 @@ fn relations(alloc: Global) -> Result<List<RelRow>, AllocError>
     ensures { IfOk result (λ rows. rows ≡ sample_relations) }
 {
     let mut rows = List::new(alloc);
-    rows.push(RelRow { class: ClassId(0), name: Name::of(alloc, b"ports")?, target: ClassId(3), many: true, inverse: RelId(1) })?;
-    rows.push(RelRow { class: ClassId(3), name: Name::of(alloc, b"owner")?, target: ClassId(0), many: false, inverse: RelId(0) })?;
+    rows.push(RelRow {
+        class: ClassId(0),
+        name: Name::of(alloc, b"ports")?,
+        target: ClassId(3),
+        many: true,
+        inverse: RelId(1),
+    })?;
+    rows.push(RelRow {
+        class: ClassId(3),
+        name: Name::of(alloc, b"owner")?,
+        target: ClassId(0),
+        many: false,
+        inverse: RelId(0),
+    })?;
     Ok(rows)
 }
 
@@ -51,8 +91,20 @@ fn rules(alloc: Global) -> Result<List<RuleRow>, AllocError>
     let class = ClassId(0);
     let cause = EventId(0);
     let mut rows = List::new(alloc);
-    rows.push(RuleRow { class, name: Name::of(alloc, b"s")?, cause, path: List::new(alloc), effect: EventId(1) })?;
-    rows.push(RuleRow { class, name: Name::of(alloc, b"t")?, cause, path: List::new(alloc), effect: EventId(2) })?;
+    rows.push(RuleRow {
+        class,
+        name: Name::of(alloc, b"s")?,
+        cause,
+        path: List::new(alloc),
+        effect: EventId(1),
+    })?;
+    rows.push(RuleRow {
+        class,
+        name: Name::of(alloc, b"t")?,
+        cause,
+        path: List::new(alloc),
+        effect: EventId(2),
+    })?;
     Ok(rows)
 }
 
@@ -61,9 +113,15 @@ fn sample_model(alloc: Global) -> Result<Model, AllocError>
     ensures { IfOk result (λ model. model ≡ sample) }
 {
     let mut blocks = List::new(alloc);
-    blocks.push(BlockRow { class: ClassId(1), rule: 1 })?;
+    blocks.push(BlockRow {
+        class: ClassId(1),
+        rule: 1,
+    })?;
     let mut hides = List::new(alloc);
-    hides.push(HideRow { class: ClassId(2), event: EventId(2) })?;
+    hides.push(HideRow {
+        class: ClassId(2),
+        event: EventId(2),
+    })?;
     let tables = Tables {
         classes: classes(alloc)?,
         events: events(alloc)?,
@@ -132,7 +190,10 @@ fn look_ups(rt: HostRuntime) -> Result<(), AllocError> {
         (b"Low", 3, false, 1, true, true, false),
         (b"Port", 0, false, 0, false, false, false),
     ];
-    for (place, (name, events, shows, rules, ports, below, above)) in table.into_iter().enumerate() {
+    for (place, (name, events, shows, rules, ports, below, above)) in table
+        .into_iter()
+        .enumerate()
+    {
         let class = ClassId(place as u16);
         assert_eq!(rt; model.class_named(name), Some(class));
         assert!(rt; is_class(&model, class));
