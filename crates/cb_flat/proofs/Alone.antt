@@ -1,29 +1,23 @@
 -- In flat tables a class has what it declares itself; so a problem causes a symptom by one rule of their instance alone.
-use Rattle.std.proofs.Common.{◌≡◌, ◌≢◌, ◌⊎◌, ◌↔◌, ℕ, zero, suc, ◌<◌, List, [], ◌∷◌, length, refl, sym, ap, subst, ◌∙◌, inl, inr, arith, Bool, true, false, not, Option, None, Some}
-use Rattle.std.specs.List.{All, AllPairs, Contains, slice_get}
-use Rattle.std.proofs.lemmas.Bool.{cases_order, cases_Bool}
-use Rattle.std.proofs.lemmas.Option.{slice_get_within, get_or_from_slice_get}
+use Rattle.std.proofs.Common.{◌≡◌, ◌⊎◌, ◌↔◌, ℕ, List, [], ◌∷◌, refl, sym, ap, subst, ◌∙◌, inl, inr, true, not, Some}
+use Rattle.std.specs.List.{Contains, slice_get}
+use Rattle.std.proofs.lemmas.Bool.{cases_Bool}
 use Rattle.cb_model.specs.declared.id.ClassId.{ClassId}
 use Rattle.cb_model.specs.declared.id.EventId.{EventId}
-use Rattle.cb_model.specs.declared.id.RelId.{RelId}
 use Rattle.cb_model.specs.declared.node.NodeName.{NodeName}
 use Rattle.cb_model.specs.declared.tables.Tables.{Tables}
-use Rattle.cb_model.specs.declared.tables.ClassRow.{ClassRow}
 use Rattle.cb_model.specs.declared.tables.EventRow.{EventRow}
-use Rattle.cb_model.specs.declared.tables.RelRow.{RelRow}
-use Rattle.cb_model.specs.declared.tables.RuleRow.{RuleRow}
 use Rattle.cb_model.specs.declared.tables.HideRow.{HideRow}
-use Rattle.cb_model.specs.Classes.{parent_in_row, parent_of, parent_of_some, ancestor, IsA, OnTheWay, HasEvent, HasRelation, HasRule, IsProblemOf, IsSymptomOf, NamesClass, NamesEvent, NamesRelation}
-use Rattle.cb_model.specs.Flat.{IsFlat, IsFlatRule}
-use Rattle.cb_model.specs.WellTyped.{Member, event, Declares}
-use Rattle.cb_model.proofs.FlatLemmas.{stands_alone}
+use Rattle.cb_model.specs.Classes.{OnTheWay, HasRule, NamesEvent}
+use Rattle.cb_model.specs.WellTyped.{event, Declares}
+use Rattle.cb_flat.proofs.FlatLemmas.{stands_alone}
 use Rattle.cb_model.proofs.Numbers.{all_at}
 use Rattle.cb_model.proofs.Rising.{nothing_in_empty}
-use Rattle.cb_network.specs.Topology.{Topology, IsOf, HasLink}
-use Rattle.cb_network.specs.Nodes.{IsEventAt, IsNodeOf, IsProblem, IsSymptomNode, IsColumn}
+use Rattle.cb_network.specs.Topology.{Topology, IsOf}
+use Rattle.cb_network.specs.Nodes.{IsNodeOf, IsProblem, IsSymptomNode, IsColumn}
 use Rattle.cb_network.specs.Causes.{Edge, Chain, Causes, Leads}
 use Rattle.cb_network.proofs.Chains.{edge_causes}
-use Rattle.cb_flat.specs.Flat.{LeadsTo, CausesAtHome}
+use Rattle.cb_flat.specs.Flat.{IsFlat, IsFlatRule, CausesAtHome}
 
 pub same_Some : {X : Type 0} (x y : X) → Some x ≡ Some y → x ≡ y
 same_Some x y e = cc

@@ -1,5 +1,5 @@
 -- The topology of the lines of a file, as far as it is read.
-use Rattle.std.proofs.Common.{◌≡◌, ◌⊎◌, ◌↔◌, ℕ, ◌<◌, ◌≤◌, List, [], ◌∷◌, length, drop, refl, sym, ap, subst, ◌∙◌, inl, inr, arith, Some, Ok, codes}
+use Rattle.std.proofs.Common.{◌≡◌, ◌↔◌, ℕ, ◌<◌, ◌≤◌, List, [], ◌∷◌, length, drop, refl, sym, ap, subst, ◌∙◌, inl, inr, arith, Some, Ok}
 use Rattle.std.specs.Prelude.{⊤, MatchOption}
 use Rattle.std.specs.FinMap as map
 use Rattle.std.specs.FinSet as set
@@ -7,18 +7,17 @@ use Rattle.std.specs.List.{All, Contains, slice_get}
 use Rattle.std.proofs.lemmas.List.Elements.{All-nil, All-cons, All-head, All-tail}
 use Rattle.cb_text.specs.declared.line.LineAt.{LineAt}
 use Rattle.cb_text.specs.Lines.{lines_of, IsLineAt}
-use Rattle.cb_text.specs.Words.{words_of, IsPassedOver}
+use Rattle.cb_text.specs.Words.{IsPassedOver}
 use Rattle.cb_model.specs.declared.id.ClassId.{ClassId}
 use Rattle.cb_model.specs.declared.node.NodeName.{NodeName}
 use Rattle.cb_model.specs.declared.tables.Tables.{Tables}
-use Rattle.cb_model.specs.Flat.{IsFlat}
+use Rattle.cb_flat.specs.Flat.{IsFlat}
 use Rattle.cb_model.specs.Order.{name_cmp, Rises}
 use Rattle.cb_model.specs.NodeOrder.{node_cmp}
 use Rattle.cb_model.proofs.Rising.{nothing_in_empty}
 use Rattle.cb_network.specs.declared.edit.Edit.TheVariants.{Create}
 use Rattle.cb_network.specs.Topology.{Topology, empty_topology, IsOf}
 use Rattle.cb_network.specs.Nodes.{IsProblem, IsColumn}
-use Rattle.cb_network.specs.Edits.{IsAfter}
 use Rattle.cb_network.specs.Regular.{IsRegular}
 use Rattle.cb_network.proofs.Accepted.{after_is_one, model_stays}
 use Rattle.cb_flat.specs.declared.topology.FlatTopology.{FlatTopology}

@@ -2,20 +2,20 @@
 use Rattle.std.proofs.Common.{◌≡◌, ◌↔◌, ℕ, ◌+◌, ◌<◌, List, [], ◌∷◌, ◌++◌, length, map, take, get_or, refl, sym, ap, subst, ◌∙◌, Bool, IsTrue, Bor, Option, None, Some}
 use Rattle.std.specs.Prelude.{IsSome}
 use Rattle.std.specs.BTreeMap.{get}
-use Rattle.std.specs.List.{All, AllZip, Contains, slice_get}
+use Rattle.std.specs.List.{All, Contains}
 use Rattle.std.specs.Option.{option_copied}
 use Rattle.std.proofs.lemmas.List.{take_more, append_assoc, map-append}
-use Rattle.std.proofs.lemmas.List.Elements.{All-push, Contains-get_or, Contains-append_right}
+use Rattle.std.proofs.lemmas.List.Elements.{All-push, Contains-append_right}
 use Rattle.cb_model.specs.declared.id.ClassId.{ClassId}
 use Rattle.cb_model.specs.declared.id.EventId.{EventId}
 use Rattle.cb_model.specs.declared.node.NodeName.{NodeName}
 use Rattle.cb_model.specs.declared.tables.Tables.{Tables}
 use Rattle.cb_model.specs.declared.tables.EventRow.{EventRow}
-use Rattle.cb_model.specs.Classes.{HasEvent, NamesEvent}
-use Rattle.cb_model.specs.Flat.{IsFlat}
+use Rattle.cb_model.specs.Classes.{NamesEvent}
+use Rattle.cb_flat.specs.Flat.{IsFlat}
 use Rattle.cb_model.specs.Order.{name_cmp}
 use Rattle.cb_model.specs.WellTyped.{IsClass}
-use Rattle.cb_model.proofs.FlatLemmas.{stands_alone}
+use Rattle.cb_flat.proofs.FlatLemmas.{stands_alone}
 use Rattle.cb_model.proofs.Numbers.{all_at, zip_push}
 use Rattle.cb_model.proofs.Rising.{contains_head}
 use Rattle.cb_coding.specs.declared.group.Problem.{Problem}

@@ -1,5 +1,5 @@
 -- A new instance with its nodes, as the edit that it is.
-use Rattle.std.proofs.Common.{◌≡◌, ◌⊎◌, ◌↔◌, ℕ, suc, ◌+◌, ◌<◌, ◌≤◌, List, [], ◌∷◌, length, refl, sym, ap, subst, ◌∙◌, inl, inr, arith, true, false, None, Some, Ok}
+use Rattle.std.proofs.Common.{◌≡◌, ◌⊎◌, ◌↔◌, ℕ, ◌+◌, ◌<◌, ◌≤◌, List, [], ◌∷◌, length, refl, sym, ap, subst, ◌∙◌, inl, inr, arith, true, Some}
 use Rattle.std.specs.Prelude.{IsSome, is_some}
 use Rattle.std.specs.BTreeMap.{BTreeMap, btree_map_len, get}
 use Rattle.std.specs.FinMap as map
@@ -11,27 +11,24 @@ use Rattle.cb_model.specs.declared.id.EventId.{EventId}
 use Rattle.cb_model.specs.declared.node.NodeName.{NodeName}
 use Rattle.cb_model.specs.declared.tables.Tables.{Tables}
 use Rattle.cb_model.specs.Classes.{NamesClass}
-use Rattle.cb_model.specs.Flat.{IsFlat}
 use Rattle.cb_model.specs.Order.{name_cmp}
 use Rattle.cb_model.specs.NodeOrder.{node_cmp}
 use Rattle.cb_model.proofs.Rising.{name_cmp_total, name_cmp_exact, node_cmp_total, node_cmp_exact, contains_cases, nothing_in_empty}
 use Rattle.cb_network.specs.declared.edit.EditRefusal.{EditRefusal}
 use Rattle.cb_network.specs.declared.edit.EditRefusal.TheVariants.{NoClass, Exists, InstanceLimit, NodeLimit, ProblemLimit, SymptomLimit}
 use Rattle.cb_network.specs.declared.edit.Edit.TheVariants.{Create}
-use Rattle.cb_network.specs.Topology.{Topology, IsLive, IsOf}
+use Rattle.cb_network.specs.Topology.{Topology, IsOf}
 use Rattle.cb_network.specs.Nodes.{IsNodeOf, IsProblem, IsSymptomNode, IsColumn, IsCount, IsBeyond}
 use Rattle.cb_network.specs.Sound.{instance_limit, node_limit, problem_limit, symptom_limit}
-use Rattle.cb_network.specs.Edits.{with_instance, Changes, Refuses, IsAfter}
-use Rattle.cb_network.specs.Matrix.{AreColumns, AreProblems}
+use Rattle.cb_network.specs.Edits.{with_instance, Changes, Refuses}
 use Rattle.cb_network.proofs.Sets.{in_insert, got_insert, len_of_part}
 use Rattle.cb_network.proofs.Counts.{Kind, IsAt, of_problems, of_symptoms, problems_are, symptoms_are, count_of_rising, count_is_one}
-use Rattle.cb_network.proofs.Accepted.{after_is_one}
 use Rattle.cb_flat.specs.declared.topology.FlatTopology.{FlatTopology}
 use Rattle.cb_flat.specs.FlatTopology.{topology_of, HasNodes}
-use Rattle.cb_flat.specs.Steps.{Adds, Creates, CreatesOnly, AddsInstance, AddsNodes, IsWithinLimits, IsInOrder, IsOwnProblem, IsOwnSymptom}
+use Rattle.cb_flat.specs.Steps.{Creates, CreatesOnly, AddsInstance, AddsNodes, IsWithinLimits, IsInOrder}
 use Rattle.cb_flat.proofs.Alone.{either}
 use Rattle.cb_flat.proofs.Entries.{get-from_entries, from_entries-updated, len-from_entries}
-use Rattle.cb_flat.proofs.Regular.{one_class_named, flat_is_regular}
+use Rattle.cb_flat.proofs.Regular.{one_class_named}
 use Rattle.cb_flat.proofs.Trees.{rises_of_sorted}
 
 -- a set and a list more

@@ -1,6 +1,6 @@
 -- A map in a tree, as the finite map of its entries.
-use Rattle.std.proofs.Common.{◌≡◌, ℕ, ◌+◌, List, [], ◌∷◌, length, refl, sym, ap, ◌∙◌, arith, cond, true, false, Option, None, Some}
-use Rattle.std.specs.BTreeMap.{BTreeMap, IsOrdered, Updates, is_at, btree_map_len}
+use Rattle.std.proofs.Common.{◌≡◌, ℕ, List, [], ◌∷◌, length, refl, sym, ap, ◌∙◌, arith, cond, None, Some}
+use Rattle.std.specs.BTreeMap.{BTreeMap, Updates, is_at}
 use Rattle.std.specs.BTreeMap as tree
 use Rattle.std.specs.Cmp.{eq_by_cmp_equiv}
 use Rattle.std.specs.FinMap as map

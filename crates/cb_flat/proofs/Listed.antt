@@ -5,7 +5,7 @@ use Rattle.std.specs.List.{All, Contains, slice_get}
 use Rattle.std.proofs.lemmas.List.{append_assoc, append-nil}
 use Rattle.std.proofs.lemmas.List.Elements.{All-nil, All-push, All-weaker, All-contains, Contains-append_right, Contains-append_left, Contains-push, Contains-push_cases}
 use Rattle.cb_text.specs.Names.{IsRun, IsNode, is_letter}
-use Rattle.cb_text.specs.Words.{words_of, IsPassedOver}
+use Rattle.cb_text.specs.Words.{IsPassedOver}
 use Rattle.cb_text.specs.Lines.{lines_of, IsLineAt}
 use Rattle.cb_text.specs.declared.line.LineAt.{LineAt}
 use Rattle.cb_model.specs.declared.node.NodeName.{NodeName}

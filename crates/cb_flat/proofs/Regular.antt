@@ -1,6 +1,6 @@
 -- Flat tables are regular: names tell classes apart, and there are no relations.
-use Rattle.std.proofs.Common.{◌≡◌, ◌≢◌, ℕ, zero, suc, ◌<◌, List, length, sym, ap, subst, ◌∙◌, inl, inr, arith, Some}
-use Rattle.std.specs.List.{slice_get, AllPairs}
+use Rattle.std.proofs.Common.{◌≡◌, ℕ, zero, suc, ◌<◌, List, length, sym, ap, ◌∙◌, inl, inr, arith, Some}
+use Rattle.std.specs.List.{slice_get}
 use Rattle.std.proofs.lemmas.Bool.{cases_order}
 use Rattle.std.proofs.lemmas.Option.{slice_get_within, get_or_from_slice_get}
 use Rattle.cb_model.specs.declared.id.ClassId.{ClassId}
@@ -8,10 +8,11 @@ use Rattle.cb_model.specs.declared.id.RelId.{RelId}
 use Rattle.cb_model.specs.declared.tables.Tables.{Tables}
 use Rattle.cb_model.specs.declared.tables.ClassRow.{ClassRow}
 use Rattle.cb_model.specs.declared.tables.RelRow.{RelRow}
-use Rattle.cb_model.specs.Classes.{ancestor, NamesClass, NamesRelation}
-use Rattle.cb_model.specs.Flat.{IsFlat}
-use Rattle.cb_model.proofs.FlatLemmas.{stands_alone, class_is}
-use Rattle.cb_network.specs.Regular.{IsRegular, IsReturn, depth_limit}
+use Rattle.cb_model.specs.Classes.{ancestor, NamesClass}
+use Rattle.cb_flat.specs.Flat.{IsFlat}
+use Rattle.cb_flat.proofs.FlatLemmas.{stands_alone}
+use Rattle.cb_model.proofs.Climb.{class_is}
+use Rattle.cb_network.specs.Regular.{IsRegular, depth_limit}
 
 module _ (tables : Tables) (flat : IsFlat tables) where
   -- rows of one name do not stand at two places

@@ -1,20 +1,18 @@
 -- What the rules of a class say of its problems and symptoms.
-use Rattle.std.proofs.Common.{◌≡◌, ◌⊎◌, ◌↔◌, ℕ, List, [], ◌∷◌, refl, sym, ap, subst, ◌∙◌, inl, inr, Bool, true, IsTrue, Some}
-use Rattle.std.specs.List.{Any, AllZip, Contains, slice_get}
+use Rattle.std.proofs.Common.{◌≡◌, ◌↔◌, ℕ, List, [], ◌∷◌, sym, ap, subst, ◌∙◌, inl, inr}
+use Rattle.std.specs.List.{Any, AllZip, Contains}
 use Rattle.cb_model.specs.declared.id.ClassId.{ClassId}
 use Rattle.cb_model.specs.declared.id.EventId.{EventId}
 use Rattle.cb_model.specs.declared.node.NodeName.{NodeName}
 use Rattle.cb_model.specs.declared.rule.Rule.{Rule}
 use Rattle.cb_model.specs.declared.tables.Tables.{Tables}
-use Rattle.cb_model.specs.declared.tables.RuleRow.{RuleRow}
 use Rattle.cb_model.specs.Classes.{HasRule, NamesEvent}
-use Rattle.cb_model.specs.Flat.{IsFlat}
 use Rattle.cb_model.specs.Views.{AreRulesOf, IsRuleAt, rule_of}
 use Rattle.cb_model.proofs.Rising.{nothing_in_empty, contains_cases, contains_head, contains_tail}
 use Rattle.cb_network.specs.Topology.{Topology, IsOf}
 use Rattle.cb_network.specs.Nodes.{IsProblem, IsColumn}
 use Rattle.cb_network.specs.Causes.{Causes}
-use Rattle.cb_flat.specs.Flat.{LeadsTo, CausesAtHome}
+use Rattle.cb_flat.specs.Flat.{IsFlat, LeadsTo}
 use Rattle.cb_flat.specs.Steps.{LeadsToNamed}
 use Rattle.cb_flat.proofs.Alone.{same_Some, one_event, one_class, causes_at_home}
 

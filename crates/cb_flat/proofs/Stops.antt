@@ -1,5 +1,5 @@
 -- What is passed on, and what was found.
-use Rattle.std.proofs.Common.{◌≡◌, refl, ap, subst, Option, None, Some, Result, Ok, Err}
+use Rattle.std.proofs.Common.{◌≡◌, refl, ap, subst, Option, None, Some, Result, Err}
 use Rattle.std.specs.Prelude.{IfSome, IfNone, IsSome, ok_or}
 use Rattle.cb_flat.specs.declared.stop.FlatStop.{FlatStop}
 

@@ -1,7 +1,6 @@
 -- Sets of nodes, as the lists of their keys.
-use Rattle.std.proofs.Common.{◌≡◌, ◌⊎◌, ◌↔◌, List, refl, sym, ap, subst, ◌∙◌, inl, inr, Bool, true, false}
+use Rattle.std.proofs.Common.{◌≡◌, List, sym, ◌∙◌, inl, inr, true}
 use Rattle.std.specs.BTreeSet.{BTreeSet, Updates}
-use Rattle.std.specs.List.{Contains}
 use Rattle.std.specs.List.Sorted.{IsStrictlySortedBy}
 use Rattle.std.specs.Ordering.{eq_by_cmp}
 use Rattle.std.proofs.lemmas.Bool.{cases_Bool}

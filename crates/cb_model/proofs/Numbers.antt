@@ -1,5 +1,5 @@
 -- Rising lists of numbers, and lists that are written at one place.
-use Rattle.std.proofs.Common.{◌≡◌, ◌≢◌, ℕ, zero, suc, ◌+◌, ◌<◌, ◌≤◌, List, [], ◌∷◌, ◌++◌, length, get_or, map, take, nat_eq, replicate, Some, refl, sym, ap, subst, ◌∙◌, inl, inr, arith}
+use Rattle.std.proofs.Common.{◌≡◌, ◌≢◌, ℕ, zero, suc, ◌+◌, ◌<◌, ◌≤◌, List, [], ◌∷◌, ◌++◌, length, get_or, map, take, nat_eq, replicate, true, Some, refl, sym, ap, subst, ◌∙◌, inl, inr, arith}
 use Rattle.std.specs.Prelude.{◌⊎◌, ◌↔◌, slice_get, slice_set}
 use Rattle.std.specs.List.{All, AllPairs, AllZip, Contains, IsDistinct, list_any}
 use Rattle.std.proofs.lemmas.List.{get_or-replicate, length-replicate, length-map, get_or-map}
@@ -7,6 +7,7 @@ use Rattle.std.proofs.lemmas.Option.{slice_get_within, slice_get_read, slice_get
 use Rattle.std.proofs.lemmas.List.Elements.{Contains-push_cases, Contains-append_left, Contains-push, Contains-get_or, All-contains}
 use Rattle.std.proofs.lemmas.List.Quantifiers.{all_pairs_push}
 use Rattle.std.specs.Cmp.{nat_eq_equiv}
+use Rattle.std.proofs.lemmas.Map.Steps.{length-le_from_distinct_below}
 use Rattle.std.proofs.lemmas.Map.Keys.{IsDistinct-from_apart}
 use Rattle.std.proofs.lemmas.Map.Made.{length-le_from_is_member}
 use Rattle.std.proofs.lemmas.Map.Views.{Contains-from_any, list_any-from_Contains}
@@ -156,3 +157,25 @@ contains_or_not xs x = elim (cases_Bool (list_any (nat_eq x) xs)) [
   | inl has ↦ inl (Contains-from_any (λ a b is. eqb-true a b is) x xs has)
   | inr none ↦ inr (λ has. false≢true (sym none ∙ list_any-from_Contains nat_eq_equiv x xs has))
 ]
+
+-- where the things that meet P have different numbers, all below n, there are no more than n
+pub at_most_numbered : {X : Type 0} (number_of : X → ℕ) → ((a b : X) → number_of a ≡ number_of b → a ≡ b) → (P : X → Type 0) (most n : ℕ) → ((x : X) → P x → number_of x < n) → n ≤ most → AtMost most P
+at_most_numbered {X} number_of once P most n below few = count
+  where
+    count : (xs : List X) → AllPairs (λ x y. x ≢ y) xs → All P xs → length xs ≤ most
+    count [] apart each = omega arith
+    count (x ∷ rest) apart each =
+        let xs = x ∷ rest in
+        let ns : List ℕ = map number_of xs in
+        let size : length ns ≡ length xs = length-map xs number_of in
+        let number : (i d : ℕ) → i < length xs → get_or ns i d ≡ number_of (get_or xs i x) = λ i d low. get_or-map number_of xs i x d low in
+        let distinct : IsDistinct nat_eq ns = IsDistinct-from_apart nat_eq ns (λ i j d early within.
+        false_from_ne_true (nat_eq (get_or ns i d) (get_or ns j d)) (λ is.
+        apart i j x early (omega (arith, within, size))
+        (once (get_or xs i x) (get_or xs j x) (sym (number i d (omega (arith, early, within, size))) ∙ (eqb-true (get_or ns i d) (get_or ns j d) is ∙ number j d (omega (arith, within, size))))))) in
+        let low : (q : ℕ) → list_any (nat_eq q) ns ≡ true → q < n = λ q has.
+        let place = place_in ns q (Contains-from_any (λ a b is. eqb-true a b is) q ns has) in
+        let within = slice_get_within ns place.0 q place.1 in
+        let here = get_or_from_slice_get ns place.0 q 0 place.1 in
+        omega (arith, below (get_or xs place.0 x) (each place.0 x (omega (arith, within, size))), number place.0 0 (omega (arith, within, size)), here) in
+        omega (arith, length-le_from_distinct_below ns n distinct low, size, few)

@@ -7,3 +7,4 @@ pub mod Views
 pub mod Rows
 pub mod Sealed
 pub mod Filling
+pub mod Sample

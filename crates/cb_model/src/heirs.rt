@@ -153,7 +153,11 @@ fn heirs_of(alloc: Global, tables: &Tables) -> Result<Vec<List<usize>>, AllocErr
 }
 
 // For each class the places in the list of the classes that it is or descends from.
-fn spread(alloc: Global, families: &Vec<List<usize>>, classes: &[ClassId]) -> Result<Vec<List<usize>>, AllocError>
+fn spread(
+    alloc: Global,
+    families: &Vec<List<usize>>,
+    classes: &[ClassId],
+) -> Result<Vec<List<usize>>, AllocError>
     requires families { AreFamilies families.now.items }
     requires classes { All (λ class. class.0 < length families.now.items) classes.now }
     ensures { IfOk result (λ lists. AreSpread (IsHeirOf families.now.items classes.now) (length families.now.items) (length classes.now) lists.items) }

@@ -81,7 +81,10 @@ impl Model {
         ensures found { IfSome result (NamesRelation self.now class name.now) }
         ensures absent { IfNone result ((relation : Relation) → ¬ NamesRelation self.now class name.now relation) }
     {
-        self.views[class.0 as usize].relation_names.get(name).copied()
+        self.views[class.0 as usize]
+            .relation_names
+            .get(name)
+            .copied()
     }
 
     /// Whether the two are one class, or the second is an ancestor of the first.

@@ -2,7 +2,7 @@
 use Rattle.std.specs.Prelude.{◌≡◌, ℕ, ◌≤◌, List, length}
 use Rattle.cb_model.specs.declared.node.NodeName.{NodeName}
 use Rattle.cb_model.specs.declared.tables.Tables.{Tables}
-use Rattle.cb_model.specs.Flat.{IsFlat}
+use Rattle.cb_flat.specs.Flat.{IsFlat}
 use Rattle.cb_grammar.specs.declared.tree.Tree.{Tree}
 use Rattle.cb_syntax.specs.Spells.{Spells}
 use Rattle.cb_syntax.specs.Canonical.{canonical_text}

@@ -1,7 +1,7 @@
 use Rattle.std.proofs.Common.{◌∙◌, sym, inl, inr}
 use Rattle.std.proofs.lemmas.Bool.{false≢true}
 use Rattle.std.proofs.lemmas.Result.{err_from_is_err_and}
-use Rattle.cb_flat.proofs.Listed.{spelled_is_added, passed_over_adds_none}
+use Rattle.cb_flat.proofs.Listed.{spelled_is_added}
 use Rattle.cb_flat.proofs.Stops.{same_stop}
 use Rattle.cb_flat.proofs.symptoms.read_line.Goals as goal
 

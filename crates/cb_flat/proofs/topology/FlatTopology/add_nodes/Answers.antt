@@ -1,4 +1,4 @@
-use Rattle.std.proofs.Common.{arith, length, ap, sym, subst, ◌∙◌, take, get_or, refl}
+use Rattle.std.proofs.Common.{arith, length, ap, sym, subst, ◌∙◌, get_or, refl}
 use Rattle.std.proofs.lemmas.List.{take_all}
 use Rattle.std.specs.List.{slice_get}
 use Rattle.cb_model.specs.declared.tables.Tables.{Tables}
