@@ -1,14 +1,14 @@
 -- What the rules ask of a directory, and what it answers.
-use Rattle.std.proofs.Common.{◌≡◌, ◌≢◌, ℕ, zero, suc, ◌+◌, ◌<◌, ◌≤◌, Bool, true, false, nat_lt, List, Option, Some, None, refl, sym, ap, subst, ◌∙◌, inl, inr, arith}
-use Rattle.std.specs.Prelude.{◌⊎◌, ◌↔◌, IsTrue, IfSome, IfNone, is_some, slice_get}
+use Rattle.std.proofs.Common.{◌≡◌, ℕ, Bool, false, nat_lt, List, Option, Some, None, refl, ap, subst, ◌∙◌, inl, inr, arith}
+use Rattle.std.specs.Prelude.{◌↔◌, IsTrue, IfSome, IfNone, is_some}
 use Rattle.std.proofs.lemmas.Bool.{ltb-true, lt-ltb, cases_lt}
 use Rattle.cb_grammar.specs.declared.tree.Token.{Token}
 use Rattle.cb_grammar.specs.declared.tree.Tree.{Tree}
 use Rattle.cb_grammar.specs.declared.tree.Member.{Member}
 use Rattle.cb_grammar.specs.declared.tree.Member.TheVariants.{Relation}
-use Rattle.cb_rules.specs.declared.rule.TypeRule.TheVariants.{TwoClasses, TwoNames, NoTarget}
-use Rattle.cb_rules.specs.Classes.{IsNamed, Extends, IsAbove, MemberAt, HasAt, Has, Declares, IsRelationTo, IsRelationNamed}
-use Rattle.cb_rules.specs.Rules.{Owns, IsNoClass}
+use Rattle.cb_rules.specs.declared.rule.TypeRule.TheVariants.{TwoClasses, NoTarget}
+use Rattle.cb_rules.specs.Classes.{IsNamed, Extends, IsAbove, MemberAt, Has, Declares, IsRelationTo}
+use Rattle.cb_rules.specs.Rules.{IsNoClass}
 use Rattle.cb_rules.specs.Fault.{Keeps}
 use Rattle.cb_rules.specs.Directory.{IsFirstNamed, OwnsFirst, HasMember}
 use Rattle.cb_rules.specs.Finds.{IsNamedBefore, DeclaresBefore, Inherits, LeadsOn}

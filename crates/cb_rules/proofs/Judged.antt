@@ -1,20 +1,20 @@
 -- The lines that rules blame.
-use Rattle.std.proofs.Common.{◌≡◌, ◌≢◌, ℕ, zero, suc, ◌+◌, ◌-◌, ◌<◌, ◌≤◌, Bool, true, false, not, List, [], ◌∷◌, length, Option, Some, None, refl, sym, ap, subst, ◌∙◌, inl, inr, arith}
-use Rattle.std.specs.Prelude.{◌⊎◌, ◌↔◌, IsTrue, IfSome, IfNone, is_some, slice_get}
+use Rattle.std.proofs.Common.{◌≡◌, ℕ, suc, ◌+◌, ◌-◌, ◌<◌, ◌≤◌, Bool, true, false, not, List, [], ◌∷◌, length, Option, Some, None, refl, sym, subst, ◌∙◌, arith}
+use Rattle.std.specs.Prelude.{◌⊎◌, ◌↔◌, IsTrue, IfSome, IfNone, is_some}
 use Rattle.cb_model.specs.declared.limits.TheConstants.{MOST_ANCESTORS}
 use Rattle.cb_grammar.specs.declared.tree.Token.{Token}
 use Rattle.cb_grammar.specs.declared.tree.Tree.{Tree}
 use Rattle.cb_grammar.specs.declared.tree.ClassDecl.{ClassDecl}
 use Rattle.cb_grammar.specs.declared.tree.Member.{Member}
 use Rattle.cb_rules.specs.declared.rule.TypeRule.TheVariants.{TwoClasses, TwoNames}
-use Rattle.cb_rules.specs.Classes.{ClassAt, IsNamed, Extends, IsAbove, MemberAt, Has, declared, Declares, IsEventNamed, IsRelationBack, Leads}
+use Rattle.cb_rules.specs.Classes.{ClassAt, IsNamed, Extends, IsAbove, Has, declared, IsEventNamed, IsRelationBack, Leads}
 use Rattle.cb_rules.specs.Rules.{IsNoClass, Owns, HasNoParent, IsTooDeep, IsSecondName}
 use Rattle.cb_rules.specs.Fault.{Keeps}
 use Rattle.cb_rules.specs.Directory.{IsFirstNamed}
 use Rattle.cb_rules.specs.Least.{IsLeast, blamed}
 use Rattle.cb_rules.specs.Finds.{DeclaresBefore, Inherits, StopsAt, IsDeep, IsBadInverse, IsBadEffect}
 use Rattle.cb_rules.proofs.Found.{one_class}
-use Rattle.cb_rules.proofs.Walks.{steps_are, above_split, above_first, one_above, one_named, named_within, class_at}
+use Rattle.cb_rules.proofs.Walks.{steps_are, above_split, above_first, one_above, one_named, named_within}
 use Rattle.cb_rules.proofs.Unique.{one_reached, never_stops, one_stop}
 use Rattle.cb_rules.proofs.Lines.{least_same, least_blamed}
 
@@ -48,9 +48,12 @@ module _ (tree : Tree) where
   pub deep_line : (k : ℕ) (decl : ClassDecl) (r : Option ℕ) → IsLeast (λ line. (line ≡ decl.name.line) × IsDeep tree k) r → IsLeast (IsTooDeep tree k decl) r
   deep_line k decl r least =
       least_same (λ line. (line ≡ decl.name.line) × IsDeep tree k) (IsTooDeep tree k decl) r
-      (λ line both. (both.0, (let deep = both.1 in
-      let split = above_split tree (suc MOST_ANCESTORS) (deep.0 - suc MOST_ANCESTORS) k deep.1 (steps_are tree deep.0 (suc MOST_ANCESTORS + (deep.0 - suc MOST_ANCESTORS)) k deep.1 (omega (arith, deep.2)) deep.3) in
-      (split.0, split.1))))
+      (λ line both. (
+        both.0,
+        (let deep = both.1 in
+            let split = above_split tree (suc MOST_ANCESTORS) (deep.0 - suc MOST_ANCESTORS) k deep.1 (steps_are tree deep.0 (suc MOST_ANCESTORS + (deep.0 - suc MOST_ANCESTORS)) k deep.1 (omega (arith, deep.2)) deep.3) in
+            (split.0, split.1)),
+      ))
       (λ line has. (has.0, (suc MOST_ANCESTORS, has.1.0, omega arith, has.1.1)))
       least
 
@@ -90,9 +93,11 @@ module _ (tree : Tree) where
         (λ line both. (decl, to, decl_is, named, both.0, both.1))
         (λ line bad.
         let same = one_class tree k bad.0 decl bad.2 decl_is in
-        let there = one_named tree classes target.name bad.1 to bad.3 named in
-        (bad.4, λ owns. bad.5 (subst (λ (j : ℕ). Owns tree j (IsRelationBack inverse.name bad.0.name.name name.name)) (sym there)
-        (subst (λ (d : ClassDecl). Owns tree to (IsRelationBack inverse.name d.name.name name.name)) (sym same) owns))))
+        let there = one_named tree classes target.name bad.1 to bad.3 named in (
+          bad.4,
+          λ owns. bad.5 (subst (λ (j : ℕ). Owns tree j (IsRelationBack inverse.name bad.0.name.name name.name)) (sym there)
+              (subst (λ (d : ClassDecl). Owns tree to (IsRelationBack inverse.name d.name.name name.name)) (sym same) owns)),
+        ))
         least
 
     module _ (names : Keeps tree TwoNames) where

@@ -1,6 +1,6 @@
 -- Classes that are their own ancestors.
-use Rattle.std.proofs.Common.{◌≡◌, ◌≢◌, ℕ, zero, suc, ◌+◌, ◌-◌, ◌*◌, ◌/◌, ◌<◌, ◌≤◌, Bool, true, false, not, List, [], ◌∷◌, ◌++◌, length, map, Option, Some, None, refl, sym, ap, subst, ◌∙◌, inl, inr, arith}
-use Rattle.std.specs.Prelude.{◌⊎◌, ◌↔◌, IsTrue, IfSome, IfNone, is_some, slice_get, slice_set, MatchOption, option_map}
+use Rattle.std.proofs.Common.{◌≡◌, ℕ, zero, suc, ◌+◌, ◌-◌, ◌*◌, ◌/◌, ◌<◌, ◌≤◌, Bool, true, false, not, List, [], ◌∷◌, ◌++◌, length, map, Option, Some, None, refl, sym, ap, subst, ◌∙◌, inl, inr, arith}
+use Rattle.std.specs.Prelude.{◌↔◌, IsTrue, IfSome, IfNone, is_some, slice_get, slice_set, option_map}
 use Rattle.std.proofs.Math.Nat.{mul-le-mul_right}
 use Rattle.std.proofs.lemmas.Option.{slice_get_within, slice_get-map}
 use Rattle.std.proofs.lemmas.Bool.{cases_lt, cases_eq}
@@ -177,14 +177,16 @@ mark_more jumps marks n place is each p mark mark_is = elim (cases_eq place p) [
       let so : true ≡ mark = slice_get-set_same marks place true mark (ap (slice_get (slice_set marks place true)) same ∙ mark_is) in
       (λ _. (n, omega arith, is ∙ ap (λ (q : ℕ). Some (Some q)) same), λ _. sym so)
   | inr other ↦
-      let iff = each p mark (sym (slice_get-set_other marks place p true other) ∙ mark_is) in
-      (λ marked. (let end = iff.0 marked in (end.0, omega (arith, end.1), end.2)), λ end. iff.1 (elim (cases_lt end.0 n) [
-        | inl early ↦ (end.0, early, end.2)
-        | inr late ↦
-            let here : end.0 ≡ n = omega (arith, end.1) in
-            let never : Some (Some place) ≡ Some (Some p) = sym is ∙ (ap (slice_get jumps) (sym here) ∙ end.2) in
-            absurd (other (cc))
-      ]))
+      let iff = each p mark (sym (slice_get-set_other marks place p true other) ∙ mark_is) in (
+        λ marked. (let end = iff.0 marked in (end.0, omega (arith, end.1), end.2)),
+        λ end. iff.1 (elim (cases_lt end.0 n) [
+          | inl early ↦ (end.0, early, end.2)
+          | inr late ↦
+              let here : end.0 ≡ n = omega (arith, end.1) in
+              let never : Some (Some place) ≡ Some (Some p) = sym is ∙ (ap (slice_get jumps) (sym here) ∙ end.2) in
+              absurd (other (cc))
+        ]),
+      )
 ]
 
 -- no place more is marked
@@ -192,14 +194,16 @@ pub mark_kept : (jumps : List (Option ℕ)) (marks : List Bool) (n : ℕ) → sl
     ((p : ℕ) (mark : Bool) → slice_get marks p ≡ Some mark → IsTrue mark ↔ ((k : ℕ) × (k < n) × (slice_get jumps k ≡ Some (Some p)))) →
     (p : ℕ) (mark : Bool) → slice_get marks p ≡ Some mark → IsTrue mark ↔ ((k : ℕ) × (k < n + 1) × (slice_get jumps k ≡ Some (Some p)))
 mark_kept jumps marks n is each p mark mark_is =
-    let iff = each p mark mark_is in
-    (λ marked. (let end = iff.0 marked in (end.0, omega (arith, end.1), end.2)), λ end. iff.1 (elim (cases_lt end.0 n) [
-      | inl early ↦ (end.0, early, end.2)
-      | inr late ↦
-          let here : end.0 ≡ n = omega (arith, end.1) in
-          let never : Some None ≡ Some (Some p) = sym is ∙ (ap (slice_get jumps) (sym here) ∙ end.2) in
-          absurd (cc)
-    ]))
+    let iff = each p mark mark_is in (
+      λ marked. (let end = iff.0 marked in (end.0, omega (arith, end.1), end.2)),
+      λ end. iff.1 (elim (cases_lt end.0 n) [
+        | inl early ↦ (end.0, early, end.2)
+        | inr late ↦
+            let here : end.0 ≡ n = omega (arith, end.1) in
+            let never : Some None ≡ Some (Some p) = sym is ∙ (ap (slice_get jumps) (sym here) ∙ end.2) in
+            absurd (cc)
+      ]),
+    )
 
 -- all places are marked
 pub marks_all : (jumps : List (Option ℕ)) (marks : List Bool) (n : ℕ) → length jumps ≤ n → length marks ≡ length jumps →

@@ -1,18 +1,17 @@
 -- Where names are declared once, a class has one member of a name.
-use Rattle.std.proofs.Common.{◌≡◌, ◌≢◌, ℕ, zero, suc, ◌+◌, ◌-◌, ◌<◌, ◌≤◌, Bool, true, false, List, [], ◌∷◌, ◌++◌, length, take, Some, refl, sym, ap, subst, ◌∙◌, inl, inr, arith}
-use Rattle.std.specs.Prelude.{◌⊎◌, ◌↔◌, IsTrue, slice_get}
+use Rattle.std.proofs.Common.{◌≡◌, ◌≢◌, ℕ, zero, suc, ◌+◌, ◌-◌, ◌<◌, Bool, List, [], ◌∷◌, ◌++◌, take, Some, refl, sym, ap, subst, ◌∙◌, inl, inr, arith}
+use Rattle.std.specs.Prelude.{◌↔◌, IsTrue, slice_get}
 use Rattle.cb_grammar.specs.declared.tree.Token.{Token}
 use Rattle.cb_grammar.specs.declared.tree.Tree.{Tree}
-use Rattle.cb_grammar.specs.declared.tree.ClassDecl.{ClassDecl}
 use Rattle.cb_grammar.specs.declared.tree.Member.{Member}
-use Rattle.cb_grammar.specs.declared.tree.Member.TheVariants.{Event, Relation, Rule, Block, Hide}
-use Rattle.cb_rules.specs.declared.rule.TypeRule.TheVariants.{TwoClasses, TwoNames, NoTarget}
-use Rattle.cb_rules.specs.Classes.{ClassAt, IsNamed, Extends, IsAbove, MemberAt, HasAt, Has, declared, Declares, IsEventNamed, IsSymptomNamed, IsRuleNamed, IsRelationNamed, IsRelationTo, IsRelationBack, Leads}
-use Rattle.cb_rules.specs.Rules.{Owns, IsNoClass}
+use Rattle.cb_grammar.specs.declared.tree.Member.TheVariants.{Event, Relation, Rule}
+use Rattle.cb_rules.specs.declared.rule.TypeRule.TheVariants.{TwoClasses, TwoNames}
+use Rattle.cb_rules.specs.Classes.{IsNamed, IsAbove, MemberAt, HasAt, Has, Declares, IsEventNamed, IsSymptomNamed, IsRuleNamed, IsRelationNamed, IsRelationTo, IsRelationBack, Leads}
+use Rattle.cb_rules.specs.Rules.{Owns}
 use Rattle.cb_rules.specs.Fault.{Keeps}
-use Rattle.cb_rules.specs.Directory.{HasMember, OwnsFirst, is_event, is_rule}
+use Rattle.cb_rules.specs.Directory.{HasMember, is_event, is_rule}
 use Rattle.cb_rules.specs.Finds.{is_symptom, LooksBack, LeadsOn, StopsAt}
-use Rattle.cb_rules.proofs.Found.{one_class, one_member}
+use Rattle.cb_rules.proofs.Found.{one_member}
 use Rattle.cb_rules.proofs.Walks.{below_or_same, steps_are, above_split, one_above, one_named}
 
 -- an event, a relation or a rule of a name declares it

@@ -5,7 +5,7 @@ use Rattle.cb_grammar.specs.declared.tree.Token.{Token}
 use Rattle.cb_grammar.specs.declared.tree.Tree.{Tree}
 use Rattle.cb_grammar.specs.declared.tree.ClassDecl.{ClassDecl}
 use Rattle.cb_grammar.specs.declared.tree.Member.{Member}
-use Rattle.cb_grammar.specs.declared.tree.Member.TheVariants.{Event, Relation, Rule, Block, Hide}
+use Rattle.cb_grammar.specs.declared.tree.Member.TheVariants.{Event, Relation, Rule}
 use Rattle.cb_rules.specs.declared.entry.Entry.{Entry}
 use Rattle.cb_rules.specs.Classes.{IsNamed, MemberAt, HasAt, declared, Declares}
 use Rattle.cb_rules.specs.Places.{FindsFirst}

@@ -1,9 +1,9 @@
 -- What the rules ask of a directory.
-use Rattle.std.specs.Prelude.{◌≡◌, ℕ, suc, ◌<◌, List, Some, take, slice_get, Bool, true, false}
+use Rattle.std.specs.Prelude.{◌≡◌, ℕ, suc, ◌<◌, List, Some, take, slice_get, Bool, false}
 use Rattle.cb_grammar.specs.declared.tree.Token.{Token}
 use Rattle.cb_grammar.specs.declared.tree.Tree.{Tree}
 use Rattle.cb_grammar.specs.declared.tree.Member.{Member}
-use Rattle.cb_grammar.specs.declared.tree.Member.TheVariants.{Event, Relation, Rule, Block, Hide}
+use Rattle.cb_grammar.specs.declared.tree.Member.TheVariants.{Event, Relation}
 use Rattle.cb_model.specs.declared.limits.TheConstants.{MOST_ANCESTORS}
 use Rattle.cb_grammar.specs.declared.tree.ClassDecl.{ClassDecl}
 use Rattle.cb_rules.specs.Classes.{ClassAt, IsNamed, IsAbove, MemberAt, Has, Declares, IsEventNamed, IsRelationTo, IsRelationNamed, IsRelationBack, Leads}

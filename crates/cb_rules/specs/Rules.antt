@@ -1,13 +1,13 @@
 -- The fourteen type rules: what each forbids, and the line that is blamed. Six are of a class, at place k of the text, and
 -- eight of a member, at place i of that class. A rule is of interest only where those before it are kept.
-use Rattle.std.specs.Prelude.{◌≡◌, ◌≢◌, ◌⊎◌, ℕ, suc, ◌<◌, List, [], ◌∷◌, length, take, map, Some, slice_get}
+use Rattle.std.specs.Prelude.{◌≡◌, ◌≢◌, ◌⊎◌, ℕ, suc, ◌<◌, List, length, take, Some, slice_get}
 use Rattle.std.specs.List.{All, AllPairs}
 use Rattle.cb_model.specs.declared.limits.TheConstants.{MOST_CLASSES, MOST_ANCESTORS, MOST_EVENTS, MOST_RELATIONS, MOST_RULES}
 use Rattle.cb_grammar.specs.declared.tree.Token.{Token}
 use Rattle.cb_grammar.specs.declared.tree.Tree.{Tree}
 use Rattle.cb_grammar.specs.declared.tree.ClassDecl.{ClassDecl}
 use Rattle.cb_grammar.specs.declared.tree.Member.{Member}
-use Rattle.cb_grammar.specs.declared.tree.Member.TheVariants.{Event, Relation, Rule, Block, Hide}
+use Rattle.cb_grammar.specs.declared.tree.Member.TheVariants.{Relation, Rule, Block, Hide}
 use Rattle.cb_rules.specs.Classes.{ClassAt, IsNamed, IsAbove, MemberAt, HasAt, Has, declared, Declares, IsEvent, IsEventNamed, IsSymptomNamed, IsRelation, IsRelationNamed, IsRelationBack, IsRule, IsRuleNamed, Leads}
 
 -- an earlier class has the class's name

@@ -89,7 +89,7 @@ impl<'t> Directory<'t> {
     }
 
     /// How many of the kind the class itself declares.
-    pub fn count(&self, class: usize, kind: Kind) -> usize
+    pub(crate) fn count(&self, class: usize, kind: Kind) -> usize
         requires { class < length self.now.classes }
         ensures { CountsOwn self.now class kind result }
     {
@@ -131,7 +131,11 @@ impl<'t> Directory<'t> {
 }
 
 // What is kept of each class.
-fn entries_of(alloc: Global, decls: &[ClassDecl], classes: &NameMap<usize>) -> Result<Vec<Entry>, AllocError>
+fn entries_of(
+    alloc: Global,
+    decls: &[ClassDecl],
+    classes: &NameMap<usize>,
+) -> Result<Vec<Entry>, AllocError>
     ensures { IfOk result (λ entries. AreEntries classes.now decls.now entries.items) }
 {
     let mut entries = Vec::new(alloc);

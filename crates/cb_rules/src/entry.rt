@@ -29,7 +29,11 @@ pub struct Entry {
 
 impl Entry {
     /// The entry of a class, where the classes are found so.
-    pub fn of(alloc: Global, decl: &ClassDecl, classes: &NameMap<usize>) -> Result<Entry, AllocError>
+    pub fn of(
+        alloc: Global,
+        decl: &ClassDecl,
+        classes: &NameMap<usize>,
+    ) -> Result<Entry, AllocError>
         ensures { IfOk result (IsEntry classes.now decl.now) }
     {
         let members = decl.members.as_slice();
@@ -67,17 +71,26 @@ fn place_of(classes: &NameMap<usize>, parent: &Option<Token>) -> Option<usize>
 fn count_events(members: &[Member]) -> usize
     ensures { result ≡ count_by is_event members.now }
 {
-    members.iter().filter(|member| matches!(member, Member::Event { .. })).count()
+    members
+        .iter()
+        .filter(|member| matches!(member, Member::Event { .. }))
+        .count()
 }
 
 fn count_relations(members: &[Member]) -> usize
     ensures { result ≡ count_by is_relation members.now }
 {
-    members.iter().filter(|member| matches!(member, Member::Relation { .. })).count()
+    members
+        .iter()
+        .filter(|member| matches!(member, Member::Relation { .. }))
+        .count()
 }
 
 fn count_rules(members: &[Member]) -> usize
     ensures { result ≡ count_by is_rule members.now }
 {
-    members.iter().filter(|member| matches!(member, Member::Rule { .. })).count()
+    members
+        .iter()
+        .filter(|member| matches!(member, Member::Rule { .. }))
+        .count()
 }

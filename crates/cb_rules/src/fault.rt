@@ -18,7 +18,10 @@ use std::alloc::{AllocError, Global};
 ///
 /// It takes time in proportion to the tree's size, and more by a factor of at most 64 where classes extend others.
 /// Loops of classes cost a further factor, the logarithm of the number of classes.
-pub fn first_fault(alloc: Global, directory: &Directory<'_>) -> Result<Option<BrokenRule>, AllocError>
+pub fn first_fault(
+    alloc: Global,
+    directory: &Directory<'_>,
+) -> Result<Option<BrokenRule>, AllocError>
     ensures found { IfOk result (λ fault. IfSome fault (IsFault directory.now)) }
     ensures none { IfOk result (λ fault. IfNone fault (KeepsAll directory.now)) }
 {
@@ -31,7 +34,11 @@ pub fn first_fault(alloc: Global, directory: &Directory<'_>) -> Result<Option<Br
 }
 
 // The least line at which the tree breaks the rule.
-fn least_line(alloc: Global, directory: &Directory<'_>, rule: TypeRule) -> Result<Option<u32>, AllocError>
+fn least_line(
+    alloc: Global,
+    directory: &Directory<'_>,
+    rule: TypeRule,
+) -> Result<Option<u32>, AllocError>
     requires { KeepsBefore directory.now rule }
     ensures { IfOk result (IsLeast (Breaks directory.now rule)) }
 {

@@ -115,7 +115,13 @@ pub fn follow(directory: &Directory<'_>, class: usize, path: &[Token]) -> Result
 
 /// Whether the class itself declares a relation of this name that leads to the class named `home` and has an inverse
 /// named `back`.
-pub fn leads_back(directory: &Directory<'_>, class: usize, name: &[u8], home: &[u8], back: &[u8]) -> bool
+pub fn leads_back(
+    directory: &Directory<'_>,
+    class: usize,
+    name: &[u8],
+    home: &[u8],
+    back: &[u8],
+) -> bool
     requires class { class < length directory.now.classes }
     requires keeps { KeepsBefore directory.now NoTarget }
     ensures { IsTrue result ↔ Owns directory.now class (IsRelationBack name.now home.now back.now) }
@@ -123,7 +129,11 @@ pub fn leads_back(directory: &Directory<'_>, class: usize, name: &[u8], home: &[
     let Some(place) = directory.own(class, name) else {
         return false;
     };
-    looks_back(directory.tree().classes.at(class).members.at(place), home, back)
+    looks_back(
+        directory.tree().classes.at(class).members.at(place),
+        home,
+        back,
+    )
 }
 
 // Whether a member is a relation to the class named `home` with an inverse named `back`.

@@ -9,7 +9,9 @@ ghost use Rattle.cb_rules.specs.Finds.{DeclaresBefore, Inherits, StopsAt, IsBadI
 
 use crate::blame::blame;
 use crate::directory::Directory;
-use crate::finds::{declares_before, follow, has_event, has_rule, has_symptom, inherits, leads_back};
+use crate::finds::{
+    declares_before, follow, has_event, has_rule, has_symptom, inherits, leads_back,
+};
 use crate::least::MemberRule;
 use cb_grammar::{Member, Token};
 
@@ -25,7 +27,10 @@ impl MemberRule for OneName {
         let Some(token) = declared_by(member) else {
             return None;
         };
-        blame(is_second_name(directory, class, place, token.name.bytes()), token)
+        blame(
+            is_second_name(directory, class, place, token.name.bytes()),
+            token,
+        )
     }
 }
 
@@ -37,9 +42,17 @@ impl MemberRule for TargetDeclared {
 
     ghost needs = { λ tree. KeepsBefore tree NoTarget };
 
-    fn line(directory: &Directory<'_>, _class: usize, _place: usize, member: &Member) -> Option<u32> {
+    fn line(
+        directory: &Directory<'_>,
+        _class: usize,
+        _place: usize,
+        member: &Member,
+    ) -> Option<u32> {
         match member {
-            Member::Relation { target, .. } => blame(directory.class_named(target.name.bytes()).is_none(), target),
+            Member::Relation { target, .. } => blame(
+                directory.class_named(target.name.bytes()).is_none(),
+                target,
+            ),
             _ => None,
         }
     }
@@ -53,7 +66,12 @@ impl MemberRule for InverseLeadsBack {
 
     ghost needs = { λ tree. KeepsBefore tree BadInverse };
 
-    fn line(directory: &Directory<'_>, class: usize, _place: usize, member: &Member) -> Option<u32> {
+    fn line(
+        directory: &Directory<'_>,
+        class: usize,
+        _place: usize,
+        member: &Member,
+    ) -> Option<u32> {
         match member {
             Member::Relation {
                 name,
@@ -74,9 +92,17 @@ impl MemberRule for CauseKnown {
 
     ghost needs = { λ tree. KeepsBefore tree NoCause };
 
-    fn line(directory: &Directory<'_>, class: usize, _place: usize, member: &Member) -> Option<u32> {
+    fn line(
+        directory: &Directory<'_>,
+        class: usize,
+        _place: usize,
+        member: &Member,
+    ) -> Option<u32> {
         match member {
-            Member::Rule { cause, .. } => blame(!has_event(directory, class, cause.name.bytes()), cause),
+            Member::Rule { cause, .. } => blame(
+                !has_event(directory, class, cause.name.bytes()),
+                cause,
+            ),
             _ => None,
         }
     }
@@ -90,7 +116,12 @@ impl MemberRule for PathLeads {
 
     ghost needs = { λ tree. KeepsBefore tree NoRelation };
 
-    fn line(directory: &Directory<'_>, class: usize, _place: usize, member: &Member) -> Option<u32> {
+    fn line(
+        directory: &Directory<'_>,
+        class: usize,
+        _place: usize,
+        member: &Member,
+    ) -> Option<u32> {
         match member {
             Member::Rule { path, .. } => path_line(directory, class, path.as_slice()),
             _ => None,
@@ -106,9 +137,19 @@ impl MemberRule for EffectKnown {
 
     ghost needs = { λ tree. KeepsBefore tree NoEffect };
 
-    fn line(directory: &Directory<'_>, class: usize, _place: usize, member: &Member) -> Option<u32> {
+    fn line(
+        directory: &Directory<'_>,
+        class: usize,
+        _place: usize,
+        member: &Member,
+    ) -> Option<u32> {
         match member {
-            Member::Rule { path, effect, .. } => effect_line(directory, class, path.as_slice(), effect),
+            Member::Rule { path, effect, .. } => effect_line(
+                directory,
+                class,
+                path.as_slice(),
+                effect,
+            ),
             _ => None,
         }
     }
@@ -122,7 +163,12 @@ impl MemberRule for BlockedKnown {
 
     ghost needs = { λ tree. KeepsBefore tree NoBlocked };
 
-    fn line(directory: &Directory<'_>, class: usize, _place: usize, member: &Member) -> Option<u32> {
+    fn line(
+        directory: &Directory<'_>,
+        class: usize,
+        _place: usize,
+        member: &Member,
+    ) -> Option<u32> {
         match member {
             Member::Block { name } => blame(!has_rule(directory, class, name.name.bytes()), name),
             _ => None,
@@ -138,7 +184,12 @@ impl MemberRule for HiddenKnown {
 
     ghost needs = { λ tree. KeepsBefore tree NoHidden };
 
-    fn line(directory: &Directory<'_>, class: usize, _place: usize, member: &Member) -> Option<u32> {
+    fn line(
+        directory: &Directory<'_>,
+        class: usize,
+        _place: usize,
+        member: &Member,
+    ) -> Option<u32> {
         match member {
             Member::Hide { name } => blame(!has_symptom(directory, class, name.name.bytes()), name),
             _ => None,
@@ -181,7 +232,13 @@ fn path_line(directory: &Directory<'_>, class: usize, path: &[Token]) -> Option<
 }
 
 // The line of a relation's inverse, unless that leads back.
-fn inverse_line(directory: &Directory<'_>, class: usize, name: &Token, target: &Token, inverse: &Token) -> Option<u32>
+fn inverse_line(
+    directory: &Directory<'_>,
+    class: usize,
+    name: &Token,
+    target: &Token,
+    inverse: &Token,
+) -> Option<u32>
     requires class { class < length directory.now.classes }
     requires keeps { KeepsBefore directory.now BadInverse }
     ensures { IsLeast (IsBadInverse directory.now class name.now target.now inverse.now) result }
@@ -195,7 +252,12 @@ fn inverse_line(directory: &Directory<'_>, class: usize, name: &Token, target: &
 }
 
 // The line of a rule's effect, unless that is an event of the class that the path reaches.
-fn effect_line(directory: &Directory<'_>, class: usize, path: &[Token], effect: &Token) -> Option<u32>
+fn effect_line(
+    directory: &Directory<'_>,
+    class: usize,
+    path: &[Token],
+    effect: &Token,
+) -> Option<u32>
     requires class { class < length directory.now.classes }
     requires keeps { KeepsBefore directory.now NoEffect }
     ensures { IsLeast (IsBadEffect directory.now class path.now effect.now) result }

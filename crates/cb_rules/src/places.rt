@@ -38,7 +38,10 @@ impl Declaration for Member {
 }
 
 /// The first place of each name that these declare.
-pub fn first_places<T: Declaration>(alloc: Global, items: &[T]) -> Result<NameMap<usize>, AllocError>
+pub fn first_places<T: Declaration>(
+    alloc: Global,
+    items: &[T],
+) -> Result<NameMap<usize>, AllocError>
     ensures { IfOk result (FindsFirst T.called items.now) }
 {
     let mut places = NameMap::new(alloc);
@@ -51,7 +54,12 @@ pub fn first_places<T: Declaration>(alloc: Global, items: &[T]) -> Result<NameMa
 }
 
 // Gives the name this place, unless it has one.
-fn add_place(alloc: Global, places: &mut NameMap<usize>, name: &[u8], place: usize) -> Result<(), AllocError>
+fn add_place(
+    alloc: Global,
+    places: &mut NameMap<usize>,
+    name: &[u8],
+    place: usize,
+) -> Result<(), AllocError>
     ensures { OnOk result (AddsPlace places.old places.new name.now place) }
 {
     if places.get(name).is_none() {

@@ -1,4 +1,3 @@
-use Rattle.std.proofs.Common.{arith}
 use Rattle.cb_rules.specs.declared.rule.TypeRule.TheVariants.{TwoClasses}
 use Rattle.cb_rules.proofs.Order.{kept_before, kept_more}
 use Rattle.cb_rules.proofs.fault.first_fault.Goals as goal

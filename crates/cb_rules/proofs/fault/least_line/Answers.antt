@@ -1,4 +1,4 @@
-use Rattle.std.proofs.Common.{ℕ, Option, sym, subst, arith}
+use Rattle.std.proofs.Common.{sym, subst, arith}
 use Rattle.std.specs.Prelude.{IfOk}
 use Rattle.cb_rules.specs.declared.rule.TypeRule.{TypeRule}
 use Rattle.cb_rules.specs.declared.rule.TypeRule.TheVariants.{TwoClasses}
