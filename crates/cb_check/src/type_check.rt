@@ -16,7 +16,7 @@ use std::alloc::Global;
 
 /// The model that a tree stands for, if the tree keeps all type rules.
 ///
-/// It takes time in proportion to the tree's size, times the depth of its classes.
+/// It takes the time of `first_fault`, and then time in proportion to the tree's size times the depth of its classes.
 pub fn check(alloc: Global, tree: &Tree) -> Result<Model, TypeFault>
     requires { NamesFit tree.now }
     ensures stands { IfOk result (Stands tree.now) }
