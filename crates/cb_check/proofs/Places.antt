@@ -1,11 +1,9 @@
 -- Places in lists that are joined or picked from others.
-use Rattle.std.proofs.Common.{◌≡◌, ◌≢◌, ℕ, zero, suc, ◌+◌, ◌<◌, ◌≤◌, Bool, true, false, cond, List, [], ◌∷◌, ◌++◌, length, get_or, Option, Some, None, refl, sym, ap, subst, ◌∙◌, inl, inr, zero-add, arith}
+use Rattle.std.proofs.Common.{◌≡◌, ℕ, zero, suc, ◌+◌, ◌<◌, Bool, true, false, cond, List, [], ◌∷◌, ◌++◌, length, get_or, Option, Some, None, refl, sym, ap, subst, ◌∙◌, inl, inr, zero-add, arith}
 use Rattle.std.specs.Prelude.{◌⊎◌, slice_get, is_some}
-use Rattle.std.specs.List.{All, AllPairs, AllZip, filter, filter_map, flat_map, cons_option, count_by}
-use Rattle.std.proofs.lemmas.Bool.{cases_lt}
+use Rattle.std.specs.List.{All, AllZip, filter, filter_map, flat_map, cons_option, count_by}
 use Rattle.std.proofs.lemmas.Option.{slice_get-get_or, slice_get_within, get_or_from_slice_get}
 use Rattle.std.proofs.lemmas.List.Sums.{length-filter}
-use Rattle.cb_check.specs.FlatTree.{AreApart}
 
 module _ {X : Type 0} where
   -- what stands in a joined list
@@ -40,28 +38,6 @@ module _ {X : Type 0} where
 
   pub at_all : (P : X → Type 0) (xs : List X) (i : ℕ) (x : X) → All P xs → slice_get xs i ≡ Some x → P x
   at_all P xs i x all is = subst P (get_or_from_slice_get xs i x x is) (all i x (slice_get_within xs i x is))
-
-  -- where no two have one name, a name has one place
-  pub apart_at : (called : X → List ℕ) (xs : List X) (i j : ℕ) (x y : X) → AreApart called xs → slice_get xs i ≡ Some x → slice_get xs j ≡ Some y → called x ≡ called y → i ≡ j
-  apart_at called xs i j x y apart x_is y_is same = elim (cases_lt i j) [
-    | inl below ↦
-        let here = ap called (get_or_from_slice_get xs i x x x_is) in
-        let there = ap called (get_or_from_slice_get xs j y x y_is) in
-        absurd (apart i j x below (slice_get_within xs j y y_is) (here ∙ (same ∙ sym there)))
-    | inr above ↦ elim (cases_lt j i) [
-      | inl below ↦
-          let here = ap called (get_or_from_slice_get xs i x x x_is) in
-          let there = ap called (get_or_from_slice_get xs j y x y_is) in
-          absurd (apart j i x below (slice_get_within xs i x x_is) (there ∙ (sym same ∙ sym here)))
-      | inr equal ↦ omega arith
-    ]
-  ]
-
-  pub apart_from : (called : X → List ℕ) (xs : List X) →
-      ((i j : ℕ) (x y : X) → slice_get xs i ≡ Some x → slice_get xs j ≡ Some y → called x ≡ called y → i ≡ j) → AreApart called xs
-  apart_from called xs once = λ i j d below within same.
-      let here : i ≡ j = once i j (get_or xs i d) (get_or xs j d) (slice_get-get_or xs i d (omega arith)) (slice_get-get_or xs j d within) same in
-      omega arith
 
 -- pairs at one place
 pub zip_right : {X Y : Type 0} (R : X → Y → Type 0) (xs : List X) (ys : List Y) (i : ℕ) (x : X) → AllZip R xs ys → slice_get xs i ≡ Some x → (y : Y) × (slice_get ys i ≡ Some y) × R x y

@@ -1,16 +1,14 @@
 -- Where the rows of a class stand among those of all classes.
-use Rattle.std.proofs.Common.{◌≡◌, ℕ, zero, suc, ◌+◌, ◌<◌, ◌≤◌, Bool, true, false, not, List, [], ◌∷◌, ◌++◌, length, map, ◌*◌, Option, Some, None, refl, sym, ap, subst, ◌∙◌, inl, inr, add_assoc, append_assoc, append-nil, arith}
+use Rattle.std.proofs.Common.{◌≡◌, ℕ, zero, suc, ◌+◌, ◌<◌, ◌≤◌, List, [], ◌∷◌, ◌++◌, length, ◌*◌, Option, Some, refl, sym, ap, subst, ◌∙◌, inl, inr, append_assoc, append-nil, arith}
 use Rattle.std.specs.Prelude.{slice_get}
-use Rattle.std.specs.List.{All, filter_map}
+use Rattle.std.specs.List.{filter_map}
 use Rattle.std.proofs.lemmas.List.{length-append}
 use Rattle.cb_model.specs.declared.id.ClassId.{ClassId}
-use Rattle.cb_model.specs.declared.tables.EventRow.{EventRow}
 use Rattle.cb_model.specs.WellTyped.{Member as Declaration, event, relation, rule}
 use Rattle.cb_grammar.specs.declared.tree.ClassDecl.{ClassDecl}
 use Rattle.cb_grammar.specs.declared.tree.Member.{Member}
-use Rattle.cb_grammar.specs.declared.tree.Member.TheVariants.{Event, Relation, Rule, Block, Hide}
-use Rattle.cb_check.specs.Stands.{RuleDecl, declared_from, event_in, rule_in}
-use Rattle.cb_check.specs.FlatTree.{IsPlain, name_of}
+use Rattle.cb_grammar.specs.declared.tree.Member.TheVariants.{Event, Rule}
+use Rattle.cb_check.specs.Stands.{declared_from, event_in, relation_in, rule_in}
 use Rattle.cb_check.proofs.Places.{slice_get-left, slice_get-right, slice_get-joined, place, kept_at, kept_from, place_below}
 
 module _ {Row : Type 0} (kind : ClassId → Member → Option Row) where
@@ -145,41 +143,8 @@ module _ {Row : Type 0} (kind : ClassId → Member → Option Row) where
   index_below decls c decl i j member row member_is gives below =
       let less = place_below (kind c) decl.members i j member row member_is gives below in omega arith
 
--- an event's row has the event's class, name and marks
-pub event_class : (c : ClassId) (member : Member) (row : EventRow) → event_in c member ≡ Some row → row.class ≡ c
-event_class c (Event name problem symptom) row is = let same : row ≡ record { class = c; name = name.name; problem = problem; symptom = symptom } = cc in ap (λ (r : EventRow). r.class) same
-event_class c member row is = absurd (cc)
-
-pub event_name : (c : ClassId) (member : Member) (row : EventRow) → event_in c member ≡ Some row → row.name ≡ name_of member
-event_name c (Event name problem symptom) row is = let same : row ≡ record { class = c; name = name.name; problem = problem; symptom = symptom } = cc in ap (λ (r : EventRow). r.name) same
-event_name c member row is = absurd (cc)
-
-pub event_marks : (c : ClassId) (member : Member) (row : EventRow) → event_in c member ≡ Some row → IsPlain member → row.symptom ≡ not row.problem
-event_marks c (Event name problem symptom) row is plain =
-    let same : record { class = c; name = name.name; problem = problem; symptom = symptom } ≡ row = cc in
-    subst (λ (r : EventRow). r.symptom ≡ not r.problem) same plain
-event_marks c member row is plain = absurd (cc)
-
-pub rule_class : (c : ClassId) (member : Member) (decl : RuleDecl) → rule_in c member ≡ Some decl → decl.class ≡ c
-rule_class c (Rule name cause path effect) decl is =
-    let same : record { class = c; name = name.name; cause = cause.name; path = map (λ t. t.name) path; effect = effect.name } ≡ decl = cc in
-    subst (λ (d : RuleDecl). d.class ≡ c) same refl
-rule_class c member decl is = absurd (cc)
-
-pub rule_name : (c : ClassId) (member : Member) (decl : RuleDecl) → rule_in c member ≡ Some decl → decl.name ≡ name_of member
-rule_name c (Rule name cause path effect) decl is =
-    let same : record { class = c; name = name.name; cause = cause.name; path = map (λ t. t.name) path; effect = effect.name } ≡ decl = cc in
-    subst (λ (d : RuleDecl). d.name ≡ name.name) same refl
-rule_name c member decl is = absurd (cc)
-
-pub rule_path : (c : ClassId) (member : Member) (decl : RuleDecl) → rule_in c member ≡ Some decl → IsPlain member → decl.path ≡ []
-rule_path c (Rule name cause path effect) decl is plain =
-    let same : record { class = c; name = name.name; cause = cause.name; path = map (λ t. t.name) path; effect = effect.name } ≡ decl = cc in
-    subst (λ (d : RuleDecl). d.path ≡ []) same (ap (map (λ t. t.name)) plain)
-rule_path c member decl is plain = absurd (cc)
-
 -- the row of what a member of a class declares
 abbrev pub declaration : List ClassDecl → ℕ → ClassDecl → ℕ → Member → Declaration
 declaration decls n decl j (Event name problem symptom) = event (index event_in decls n decl j)
 declaration decls n decl j (Rule name cause path effect) = rule (index rule_in decls n decl j)
-declaration decls n decl j member = relation 0
+declaration decls n decl j member = relation (index relation_in decls n decl j)

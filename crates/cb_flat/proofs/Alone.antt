@@ -14,16 +14,15 @@ use Rattle.cb_model.specs.declared.tables.RelRow.{RelRow}
 use Rattle.cb_model.specs.declared.tables.RuleRow.{RuleRow}
 use Rattle.cb_model.specs.declared.tables.HideRow.{HideRow}
 use Rattle.cb_model.specs.Classes.{parent_in_row, parent_of, parent_of_some, ancestor, IsA, OnTheWay, HasEvent, HasRelation, HasRule, IsProblemOf, IsSymptomOf, NamesClass, NamesEvent, NamesRelation}
-use Rattle.cb_model.specs.Flat.{IsFlat, IsFlatRule}
 use Rattle.cb_model.specs.WellTyped.{Member, event, Declares}
-use Rattle.cb_model.proofs.FlatLemmas.{stands_alone}
+use Rattle.cb_flat.proofs.FlatLemmas.{stands_alone}
 use Rattle.cb_model.proofs.Numbers.{all_at}
 use Rattle.cb_model.proofs.Rising.{nothing_in_empty}
 use Rattle.cb_network.specs.Topology.{Topology, IsOf, HasLink}
 use Rattle.cb_network.specs.Nodes.{IsEventAt, IsNodeOf, IsProblem, IsSymptomNode, IsColumn}
 use Rattle.cb_network.specs.Causes.{Edge, Chain, Causes, Leads}
 use Rattle.cb_network.proofs.Chains.{edge_causes}
-use Rattle.cb_flat.specs.Flat.{LeadsTo, CausesAtHome}
+use Rattle.cb_flat.specs.Flat.{IsFlat, IsFlatRule, LeadsTo, CausesAtHome}
 
 pub same_Some : {X : Type 0} (x y : X) → Some x ≡ Some y → x ≡ y
 same_Some x y e = cc

@@ -11,7 +11,7 @@ use Rattle.cb_text.specs.Words.{words_of, IsPassedOver}
 use Rattle.cb_model.specs.declared.id.ClassId.{ClassId}
 use Rattle.cb_model.specs.declared.node.NodeName.{NodeName}
 use Rattle.cb_model.specs.declared.tables.Tables.{Tables}
-use Rattle.cb_model.specs.Flat.{IsFlat}
+use Rattle.cb_flat.specs.Flat.{IsFlat}
 use Rattle.cb_model.specs.Order.{name_cmp, Rises}
 use Rattle.cb_model.specs.NodeOrder.{node_cmp}
 use Rattle.cb_model.proofs.Rising.{nothing_in_empty}

@@ -12,10 +12,10 @@ use Rattle.cb_model.specs.declared.node.NodeName.{NodeName}
 use Rattle.cb_model.specs.declared.tables.Tables.{Tables}
 use Rattle.cb_model.specs.declared.tables.EventRow.{EventRow}
 use Rattle.cb_model.specs.Classes.{HasEvent, NamesEvent}
-use Rattle.cb_model.specs.Flat.{IsFlat}
+use Rattle.cb_flat.specs.Flat.{IsFlat}
 use Rattle.cb_model.specs.Order.{name_cmp}
 use Rattle.cb_model.specs.WellTyped.{IsClass}
-use Rattle.cb_model.proofs.FlatLemmas.{stands_alone}
+use Rattle.cb_flat.proofs.FlatLemmas.{stands_alone}
 use Rattle.cb_model.proofs.Numbers.{all_at, zip_push}
 use Rattle.cb_model.proofs.Rising.{contains_head}
 use Rattle.cb_coding.specs.declared.group.Problem.{Problem}

@@ -1,3 +1,4 @@
+pub mod FlatLemmas
 pub mod Alone
 pub mod Trees
 pub mod Walk

@@ -9,8 +9,9 @@ use Rattle.cb_model.specs.declared.tables.Tables.{Tables}
 use Rattle.cb_model.specs.declared.tables.ClassRow.{ClassRow}
 use Rattle.cb_model.specs.declared.tables.RelRow.{RelRow}
 use Rattle.cb_model.specs.Classes.{ancestor, NamesClass, NamesRelation}
-use Rattle.cb_model.specs.Flat.{IsFlat}
-use Rattle.cb_model.proofs.FlatLemmas.{stands_alone, class_is}
+use Rattle.cb_flat.specs.Flat.{IsFlat}
+use Rattle.cb_flat.proofs.FlatLemmas.{stands_alone}
+use Rattle.cb_model.proofs.Climb.{class_is}
 use Rattle.cb_network.specs.Regular.{IsRegular, IsReturn, depth_limit}
 
 module _ (tables : Tables) (flat : IsFlat tables) where

@@ -8,13 +8,12 @@ use Rattle.cb_model.specs.declared.rule.Rule.{Rule}
 use Rattle.cb_model.specs.declared.tables.Tables.{Tables}
 use Rattle.cb_model.specs.declared.tables.RuleRow.{RuleRow}
 use Rattle.cb_model.specs.Classes.{HasRule, NamesEvent}
-use Rattle.cb_model.specs.Flat.{IsFlat}
 use Rattle.cb_model.specs.Views.{AreRulesOf, IsRuleAt, rule_of}
 use Rattle.cb_model.proofs.Rising.{nothing_in_empty, contains_cases, contains_head, contains_tail}
 use Rattle.cb_network.specs.Topology.{Topology, IsOf}
 use Rattle.cb_network.specs.Nodes.{IsProblem, IsColumn}
 use Rattle.cb_network.specs.Causes.{Causes}
-use Rattle.cb_flat.specs.Flat.{LeadsTo, CausesAtHome}
+use Rattle.cb_flat.specs.Flat.{IsFlat, LeadsTo, CausesAtHome}
 use Rattle.cb_flat.specs.Steps.{LeadsToNamed}
 use Rattle.cb_flat.proofs.Alone.{same_Some, one_event, one_class, causes_at_home}
 

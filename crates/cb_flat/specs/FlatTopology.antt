@@ -4,7 +4,7 @@ use Rattle.std.specs.FinMap as map
 use Rattle.std.specs.FinSet as set
 use Rattle.cb_text.specs.Lines.{lines_of}
 use Rattle.cb_model.specs.declared.tables.Tables.{Tables}
-use Rattle.cb_model.specs.Flat.{IsFlat}
+use Rattle.cb_flat.specs.Flat.{IsFlat}
 use Rattle.cb_network.specs.Topology.{Topology, empty_topology}
 use Rattle.cb_network.specs.Matrix.{AreColumns, AreProblems}
 use Rattle.cb_flat.specs.declared.topology.FlatTopology.{FlatTopology}

@@ -2,11 +2,10 @@
 use Rattle.std.specs.Prelude.{◌≡◌, ◌↔◌, ◌⊎◌, ℕ, List}
 use Rattle.cb_model.specs.declared.node.NodeName.{NodeName}
 use Rattle.cb_model.specs.declared.tables.Tables.{Tables}
-use Rattle.cb_model.specs.Flat.{IsFlat}
 use Rattle.cb_network.specs.Topology.{Topology}
 use Rattle.cb_network.specs.Nodes.{IsNodeOf, IsProblem, IsSymptomNode, IsColumn}
 use Rattle.cb_network.specs.Causes.{Causes}
-use Rattle.cb_flat.specs.Flat.{CausesAtHome}
+use Rattle.cb_flat.specs.Flat.{IsFlat, CausesAtHome}
 use Rattle.cb_flat.specs.FlatTopology.{MakesTopology}
 use Rattle.cb_flat.specs.Lines.{ListsNodes}
 

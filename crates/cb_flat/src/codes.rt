@@ -1,7 +1,7 @@
 //! Columns, and problems with their codes.
 ghost use Rattle.std.specs.Prelude.{◌≡◌, ◌↔◌, IsTrue, IfOk};
 ghost use Rattle.std.specs.List.{Any};
-ghost use Rattle.cb_model.specs.Flat.{IsFlat};
+ghost use Rattle.cb_flat.specs.Flat.{IsFlat};
 ghost use Rattle.cb_model.specs.WellTyped.{IsClass};
 ghost use Rattle.cb_network.specs.Nodes.{IsProblem};
 ghost use Rattle.cb_network.specs.Matrix.{AreColumns, AreCoded, IsCode};

@@ -1,8 +1,5 @@
 //! What holds of flat models and of their topologies. Each law is the contract of a function that does nothing.
-ghost use Rattle.cb_model.specs.Flat.{IsFlat};
 ghost use Rattle.cb_flat.specs.Laws.{FlatCauses, FlatNodes, TopologyIsOne, SymptomsAreOne};
-
-use cb_model::Model;
 
 /// A problem causes a column exactly where both are of one instance, and its class has a rule from the one event to the
 /// other. So a chain from a problem to a symptom is one edge.
@@ -24,10 +21,3 @@ pub fn topology_is_one()
 pub fn symptoms_are_one()
     ensures { SymptomsAreOne }
 {}
-
-/// The classes of a model stand alone.
-pub fn model_is_flat(model: &Model)
-    ensures { IsFlat model.now }
-{
-    let _tables = model.tables();
-}

@@ -1,10 +1,10 @@
 //! Topology files of `create` lines.
 ghost use Rattle.std.specs.Prelude.{IfOk, OnOk, IsErrOf};
 ghost use Rattle.cb_network.specs.Topology.{Topology};
+ghost use Rattle.cb_flat.specs.Flat.{IsFlat};
 ghost use Rattle.cb_flat.specs.FlatTopology.{topology_of, HasNodes, MakesTopology};
 ghost use Rattle.cb_flat.specs.Steps.{ReadsAs, ReadsAsOnly};
 
-use crate::laws::model_is_flat;
 use crate::line::{create_words, is_short};
 use crate::stop::FlatStop;
 use cb_model::{ClassId, Model, Name, NodeName};
@@ -25,11 +25,11 @@ pub struct FlatTopology {
 
 /// The topology that the lines of a text make.
 pub fn read_topology(alloc: Global, model: &Model, text: &[u8]) -> Result<FlatTopology, FlatStop>
+    requires { IsFlat model.now }
     ensures made { IfOk result (λ flat. MakesTopology model.now text.now (topology_of model.now flat)) }
     ensures nodes { IfOk result (HasNodes model.now) }
     ensures refused { IsErrOf result FlatStop.NotBuilt → (u : Topology) → ¬ MakesTopology model.now text.now u }
 {
-    model_is_flat(model);
     let mut flat = FlatTopology {
         classes: BTreeMap::new(alloc),
         columns: BTreeSet::new(alloc),

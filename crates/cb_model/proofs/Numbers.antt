@@ -1,16 +1,16 @@
 -- Rising lists of numbers, and lists that are written at one place.
-use Rattle.std.proofs.Common.{◌≡◌, ◌≢◌, ℕ, zero, suc, ◌<◌, ◌≤◌, List, [], ◌∷◌, ◌++◌, length, get_or, map, nat_eq, replicate, Some, refl, sym, ap, subst, ◌∙◌, inl, inr, arith}
+use Rattle.std.proofs.Common.{◌≡◌, ◌≢◌, ℕ, zero, suc, ◌+◌, ◌<◌, ◌≤◌, List, [], ◌∷◌, ◌++◌, length, get_or, map, take, nat_eq, replicate, Some, refl, sym, ap, subst, ◌∙◌, inl, inr, arith}
 use Rattle.std.specs.Prelude.{◌⊎◌, ◌↔◌, slice_get, slice_set}
-use Rattle.std.specs.List.{All, AllPairs, AllZip, Contains, IsDistinct}
+use Rattle.std.specs.List.{All, AllPairs, AllZip, Contains, IsDistinct, list_any}
 use Rattle.std.proofs.lemmas.List.{get_or-replicate, length-replicate, length-map, get_or-map}
-use Rattle.std.proofs.lemmas.Option.{slice_get_within, slice_get_read, get_or_from_slice_get}
+use Rattle.std.proofs.lemmas.Option.{slice_get_within, slice_get_read, slice_get-get_or, get_or_from_slice_get}
 use Rattle.std.proofs.lemmas.List.Elements.{Contains-push_cases, Contains-append_left, Contains-push, Contains-get_or, All-contains}
 use Rattle.std.proofs.lemmas.List.Quantifiers.{all_pairs_push}
 use Rattle.std.specs.Cmp.{nat_eq_equiv}
 use Rattle.std.proofs.lemmas.Map.Keys.{IsDistinct-from_apart}
 use Rattle.std.proofs.lemmas.Map.Made.{length-le_from_is_member}
 use Rattle.std.proofs.lemmas.Map.Views.{Contains-from_any, list_any-from_Contains}
-use Rattle.std.proofs.lemmas.Bool.{false_from_ne_true, eqb-true}
+use Rattle.std.proofs.lemmas.Bool.{false_from_ne_true, eqb-true, cases_Bool, false≢true}
 use Rattle.cb_model.specs.declared.id.EventId.{EventId}
 use Rattle.cb_model.specs.WellTyped.{AtMost}
 use Rattle.cb_model.specs.Views.{ListsNumbers}
@@ -102,3 +102,57 @@ at_most_listed P most listed all few = λ xs apart each.
     let here = get_or-map (λ (e : EventId). e.0) xs k none d (omega (arith, low, count)) in
     subst (Contains listed) (sym here) (all (get_or xs k none) (each k none (omega (arith, low, count)))) in
     omega (arith, fewer_than_listed ns listed differ listed_all, count)
+
+-- an item is contained where it stands
+pub contains_at : {X : Type 0} (xs : List X) (i : ℕ) (x : X) → slice_get xs i ≡ Some x → Contains xs x
+contains_at xs i x is = (i, slice_get_within xs i x is, get_or_from_slice_get xs i x x is)
+
+pub place_in : {X : Type 0} (xs : List X) (x : X) → Contains xs x → (i : ℕ) × (slice_get xs i ≡ Some x)
+place_in xs x (i, low, is) = (i, slice_get-get_or xs i x low ∙ ap Some is)
+
+-- what stands in a list that was pushed to
+pub slice_get-push_before : {X : Type 0} (xs : List X) (i : ℕ) (y x : X) → slice_get xs i ≡ Some x → slice_get (xs ++ y ∷ []) i ≡ Some x
+slice_get-push_before [] i y x is = cc
+slice_get-push_before (z ∷ zs) zero y x is = is
+slice_get-push_before (z ∷ zs) (suc i) y x is = slice_get-push_before zs i y x is
+
+pub slice_get-push_last : {X : Type 0} (xs : List X) (i : ℕ) (y : X) → length xs ≡ i → slice_get (xs ++ y ∷ []) i ≡ Some y
+slice_get-push_last [] zero y is = refl
+slice_get-push_last [] (suc i) y is = absurd (omega arith)
+slice_get-push_last (z ∷ zs) zero y is = absurd (omega arith)
+slice_get-push_last (z ∷ zs) (suc i) y is = slice_get-push_last zs i y (omega arith)
+
+-- what stands at a place after it was written
+pub slice_get-set_here : {X : Type 0} (xs : List X) (i : ℕ) (v : X) → i < length xs → slice_get (slice_set xs i v) i ≡ Some v
+slice_get-set_here [] i v low = absurd (omega arith)
+slice_get-set_here (x ∷ xs) zero v low = refl
+slice_get-set_here (x ∷ xs) (suc i) v low = slice_get-set_here xs i v (omega arith)
+
+-- the front of a list grows by the item that stands there
+pub take_more : {X : Type 0} (xs : List X) (i : ℕ) (x : X) → slice_get xs i ≡ Some x → take (i + 1) xs ≡ take i xs ++ x ∷ []
+take_more xs i x is = let f : i + 1 ≡ suc i = omega arith in ap (λ n. take n xs) f ∙ front xs i x is
+  where
+    front : {X : Type 0} (xs : List X) (i : ℕ) (x : X) → slice_get xs i ≡ Some x → take (suc i) xs ≡ take i xs ++ x ∷ []
+    front [] i x is = cc
+    front (y ∷ ys) zero x is = ap (λ z. z ∷ []) (cc is)
+    front (y ∷ ys) (suc i) x is = ap (λ zs. y ∷ zs) (front ys i x is)
+
+-- an item that stands in the front of a list
+pub take_contains : {X : Type 0} (xs : List X) (n : ℕ) (x : X) → Contains (take n xs) x → (i : ℕ) × (i < n) × (slice_get xs i ≡ Some x)
+take_contains xs n x has =
+    let place = place_in (take n xs) x has in
+    let early = front xs n place.0 x place.1 in
+    (place.0, early.0, early.1)
+  where
+    front : {X : Type 0} (xs : List X) (n i : ℕ) (x : X) → slice_get (take n xs) i ≡ Some x → (i < n) × (slice_get xs i ≡ Some x)
+    front xs zero i x is = absurd (cc is)
+    front [] (suc n) i x is = absurd (cc is)
+    front (y ∷ ys) (suc n) zero x is = (omega arith, is)
+    front (y ∷ ys) (suc n) (suc i) x is = let rest = front ys n i x is in (omega (arith, rest.0), rest.1)
+
+-- a number is in a list or it is not
+pub contains_or_not : (xs : List ℕ) (x : ℕ) → Contains xs x ⊎ (¬ Contains xs x)
+contains_or_not xs x = elim (cases_Bool (list_any (nat_eq x) xs)) [
+  | inl has ↦ inl (Contains-from_any (λ a b is. eqb-true a b is) x xs has)
+  | inr none ↦ inr (λ has. false≢true (sym none ∙ list_any-from_Contains nat_eq_equiv x xs has))
+]

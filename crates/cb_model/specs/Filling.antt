@@ -1,47 +1,37 @@
--- How the views of the classes are filled, one row after another.
-use Rattle.std.specs.Prelude.{◌≡◌, ◌≢◌, ℕ, ◌<◌, List, length, map, replicate, Some, slice_get, MatchOption}
-use Rattle.std.specs.List.{AllZip, sum_by}
+-- How the view of a class is filled from the rows that it has.
+use Rattle.std.specs.Prelude.{◌≡◌, ◌≢◌, ℕ, ◌<◌, ◌↔◌, List, length, Some, slice_get, MatchOption}
+use Rattle.std.specs.List.{All, AllZip, Contains}
 use Rattle.cb_model.specs.declared.id.ClassId.{ClassId}
 use Rattle.cb_model.specs.declared.tables.Tables.{Tables}
 use Rattle.cb_model.specs.declared.tables.ClassRow.{ClassRow}
-use Rattle.cb_model.specs.declared.class_view.ClassView.{ClassView}
+use Rattle.cb_model.specs.declared.rule.Rule.{Rule}
 use Rattle.cb_model.specs.NameMap.{value_named}
 use Rattle.cb_model.specs.Views.{ListsNumbers, IsRuleAt}
-use Rattle.cb_model.specs.Sealed.{no_view}
 
--- row i is one of the first n, and declared in the class at place k
-abbrev pub DeclaredIn : {Row : Type 0} → (Row → ClassId) → List Row → ℕ → ℕ → ℕ → Type 0
-DeclaredIn {Row} class_of rows k n i = (row : Row) × (slice_get rows i ≡ Some row) × ((class_of row).0 ≡ k) × (i < n)
+-- the numbers are places of rows
+abbrev pub ArePlaces : {Row : Type 0} → List Row → List ℕ → Type 0
+ArePlaces rows places = All (λ place. place < length rows) places
 
-abbrev pub DeclaresEvent : Tables → ℕ → ℕ → ℕ → Type 0
-DeclaresEvent t = DeclaredIn (λ row. row.class) t.events
+-- the row at the place n, which is one of these, has this name
+abbrev pub IsNamedAt : {Row : Type 0} → (Row → List ℕ) → List Row → List ℕ → List ℕ → ℕ → Type 0
+IsNamedAt {Row} name_of rows places name n = Contains places n × (row : Row) × (slice_get rows n ≡ Some row) × (name_of row ≡ name)
 
-abbrev pub DeclaresRule : Tables → ℕ → ℕ → ℕ → Type 0
-DeclaresRule t = DeclaredIn (λ row. row.class) t.rules
+-- each name of a row at one of these places leads to such a row, and other names nowhere
+abbrev pub FindsAmong : {Row V : Type 0} → (Row → List ℕ) → (V → ℕ) → List Row → List ℕ → List (List ℕ × V) → Type 0
+FindsAmong name_of place_of rows places names =
+    (name : List ℕ) → MatchOption (value_named names name) ((n : ℕ) → ¬ IsNamedAt name_of rows places name n) (λ v. IsNamedAt name_of rows places name (place_of v))
 
--- so is an event of this name
-abbrev pub DeclaresNamed : Tables → ℕ → ℕ → List ℕ → ℕ → Type 0
-DeclaresNamed t k n name i = (declared : DeclaresEvent t k n i) × (declared.0.name ≡ name)
+-- a row at one of these places shows the number
+abbrev pub IsShown : {Row : Type 0} → (Row → ℕ) → List Row → List ℕ → ℕ → Type 0
+IsShown {Row} shown_by rows places n = (place : ℕ) × (row : Row) × Contains places place × (slice_get rows place ≡ Some row) × (shown_by row ≡ n)
 
--- the view has, of the first n rows of the events, those of the class at place k
-pub record HoldsEvents (t : Tables) (k n : ℕ) (view : ClassView) : Type 0 where
-  pub events : ListsNumbers (DeclaresEvent t k n) (map (λ e. e.0) view.events)
-  pub names : (name : List ℕ) → MatchOption (value_named view.names name) ((i : ℕ) → ¬ DeclaresNamed t k n name i) (λ e. DeclaresNamed t k n name e.0)
+-- the numbers are those that rows at these places show
+abbrev pub AreShown : {Row : Type 0} → (Row → ℕ) → List Row → List ℕ → List ℕ → Type 0
+AreShown shown_by rows places numbers = (n : ℕ) → Contains numbers n ↔ IsShown shown_by rows places n
 
--- and of the first n rows of the rules
-abbrev pub HoldsRules : Tables → ℕ → ℕ → ClassView → Type 0
-HoldsRules t k n view = (numbers : List ℕ) × ListsNumbers (DeclaresRule t k n) numbers × AllZip (IsRuleAt t) numbers view.rules
-
--- there is a view of each class, which holds the first rows of the events and of the rules, so many of each
-pub record AreFilled (t : Tables) (events rules : ℕ) (views : List ClassView) : Type 0 where
-  pub all : length views ≡ length t.classes
-  pub events_of : (k : ℕ) (view : ClassView) → slice_get views k ≡ Some view → HoldsEvents t k events view
-  pub rules_of : (k : ℕ) (view : ClassView) → slice_get views k ≡ Some view → HoldsRules t k rules view
-  pub total : sum_by (λ view. length view.events) views ≡ events
-
--- there is a view of nothing for each class
-abbrev pub AreEmpty : Tables → List ClassView → Type 0
-AreEmpty t views = views ≡ replicate (length t.classes) no_view
+-- the rules are those at these places, without the blocked ones
+abbrev pub AreFree : Tables → List ℕ → List ℕ → List Rule → Type 0
+AreFree t places blocked rules = (free : List ℕ) × ListsNumbers (λ n. Contains places n × ¬ Contains blocked n) free × AllZip (IsRuleAt t) free rules
 
 -- each name of the first n classes leads to one that has it, and other names nowhere
 abbrev pub FindsFirst : Tables → ℕ → List (List ℕ × ClassId) → Type 0

@@ -3,7 +3,7 @@ pub mod NodeOrder
 pub mod Classes
 pub mod NameMap
 pub mod WellTyped
-pub mod Flat
 pub mod Views
+pub mod Rows
 pub mod Sealed
 pub mod Filling

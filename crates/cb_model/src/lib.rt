@@ -2,6 +2,7 @@
 #![tactic(auto)]
 
 mod class_view;
+mod heirs;
 mod id;
 mod limits;
 mod list;
@@ -15,7 +16,7 @@ mod tables;
 pub use id::{ClassId, EventId, RelId};
 pub use limits::{MOST_ANCESTORS, MOST_CLASSES, MOST_EVENTS, MOST_RELATIONS, MOST_RULES};
 pub use list::List;
-pub use model::{Model, flat_rows_are_flat};
+pub use model::Model;
 pub use name::Name;
 pub use name_map::NameMap;
 pub use node::{GroupName, NamedGroup, NodeName};

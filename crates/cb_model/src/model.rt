@@ -1,17 +1,17 @@
 //! The checked model.
-ghost use Rattle.std.specs.Prelude.{◌≡◌, ◌<◌, ◌≤◌, ◌↔◌, ℕ, length, IfOk, OnOk, IfSome, IfNone, IsTrue, MatchOption};
+ghost use Rattle.std.specs.Prelude.{◌≡◌, ◌≤◌, ◌↔◌, length, IfOk, IfSome, IfNone, IsTrue};
 ghost use Rattle.cb_model.specs.declared.id.ClassId.{ClassId as Class};
 ghost use Rattle.cb_model.specs.declared.id.EventId.{EventId as Event};
-ghost use Rattle.cb_model.specs.Classes.{IsProblemOf, IsSymptomOf, NamesClass, NamesEvent};
-ghost use Rattle.cb_model.specs.WellTyped.{IsClass, IsEvent};
-ghost use Rattle.cb_model.specs.Flat.{IsFlat, FlatRowsAreFlat};
+ghost use Rattle.cb_model.specs.declared.id.RelId.{RelId as Relation};
+ghost use Rattle.cb_model.specs.Classes.{IsA, IsProblemOf, IsSymptomOf, NamesClass, NamesEvent, NamesRelation};
+ghost use Rattle.cb_model.specs.WellTyped.{IsClass, IsEvent, WellTyped};
 ghost use Rattle.cb_model.specs.Views.{AreEventsOf, AreRulesOf};
-ghost use Rattle.cb_model.specs.Sealed.{FindsClasses};
-ghost use Rattle.cb_model.specs.Filling.{AreEmpty, AreFilled};
+ghost use Rattle.cb_model.specs.Sealed.{FindsClasses, AreViewsOf};
 
 use crate::class_view::ClassView;
-use crate::id::{ClassId, EventId};
-use crate::limits::MOST_CLASSES;
+use crate::heirs::ClassRows;
+use crate::id::{ClassId, EventId, RelId};
+use crate::limits::{MOST_ANCESTORS, MOST_CLASSES};
 use crate::list::List;
 use crate::name_map::NameMap;
 use crate::rule::{Marks, Rule};
@@ -40,13 +40,11 @@ impl std::marker::Model for Model {
 impl Model {
     /// The model of these tables, which are dropped where memory is lacking.
     pub fn seal(alloc: Global, tables: Tables) -> Result<Model, AllocError>
-        requires { IsFlat tables }
+        requires { WellTyped tables }
         ensures { IfOk result (λ model. model ≡ tables) }
     {
         let names = class_names(alloc, &tables)?;
-        let mut views = empty_views(alloc, &tables)?;
-        add_events(alloc, &tables, &mut views)?;
-        add_rules(alloc, &tables, &mut views)?;
+        let views = class_views(alloc, &tables)?;
         Ok(Model {
             tables,
             names,
@@ -56,7 +54,7 @@ impl Model {
 
     pub fn tables(&self) -> &Tables
         ensures value { result.now ≡ self.now }
-        ensures flat { IsFlat self.now }
+        ensures typed { WellTyped self.now }
     {
         &self.tables
     }
@@ -74,7 +72,38 @@ impl Model {
         ensures found { IfSome result (NamesEvent self.now class name.now) }
         ensures absent { IfNone result ((event : Event) → ¬ NamesEvent self.now class name.now event) }
     {
-        self.views[class.0 as usize].names.get(name).copied()
+        self.views[class.0 as usize].event_names.get(name).copied()
+    }
+
+    /// The relation of this name that the class has.
+    pub fn relation_named(&self, class: ClassId, name: &[u8]) -> Option<RelId>
+        requires { IsClass self.now class }
+        ensures found { IfSome result (NamesRelation self.now class name.now) }
+        ensures absent { IfNone result ((relation : Relation) → ¬ NamesRelation self.now class name.now relation) }
+    {
+        self.views[class.0 as usize]
+            .relation_names
+            .get(name)
+            .copied()
+    }
+
+    /// Whether the two are one class, or the second is an ancestor of the first.
+    pub fn is_a(&self, class: ClassId, ancestor: ClassId) -> bool
+        requires class { IsClass self.now class }
+        requires ancestor { IsClass self.now ancestor }
+        ensures { IsTrue result ↔ IsA self.now class ancestor }
+    {
+        let mut at = class;
+        for _step in 0..MOST_ANCESTORS + 1 {
+            if at == ancestor {
+                return true;
+            }
+            match self.tables.classes.at(at.0 as usize).parent {
+                None => return false,
+                Some(parent) => at = parent,
+            }
+        }
+        false
     }
 
     /// What the event is for the class: nothing where the class does not have it.
@@ -85,16 +114,16 @@ impl Model {
         ensures symptom { IsTrue result.symptom ↔ IsSymptomOf self.now class event }
     {
         let row = self.tables.events.at(event.0 as usize);
-        if row.class == class {
-            Marks {
-                problem: row.problem,
-                symptom: row.symptom,
-            }
-        } else {
-            Marks {
+        if !self.is_a(class, row.class) {
+            return Marks {
                 problem: false,
                 symptom: false,
-            }
+            };
+        }
+        let hidden = self.views[class.0 as usize].hidden.contains(&event.0);
+        Marks {
+            problem: row.problem,
+            symptom: row.symptom && !hidden,
         }
     }
 
@@ -115,11 +144,6 @@ impl Model {
     }
 }
 
-/// Tables of classes that stand alone keep the type rules where their rows do.
-pub fn flat_rows_are_flat()
-    ensures { FlatRowsAreFlat }
-{}
-
 // The classes by their names.
 fn class_names(alloc: Global, tables: &Tables) -> Result<NameMap<ClassId>, AllocError>
     requires { length tables.now.classes ≤ MOST_CLASSES }
@@ -132,39 +156,15 @@ fn class_names(alloc: Global, tables: &Tables) -> Result<NameMap<ClassId>, Alloc
     Ok(names)
 }
 
-// A view of nothing for each class.
-fn empty_views(alloc: Global, tables: &Tables) -> Result<Vec<ClassView>, AllocError>
-    ensures { IfOk result (λ views. AreEmpty tables.now views.items) }
+// A view of each class.
+fn class_views(alloc: Global, tables: &Tables) -> Result<Vec<ClassView>, AllocError>
+    requires { WellTyped tables.now }
+    ensures { IfOk result (λ views. AreViewsOf tables.now views.items) }
 {
+    let rows = ClassRows::of(alloc, tables)?;
     let mut views = Vec::new(alloc);
-    for _class in tables.classes.as_slice() {
-        views.push(ClassView::new(alloc))?;
+    for class in 0..tables.classes.len() {
+        views.push(ClassView::of(alloc, tables, &rows, class)?)?;
     }
     Ok(views)
-}
-
-// Puts each event into the view of its class.
-fn add_events(alloc: Global, tables: &Tables, views: &mut Vec<ClassView>) -> Result<(), AllocError>
-    requires flat { IsFlat tables.now }
-    requires empty { AreEmpty tables.now views.old.items }
-    ensures { OnOk result (AreFilled tables.now (length tables.now.events) 0 views.new.items) }
-{
-    for (place, row) in tables.events.as_slice().iter().enumerate() {
-        let view = &mut views[row.class.0 as usize];
-        view.add_event(alloc, row.name.bytes(), EventId(place as u32))?;
-    }
-    Ok(())
-}
-
-// Puts each rule into the view of its class.
-fn add_rules(alloc: Global, tables: &Tables, views: &mut Vec<ClassView>) -> Result<(), AllocError>
-    requires flat { IsFlat tables.now }
-    requires filled { AreFilled tables.now (length tables.now.events) 0 views.old.items }
-    ensures { OnOk result (AreFilled tables.now (length tables.now.events) (length tables.now.rules) views.new.items) }
-{
-    for row in tables.rules.as_slice() {
-        let view = &mut views[row.class.0 as usize];
-        view.add_rule(alloc, row)?;
-    }
-    Ok(())
 }

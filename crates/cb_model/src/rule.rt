@@ -1,6 +1,11 @@
 //! What contracts of a model speak of besides its tables.
+ghost use Rattle.std.specs.Prelude.{◌≡◌, IfOk};
+ghost use Rattle.cb_model.specs.Views.{rule_of};
+
 use crate::id::{EventId, RelId};
 use crate::list::List;
+use crate::tables::RuleRow;
+use std::alloc::{AllocError, Global};
 
 /// What an event is for a class.
 #[derive(Clone, Copy, Debug, PartialEq, Eq)]
@@ -15,4 +20,17 @@ pub struct Rule {
     pub cause: EventId,
     pub path: List<RelId>,
     pub effect: EventId,
+}
+
+impl Rule {
+    /// The rule of a row.
+    pub(crate) fn of(alloc: Global, row: &RuleRow) -> Result<Rule, AllocError>
+        ensures { IfOk result (λ rule. rule ≡ rule_of row.now) }
+    {
+        Ok(Rule {
+            cause: row.cause,
+            path: row.path.copy(alloc)?,
+            effect: row.effect,
+        })
+    }
 }

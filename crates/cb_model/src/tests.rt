@@ -1,6 +1,4 @@
-ghost use Rattle.cb_model.specs.Flat.{IsFlat};
-
-use crate::{ClassId, List, Model, Name, NodeName, Tables};
+use crate::{ClassId, List, Name, NodeName};
 use std::alloc::{AllocError, Global};
 
 fn node(alloc: Global, event: &[u8], instance: &[u8]) -> Result<NodeName, AllocError> {
@@ -8,19 +6,6 @@ fn node(alloc: Global, event: &[u8], instance: &[u8]) -> Result<NodeName, AllocE
         event: Name::of(alloc, event)?,
         instance: Name::of(alloc, instance)?,
     })
-}
-
-fn no_tables(alloc: Global) -> Tables
-    ensures { IsFlat result }
-{
-    Tables {
-        classes: List::new(alloc),
-        events: List::new(alloc),
-        relations: List::new(alloc),
-        rules: List::new(alloc),
-        blocks: List::new(alloc),
-        hides: List::new(alloc),
-    }
 }
 
 #[test]
@@ -52,13 +37,5 @@ fn nodes_in_order(rt: HostRuntime) -> Result<(), AllocError> {
         assert!(rt; first < second && first != second);
         assert!(rt; first == first.copy(rt.alloc())?);
     }
-    Ok(())
-}
-
-#[test]
-fn model_of_nothing(rt: HostRuntime) -> Result<(), AllocError> {
-    let model = Model::seal(rt.alloc(), no_tables(rt.alloc()))?;
-    assert_eq!(rt; model.tables().classes.len(), 0);
-    assert_eq!(rt; model.class_named(b"Port"), None);
     Ok(())
 }

@@ -33,6 +33,26 @@ pub enum TypeRule {
     TooManyMembers,
 }
 
+impl TypeRule {
+    /// All rules, in the order in which they are read.
+    pub const ALL: [TypeRule; 14] = [
+        TypeRule::TwoClasses,
+        TypeRule::NoParent,
+        TypeRule::Loop,
+        TypeRule::Depth,
+        TypeRule::TwoNames,
+        TypeRule::NoTarget,
+        TypeRule::BadInverse,
+        TypeRule::NoCause,
+        TypeRule::NoRelation,
+        TypeRule::NoEffect,
+        TypeRule::NoBlocked,
+        TypeRule::NoHidden,
+        TypeRule::TooManyClasses,
+        TypeRule::TooManyMembers,
+    ];
+}
+
 /// The first rule that a tree breaks, and the least line at which it does.
 #[derive(Clone, Copy, Debug, PartialEq, Eq)]
 pub struct BrokenRule {

@@ -2,7 +2,7 @@
 use Rattle.std.proofs.Common.{◌≡◌, List, ℕ, sym, ap, subst, ◌∙◌, inl, inr}
 use Rattle.cb_model.specs.declared.node.NodeName.{NodeName}
 use Rattle.cb_model.specs.declared.tables.Tables.{Tables}
-use Rattle.cb_model.specs.Flat.{IsFlat}
+use Rattle.cb_flat.specs.Flat.{IsFlat}
 use Rattle.cb_network.specs.declared.finding.Finding.{Finding}
 use Rattle.cb_network.specs.Topology.{Topology}
 use Rattle.cb_network.specs.Finding.{IsBurst}

@@ -1,7 +1,7 @@
 //! The command `burst`.
 ghost use Rattle.std.specs.Prelude.{[], ◌∷◌, OnOk, IfOk, IfErr, IfSome};
 ghost use Rattle.cb_io.specs.Outside.{KeepsOthers, NoCountFalls};
-ghost use Rattle.cb_model.specs.Flat.{IsFlat};
+ghost use Rattle.cb_flat.specs.Flat.{IsFlat};
 ghost use Rattle.cb_flat.specs.FlatTopology.{topology_of, HasNodes};
 ghost use Rattle.cb_top.specs.Model.{IsModelText};
 ghost use Rattle.cb_top.specs.Burst.{IsTopologyText, IsSymptomText};

@@ -1,6 +1,6 @@
 //! What the texts of a command's files say.
 ghost use Rattle.std.specs.Prelude.{◌≡◌, IfOk, IfErr};
-ghost use Rattle.cb_model.specs.Flat.{IsFlat};
+ghost use Rattle.cb_flat.specs.Flat.{IsFlat};
 ghost use Rattle.cb_model.specs.Order.{Rises};
 ghost use Rattle.cb_model.specs.NodeOrder.{node_cmp};
 ghost use Rattle.cb_grammar.specs.declared.tree.Tree.{Tree};

@@ -26,6 +26,13 @@ const PUMP_IN_A_LINE: &str =
 const LINK: &str =
     "class Link {\n  problem Cut;\n  symptom Loss;\n  relation ends to Port many inverse on;\n  rule here: Cut => Loss;\n  rule far: Cut => ends.NoSignal;\n}\nclass Port {\n  problem Fail;\n  symptom NoSignal;\n  relation on to Link one inverse ends;\n  rule down: Fail => NoSignal;\n}\n";
 
+// An instance whose name has 63 bytes, the most, and one whose name has 64.
+const CREATE_63: &str =
+    "create p23456789012345678901234567890123456789012345678901234567890123 Pump\n";
+
+const CREATE_64: &str =
+    "create p234567890123456789012345678901234567890123456789012345678901234 Pump\n";
+
 /// What a run is made on: the words, the files, and what the outside does to it.
 #[derive(Clone, Copy)]
 struct Case<'a> {
@@ -297,7 +304,12 @@ fn a_model_of_too_many_bytes_is_refused(rt: HostRuntime) -> Result<(), Fail> {
 #[test]
 fn a_pump_is_told_by_its_symptoms(rt: HostRuntime) -> Result<(), Fail> {
     // The topology, the symptoms, and the answer.
-    let cases: [(&str, &str, &str); 6] = [
+    let cases: [(&str, &str, &str); 7] = [
+        (
+            CREATE_63,
+            "Heat@p1\n",
+            "burst raised 1 unknown 1 distance 0 radius 0 sure groups 1\n  group quiet\n",
+        ),
         (
             "create p1 Pump\n",
             "Noise@p1\nHeat@p1\n",
@@ -351,7 +363,13 @@ fn a_pump_is_told_by_its_symptoms(rt: HostRuntime) -> Result<(), Fail> {
 
 #[test]
 fn other_files_are_not_built(rt: HostRuntime) -> Result<(), Fail> {
-    let cases: [(&str, &str, &str); 5] = [
+    let cases: [(&str, &str, &str); 11] = [
+        (PUMP, CREATE_64, ""),
+        (PUMP, "create p1\n", ""),
+        (PUMP, "create p1 Pump now\n", ""),
+        (PUMP, "create p1 pump\n", ""),
+        (PUMP, "create p@1 Pump\n", ""),
+        (PUMP, "create p1 Pump\n", "Heat\n"),
         (LINK, "create L1 Link\n", "Loss@L1\n"),
         ("class A { problem symptom P; }", "", ""),
         (PUMP, "create p1 Pump\ncreate p1 Pump\n", ""),

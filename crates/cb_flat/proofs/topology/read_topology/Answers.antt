@@ -6,7 +6,7 @@ use Rattle.cb_flat.proofs.Walk.{starts_before}
 use Rattle.cb_flat.proofs.topology.read_topology.Goals as goal
 
 pub loop-line-init : goal.loop-line-init
-loop-line-init c = built_none c.args.model.now c.model_is_flat.ensures c.args.text.now _ c.new.ensures.empty c.new-2.ensures.empty c.new-3.ensures.empty
+loop-line-init c = built_none c.args.model.now c.requires c.args.text.now _ c.new.ensures.empty c.new-2.ensures.empty c.new-3.ensures.empty
 
 pub returns-in_err-read_line-clause-refused : goal.returns-in_err-read_line-clause-refused
 returns-in_err-read_line-clause-refused c =

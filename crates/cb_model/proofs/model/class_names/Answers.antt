@@ -1,6 +1,6 @@
 use Rattle.std.proofs.Common.{ap, length, subst, arith, List, ℕ}
 use Rattle.cb_model.specs.NameMap.{PutsName}
-use Rattle.cb_model.proofs.Fill.{finds_more, finds_all}
+use Rattle.cb_model.proofs.ClassNames.{finds_more, finds_all}
 use Rattle.cb_model.proofs.Numbers.{read_at}
 use Rattle.cb_model.proofs.model.class_names.Goals as goal
 

@@ -1,0 +1,247 @@
+#!/usr/bin/env python3
+"""Compares answers on random inputs, good and faulty, with another program that has the same command line.
+
+    bench/compare.py [--peer PROGRAM] [--program PROGRAM] [--seed N] [RUNS]
+
+Each run makes a model text (some of them with a fault in their spelling or in their types), a topology and a symptom
+file, hands them to both programs, and compares the status, the output and the line on standard error. A run that the
+program isn't built for (status 11) is counted apart. It ends with status 1 where two answers differ, and says nothing
+but a word where the other program isn't there. The program is built by `rt run` in crates/cb_cli, which leaves it in
+out/.
+"""
+import argparse
+import pathlib
+import random
+import subprocess
+import sys
+import tempfile
+
+ROOT = pathlib.Path(__file__).resolve().parent.parent
+RESERVED = "class extends problem symptom event relation to one many inverse rule block hide".split()
+NOT_BUILT = 11
+
+
+class Class:
+    """A class of a random model, by names alone."""
+
+    def __init__(self, name, parent):
+        self.name = name
+        self.parent = parent
+        self.members = []
+
+    def line(self):
+        """The class and its ancestors, this one first."""
+        above = self
+        while above is not None:
+            yield above
+            above = above.parent
+
+    def named(self, kind):
+        return [member[1] for above in self.line() for member in above.members if member[0] == kind]
+
+
+def random_classes(rng):
+    """Some classes that keep the type rules, mostly."""
+    classes = []
+    for i in range(rng.choice((0, 1, 1, 2, 3, 5))):
+        parent = rng.choice(classes) if classes and rng.random() < 0.4 else None
+        classes.append(Class(f"C{i}", parent))
+    count = 0
+    for one in classes:
+        for _ in range(rng.randrange(5)):
+            kind = rng.choice(("problem", "symptom", "symptom", "problem symptom", "event"))
+            one.members.append(("event", f"e{count}", kind))
+            count += 1
+    for one in classes:
+        for _ in range(rng.randrange(2)):
+            other = rng.choice(classes)
+            there, back = f"r{count}", f"r{count + 1}"
+            if other is one and rng.random() < 0.5:
+                back = there
+            one.members.append(("relation", there, other.name, rng.choice(("one", "many")), back))
+            if back != there:
+                other.members.append(("relation", back, one.name, rng.choice(("one", "many")), there))
+            count += 2
+    by_name = {one.name: one for one in classes}
+    for one in classes:
+        for _ in range(rng.randrange(4)):
+            add_rule(rng, by_name, one, f"u{count}")
+            count += 1
+    for one in classes:
+        if one.named("rule") and rng.random() < 0.2:
+            one.members.append(("block", rng.choice(one.named("rule"))))
+        symptoms = [m[1] for c in one.line() for m in c.members if m[0] == "event" and "symptom" in m[2]]
+        if symptoms and rng.random() < 0.2:
+            one.members.append(("hide", rng.choice(symptoms)))
+    return classes
+
+
+def add_rule(rng, by_name, one, name):
+    """A rule of the class along relations that there are, where it has events for one."""
+    path, reached = [], one
+    while rng.random() < 0.4 and len(path) < 4:
+        steps = [m for c in reached.line() for m in c.members if m[0] == "relation"]
+        if not steps:
+            break
+        step = rng.choice(steps)
+        path.append(step[1])
+        reached = by_name[step[2]]
+    if one.named("event") and reached.named("event"):
+        one.members.append(("rule", name, rng.choice(one.named("event")), path, rng.choice(reached.named("event"))))
+
+
+def spell(member):
+    """The tokens of a member."""
+    if member[0] == "event":
+        return member[2].split() + [member[1], ";"]
+    if member[0] == "relation":
+        return ["relation", member[1], "to", member[2], member[3], "inverse", member[4], ";"]
+    if member[0] == "rule":
+        path = [token for name in member[3] for token in (name, ".")]
+        return ["rule", member[1], ":", member[2], "=>"] + path + [member[4], ";"]
+    return [member[0], member[1], ";"]
+
+
+def tokens_of(classes):
+    tokens = []
+    for one in classes:
+        tokens += ["class", one.name]
+        if one.parent is not None:
+            tokens += ["extends", one.parent.name]
+        tokens.append("{")
+        for member in one.members:
+            tokens += spell(member)
+        tokens.append("}")
+    return tokens
+
+
+def spoil(rng, tokens):
+    """One or two tokens changed, so that the text may break a rule of the grammar or of the types."""
+    names = [token for token in tokens if token[0].isalpha() and token not in RESERVED] or ["x"]
+    for _ in range(rng.choice((1, 1, 2))):
+        at = rng.randrange(len(tokens) + 1)
+        kind = rng.randrange(6)
+        if kind == 0:
+            tokens.insert(at, rng.choice(RESERVED + ["{", "}", ";", ":", ".", "=>", "=", "%", "9a", "é", "n" * 63, "n" * 64]))
+        elif kind == 1 and at < len(tokens):
+            del tokens[at]
+        elif kind == 2 and at < len(tokens):
+            tokens[at] = rng.choice(RESERVED + names)
+        else:
+            places = [i for i, token in enumerate(tokens) if token in names]
+            if places:
+                tokens[rng.choice(places)] = rng.choice(names + ["new"])
+
+
+def lay_out(rng, tokens):
+    """The tokens with random gaps and comments between them."""
+    wide = rng.random() < 0.5
+    text = []
+    for i, token in enumerate(tokens):
+        text.append(token)
+        after = tokens[i + 1] if i + 1 < len(tokens) else ""
+        if token[-1].isalnum() and after[:1].isalnum() or token[-1:] in "-_" or rng.random() < 0.6:
+            text.append(rng.choice((" ", "\n", "\t", "\r\n", " # note: class } ;\n")) if wide else " ")
+        if not wide and token in (";", "{", "}"):
+            text.append("\n")
+    return "".join(text)
+
+
+def model_text(rng):
+    tokens = tokens_of(random_classes(rng))
+    if rng.random() < 0.6:
+        spoil(rng, tokens)
+    text = lay_out(rng, tokens)
+    if rng.random() < 0.1:
+        text = text[: rng.randrange(len(text) + 1)]
+    return text
+
+
+def topology_text(rng):
+    lines = []
+    for _ in range(rng.randrange(8)):
+        lines.append(
+            rng.choice(
+                (
+                    f"create i{rng.randrange(5)} C{rng.randrange(4)}",
+                    f"create i{rng.randrange(9)} C{rng.randrange(2)}",
+                    f"link i{rng.randrange(4)} r{rng.randrange(20)} i{rng.randrange(4)}",
+                    "# note",
+                    "",
+                    f"  create\ti{rng.randrange(99)} C0 \r",
+                )
+                if rng.random() < 0.95
+                else ("create", "delete i1", "create i1 C0 more", "mute e0@i0", "\xff")
+            )
+        )
+    return "\n".join(lines) + rng.choice(("", "\n"))
+
+
+def symptom_text(rng):
+    lines = [f"e{rng.randrange(12)}@i{rng.randrange(6)}" for _ in range(rng.randrange(6))]
+    if rng.random() < 0.1:
+        lines.append(rng.choice(("e0", "e0@", "@i0", "e0@i0@i1", "class@i0", "e0@i0 e1@i1", "# no", " \t")))
+    return "\n".join(lines) + rng.choice(("", "\n", "\r\n"))
+
+
+def words_of(rng):
+    if rng.random() < 0.02:
+        return rng.choice(
+            (
+                [],
+                ["model"],
+                ["burst", "m", "t"],
+                ["nothing", "m"],
+                ["codebook", "m", "t", "0"],
+                ["codebook", "m", "t", "01"],
+                ["correlate", "m", "t", "s", "1", "1000000000001"],
+                ["model", "missing"],
+            )
+        )
+    return ["model", "m"] if rng.random() < 0.5 else ["burst", "m", "t", "s"]
+
+
+def answer(program, words, folder):
+    done = subprocess.run([str(program), *words], cwd=folder, capture_output=True, timeout=60, check=False)
+    return done.returncode, done.stdout, done.stderr
+
+
+def compare(program, peer, rng, folder):
+    """The words, and the two answers."""
+    (folder / "m").write_text(model_text(rng), newline="")
+    (folder / "t").write_text(topology_text(rng), newline="")
+    (folder / "s").write_text(symptom_text(rng), newline="")
+    words = words_of(rng)
+    return words, answer(program, words, folder), answer(peer, words, folder)
+
+
+def main():
+    parser = argparse.ArgumentParser(description=__doc__, formatter_class=argparse.RawDescriptionHelpFormatter)
+    parser.add_argument("--program", type=pathlib.Path, default=ROOT / "crates" / "cb_cli" / "out" / "cb_cli")
+    parser.add_argument("--peer", type=pathlib.Path, default=ROOT.parent / "shared" / "peer" / "correlator")
+    parser.add_argument("--seed", type=int, default=1)
+    parser.add_argument("runs", type=int, nargs="?", default=1000)
+    words = parser.parse_args()
+    if not words.peer.exists():
+        print(f"skipped: {words.peer} isn't there")
+        return
+    if not words.program.exists():
+        sys.exit(f"{words.program} isn't there: run `rt run` in crates/cb_cli first")
+    alike, unbuilt, statuses = 0, 0, {}
+    for run in range(words.seed, words.seed + words.runs):
+        with tempfile.TemporaryDirectory() as name:
+            folder = pathlib.Path(name)
+            command, ours, theirs = compare(words.program.resolve(), words.peer.resolve(), random.Random(run), folder)
+            if ours[0] == NOT_BUILT:
+                unbuilt += 1
+            elif ours == theirs:
+                alike += 1
+                statuses[ours[0]] = statuses.get(ours[0], 0) + 1
+            else:
+                print((folder / "m").read_text(newline=""))
+                sys.exit(f"run {run}: {command}\nprogram: {ours}\npeer:    {theirs}")
+    print(f"{alike} alike {dict(sorted(statuses.items()))}, {unbuilt} not built, none different")
+
+
+if __name__ == "__main__":
+    main()

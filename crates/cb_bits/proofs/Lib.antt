@@ -1,0 +1,10 @@
+pub mod Values
+pub mod Places
+pub mod Written
+pub mod Zeros
+pub mod Totals
+pub mod Counted
+pub mod United
+pub mod Sums
+pub mod Alike
+pub mod Grown

@@ -1,0 +1,144 @@
+-- Words that are made of two lists of words, one by one.
+use Rattle.std.proofs.Common.{◌≡◌, ℕ, ◌/◌, ◌%◌, ◌+◌, ◌<◌, ◌≤◌, ◌==◌, ◌||◌, ◌^◌, zero, suc, Bool, false, not, cond, List, length, slice_index_or, bit_or, bit_xor, max, inl, inr, sym, ap, subst, ◌∙◌, refl, arith}
+use Rattle.std.specs.Int.{bit_at}
+use Rattle.std.specs.Simd.Lanes.{zip2}
+use Rattle.std.proofs.lemmas.Bool.{cases_lt}
+use Rattle.std.proofs.lemmas.Grind.{same_number_lists}
+use Rattle.std.proofs.lemmas.List.{get_or_past}
+use Rattle.std.proofs.lemmas.Simd.{length-zip2, get_or-zip2}
+use Rattle.std.proofs.lemmas.Nat.Bits.{bit_at_or, bit_at_xor, bit_at-lt, bit_at-zero}
+use Rattle.std.specs.List.{count_by, range_with_len}
+use Rattle.std.proofs.lemmas.List.FromFn.{fill_by_all}
+use mathlib.Core.Bool.{beq}
+use Rattle.cb_bits.specs.Bits.{bit_of, values, differing, count_bits, HaveSameBits, Holds}
+use Rattle.cb_bits.proofs.Totals.{sum_by-map}
+use Rattle.cb_bits.proofs.Counted.{true_values, few_bits}
+use Rattle.cb_bits.proofs.Values.{values-are, row_len, row_bit}
+
+-- all words are f of both
+pub united : (f : ℕ → ℕ → ℕ) (a b words : List ℕ) → length words ≡ length a → length a ≡ length b
+    → ((k : ℕ) → k < length a → slice_index_or words k 0 ≡ f (slice_index_or a k 0) (slice_index_or b k 0)) → words ≡ zip2 f a b
+united f a b words len same each =
+    let long = length-zip2 f a b same in
+    same_number_lists words (zip2 f a b) (omega arith)
+    (λ k lt. each k (omega arith) ∙ sym (get_or-zip2 f a b k 0 0 0 (omega arith) (omega arith)))
+
+-- f of two words has the bits g of their bits, which keeps zeros
+module _ (f : ℕ → ℕ → ℕ) (g : Bool → Bool → Bool) (of_zeros : g false false ≡ false)
+    (bits : (v w i : ℕ) → (bit_at (f v w) i == 1) ≡ g (bit_at v i == 1) (bit_at w i == 1)) where
+  past : (words : List ℕ) (k : ℕ) → length words ≤ k / 64 → bit_of words k ≡ false
+  past words k le = ap (λ w. bit_at w (k % 64) == 1) (get_or_past words (k / 64) 0 le) ∙ ap (λ b. b == 1) (bit_at-zero (k % 64))
+
+  pub zip_bit : (a b : List ℕ) → length a ≡ length b → (k : ℕ) → bit_of (zip2 f a b) k ≡ g (bit_of a k) (bit_of b k)
+  zip_bit a b same k =
+      let long = length-zip2 f a b same in
+      elim (cases_lt (k / 64) (length a)) [
+        | inl lt ↦ ap (λ w. bit_at w (k % 64) == 1) (get_or-zip2 f a b (k / 64) 0 0 0 lt (omega arith))
+            ∙ bits (slice_index_or a (k / 64) 0) (slice_index_or b (k / 64) 0) (k % 64)
+        | inr le ↦ past (zip2 f a b) k (omega arith) ∙ sym of_zeros
+            ∙ sym (ap (λ x. g x (bit_of b k)) (past a k le) ∙ ap (g false) (past b k (omega arith)))
+      ]
+
+  pub zip_holds : (a b : List ℕ) (n : ℕ) → length a ≡ length b → Holds a n → Holds b n → Holds (zip2 f a b) n
+  zip_holds a b n same ha hb =
+      let long = length-zip2 f a b same in
+      record {
+        fits = ha.fits;
+        enough = let e = ha.enough in omega arith;
+        no_more = let e = ha.no_more in omega arith;
+        rest = λ k le. zip_bit a b same k ∙ ap (λ x. g x (bit_of b k)) (ha.rest k le) ∙ ap (g false) (hb.rest k le) ∙ of_zeros;
+      }
+
+  pub zip_values : (a b : List ℕ) (n : ℕ) (v w : List Bool) → length a ≡ length b → values a n ≡ v → values b n ≡ w → values (zip2 f a b) n ≡ zip2 g v w
+  zip_values a b n v w same is_v is_w =
+      let lv = row_len a n v is_v in
+      let lw = row_len b n w is_w in
+      let both : length v ≡ length w = lv ∙ sym lw in
+      values-are (zip2 f a b) n (zip2 g v w) (length-zip2 g v w both ∙ lv)
+      (λ k lt. zip_bit a b same k
+      ∙ ap (λ x. g x (bit_of b k)) (row_bit a n v is_v k lt)
+      ∙ ap (g (slice_index_or v k false)) (row_bit b n w is_w k lt)
+      ∙ sym (get_or-zip2 g v w k false false false (omega arith) (omega arith)))
+
+not-two : (n : ℕ) → suc (suc n) < 2 → ⊥
+not-two n lt = omega arith
+
+-- numbers below 2 as truth values
+or_digits : (x y : ℕ) → x < 2 → y < 2 → (max x y == 1) ≡ (x == 1 || y == 1)
+or_digits zero zero lx ly = refl
+or_digits zero (suc zero) lx ly = refl
+or_digits (suc zero) zero lx ly = refl
+or_digits (suc zero) (suc zero) lx ly = refl
+or_digits zero (suc (suc y)) lx ly = absurd (not-two y ly)
+or_digits (suc zero) (suc (suc y)) lx ly = absurd (not-two y ly)
+or_digits (suc (suc x)) y lx ly = absurd (not-two x lx)
+
+pub or_bits : (v w i : ℕ) → (bit_at (bit_or v w) i == 1) ≡ ((bit_at v i == 1) || (bit_at w i == 1))
+or_bits v w i = ap (λ b. b == 1) (bit_at_or v w i) ∙ or_digits (bit_at v i) (bit_at w i) (bit_at-lt v i) (bit_at-lt w i)
+
+xor_digits : (x y : ℕ) → x < 2 → y < 2 → ((x + y) % 2 == 1) ≡ not (beq (x == 1) (y == 1))
+xor_digits zero zero lx ly = refl
+xor_digits zero (suc zero) lx ly = refl
+xor_digits (suc zero) zero lx ly = refl
+xor_digits (suc zero) (suc zero) lx ly = refl
+xor_digits zero (suc (suc y)) lx ly = absurd (not-two y ly)
+xor_digits (suc zero) (suc (suc y)) lx ly = absurd (not-two y ly)
+xor_digits (suc (suc x)) y lx ly = absurd (not-two x lx)
+
+pub xor_bits : (v w i : ℕ) → (bit_at (bit_xor v w) i == 1) ≡ not (beq (bit_at v i == 1) (bit_at w i == 1))
+xor_bits v w i = ap (λ b. b == 1) (bit_at_xor v w i) ∙ xor_digits (bit_at v i) (bit_at w i) (bit_at-lt v i) (bit_at-lt w i)
+
+-- two rows of one length, in words
+module _ (a b : List ℕ) (n m : ℕ) (v w : List Bool) (ha : Holds a n) (hb : Holds b m) (is_v : values a n ≡ v) (is_w : values b m ≡ w)
+    (same : length v ≡ length w) where
+  one_len : n ≡ m
+  one_len = sym (row_len a n v is_v) ∙ same ∙ row_len b m w is_w
+
+  pub one_count : length a ≡ length b
+  one_count =
+      let ea = ha.enough in
+      let na = ha.no_more in
+      let eb = hb.enough in
+      let nb = hb.no_more in
+      let e = one_len in
+      omega arith
+
+  b_holds : Holds b n
+  b_holds = subst (λ k. Holds b k) (sym one_len) hb
+
+  b_is : values b n ≡ w
+  b_is = subst (λ k. values b k ≡ w) (sym one_len) is_w
+
+  pub or_holds : Holds (zip2 bit_or a b) n
+  or_holds = zip_holds bit_or (λ x y. x || y) refl or_bits a b n one_count ha b_holds
+
+  pub or_values : values (zip2 bit_or a b) n ≡ zip2 (λ x y. x || y) v w
+  or_values = zip_values bit_or (λ x y. x || y) refl or_bits a b n v w one_count is_v b_is
+
+  pub xor_holds : Holds (zip2 bit_xor a b) n
+  xor_holds = zip_holds bit_xor (λ x y. not (beq x y)) refl xor_bits a b n one_count ha b_holds
+
+  pub xor_values : values (zip2 bit_xor a b) n ≡ zip2 (λ x y. not (beq x y)) v w
+  xor_values = zip_values bit_xor (λ x y. not (beq x y)) refl xor_bits a b n v w one_count is_v b_is
+
+  -- the rows differ where their words do
+  pub xor_count : count_bits (zip2 bit_xor a b) ≡ differing v w
+  xor_count =
+      true_values (zip2 bit_xor a b) n (zip2 (λ x y. not (beq x y)) v w) xor_values xor_holds
+      ∙ ap (count_by (λ x. x)) (fill_by_all (λ k. not (beq (slice_index_or v k false) (slice_index_or w k false))) (zip2 (λ x y. not (beq x y)) v w) (length v) false
+      (length-zip2 (λ x y. not (beq x y)) v w same)
+      (λ k lt. get_or-zip2 (λ x y. not (beq x y)) v w k false false false lt (omega arith)))
+      ∙ sum_by-map (λ x. cond x 1 0) (λ k. not (beq (slice_index_or v k false) (slice_index_or w k false))) (range_with_len 0 (length v))
+
+  pub xor_few : count_bits (zip2 bit_xor a b) < 2 ^ 64
+  xor_few = few_bits (zip2 bit_xor a b) n (zip2 (λ x y. not (beq x y)) v w) xor_values xor_holds
+
+  -- the rows are one exactly where their words have the same bits
+  pub same_bits : v ≡ w → HaveSameBits a b
+  same_bits e k = elim (cases_lt k n) [
+    | inl lt ↦ row_bit a n v is_v k lt ∙ ap (λ r. slice_index_or r k false) e ∙ sym (row_bit b n w b_is k lt)
+    | inr le ↦ ha.rest k le ∙ sym (b_holds.rest k le)
+  ]
+
+  pub same_values : HaveSameBits a b → v ≡ w
+  same_values same_bit = sym is_v ∙ values-are a n w (row_len b n w b_is) (λ k lt. same_bit k ∙ row_bit b n w b_is k lt)

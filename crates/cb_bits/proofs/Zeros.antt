@@ -1,0 +1,26 @@
+-- Words of zeros.
+use Rattle.std.proofs.Common.{◌≡◌, ℕ, ◌/◌, ◌%◌, ◌==◌, false, List, length, replicate, slice_index_or, inl, inr, sym, ap, ◌∙◌, arith}
+use Rattle.std.specs.Int.{bit_at}
+use Rattle.std.proofs.lemmas.Bool.{cases_lt}
+use Rattle.std.proofs.lemmas.List.{get_or-replicate, get_or_past, length-replicate}
+use Rattle.std.proofs.lemmas.Nat.Bits.{bit_at-zero}
+use Rattle.cb_bits.specs.Bits.{bit_of, values, words_for}
+use Rattle.cb_bits.proofs.Values.{values-are}
+
+abbrev pub zeros : ℕ → List ℕ
+zeros m = replicate m 0
+
+pub zero_word : (m j : ℕ) → slice_index_or (zeros m) j 0 ≡ 0
+zero_word m j = elim (cases_lt j m) [
+  | inl lt ↦ get_or-replicate m j 0 0 lt
+  | inr le ↦ get_or_past (zeros m) j 0 (let e : length (zeros m) ≡ m = length-replicate m 0 in omega arith)
+]
+
+pub zero_bit : (m k : ℕ) → bit_of (zeros m) k ≡ false
+zero_bit m k = ap (λ w. bit_at w (k % 64) == 1) (zero_word m (k / 64)) ∙ ap (λ b. b == 1) (bit_at-zero (k % 64))
+
+pub zero_values : (words : List ℕ) (n : ℕ) → words ≡ zeros (words_for n) → values words n ≡ replicate n false
+zero_values words n are =
+    ap (λ ws. values ws n) are
+    ∙ values-are (zeros (words_for n)) n (replicate n false) (length-replicate n false)
+    (λ k lt. zero_bit (words_for n) k ∙ sym (get_or-replicate n k false false lt))

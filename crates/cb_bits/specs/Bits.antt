@@ -1,0 +1,41 @@
+-- Truth values packed into words of 64 bits.
+use Rattle.std.specs.Prelude.{◌≡◌, ℕ, ◌+◌, ◌*◌, ◌/◌, ◌%◌, ◌<◌, ◌≤◌, ◌^◌, ◌==◌, Bool, false, not, List, length, map, min, slice_index_or}
+use Rattle.std.specs.List.{count_by, range_with_len}
+use Rattle.std.specs.Int.{bit_at}
+use mathlib.Core.Bool.{beq}
+
+-- value k is bit k % 64, counted from the least, of word k / 64
+abbrev pub bit_of : List ℕ → ℕ → Bool
+bit_of words k = bit_at (slice_index_or words (k / 64) 0) (k % 64) == 1
+
+-- the first n values
+abbrev pub values : List ℕ → ℕ → List Bool
+values words n = map (bit_of words) (range_with_len 0 n)
+
+-- how many bits of the words are one
+abbrev pub count_bits : List ℕ → ℕ
+count_bits words = count_by (bit_of words) (range_with_len 0 (64 * length words))
+
+-- all bits are the same
+abbrev pub HaveSameBits : List ℕ → List ℕ → Type 0
+HaveSameBits words other = (k : ℕ) → bit_of words k ≡ bit_of other k
+
+-- how many words n values need
+abbrev pub words_for : ℕ → ℕ
+words_for n = n / 64 + min 1 (n % 64)
+
+-- the words hold n values: as many words as they need, with no bit set past the last value
+pub record Holds (words : List ℕ) (n : ℕ) : Type 0 where
+  pub fits : n < 2 ^ 64
+  pub enough : n ≤ 64 * length words
+  pub no_more : 64 * length words < n + 64
+  pub rest : (k : ℕ) → n ≤ k → bit_of words k ≡ false
+
+-- the words are those of these values
+pub record Packs (row : List Bool) (words : List ℕ) : Type 0 where
+  pub holds : Holds words (length row)
+  pub bits : (k : ℕ) → k < length row → bit_of words k ≡ slice_index_or row k false
+
+-- at how many places two rows differ
+abbrev pub differing : List Bool → List Bool → ℕ
+differing row other = count_by (λ k. not (beq (slice_index_or row k false) (slice_index_or other k false))) (range_with_len 0 (length row))

@@ -1,0 +1,115 @@
+//! A row of truth values.
+ghost use Rattle.std.specs.Prelude.{◌≡◌, ◌<◌, ◌≤◌, ◌-◌, ◌++◌, ◌↔◌, ◌||◌, length, replicate, IfOk, OnOk, OnErr, IsTrue, true, false, slice_index_or, slice_set, count_by};
+ghost use Rattle.std.specs.Simd.Lanes.{zip2};
+ghost use Rattle.cb_bits.specs.Bits.{Packs, differing};
+
+use crate::words::{
+    are_same, clear_bit, count_differing, count_ones, is_set, set_bit, unite, zero_words,
+};
+use std::alloc::{AllocError, Global};
+use std::marker::Model;
+
+/// Truth values in order, 64 to a word. Contracts see the list of them.
+#[derive(Debug, Drop)]
+pub struct Row {
+    len: usize,
+    words: Vec<u64>,
+}
+
+impl Model for Row {
+    ghost use Rattle.std.specs.Prelude.{List, Bool};
+    ghost use Rattle.cb_bits.specs.Bits.{values, Holds};
+
+    ghost Value = { List Bool };
+
+    ghost view = { λ r. values r.words.items r.len };
+
+    ghost invariant = { λ r. Holds r.words.items r.len };
+}
+
+impl Row {
+    /// A row of `n` values, all false.
+    pub fn zeroed(alloc: Global, n: usize) -> Result<Row, AllocError>
+        ensures { IfOk result (λ row. row ≡ replicate n false) }
+    {
+        let words = zero_words(alloc, n)?;
+        Ok(Row { len: n, words })
+    }
+
+    pub fn len(&self) -> usize
+        ensures { result ≡ length self.now }
+    {
+        self.len
+    }
+
+    pub fn get(&self, i: usize) -> bool
+        requires { i < length self.now }
+        ensures { result ≡ slice_index_or self.now i false }
+    {
+        is_set(&self.words, i)
+    }
+
+    /// Makes the value at a place true.
+    pub fn set(&mut self, i: usize)
+        requires { i < length self.old }
+        ensures { self.new ≡ slice_set self.old i true }
+    {
+        set_bit(&mut self.words, i);
+    }
+
+    /// Makes the value at a place false.
+    pub fn clear(&mut self, i: usize)
+        requires { i < length self.old }
+        ensures { self.new ≡ slice_set self.old i false }
+    {
+        clear_bit(&mut self.words, i);
+    }
+
+    /// Makes true what is true in `other`.
+    pub fn or_from(&mut self, other: &Row)
+        requires { length self.old ≡ length other.now }
+        ensures { self.new ≡ zip2 (λ one other. one || other) self.old other.now }
+    {
+        unite(&mut self.words, &other.words);
+    }
+
+    pub fn equal(&self, other: &Row) -> bool
+        requires { length self.now ≡ length other.now }
+        ensures { IsTrue result ↔ (self.now ≡ other.now) }
+    {
+        are_same(&self.words, &other.words)
+    }
+
+    /// How many values are true.
+    pub fn ones(&self) -> usize
+        ensures { result ≡ count_by (λ value. value) self.now }
+    {
+        count_ones(&self.words)
+    }
+
+    /// At how many places the two differ.
+    pub fn distance(&self, other: &Row) -> usize
+        requires { length self.now ≡ length other.now }
+        ensures { result ≡ differing self.now other.now }
+    {
+        count_differing(&self.words, &other.words)
+    }
+
+    /// Adds values at the end, all false, so that there are `n`.
+    pub fn grow(&mut self, n: usize) -> Result<(), AllocError>
+        requires { length self.old ≤ n }
+        ensures ok { OnOk result (self.new ≡ self.old ++ replicate (n - length self.old) false) }
+        ensures err { OnErr result (self.new ≡ self.old) }
+    {
+        self.words.resize(n.div_ceil(64), 0)?;
+        self.len = n;
+        Ok(())
+    }
+
+    /// The words of the values, with zeros past the last one.
+    pub fn words(&self) -> &[u64]
+        ensures { Packs self.now result.now }
+    {
+        &self.words
+    }
+}

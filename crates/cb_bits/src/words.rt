@@ -1,0 +1,87 @@
+//! Single bits of a slice of words: bit k is bit k % 64, counted from the least, of word k / 64.
+ghost use Rattle.std.specs.Prelude.{◌≡◌, ◌≢◌, ◌<◌, ◌↔◌, ◌*◌, ◌^◌, ℕ, length, true, false, replicate, bit_or, bit_xor, IfOk, IsTrue};
+ghost use Rattle.std.specs.Simd.Lanes.{zip2};
+ghost use Rattle.cb_bits.specs.Bits.{bit_of, words_for, count_bits, HaveSameBits};
+
+use std::alloc::{AllocError, Global};
+
+/// The bit at a place.
+pub fn is_set(words: &[u64], k: usize) -> bool
+    requires { k < 64 * length words.now }
+    ensures { result ≡ bit_of words.now k }
+{
+    words[k / 64] >> (k % 64) & 1 == 1
+}
+
+/// Makes the bit at a place one.
+pub fn set_bit(words: &mut [u64], k: usize)
+    requires { k < 64 * length words.old }
+    ensures one { bit_of words.new k ≡ true }
+    ensures others { (i : ℕ) → i ≢ k → bit_of words.new i ≡ bit_of words.old i }
+{
+    words[k / 64] |= 1 << (k % 64);
+}
+
+/// Makes the bit at a place zero.
+pub fn clear_bit(words: &mut [u64], k: usize)
+    requires { k < 64 * length words.old }
+    ensures zero { bit_of words.new k ≡ false }
+    ensures others { (i : ℕ) → i ≢ k → bit_of words.new i ≡ bit_of words.old i }
+{
+    words[k / 64] &= !(1 << (k % 64));
+}
+
+/// As many zeros as `n` bits need words.
+pub fn zero_words(alloc: Global, n: usize) -> Result<Vec<u64>, AllocError>
+    ensures { IfOk result (λ words. words.items ≡ replicate (words_for n) 0) }
+{
+    vec![in alloc; 0; n.div_ceil(64)]
+}
+
+/// Makes one what is one in `other`.
+pub fn unite(words: &mut [u64], other: &[u64])
+    requires { length words.old ≡ length other.now }
+    ensures { words.new ≡ zip2 bit_or words.old other.now }
+{
+    for i in 0..words.len() {
+        words[i] |= other[i];
+    }
+}
+
+/// How many bits are one.
+pub fn count_ones(words: &[u64]) -> usize
+    requires { count_bits words.now < 2 ^ 64 }
+    ensures { result ≡ count_bits words.now }
+{
+    let mut count = 0;
+    for i in 0..words.len() {
+        count += words[i].count_ones() as usize;
+    }
+    count
+}
+
+/// How many bits differ.
+pub fn count_differing(words: &[u64], other: &[u64]) -> usize
+    requires same { length words.now ≡ length other.now }
+    requires few { count_bits (zip2 bit_xor words.now other.now) < 2 ^ 64 }
+    ensures { result ≡ count_bits (zip2 bit_xor words.now other.now) }
+{
+    let mut count = 0;
+    for i in 0..words.len() {
+        count += (words[i] ^ other[i]).count_ones() as usize;
+    }
+    count
+}
+
+/// Whether all bits are the same.
+pub fn are_same(words: &[u64], other: &[u64]) -> bool
+    requires { length words.now ≡ length other.now }
+    ensures { IsTrue result ↔ HaveSameBits words.now other.now }
+{
+    for i in 0..words.len() {
+        if words[i] != other[i] {
+            return false;
+        }
+    }
+    true
+}

@@ -1,0 +1,13 @@
+use Rattle.std.proofs.Common.{List, sym, subst}
+use Rattle.cb_grammar.specs.declared.tree.Token.{Token}
+use Rattle.cb_grammar.specs.declared.tree.Member.{Member}
+use Rattle.cb_rules.specs.Rules.{HasNoRelation}
+use Rattle.cb_rules.specs.Least.{IsLeast}
+use Rattle.cb_rules.specs.Finds.{StopsAt}
+use Rattle.cb_rules.proofs.member_rules.PathLeadsMemberRule.line.Goals as goal
+
+pub returns-in-Rule : goal.returns-in-Rule
+returns-in-Rule c =
+    let tree = c.args.directory.now in
+    subst (λ (m : Member). IsLeast (HasNoRelation tree c.args.class c.args._place m) c.path_line.result) (sym c.in-Rule.is)
+    (subst (λ (path : List Token). IsLeast (StopsAt tree c.args.class path) c.path_line.result) c.as_slice.ensures c.path_line.ensures)

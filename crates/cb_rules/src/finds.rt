@@ -1,0 +1,162 @@
+//! What the rules ask of a directory.
+ghost use Rattle.std.specs.Prelude.{◌≡◌, ◌↔◌, ◌<◌, length, IfOk, IfSome, IfNone, IfErr, IsTrue};
+ghost use Rattle.cb_rules.specs.declared.rule.TypeRule.TheVariants.{TwoNames, BadInverse, NoTarget};
+ghost use Rattle.cb_rules.specs.Classes.{Has, IsEventNamed, IsSymptomNamed, IsRuleNamed, IsRelationNamed, IsRelationBack, Leads};
+ghost use Rattle.cb_rules.specs.Rules.{Owns};
+ghost use Rattle.cb_rules.specs.Fault.{KeepsBefore};
+ghost use Rattle.cb_rules.specs.Directory.{is_event as counts_event, is_rule as counts_rule};
+ghost use Rattle.cb_rules.specs.Finds.{is_symptom as counts_symptom, IsNamedBefore, DeclaresBefore, Inherits, LeadsOn, StopsAt, LooksBack};
+
+use crate::directory::Directory;
+use cb_grammar::{Member, Token};
+
+/// Whether a class before this place has the name.
+pub fn is_named_before(directory: &Directory<'_>, class: usize, name: &[u8]) -> bool
+    ensures { IsTrue result ↔ IsNamedBefore directory.now class name.now }
+{
+    match directory.class_named(name) {
+        Some(first) => first < class,
+        None => false,
+    }
+}
+
+/// Whether the class declares the name before this place of its members.
+pub fn declares_before(directory: &Directory<'_>, class: usize, place: usize, name: &[u8]) -> bool
+    requires { class < length directory.now.classes }
+    ensures { IsTrue result ↔ DeclaresBefore directory.now class place name.now }
+{
+    match directory.own(class, name) {
+        Some(first) => first < place,
+        None => false,
+    }
+}
+
+/// Whether an ancestor of the class declares the name.
+pub fn inherits(directory: &Directory<'_>, class: usize, name: &[u8]) -> bool
+    requires class { class < length directory.now.classes }
+    requires keeps { KeepsBefore directory.now TwoNames }
+    ensures { IsTrue result ↔ Inherits directory.now class name.now }
+{
+    match directory.parent(class) {
+        Some(parent) => directory.member_named(parent, name).is_some(),
+        None => false,
+    }
+}
+
+/// Whether the class has an event of this name.
+pub fn has_event(directory: &Directory<'_>, class: usize, name: &[u8]) -> bool
+    requires class { class < length directory.now.classes }
+    requires keeps { KeepsBefore directory.now NoTarget }
+    ensures { IsTrue result ↔ Has directory.now class (IsEventNamed name.now) }
+{
+    match directory.member(class, name) {
+        Some(member) => is_event(member),
+        None => false,
+    }
+}
+
+/// Whether the class has an event of this name that is marked symptom.
+pub fn has_symptom(directory: &Directory<'_>, class: usize, name: &[u8]) -> bool
+    requires class { class < length directory.now.classes }
+    requires keeps { KeepsBefore directory.now NoTarget }
+    ensures { IsTrue result ↔ Has directory.now class (IsSymptomNamed name.now) }
+{
+    match directory.member(class, name) {
+        Some(member) => is_symptom(member),
+        None => false,
+    }
+}
+
+/// Whether the class has a rule of this name.
+pub fn has_rule(directory: &Directory<'_>, class: usize, name: &[u8]) -> bool
+    requires class { class < length directory.now.classes }
+    requires keeps { KeepsBefore directory.now NoTarget }
+    ensures { IsTrue result ↔ Has directory.now class (IsRuleNamed name.now) }
+{
+    match directory.member(class, name) {
+        Some(member) => is_rule(member),
+        None => false,
+    }
+}
+
+/// The class to which the relation of this name leads that the class has.
+pub fn target_of(directory: &Directory<'_>, class: usize, name: &[u8]) -> Option<usize>
+    requires class { class < length directory.now.classes }
+    requires keeps { KeepsBefore directory.now BadInverse }
+    ensures found { IfSome result (LeadsOn directory.now class name.now) }
+    ensures absent { IfNone result (¬ Has directory.now class (IsRelationNamed name.now)) }
+{
+    let Some(member) = directory.member(class, name) else {
+        return None;
+    };
+    let Member::Relation { target, .. } = member else {
+        return None;
+    };
+    directory.class_named(target.name.bytes())
+}
+
+/// The class that a path reaches from this one, or the line of its first place that is no relation of the class reached
+/// there.
+pub fn follow(directory: &Directory<'_>, class: usize, path: &[Token]) -> Result<usize, u32>
+    requires class { class < length directory.now.classes }
+    requires keeps { KeepsBefore directory.now BadInverse }
+    ensures reached { IfOk result (Leads directory.now class path.now) }
+    ensures stopped { IfErr result (StopsAt directory.now class path.now) }
+{
+    let mut at = class;
+    for step in path {
+        let Some(next) = target_of(directory, at, step.name.bytes()) else {
+            return Err(step.line);
+        };
+        at = next;
+    }
+    Ok(at)
+}
+
+/// Whether the class itself declares a relation of this name that leads to the class named `home` and has an inverse
+/// named `back`.
+pub fn leads_back(directory: &Directory<'_>, class: usize, name: &[u8], home: &[u8], back: &[u8]) -> bool
+    requires class { class < length directory.now.classes }
+    requires keeps { KeepsBefore directory.now NoTarget }
+    ensures { IsTrue result ↔ Owns directory.now class (IsRelationBack name.now home.now back.now) }
+{
+    let Some(place) = directory.own(class, name) else {
+        return false;
+    };
+    looks_back(directory.tree().classes.at(class).members.at(place), home, back)
+}
+
+// Whether a member is a relation to the class named `home` with an inverse named `back`.
+fn looks_back(member: &Member, home: &[u8], back: &[u8]) -> bool
+    ensures { IsTrue result ↔ LooksBack home.now back.now member.now }
+{
+    match member {
+        Member::Relation {
+            target,
+            inverse,
+            ..
+        } => target.name.bytes() == home && inverse.name.bytes() == back,
+        _ => false,
+    }
+}
+
+fn is_event(member: &Member) -> bool
+    ensures { result ≡ counts_event member.now }
+{
+    matches!(member, Member::Event { .. })
+}
+
+fn is_symptom(member: &Member) -> bool
+    ensures { result ≡ counts_symptom member.now }
+{
+    match member {
+        Member::Event { symptom, .. } => *symptom,
+        _ => false,
+    }
+}
+
+fn is_rule(member: &Member) -> bool
+    ensures { result ≡ counts_rule member.now }
+{
+    matches!(member, Member::Rule { .. })
+}
