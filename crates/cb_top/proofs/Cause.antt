@@ -1,5 +1,5 @@
 -- What is printed at status 0 names the cause.
-use Rattle.std.proofs.Common.{◌≡◌, ℕ, List, [], ◌∷◌, Bool, true, false, ap, subst, arith, inl, inr, Result, Ok, Err, Vec}
+use Rattle.std.proofs.Common.{◌≡◌, ◌≢◌, sym, ℕ, List, [], ◌∷◌, Bool, true, false, ap, subst, arith, inl, inr, Result, Ok, Err, Vec}
 use Rattle.std.proofs.lemmas.List.{length-map}
 use Rattle.std.specs.Prelude.{codes, MatchBool, if◌then◌else◌, IfSome, Option}
 use Rattle.std.specs.Str.{bytes_eq}
@@ -15,10 +15,11 @@ use Rattle.cb_report.specs.Lines.{burst_text}
 use Rattle.cb_top.specs.declared.halt.Halt.{Halt}
 use Rattle.cb_top.specs.declared.halt.Halt.TheVariants as halts
 use Rattle.cb_top.specs.declared.status.Status.{Status}
-use Rattle.cb_top.specs.declared.status.Status.TheVariants.{Done, ReadFault, WriteFault, Memory, NotBuilt}
+use Rattle.cb_top.specs.declared.status.Status.TheVariants.{Done, Model, Limit, WriteFault, NotBuilt}
 use Rattle.cb_top.specs.Status.{OnDone}
-use Rattle.cb_top.specs.Outcome.{Outcome, IsOutcome, BurstGives, contents, file_words, done, not_built}
+use Rattle.cb_top.specs.Outcome.{Outcome, IsOutcome, BurstGives, UnreadGives, contents, file_words, done, nothing}
 use Rattle.cb_top.specs.Cause.{ListsTheNearest, PrintsTheCause, FindsTheCause}
+use Rattle.cb_top.specs.Halts.{status_of}
 use Rattle.cb_top.proofs.Reading.{if_some}
 use Rattle.cb_top.specs.Run.{Shows, Concludes}
 
@@ -40,9 +41,14 @@ lists_the_nearest t raised finding burst =
       ),
     )
 
-module _ (model topology symptoms : List ℕ) (old new : SinkTold) (bytes : List ℕ) (written : WritesAll old new bytes) where
-  prints : BurstGives model topology symptoms (done bytes) → PrintsTheCause model topology symptoms old new
-  prints (inl (finding, of, e)) =
+not_done : (bytes : List ℕ) (status : Status) (line : List ℕ) → status ≢ Done → done bytes ≡ nothing status line → ⊥
+not_done bytes status line other e = other (sym (ap (λ (o : Outcome). o.status) e))
+
+module _ (name model topology symptoms : List ℕ) (old new : SinkTold) (bytes : List ℕ) (written : WritesAll old new bytes) where
+  prints : BurstGives name model topology symptoms (done bytes) → PrintsTheCause model topology symptoms old new
+  prints (inl (inl (long, e))) = absurd (not_done bytes Limit _ (λ e. cc) e)
+  prints (inl (inr (fault, f, e))) = absurd (not_done bytes Model _ (λ e. cc) e)
+  prints (inr (inl (finding, of, e))) =
       let same : bytes ≡ burst_text finding = ap (λ (o : Outcome). o.out) e in
       record {
         finding = finding;
@@ -51,37 +57,42 @@ module _ (model topology symptoms : List ℕ) (old new : SinkTold) (bytes : List
         nearest = lists_the_nearest of.network of.raised finding of.found;
         alone = λ i lt near. burst_finds_the_cause of.network of.raised finding of.found i lt near;
       }
-  prints (inr (none, e)) = let status = ap (λ (o : Outcome). o.status) e in absurd (cc)
-
-not_done : (bytes : List ℕ) → done bytes ≡ not_built → ⊥
-not_done bytes e = let status = ap (λ (o : Outcome). o.status) e in cc
+  prints (inr (inr (none, e))) = absurd (not_done bytes NotBuilt _ (λ e. cc) e)
 
 module _ (left : List (List ℕ × List ℕ)) (old new : SinkTold) (bytes : List ℕ) (written : WritesAll old new bytes) where
   finds : (words : List (List ℕ)) → IsOutcome words left (done bytes) → FindsTheCause (file_words words) left old new
-  finds [] is = absurd (not_done bytes is)
-  finds (c ∷ []) is = absurd (not_done bytes is)
-  finds (c ∷ m ∷ []) is = absurd (not_done bytes is)
-  finds (c ∷ m ∷ t ∷ []) is = absurd (not_done bytes is)
+  finds [] is = tt
+  finds (c ∷ []) is = tt
+  finds (c ∷ m ∷ []) is = by_test (bytes_eq c (codes "model"))
+    where
+      by_test : (is_model : Bool) → FindsTheCause (if is_model then m ∷ [] else []) left old new
+      by_test true = tt
+      by_test false = tt
+  finds (c ∷ m ∷ t ∷ []) is = tt
   finds (c ∷ m ∷ t ∷ s ∷ []) is = by_test (bytes_eq c (codes "burst")) is
     where
       by_test : (is_burst : Bool)
-          → MatchBool is_burst (BurstGives (contents left [] m) (contents left (m ∷ []) t) (contents left (m ∷ t ∷ []) s) (done bytes)) (done bytes ≡ not_built)
+          → MatchBool is_burst (BurstGives m (contents left [] m) (contents left (m ∷ []) t) (contents left (m ∷ t ∷ []) s) (done bytes)) (UnreadGives (c ∷ m ∷ t ∷ s ∷ []) (done bytes))
           → FindsTheCause (if is_burst then m ∷ t ∷ s ∷ [] else []) left old new
-      by_test true gives = prints (contents left [] m) (contents left (m ∷ []) t) (contents left (m ∷ t ∷ []) s) old new bytes written gives
-      by_test false other = absurd (not_done bytes other)
-  finds (c ∷ m ∷ t ∷ s ∷ x ∷ xs) is = absurd (not_done bytes is)
+      by_test true gives = prints m (contents left [] m) (contents left (m ∷ []) t) (contents left (m ∷ t ∷ []) s) old new bytes written gives
+      by_test false other = tt
+  finds (c ∷ m ∷ t ∷ s ∷ x ∷ xs) is = tt
+
+not_at_a_halt : (halt : Halt) (P : Type 0) → OnDone (status_of halt) P
+not_at_a_halt halts.Usage P = tt
+not_at_a_halt (halts.Model fault) P = tt
+not_at_a_halt (halts.TooLong place) P = tt
+not_at_a_halt (halts.ReadFault place) P = tt
+not_at_a_halt halts.Memory P = tt
+not_at_a_halt halts.NotBuilt P = tt
 
 -- at status 0 the output names the cause
-pub names_the_cause : (words : List (List ℕ)) (o : Option (List (List ℕ × List ℕ))) (answer : Result (Vec ℕ Global) Halt) (status : Status) (out out' err err' : SinkTold)
-    → IfSome o (λ left. Shows answer (IsOutcome words left)) → Concludes words answer status out out' err err'
+pub names_the_cause : (words names : List (List ℕ)) (o : Option (List (List ℕ × List ℕ))) (answer : Result (Vec ℕ Global) Halt) (status : Status) (out out' err err' : SinkTold)
+    → IfSome o (λ left. Shows names answer (IsOutcome words left)) → Concludes words answer status out out' err err'
     → OnDone status (IfSome o (λ left. FindsTheCause (file_words words) left out out'))
-names_the_cause words o (Ok bytes) Done out out' err err' shown ends =
+names_the_cause words names o (Ok bytes) Done out out' err err' shown ends =
     if_some o _ _ (λ left is. finds left out out' bytes.items ends.0 words is) shown
-names_the_cause words o (Ok bytes) WriteFault out out' err err' shown ends = tt
-names_the_cause words o (Ok bytes) status out out' err err' shown ends = absurd ends
-names_the_cause words o (Err halts.NotBuilt) NotBuilt out out' err err' shown ends = tt
-names_the_cause words o (Err halts.NotBuilt) status out out' err err' shown ends = absurd ends.1
-names_the_cause words o (Err (halts.ReadFault place)) ReadFault out out' err err' shown ends = tt
-names_the_cause words o (Err (halts.ReadFault place)) status out out' err err' shown ends = absurd ends.1
-names_the_cause words o (Err halts.Memory) Memory out out' err err' shown ends = tt
-names_the_cause words o (Err halts.Memory) status out out' err err' shown ends = absurd ends.1
+names_the_cause words names o (Ok bytes) WriteFault out out' err err' shown ends = tt
+names_the_cause words names o (Ok bytes) status out out' err err' shown ends = absurd ends
+names_the_cause words names o (Err halt) status out out' err err' shown ends =
+    subst (λ (s : Status). OnDone s (IfSome o (λ left. FindsTheCause (file_words words) left out out'))) (sym ends.1) (not_at_a_halt halt _)

@@ -2,6 +2,9 @@ pub mod Reading
 pub mod Words
 pub mod Writing
 pub mod Judged
+pub mod Asked
+pub mod Texts
 pub mod Bursts
+pub mod Shown
 pub mod Outcomes
 pub mod Cause

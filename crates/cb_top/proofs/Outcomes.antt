@@ -1,6 +1,6 @@
--- The outcome of the words and the files is one, and what a run writes is a front of its bytes.
-use Rattle.std.proofs.Common.{◌≡◌, ◌<◌, ◌+◌, ℕ, zero, suc, List, [], ◌∷◌, length, Bool, true, false, sym, ◌∙◌, subst, arith, Result, Ok, Err, Vec, slice_get, Some}
-use Rattle.std.specs.Prelude.{codes, MatchBool, if◌then◌else◌}
+-- The outcome of the words and the files is one, and a run answers it.
+use Rattle.std.proofs.Common.{◌≡◌, ◌<◌, ◌+◌, ℕ, suc, List, [], ◌∷◌, Bool, true, false, refl, sym, ◌∙◌, subst, inl, inr, arith, Result, Ok, Err, Vec, slice_get, Some}
+use Rattle.std.specs.Prelude.{codes, MatchBool, if◌then◌else◌, Option, IfSome}
 use Rattle.std.specs.Str.{bytes_eq}
 use Rattle.std.specs.declared.alloc.Global.{Global}
 use Rattle.cb_io.specs.Outside.{SinkTold, FilesTold, WritesFront}
@@ -8,26 +8,38 @@ use Rattle.cb_io.proofs.Told.{WritesFront-all}
 use Rattle.cb_top.specs.declared.halt.Halt.{Halt}
 use Rattle.cb_top.specs.declared.halt.Halt.TheVariants as halts
 use Rattle.cb_top.specs.declared.status.Status.{Status}
-use Rattle.cb_top.specs.declared.status.Status.TheVariants.{Done, ReadFault, WriteFault, Memory, NotBuilt}
-use Rattle.cb_top.specs.Status.{OnReadFault}
-use Rattle.cb_top.specs.Outcome.{Outcome, IsOutcome, BurstGives, file_words, contents, done, not_built}
-use Rattle.cb_top.proofs.Bursts.{gives_one}
-use Rattle.cb_top.specs.Run.{Shows, Concludes, OnStop, StopsAt, BlamesFile, TakesFront, TakesNothing, Says, read_line}
+use Rattle.cb_top.specs.declared.status.Status.TheVariants.{Done, WriteFault}
+use Rattle.cb_top.specs.Status.{OnAnswer, OnReadFault}
+use Rattle.cb_top.specs.Faults.{limit_line, read_line}
+use Rattle.cb_top.specs.Halts.{status_of}
+use Rattle.cb_top.specs.Outcome.{Outcome, IsOutcome, ModelGives, BurstGives, UnreadGives, file_words, contents, done, usage, faulty, too_long, not_built}
+use Rattle.cb_top.specs.Run.{Shows, HaltShows, Explains, Concludes, OnFileFault, OnStop, StopsAt, Answers, BlamesFile, TakesFront, TakesNothing, Says}
+use Rattle.cb_top.proofs.Texts.{model_gives_one}
+use Rattle.cb_top.proofs.Bursts.{burst_gives_one}
+use Rattle.cb_top.proofs.Reading.{if_some, of_any}
 
--- of the facts by a test, each is of one value
-by_test : (t : Bool) (P : Outcome → Type 0) (a b c : Outcome) → (P a → P b → a ≡ b) → MatchBool t (P a) (a ≡ c) → MatchBool t (P b) (b ≡ c) → a ≡ b
-by_test true P a b c one p q = one p q
-by_test false P a b c one p q = p ∙ sym q
+unread_one : (words : List (List ℕ)) (a b : Outcome) → UnreadGives words a → UnreadGives words b → a ≡ b
+unread_one words a b (inl (u, e)) (inl (v, h)) = e ∙ sym h
+unread_one words a b (inl (u, e)) (inr (n, h)) = absurd (n u)
+unread_one words a b (inr (n, e)) (inl (v, h)) = absurd (n v)
+unread_one words a b (inr (n, e)) (inr (m, h)) = e ∙ sym h
+
+-- of two facts by a test, each is of one value
+by_test : (t : Bool) (P Q : Outcome → Type 0) (a b : Outcome) → (P a → P b → a ≡ b) → (Q a → Q b → a ≡ b) → MatchBool t (P a) (Q a) → MatchBool t (P b) (Q b) → a ≡ b
+by_test true P Q a b one other p q = one p q
+by_test false P Q a b one other p q = other p q
 
 pub outcome_is_one : (words : List (List ℕ)) (left : List (List ℕ × List ℕ)) (a b : Outcome) → IsOutcome words left a → IsOutcome words left b → a ≡ b
-outcome_is_one [] left a b p q = p ∙ sym q
-outcome_is_one (c ∷ []) left a b p q = p ∙ sym q
-outcome_is_one (c ∷ m ∷ []) left a b p q = p ∙ sym q
-outcome_is_one (c ∷ m ∷ t ∷ []) left a b p q = p ∙ sym q
+outcome_is_one [] left a b p q = unread_one [] a b p q
+outcome_is_one (c ∷ []) left a b p q = unread_one (c ∷ []) a b p q
+outcome_is_one (c ∷ m ∷ []) left a b p q =
+    by_test (bytes_eq c (codes "model")) (ModelGives m (contents left [] m)) (UnreadGives (c ∷ m ∷ [])) a b
+    (model_gives_one m (contents left [] m) a b) (unread_one (c ∷ m ∷ []) a b) p q
+outcome_is_one (c ∷ m ∷ t ∷ []) left a b p q = unread_one (c ∷ m ∷ t ∷ []) a b p q
 outcome_is_one (c ∷ m ∷ t ∷ s ∷ []) left a b p q =
-    by_test (bytes_eq c (codes "burst")) (BurstGives (contents left [] m) (contents left (m ∷ []) t) (contents left (m ∷ t ∷ []) s)) a b not_built
-    (gives_one (contents left [] m) (contents left (m ∷ []) t) (contents left (m ∷ t ∷ []) s) a b) p q
-outcome_is_one (c ∷ m ∷ t ∷ s ∷ x ∷ xs) left a b p q = p ∙ sym q
+    by_test (bytes_eq c (codes "burst")) (BurstGives m (contents left [] m) (contents left (m ∷ []) t) (contents left (m ∷ t ∷ []) s)) (UnreadGives (c ∷ m ∷ t ∷ s ∷ [])) a b
+    (burst_gives_one (contents left [] m) (contents left (m ∷ []) t) (contents left (m ∷ t ∷ []) s) m a b) (unread_one (c ∷ m ∷ t ∷ s ∷ []) a b) p q
+outcome_is_one (c ∷ m ∷ t ∷ s ∷ x ∷ xs) left a b p q = unread_one (c ∷ m ∷ t ∷ s ∷ x ∷ xs) a b p q
 
 front_of_nothing : (old new : SinkTold) (bytes : List ℕ) → TakesNothing old new → WritesFront old new bytes
 front_of_nothing old new bytes h = (0, omega arith, h)
@@ -40,18 +52,22 @@ module _ (words : List (List ℕ)) (left : List (List ℕ × List ℕ)) where
       subst (λ (o : Outcome). WritesFront old new o.out) same front
 
   -- however a run ends, its output is a front of the outcome's
-  pub takes_front : (answer : Result (Vec ℕ Global) Halt) (status : Status) (out out' err err' : SinkTold)
-      → Shows answer (IsOutcome words left) → Concludes words answer status out out' err err' → TakesFront words left out out'
-  takes_front (Ok bytes) Done out out' err err' shown ends = same_bytes bytes.items out out' shown (WritesFront-all out out' bytes.items ends.0)
-  takes_front (Ok bytes) WriteFault out out' err err' shown ends = same_bytes bytes.items out out' shown ends.0
-  takes_front (Ok bytes) status out out' err err' shown ends = absurd ends
-  takes_front (Err halt) status out out' err err' shown ends = λ outcome is. front_of_nothing out out' outcome.out ends.0
+  pub takes_front : (names : List (List ℕ)) (answer : Result (Vec ℕ Global) Halt) (status : Status) (out out' err err' : SinkTold)
+      → Shows names answer (IsOutcome words left) → Concludes words answer status out out' err err' → TakesFront words left out out'
+  takes_front names (Ok bytes) Done out out' err err' shown ends = same_bytes bytes.items out out' shown (WritesFront-all out out' bytes.items ends.0)
+  takes_front names (Ok bytes) WriteFault out out' err err' shown ends = same_bytes bytes.items out out' shown ends.0
+  takes_front names (Ok bytes) status out out' err err' shown ends = absurd ends
+  takes_front names (Err halt) status out out' err err' shown ends = λ outcome is. front_of_nothing out out' outcome.out ends.0
 
 -- a file word stands one place behind its place among the file words
-pub file_word_at : (words : List (List ℕ)) (place : ℕ) (name : List ℕ) → slice_get (file_words words) place ≡ Some name → slice_get words (suc place) ≡ Some name
+file_word_at : (words : List (List ℕ)) (place : ℕ) (name : List ℕ) → slice_get (file_words words) place ≡ Some name → slice_get words (suc place) ≡ Some name
 file_word_at [] place name e = absurd (cc)
 file_word_at (c ∷ []) place name e = absurd (cc)
-file_word_at (c ∷ m ∷ []) place name e = absurd (cc)
+file_word_at (c ∷ m ∷ []) place name e = at (bytes_eq c (codes "model")) e
+  where
+    at : (is_model : Bool) → slice_get (if is_model then m ∷ [] else []) place ≡ Some name → slice_get (m ∷ []) place ≡ Some name
+    at true h = h
+    at false h = absurd (cc)
 file_word_at (c ∷ m ∷ t ∷ []) place name e = absurd (cc)
 file_word_at (c ∷ m ∷ t ∷ s ∷ []) place name e = at (bytes_eq c (codes "burst")) e
   where
@@ -60,25 +76,63 @@ file_word_at (c ∷ m ∷ t ∷ s ∷ []) place name e = at (bytes_eq c (codes "
     at false h = absurd (cc)
 file_word_at (c ∷ m ∷ t ∷ s ∷ x ∷ xs) place name e = absurd (cc)
 
-pub within : {X : Type 0} (xs : List X) (i : ℕ) (x : X) → slice_get xs i ≡ Some x → i < length xs
-within [] i x e = absurd (cc)
-within (y ∷ xs) zero x e = omega arith
-within (y ∷ xs) (suc i) x e = let h = within xs i x e in omega arith
+-- the word behind the place of a file word is its name
+same_name : (words : List (List ℕ)) (place : ℕ) (name other : List ℕ) → slice_get (file_words words) place ≡ Some name → slice_get words (place + 1) ≡ Some other → other ≡ name
+same_name words place name other e h =
+    let next : suc place ≡ place + 1 = omega arith in
+    let follows = subst (λ i. slice_get words i ≡ Some name) next (file_word_at words place name e) in
+    cc
 
--- a run that stopped at a file word blames it
-pub blames_file : (words : List (List ℕ)) (old new : FilesTold) (answer : Result (Vec ℕ Global) Halt) (status : Status) (out out' err err' : SinkTold)
-    → OnStop answer (λ place. StopsAt (file_words words) place old new) → Concludes words answer status out out' err err'
-    → OnReadFault status (BlamesFile words old new err err')
-blames_file words old new (Err (halts.ReadFault place)) ReadFault out out' err err' stops ends =
-    let told = ends.1 in
-    let follows : slice_get words (place + 1) ≡ Some stops.name = let e : suc place ≡ place + 1 = omega arith in subst (λ i. slice_get words i ≡ Some stops.name) e (file_word_at words place stops.name stops.is) in
-    let same : told.0 ≡ stops.name = let e = told.1 in cc in
-    record { place = place; stops = stops; says = subst (λ name. Says err err' (read_line name)) same told.2 }
-blames_file words old new (Err (halts.ReadFault place)) status out out' err err' stops ends = absurd ends.1
-blames_file words old new (Err halts.NotBuilt) NotBuilt out out' err err' stops ends = tt
-blames_file words old new (Err halts.NotBuilt) status out out' err err' stops ends = absurd ends.1
-blames_file words old new (Err halts.Memory) Memory out out' err err' stops ends = tt
-blames_file words old new (Err halts.Memory) status out out' err err' stops ends = absurd ends.1
-blames_file words old new (Ok bytes) Done out out' err err' stops ends = tt
-blames_file words old new (Ok bytes) WriteFault out out' err err' stops ends = tt
-blames_file words old new (Ok bytes) status out out' err err' stops ends = absurd ends
+module _ (words : List (List ℕ)) (o : Option (List (List ℕ × List ℕ))) (out out' err err' : SinkTold) where
+  -- a run that halts answers the outcome
+  answers_halt : (halt : Halt) → IfSome o (λ left. HaltShows (file_words words) halt (IsOutcome words left)) → TakesNothing out out' → Explains words halt err err'
+      → OnAnswer (status_of halt) (IfSome o (λ left. Answers words left (status_of halt) out out' err err'))
+  answers_halt halts.Usage shown none (line, is, says) =
+      if_some o _ _ (λ left it. record { outcome = usage; is = it; status_is = refl; output = none; says = subst (λ l. Says err err' l) is says }) shown
+  answers_halt (halts.Model fault) shown none (line, is, says) =
+      if_some o _ _ (λ left it. record { outcome = faulty fault; is = it; status_is = refl; output = none; says = subst (λ l. Says err err' l) is says }) shown
+  answers_halt (halts.TooLong place) shown none (line, (other, at, is), says) =
+      if_some o _ _ (λ left (name, named, it). record {
+        outcome = too_long name;
+        is = it;
+        status_is = refl;
+        output = none;
+        says = subst (λ n. Says err err' (limit_line n)) (same_name words place name other named at) (subst (λ l. Says err err' l) is says);
+      }) shown
+  answers_halt (halts.ReadFault place) shown none explains = tt
+  answers_halt halts.Memory shown none explains = tt
+  answers_halt halts.NotBuilt shown none (line, is, says) =
+      if_some o _ _ (λ left it. record { outcome = not_built; is = it; status_is = refl; output = none; says = subst (λ l. Says err err' l) is says }) shown
+
+  -- a run answers the outcome, unless the outside failed
+  pub answers : (answer : Result (Vec ℕ Global) Halt) (status : Status) → IfSome o (λ left. Shows (file_words words) answer (IsOutcome words left))
+      → Concludes words answer status out out' err err' → OnAnswer status (IfSome o (λ left. Answers words left status out out' err err'))
+  answers (Ok bytes) Done shown ends =
+      if_some o _ _ (λ left it. record { outcome = done bytes.items; is = it; status_is = refl; output = ends.0; says = inl ends.1 }) shown
+  answers (Ok bytes) WriteFault shown ends = tt
+  answers (Ok bytes) status shown ends = absurd ends
+  answers (Err halt) status shown ends =
+      subst (λ (s : Status). OnAnswer s (IfSome o (λ left. Answers words left s out out' err err'))) (sym ends.1) (answers_halt halt shown ends.0 ends.2)
+
+module _ (words : List (List ℕ)) (old new : FilesTold) (err err' : SinkTold) where
+  blames_halt : (halt : Halt) → OnFileFault halt (λ place. StopsAt (file_words words) place old new) → Explains words halt err err'
+      → OnReadFault (status_of halt) (BlamesFile words old new err err')
+  blames_halt (halts.ReadFault place) stops (line, (other, at, is), says) = record {
+    place = place;
+    stops = stops;
+    says = subst (λ n. Says err err' (read_line n)) (same_name words place stops.name other stops.is at) (subst (λ l. Says err err' l) is says);
+  }
+  blames_halt halts.Usage stops explains = tt
+  blames_halt (halts.Model fault) stops explains = tt
+  blames_halt (halts.TooLong place) stops explains = tt
+  blames_halt halts.Memory stops explains = tt
+  blames_halt halts.NotBuilt stops explains = tt
+
+  -- a run that stopped at a file word blames it
+  pub blames_file : (answer : Result (Vec ℕ Global) Halt) (status : Status) (out out' : SinkTold)
+      → OnStop answer (λ place. StopsAt (file_words words) place old new) → Concludes words answer status out out' err err'
+      → OnReadFault status (BlamesFile words old new err err')
+  blames_file (Ok bytes) Done out out' stops ends = tt
+  blames_file (Ok bytes) WriteFault out out' stops ends = tt
+  blames_file (Ok bytes) status out out' stops ends = absurd ends
+  blames_file (Err halt) status out out' stops ends = subst (λ (s : Status). OnReadFault s (BlamesFile words old new err err')) (sym ends.1) (blames_halt halt stops ends.2)

@@ -1,5 +1,6 @@
 -- A line that is written part after part.
-use Rattle.std.proofs.Common.{◌≡◌, inl, inr, ◌≤◌, List, ℕ, ◌++◌, arith, true, false, Result, is_err, OnErr, OnOk}
+use Rattle.std.specs.List.{flat_map}
+use Rattle.std.proofs.Common.{◌≡◌, inl, inr, ◌≤◌, ◌<◌, zero, suc, [], ◌∷◌, length, get_or, take, drop, refl, sym, ap, ◌∙◌, append_assoc, List, ℕ, ◌++◌, arith, true, false, Result, is_err, OnErr, OnOk}
 use Rattle.std.specs.declared.result.Result.TheVariants.{Ok, Err}
 use Rattle.cb_io.specs.Outside.{SinkTold, WritesAll, WritesFront, WriteFailed}
 use Rattle.cb_io.proofs.Told.{WritesAll-trans, WritesFront-first, WritesFront-second}
@@ -13,11 +14,15 @@ pub on_ok : {T E P : Type 0} (r : Result T E) → is_err r ≡ false → OnOk r 
 on_ok (Ok x) e h = h
 on_ok (Err x) e h = cc
 
--- the first part failed
-pub says_first : (a b : SinkTold) (first second : List ℕ) → WritesFront a b first → WriteFailed a b → Says a b (first ++ second)
-says_first a b first second front failed = inr (WritesFront-first a b first second front, failed)
+-- the parts before this one were written, and a front of this one before a fault
+pub says_front : (a b c : SinkTold) (before part after : List ℕ) → WritesAll a b before → a.faults ≤ b.faults → WritesFront b c part → WriteFailed b c
+    → Says a c (before ++ (part ++ after))
+says_front a b c before part after all counts front failed =
+    inr (WritesFront-second a b c before (part ++ after) all (WritesFront-first b c part after front), omega (arith, failed))
 
--- the first part was written
-pub says_second : (a b c : SinkTold) (first second : List ℕ) → WritesAll a b first → a.faults ≤ b.faults → Says b c second → Says a c (first ++ second)
-says_second a b c first second all counts (inl rest) = inl (WritesAll-trans a b c first second all rest)
-says_second a b c first second all counts (inr rest) = inr (WritesFront-second a b c first second all rest.0, omega (arith, rest.1))
+-- the parts up to a place, the one there, and the others
+pub parts_at : {X : Type 0} (f : X → List ℕ) (xs : List X) (i : ℕ) (d : X) → i < length xs
+    → flat_map f xs ≡ flat_map f (take i xs) ++ (f (get_or xs i d) ++ flat_map f (drop (suc i) xs))
+parts_at f [] i d lt = absurd (omega arith)
+parts_at f (y ∷ ys) zero d lt = refl
+parts_at f (y ∷ ys) (suc i) d lt = ap (λ l. f y ++ l) (parts_at f ys i d (omega arith)) ∙ sym (append_assoc (f y) _ _)

@@ -35,8 +35,8 @@ pub record PrintsTheCause (model topology symptoms : List ℕ) (old new : SinkTo
   pub nearest : ListsTheNearest of.network of.raised finding of.found
   pub alone : NamesItAlone of.network of.raised finding of.found
 
--- the same, by the names of the files
+-- the same, by the names of the files that `burst` reads
 abbrev pub FindsTheCause : List (List ℕ) → List (List ℕ × List ℕ) → SinkTold → SinkTold → Type 0
 FindsTheCause (model ∷ topology ∷ symptoms ∷ []) left old new =
     PrintsTheCause (contents left [] model) (contents left (model ∷ []) topology) (contents left (model ∷ topology ∷ []) symptoms) old new
-FindsTheCause names left old new = ⊥
+FindsTheCause names left old new = Unit {0}

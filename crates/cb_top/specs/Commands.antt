@@ -1,14 +1,46 @@
--- The commands and their words.
-use Rattle.std.specs.Prelude.{◌≡◌, ℕ, List, [], ◌∷◌, codes}
+-- The words of the command line, and the commands that they are.
+use Rattle.std.specs.Prelude.{◌≡◌, ◌⊎◌, ℕ, ◌≤◌, ◌^◌, ◌-◌, List, [], ◌∷◌, codes}
+use Rattle.cb_text.specs.Decimals.{IsDecimal}
 use Rattle.cb_top.specs.declared.command.Command.{Command}
-use Rattle.cb_top.specs.declared.command.Command.TheVariants.{Burst}
-use Rattle.cb_top.specs.Outcome.{IsOutcome, file_words, not_built}
+use Rattle.cb_top.specs.declared.command.Command.TheVariants.{Burst, Model, NotBuilt}
 
--- the words that give a command
-abbrev pub words_of : Command → List (List ℕ)
-words_of (Burst model topology symptoms) = codes "burst" ∷ model.now ∷ topology.now ∷ symptoms.now ∷ []
+-- the word is a decimal from the least to the most
+abbrev pub IsNumber : ℕ → ℕ → List ℕ → Type 0
+IsNumber least most word = (number : ℕ) × IsDecimal word number × (least ≤ number) × (number ≤ most)
 
--- the words name no file, and nothing is built for them
-pub record IsNoCommand (words : List (List ℕ)) : Type 0 where
-  pub no_files : file_words words ≡ []
-  pub outcome_is : (left : List (List ℕ × List ℕ)) → IsOutcome words left not_built
+-- a wanted distance, the length of a window, a number of sites, and where the numbers of a generator start
+abbrev pub IsDistance : List ℕ → Type 0
+IsDistance word = IsNumber 1 9999 word
+
+abbrev pub IsWindow : List ℕ → Type 0
+IsWindow word = IsNumber 1 1000000000000 word
+
+abbrev pub IsSites : List ℕ → Type 0
+IsSites word = IsNumber 1 256 word
+
+abbrev pub IsStart : List ℕ → Type 0
+IsStart word = IsNumber 0 (2 ^ 64 - 1) word
+
+-- the words of the commands that are built: `burst` with its three files, and `model` with its one
+abbrev pub IsBuilt : List (List ℕ) → Type 0
+IsBuilt (command ∷ model ∷ []) = command ≡ codes "model"
+IsBuilt (command ∷ model ∷ topology ∷ symptoms ∷ []) = command ≡ codes "burst"
+IsBuilt words = ⊥
+
+-- the words of the other commands: which name them, and which of the others are numbers
+abbrev pub IsUnbuilt : List (List ℕ) → Type 0
+IsUnbuilt (command ∷ one ∷ two ∷ []) = (command ≡ codes "matrix") ⊎ ((command ≡ codes "grow") × IsSites one × IsStart two)
+IsUnbuilt (command ∷ model ∷ topology ∷ last ∷ []) = ((command ≡ codes "codebook") × IsDistance last) ⊎ (command ≡ codes "verify")
+IsUnbuilt (command ∷ model ∷ topology ∷ third ∷ fourth ∷ last ∷ []) =
+    ((command ≡ codes "decode") × IsWindow last) ⊎ ((command ≡ codes "correlate") × IsDistance fourth × IsWindow last)
+IsUnbuilt words = ⊥
+
+-- the words are those of a command
+abbrev pub IsInTable : List (List ℕ) → Type 0
+IsInTable words = IsBuilt words ⊎ IsUnbuilt words
+
+-- the words ask for this command
+abbrev pub Asks : List (List ℕ) → Command → Type 0
+Asks words (Burst model topology symptoms) = words ≡ codes "burst" ∷ model.now ∷ topology.now ∷ symptoms.now ∷ []
+Asks words (Model model) = words ≡ codes "model" ∷ model.now ∷ []
+Asks words NotBuilt = IsUnbuilt words

@@ -1,32 +1,26 @@
--- Files that are read and judged, and how halts come about.
-use Rattle.std.specs.Prelude.{ℕ, List, IfSome}
-use Rattle.cb_io.specs.Outside.{FilesTold, left_of, ReadsAll}
+-- How halts come about.
 use Rattle.cb_syntax.specs.declared.fault.SyntaxFault.{SyntaxFault}
 use Rattle.cb_syntax.specs.declared.fault.SyntaxFault.TheVariants as syntax
-use Rattle.cb_check.specs.declared.stop.FlatStop.{FlatStop as CheckStop}
-use Rattle.cb_check.specs.declared.stop.FlatStop.TheVariants as check
+use Rattle.cb_check.specs.declared.fault.TypeFault.{TypeFault}
+use Rattle.cb_check.specs.declared.fault.TypeFault.TheVariants as types
 use Rattle.cb_flat.specs.declared.stop.FlatStop.{FlatStop}
 use Rattle.cb_flat.specs.declared.stop.FlatStop.TheVariants as flat
+use Rattle.cb_top.specs.declared.fault.ModelFault.TheVariants.{BadByte, Unexpected, LongName, Unfinished, Broken}
 use Rattle.cb_top.specs.declared.halt.Halt.{Halt}
-use Rattle.cb_top.specs.declared.halt.Halt.TheVariants.{NotBuilt, Memory}
+use Rattle.cb_top.specs.declared.halt.Halt.TheVariants.{Model, Memory, NotBuilt}
 
--- all that was left of the name was read, and it is such a text
-abbrev pub ReadsSuch : FilesTold → FilesTold → List ℕ → (List ℕ → Type 0) → Type 0
-ReadsSuch old new name P = (text : List ℕ) × ReadsAll old new name text × P text
+-- what a fault of a text's tokens makes of a run
+abbrev pub halt_of_syntax : SyntaxFault → Halt
+halt_of_syntax (syntax.BadByte line) = Model (BadByte line)
+halt_of_syntax (syntax.Unexpected line column) = Model (Unexpected line column)
+halt_of_syntax (syntax.LongName line) = Model (LongName line)
+halt_of_syntax syntax.Unfinished = Model Unfinished
+halt_of_syntax syntax.NoMemory = Memory
 
--- what is left of the name is such a text, where it is told
-abbrev pub HasSuch : FilesTold → List ℕ → (List ℕ → Type 0) → Type 0
-HasSuch told name P = IfSome (left_of told name) P
-
--- what a fault of a model's text makes of a run
-abbrev pub halt_of_fault : SyntaxFault → Halt
-halt_of_fault syntax.NoMemory = Memory
-halt_of_fault fault = NotBuilt
-
--- what a model that isn't flat makes of a run
-abbrev pub halt_of_check : CheckStop → Halt
-halt_of_check check.NotFlat = NotBuilt
-halt_of_check check.NoMemory = Memory
+-- what a broken type rule makes of a run
+abbrev pub halt_of_type : TypeFault → Halt
+halt_of_type (types.Broken broken) = Model (Broken broken)
+halt_of_type types.NoMemory = Memory
 
 -- what a topology or symptom file that isn't read makes of a run
 abbrev pub halt_of_lines : FlatStop → Halt

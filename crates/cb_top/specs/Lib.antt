@@ -1,7 +1,10 @@
 pub mod Status
-pub mod Burst
-pub mod Outcome
 pub mod Commands
-pub mod Run
+pub mod Faults
+pub mod Model
+pub mod Burst
+pub mod Halts
 pub mod Judged
+pub mod Outcome
+pub mod Run
 pub mod Cause

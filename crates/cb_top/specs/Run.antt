@@ -1,21 +1,14 @@
 -- What the clauses of a run say. `old` is told before the run, `new` after it.
-use Rattle.std.specs.Prelude.{◌≡◌, ◌≢◌, ◌⊎◌, ℕ, List, [], ◌++◌, ◌+◌, take, slice_get, codes, IfSome, Some, Result, Ok, Err, Vec}
+use Rattle.std.specs.Prelude.{◌≡◌, ◌≢◌, ◌⊎◌, ℕ, List, [], ◌+◌, take, slice_get, codes, IfSome, Some, Result, Ok, Err, Vec}
 use Rattle.std.specs.declared.alloc.Global.{Global}
 use Rattle.cb_io.specs.Outside.{FilesTold, SinkTold, left_of, ReadFailed, WritesAll, WritesFront, WriteFailed}
 use Rattle.cb_top.specs.declared.status.Status.{Status}
-use Rattle.cb_top.specs.declared.status.Status.TheVariants.{Done, ReadFault, WriteFault, Memory, NotBuilt}
+use Rattle.cb_top.specs.declared.status.Status.TheVariants.{Done, WriteFault}
 use Rattle.cb_top.specs.declared.halt.Halt.{Halt}
 use Rattle.cb_top.specs.declared.halt.Halt.TheVariants as halts
-use Rattle.cb_top.specs.Outcome.{Outcome, IsOutcome, contents, file_words, done, not_built, not_built_line}
-
-abbrev pub read_line : List ℕ → List ℕ
-read_line name = codes "error 8 read " ++ name ++ codes "\n"
-
-abbrev pub write_line : List ℕ
-write_line = codes "error 9 write\n"
-
-abbrev pub memory_line : List ℕ
-memory_line = codes "error 10 memory\n"
+use Rattle.cb_top.specs.Faults.{usage_line, model_line, limit_line, read_line, write_line, memory_line, not_built_line}
+use Rattle.cb_top.specs.Halts.{status_of}
+use Rattle.cb_top.specs.Outcome.{Outcome, IsOutcome, contents, file_words, done, usage, faulty, too_long, not_built}
 
 -- these files were read whole, and the others have left what they had
 abbrev pub HasRead : List (List ℕ) → FilesTold → FilesTold → Type 0
@@ -70,22 +63,31 @@ abbrev pub OnStop : {T : Type 0} → Result T Halt → (ℕ → Type 0) → Type
 OnStop (Ok value) P = Unit {0}
 OnStop (Err halt) P = OnFileFault halt P
 
--- what a halt shows of the outcome
-abbrev pub HaltShows : Halt → (Outcome → Type 0) → Type 0
-HaltShows halts.NotBuilt IsIt = IsIt not_built
-HaltShows halt IsIt = Unit {0}
+-- what a halt shows of the outcome, by the names of the files
+abbrev pub HaltShows : List (List ℕ) → Halt → (Outcome → Type 0) → Type 0
+HaltShows names halts.Usage IsIt = IsIt usage
+HaltShows names (halts.Model fault) IsIt = IsIt (faulty fault)
+HaltShows names (halts.TooLong place) IsIt = (name : List ℕ) × (slice_get names place ≡ Some name) × IsIt (too_long name)
+HaltShows names halts.NotBuilt IsIt = IsIt not_built
+HaltShows names halt IsIt = Unit {0}
 
 -- what is known of the outcome, once the files were read and judged
-abbrev pub Shows : Result (Vec ℕ Global) Halt → (Outcome → Type 0) → Type 0
-Shows (Ok bytes) IsIt = IsIt (done bytes.items)
-Shows (Err halt) IsIt = HaltShows halt IsIt
+abbrev pub Shows : List (List ℕ) → Result (Vec ℕ Global) Halt → (Outcome → Type 0) → Type 0
+Shows names (Ok bytes) IsIt = IsIt (done bytes.items)
+Shows names (Err halt) IsIt = HaltShows names halt IsIt
 
--- the status and the line that tell why there is no output
-abbrev pub Explains : List (List ℕ) → Halt → Status → SinkTold → SinkTold → Type 0
-Explains words halts.NotBuilt NotBuilt old new = Says old new not_built_line
-Explains words (halts.ReadFault place) ReadFault old new = (name : List ℕ) × (slice_get words (place + 1) ≡ Some name) × Says old new (read_line name)
-Explains words halts.Memory Memory old new = Says old new memory_line
-Explains words halt status old new = ⊥
+-- the line that tells why there is no output, by the words: the first file word stands right behind the command
+abbrev pub IsLine : List (List ℕ) → Halt → List ℕ → Type 0
+IsLine words halts.Usage line = line ≡ usage_line
+IsLine words (halts.Model fault) line = line ≡ model_line fault
+IsLine words (halts.TooLong place) line = (name : List ℕ) × (slice_get words (place + 1) ≡ Some name) × (line ≡ limit_line name)
+IsLine words (halts.ReadFault place) line = (name : List ℕ) × (slice_get words (place + 1) ≡ Some name) × (line ≡ read_line name)
+IsLine words halts.Memory line = line ≡ memory_line
+IsLine words halts.NotBuilt line = line ≡ not_built_line
+
+-- the error sink was given the line that tells why
+abbrev pub Explains : List (List ℕ) → Halt → SinkTold → SinkTold → Type 0
+Explains words halt old new = (line : List ℕ) × IsLine words halt line × Says old new line
 
 -- how the bytes of the output are written
 abbrev pub Delivers : List ℕ → Status → SinkTold → SinkTold → SinkTold → SinkTold → Type 0
@@ -96,4 +98,4 @@ Delivers bytes status out out' err err' = ⊥
 -- how a run ends, once the files were read and judged
 abbrev pub Concludes : List (List ℕ) → Result (Vec ℕ Global) Halt → Status → SinkTold → SinkTold → SinkTold → SinkTold → Type 0
 Concludes words (Ok bytes) status out out' err err' = Delivers bytes.items status out out' err err'
-Concludes words (Err halt) status out out' err err' = TakesNothing out out' × Explains words halt status err err'
+Concludes words (Err halt) status out out' err err' = TakesNothing out out' × (status ≡ status_of halt) × Explains words halt err err'

@@ -1,20 +1,18 @@
 //! The command `burst`.
-ghost use Rattle.std.specs.Prelude.{◌≡◌, [], ◌∷◌, OnOk, IfOk, IfSome, IsErrOf};
-ghost use Rattle.std.specs.Prelude.{List as Items};
-ghost use Rattle.cb_io.specs.Outside.{KeepsOthers, NoCountFalls, ReadFailed};
-ghost use Rattle.cb_model.specs.declared.node.NodeName.{NodeName as Node};
-ghost use Rattle.cb_model.specs.declared.tables.Tables.{Tables};
-ghost use Rattle.cb_network.specs.Topology.{Topology};
+ghost use Rattle.std.specs.Prelude.{[], ◌∷◌, OnOk, IfOk, IfErr, IfSome};
+ghost use Rattle.cb_io.specs.Outside.{KeepsOthers, NoCountFalls};
+ghost use Rattle.cb_flat.specs.Flat.{IsFlat};
 ghost use Rattle.cb_flat.specs.FlatTopology.{topology_of, HasNodes};
-ghost use Rattle.cb_top.specs.Burst.{IsModelText, IsTopologyText, IsSymptomText};
+ghost use Rattle.cb_top.specs.Model.{IsModelText};
+ghost use Rattle.cb_top.specs.Burst.{IsTopologyText, IsSymptomText};
+ghost use Rattle.cb_top.specs.Halts.{IsPlaced, ReadsSuch, StopsFile, JudgesModel, JudgesUnbuilt};
 ghost use Rattle.cb_top.specs.Outcome.{contents, BurstGives};
-ghost use Rattle.cb_top.specs.Judged.{ReadsSuch, HasSuch};
 ghost use Rattle.cb_top.specs.Run.{HasRead, StopsAt, Shows, OnStop};
 
 use crate::files::read_file;
 use crate::halt::Halt;
 use crate::judge::{lines_of_burst, model_of, raised_in, topology_of_text};
-use cb_flat::FlatTopology;
+use cb_flat::{FlatTopology, is_flat};
 use cb_io::Files;
 use cb_model::{List, Model, NodeName};
 use std::alloc::Global;
@@ -27,12 +25,16 @@ pub fn burst<F: Files>(
     topology: &str,
     symptoms: &str,
 ) -> Result<Vec<u8>, Halt>
-    ensures answer { IfSome (F.tells files.old).left (λ left. Shows result
-        (BurstGives (contents left [] model.now) (contents left (model.now ∷ []) topology.now) (contents left (model.now ∷ topology.now ∷ []) symptoms.now))) }
+    ensures answer { IfSome (F.tells files.old).left (λ left. Shows (model.now ∷ topology.now ∷ symptoms.now ∷ []) result
+        (BurstGives model.now (contents left [] model.now) (contents left (model.now ∷ []) topology.now) (contents left (model.now ∷ topology.now ∷ []) symptoms.now))) }
     ensures read { OnOk result (HasRead (model.now ∷ topology.now ∷ symptoms.now ∷ []) (F.tells files.old) (F.tells files.new)) }
     ensures stop { OnStop result (λ place. StopsAt (model.now ∷ topology.now ∷ symptoms.now ∷ []) place (F.tells files.old) (F.tells files.new)) }
+    ensures placed { IfErr result (IsPlaced (model.now ∷ topology.now ∷ symptoms.now ∷ [])) }
 {
     let model = read_model(alloc, files, model)?;
+    if !is_flat(&model) {
+        return Err(Halt::NotBuilt);
+    }
     let topology = read_topology_file(alloc, files, &model, topology)?;
     let raised = read_symptom_file(alloc, files, symptoms)?;
     Ok(lines_of_burst(alloc, &model, &topology, &raised)?)
@@ -41,8 +43,7 @@ pub fn burst<F: Files>(
 // Reads and judges the first file.
 fn read_model<F: Files>(alloc: Global, files: &mut F, name: &str) -> Result<Model, Halt>
     ensures model { IfOk result (λ model. ReadsSuch (F.tells files.old) (F.tells files.new) name.now (λ text. IsModelText text model)) }
-    ensures not_built { IsErrOf result Halt.NotBuilt → HasSuch (F.tells files.old) name.now (λ text. (tables : Tables) → ¬ IsModelText text tables) }
-    ensures stop { OnStop result (λ at. (at ≡ 0) × ReadFailed (F.tells files.old) (F.tells files.new) name.now) }
+    ensures halt { IfErr result (StopsFile 0 name.now JudgesModel (F.tells files.old) (F.tells files.new)) }
     ensures others { KeepsOthers (F.tells files.old) (F.tells files.new) name.now }
     ensures counts { NoCountFalls (F.tells files.old) (F.tells files.new) }
 {
@@ -57,15 +58,17 @@ fn read_topology_file<F: Files>(
     model: &Model,
     name: &str,
 ) -> Result<FlatTopology, Halt>
+    requires { IsFlat model.now }
     ensures topology { IfOk result (λ flat. ReadsSuch (F.tells files.old) (F.tells files.new) name.now (λ text. IsTopologyText model.now text (topology_of model.now flat))) }
     ensures nodes { IfOk result (HasNodes model.now) }
-    ensures not_built { IsErrOf result Halt.NotBuilt → HasSuch (F.tells files.old) name.now (λ text. (u : Topology) → ¬ IsTopologyText model.now text u) }
-    ensures stop { OnStop result (λ at. (at ≡ 1) × ReadFailed (F.tells files.old) (F.tells files.new) name.now) }
+    ensures halt { IfErr result (StopsFile 1 name.now (JudgesUnbuilt (IsTopologyText model.now)) (F.tells files.old) (F.tells files.new)) }
     ensures others { KeepsOthers (F.tells files.old) (F.tells files.new) name.now }
     ensures counts { NoCountFalls (F.tells files.old) (F.tells files.new) }
 {
-    let text = read_file(alloc, files, name, 1)?;
-    topology_of_text(alloc, model, &text)
+    match read_file(alloc, files, name, 1) {
+        Ok(text) => topology_of_text(alloc, model, &text),
+        Err(halt) => Err(halt.unbuilt_where_long()),
+    }
 }
 
 // Reads and judges the third file.
@@ -75,11 +78,12 @@ fn read_symptom_file<F: Files>(
     name: &str,
 ) -> Result<List<NodeName>, Halt>
     ensures raised { IfOk result (λ raised. ReadsSuch (F.tells files.old) (F.tells files.new) name.now (λ text. IsSymptomText text raised)) }
-    ensures not_built { IsErrOf result Halt.NotBuilt → HasSuch (F.tells files.old) name.now (λ text. (nodes : Items Node) → ¬ IsSymptomText text nodes) }
-    ensures stop { OnStop result (λ at. (at ≡ 2) × ReadFailed (F.tells files.old) (F.tells files.new) name.now) }
+    ensures halt { IfErr result (StopsFile 2 name.now (JudgesUnbuilt IsSymptomText) (F.tells files.old) (F.tells files.new)) }
     ensures others { KeepsOthers (F.tells files.old) (F.tells files.new) name.now }
     ensures counts { NoCountFalls (F.tells files.old) (F.tells files.new) }
 {
-    let text = read_file(alloc, files, name, 2)?;
-    raised_in(alloc, &text)
+    match read_file(alloc, files, name, 2) {
+        Ok(text) => raised_in(alloc, &text),
+        Err(halt) => Err(halt.unbuilt_where_long()),
+    }
 }

@@ -1,7 +1,8 @@
 //! The files of a command, each read whole.
-ghost use Rattle.std.specs.Prelude.{◌≡◌, ◌≤◌, ◌<◌, length, IfOk, IfSome, IsErrOf};
-ghost use Rattle.cb_io.specs.Outside.{left_of, ReadsAll, KeepsOthers, NoCountFalls, ReadFailed};
-ghost use Rattle.cb_top.specs.Run.{OnStop};
+ghost use Rattle.std.specs.Prelude.{◌≤◌, length, IfOk, IfErr};
+ghost use Rattle.cb_io.specs.Outside.{ReadsAll, KeepsOthers, NoCountFalls};
+ghost use Rattle.cb_top.specs.Model.{HasShortText};
+ghost use Rattle.cb_top.specs.Halts.{StopsFile, JudgesLength};
 
 use crate::halt::Halt;
 use cb_io::{Files, ReadStop, read_whole};
@@ -10,7 +11,7 @@ use std::alloc::Global;
 /// A model, topology or symptom file has at most so many bytes.
 pub const MOST_BYTES: usize = 16 << 20;
 
-/// All bytes left of the file word at a place; a longer file isn't built for.
+/// All bytes left of the file word at a place, unless there are too many.
 pub fn read_file<F: Files>(
     alloc: Global,
     files: &mut F,
@@ -18,15 +19,14 @@ pub fn read_file<F: Files>(
     place: usize,
 ) -> Result<Vec<u8>, Halt>
     ensures text { IfOk result (λ text. ReadsAll (F.tells files.old) (F.tells files.new) name.now text.items) }
-    ensures short { IfOk result (λ text. length text.items ≤ MOST_BYTES) }
-    ensures long { IsErrOf result Halt.NotBuilt → IfSome (left_of (F.tells files.old) name.now) (λ text. MOST_BYTES < length text) }
-    ensures fault { OnStop result (λ at. (at ≡ place) × ReadFailed (F.tells files.old) (F.tells files.new) name.now) }
+    ensures short { IfOk result (λ text. HasShortText text.items) }
+    ensures halt { IfErr result (StopsFile place name.now JudgesLength (F.tells files.old) (F.tells files.new)) }
     ensures others { KeepsOthers (F.tells files.old) (F.tells files.new) name.now }
     ensures counts { NoCountFalls (F.tells files.old) (F.tells files.new) }
 {
     match read_whole(alloc, files, name, MOST_BYTES) {
         Ok(text) => Ok(text),
-        Err(ReadStop::TooMuch) => Err(Halt::NotBuilt),
+        Err(ReadStop::TooMuch) => Err(Halt::TooLong(place)),
         Err(ReadStop::ReadFault) => Err(Halt::ReadFault(place)),
         Err(ReadStop::NoMemory) => Err(Halt::Memory),
     }

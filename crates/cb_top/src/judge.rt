@@ -1,19 +1,20 @@
 //! What the texts of a command's files say.
-ghost use Rattle.std.specs.Prelude.{◌≡◌, ◌↔◌, List as Items, IfOk, IsErrOf, IsTrue};
-ghost use Rattle.cb_model.specs.declared.node.NodeName.{NodeName as Node};
-ghost use Rattle.cb_model.specs.declared.tables.Tables.{Tables};
-ghost use Rattle.cb_network.specs.declared.finding.Finding.{Finding};
-ghost use Rattle.cb_network.specs.Topology.{Topology};
-ghost use Rattle.cb_network.specs.Finding.{IsBurst};
-ghost use Rattle.cb_flat.specs.FlatTopology.{topology_of, HasNodes};
+ghost use Rattle.std.specs.Prelude.{◌≡◌, IfOk, IfErr};
+ghost use Rattle.cb_flat.specs.Flat.{IsFlat};
 ghost use Rattle.cb_model.specs.Order.{Rises};
 ghost use Rattle.cb_model.specs.NodeOrder.{node_cmp};
+ghost use Rattle.cb_grammar.specs.declared.tree.Tree.{Tree};
+ghost use Rattle.cb_syntax.specs.Canonical.{canonical_text};
+ghost use Rattle.cb_network.specs.declared.finding.Finding.{Finding};
+ghost use Rattle.cb_network.specs.Finding.{IsBurst};
+ghost use Rattle.cb_flat.specs.FlatTopology.{topology_of, HasNodes};
 ghost use Rattle.cb_report.specs.Lines.{burst_text as text_of_burst};
-ghost use Rattle.cb_top.specs.Burst.{HasShortText, IsModelText, IsTopologyText, IsSymptomText};
-ghost use Rattle.cb_top.specs.Run.{OnStop};
+ghost use Rattle.cb_top.specs.Model.{HasShortText, IsModelText, IsTreeText};
+ghost use Rattle.cb_top.specs.Burst.{IsTopologyText, IsSymptomText};
+ghost use Rattle.cb_top.specs.Halts.{JudgesModel, JudgesUnbuilt};
 
 use crate::halt::Halt;
-use cb_check::check_flat;
+use cb_check::check;
 use cb_flat::{FlatTopology, read_symptoms, read_topology};
 use cb_model::{List, Model, NodeName};
 use cb_plain::find;
@@ -21,35 +22,34 @@ use cb_report::burst_text;
 use cb_syntax::{parse, print};
 use std::alloc::{AllocError, Global};
 
-/// The flat model that the text declares.
+/// The model that the text declares.
 pub fn model_of(alloc: Global, text: &[u8]) -> Result<Model, Halt>
     requires { HasShortText text.now }
     ensures model { IfOk result (IsModelText text.now) }
-    ensures not_built { IsErrOf result Halt.NotBuilt → (tables : Tables) → ¬ IsModelText text.now tables }
-    ensures unread { OnStop result (λ _. ⊥) }
+    ensures halt { IfErr result (JudgesModel text.now) }
 {
     let tree = parse(alloc, text)?;
-    let canonical = print(alloc, &tree)?;
-    if !is_same(&canonical, text) {
-        return Err(Halt::NotBuilt);
-    }
-    Ok(check_flat(alloc, &tree)?)
+    Ok(check(alloc, &tree)?)
 }
 
-// Whether the two are one text.
-fn is_same(one: &[u8], other: &[u8]) -> bool
-    ensures { IsTrue result ↔ (one.now ≡ other.now) }
+/// The canonical text of the model that the text declares.
+pub fn canonical_of(alloc: Global, text: &[u8]) -> Result<Vec<u8>, Halt>
+    requires { HasShortText text.now }
+    ensures canonical { IfOk result (λ canonical. (tree : Tree) × IsTreeText text.now tree × (canonical.items ≡ canonical_text tree)) }
+    ensures halt { IfErr result (JudgesModel text.now) }
 {
-    one == other
+    let tree = parse(alloc, text)?;
+    let _model = check(alloc, &tree)?;
+    Ok(print(alloc, &tree)?)
 }
 
 /// The topology that the text's lines make.
 pub fn topology_of_text(alloc: Global, model: &Model, text: &[u8]) -> Result<FlatTopology, Halt>
-    requires { HasShortText text.now }
+    requires text { HasShortText text.now }
+    requires flat { IsFlat model.now }
     ensures topology { IfOk result (λ flat. IsTopologyText model.now text.now (topology_of model.now flat)) }
     ensures nodes { IfOk result (HasNodes model.now) }
-    ensures not_built { IsErrOf result Halt.NotBuilt → (u : Topology) → ¬ IsTopologyText model.now text.now u }
-    ensures unread { OnStop result (λ _. ⊥) }
+    ensures halt { IfErr result (JudgesUnbuilt (IsTopologyText model.now) text.now) }
 {
     Ok(read_topology(alloc, model, text)?)
 }
@@ -58,8 +58,7 @@ pub fn topology_of_text(alloc: Global, model: &Model, text: &[u8]) -> Result<Fla
 pub fn raised_in(alloc: Global, text: &[u8]) -> Result<List<NodeName>, Halt>
     requires { HasShortText text.now }
     ensures raised { IfOk result (IsSymptomText text.now) }
-    ensures not_built { IsErrOf result Halt.NotBuilt → (nodes : Items Node) → ¬ IsSymptomText text.now nodes }
-    ensures unread { OnStop result (λ _. ⊥) }
+    ensures halt { IfErr result (JudgesUnbuilt IsSymptomText text.now) }
 {
     Ok(read_symptoms(alloc, text)?)
 }

@@ -4,9 +4,12 @@
 mod burst;
 mod command;
 mod conclude;
+mod fault;
+mod fault_line;
 mod files;
 mod halt;
 mod judge;
+mod model;
 mod status;
 mod top;
 

@@ -1,12 +1,14 @@
 //! The top call, over files and sinks in memory.
 ghost use Rattle.std.specs.Prelude.{◌≡◌, ◌<◌};
 
+use crate::files::MOST_BYTES;
 use crate::{Status, run};
 use cb_io::{MemFiles, MemSink};
 use cb_steps::Steps;
 use std::alloc::{AllocError, Global};
 use std::marker::Brand;
 use std::process::Abort;
+use std::str::from_utf8;
 use std::sync::ledger::{Blank, Ledger};
 use std::test::Fail;
 
@@ -15,6 +17,10 @@ const QUIET: &str = "burst raised 0 unknown 0 distance 0 radius 0 sure groups 1\
 // A worn pump makes noise and heat, and one that runs dry makes heat and low flow.
 const PUMP: &str =
     "class Pump {\n  problem Worn;\n  problem Dry;\n  symptom Noise;\n  symptom Heat;\n  symptom LowFlow;\n  rule n: Worn => Noise;\n  rule h: Worn => Heat;\n  rule h2: Dry => Heat;\n  rule f: Dry => LowFlow;\n}\n";
+
+// The same pump in one line, with a comment.
+const PUMP_IN_A_LINE: &str =
+    "class Pump{problem Worn;problem Dry;symptom Noise;symptom Heat;symptom LowFlow;rule n:Worn=>Noise;rule h:Worn=>Heat;rule h2:Dry=>Heat;rule f:Dry=>LowFlow;}#x";
 
 // A cut link silences both its ports.
 const LINK: &str =
@@ -174,14 +180,29 @@ fn a_refused_write_leaves_a_front(rt: HostRuntime) -> Result<(), Fail> {
 }
 
 #[test]
-fn other_words_are_not_built(rt: HostRuntime) -> Result<(), Fail> {
-    let cases: [&[&str]; 4] = [
-        &[],
-        &["matrix"],
-        &["burst", "m", "t"],
-        &["Burst", "m", "t", "s"],
+fn words_are_a_command_or_not(rt: HostRuntime) -> Result<(), Fail> {
+    const USAGE: (u8, &str) = (2, "error 2 usage\n");
+    const NOT_BUILT: (u8, &str) = (11, "error 11 not-built\n");
+    let cases: [(&[&str], (u8, &str)); 17] = [
+        (&[], USAGE),
+        (&["burst", "m", "t"], USAGE),
+        (&["Burst", "m", "t", "s"], USAGE),
+        (&["model"], USAGE),
+        (&["matrix", "m"], USAGE),
+        (&["matrix", "m", "t"], NOT_BUILT),
+        (&["codebook", "m", "t", "0"], USAGE),
+        (&["codebook", "m", "t", "10000"], USAGE),
+        (&["codebook", "m", "t", "01"], USAGE),
+        (&["codebook", "m", "t", "9999"], NOT_BUILT),
+        (&["verify", "m", "t", "c"], NOT_BUILT),
+        (&["decode", "m", "t", "c", "l", "1000000000001"], USAGE),
+        (&["decode", "m", "t", "c", "l", "1000000000000"], NOT_BUILT),
+        (&["correlate", "m", "t", "l", "10", "0"], USAGE),
+        (&["correlate", "m", "t", "l", "1", "10"], NOT_BUILT),
+        (&["grow", "257", "0"], USAGE),
+        (&["grow", "256", "18446744073709551615"], NOT_BUILT),
     ];
-    for words in cases {
+    for (words, (code, err)) in cases {
         let case = Case {
             words,
             files: EMPTY,
@@ -189,13 +210,94 @@ fn other_words_are_not_built(rt: HostRuntime) -> Result<(), Fail> {
             failing_read: 0,
             failing_write: 0,
         };
-        let wanted = Wanted {
-            code: 11,
-            out: "",
-            err: "error 11 not-built\n",
-        };
+        let wanted = Wanted { code, out: "", err };
         check(&rt, rt.alloc(), &case, &wanted)?;
     }
+    Ok(())
+}
+
+#[test]
+fn a_model_is_printed_or_has_a_fault(rt: HostRuntime) -> Result<(), Fail> {
+    // The text, the status, the output and the line.
+    let cases: [(&str, u8, &str, &str); 10] = [
+        (
+            "class A{problem P;symptom S;rule r:P=>S;}#x",
+            0,
+            "class A {\n  problem P;\n  symptom S;\n  rule r: P => S;\n}\n",
+            "",
+        ),
+        ("", 0, "", ""),
+        (LINK, 0, LINK, ""),
+        (
+            "class A { problem class; }",
+            3,
+            "",
+            "error 3 model line 1 column 19 unexpected\n",
+        ),
+        (
+            "class A {\n  rule r: E => F;\n}\nclass A { }",
+            3,
+            "",
+            "error 3 model line 4 two-classes\n",
+        ),
+        (
+            "class A { event E; } class B extends A { problem E; }",
+            3,
+            "",
+            "error 3 model line 1 two-names\n",
+        ),
+        (
+            "class A extends B { } class B extends A { }",
+            3,
+            "",
+            "error 3 model line 1 loop\n",
+        ),
+        (
+            "class aaaaaaaaaaaaaaaaaaaaaaaaaaaaaaaaaaaaaaaaaaaaaaaaaaaaaaaaaaaaaaaa",
+            3,
+            "",
+            "error 3 model line 1 long-name\n",
+        ),
+        ("class A {\n  = ", 3, "", "error 3 model line 2 bad-byte\n"),
+        ("class A {\n", 3, "", "error 3 model unfinished\n"),
+    ];
+    for (model, code, out, err) in cases {
+        let case = Case {
+            words: &["model", "m"],
+            files: &[("m", model)],
+            piece: 7,
+            failing_read: 0,
+            failing_write: 0,
+        };
+        let wanted = Wanted { code, out, err };
+        check(&rt, rt.alloc(), &case, &wanted)?;
+    }
+    Ok(())
+}
+
+fn spaces(alloc: Global, count: usize) -> Result<Vec<u8>, AllocError> {
+    vec![in alloc; b' '; count]
+}
+
+#[test]
+fn a_model_of_too_many_bytes_is_refused(rt: HostRuntime) -> Result<(), Fail> {
+    let bytes = spaces(rt.alloc(), MOST_BYTES + 1)?;
+    let Ok(text) = from_utf8(&bytes) else {
+        return Err(Fail::new("spaces are text"));
+    };
+    let case = Case {
+        words: &["model", "m"],
+        files: &[("m", text)],
+        piece: 0,
+        failing_read: 0,
+        failing_write: 0,
+    };
+    let wanted = Wanted {
+        code: 7,
+        out: "",
+        err: "error 7 limit bytes m\n",
+    };
+    check(&rt, rt.alloc(), &case, &wanted)?;
     Ok(())
 }
 
@@ -239,27 +341,29 @@ fn a_pump_is_told_by_its_symptoms(rt: HostRuntime) -> Result<(), Fail> {
             "burst raised 0 unknown 0 distance 0 radius 0 sure groups 1\n  group quiet\n",
         ),
     ];
-    for (topology, symptoms, out) in cases {
-        let case = Case {
-            words: &["burst", "m", "t", "s"],
-            files: &[("m", PUMP), ("t", topology), ("s", symptoms)],
-            piece: 7,
-            failing_read: 0,
-            failing_write: 0,
-        };
-        let wanted = Wanted {
-            code: 0,
-            out,
-            err: "",
-        };
-        check(&rt, rt.alloc(), &case, &wanted)?;
+    for model in [PUMP, PUMP_IN_A_LINE] {
+        for (topology, symptoms, out) in cases {
+            let case = Case {
+                words: &["burst", "m", "t", "s"],
+                files: &[("m", model), ("t", topology), ("s", symptoms)],
+                piece: 7,
+                failing_read: 0,
+                failing_write: 0,
+            };
+            let wanted = Wanted {
+                code: 0,
+                out,
+                err: "",
+            };
+            check(&rt, rt.alloc(), &case, &wanted)?;
+        }
     }
     Ok(())
 }
 
 #[test]
 fn other_files_are_not_built(rt: HostRuntime) -> Result<(), Fail> {
-    let cases: [(&str, &str, &str); 12] = [
+    let cases: [(&str, &str, &str); 11] = [
         (PUMP, CREATE_64, ""),
         (PUMP, "create p1\n", ""),
         (PUMP, "create p1 Pump now\n", ""),
@@ -267,8 +371,7 @@ fn other_files_are_not_built(rt: HostRuntime) -> Result<(), Fail> {
         (PUMP, "create p@1 Pump\n", ""),
         (PUMP, "create p1 Pump\n", "Heat\n"),
         (LINK, "create L1 Link\n", "Loss@L1\n"),
-        ("class Pump { }\n", "", ""),
-        ("class Pump {\n", "", ""),
+        ("class A { problem symptom P; }", "", ""),
         (PUMP, "create p1 Pump\ncreate p1 Pump\n", ""),
         (PUMP, "create p1 Pump\nlink p1 feeds p1\n", ""),
         (PUMP, "create p1 Pump\n", "Heat@p1 Noise@p1\n"),

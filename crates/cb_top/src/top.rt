@@ -1,14 +1,18 @@
 //! The top call.
-ghost use Rattle.std.specs.Prelude.{◌≡◌, [], OnOk, IfSome};
+ghost use Rattle.std.specs.Prelude.{◌≡◌, OnOk, IfErr, IfSome};
 ghost use Rattle.cb_top.specs.Status.{OnAnswer, OnDone, OnReadFault, OnWriteFault, OnMemory};
+ghost use Rattle.cb_top.specs.Commands.{IsInTable, IsUnbuilt};
+ghost use Rattle.cb_top.specs.Faults.{memory_line};
+ghost use Rattle.cb_top.specs.Halts.{IsPlaced};
 ghost use Rattle.cb_top.specs.Outcome.{texts, file_words, IsOutcome};
 ghost use Rattle.cb_top.specs.Cause.{FindsTheCause};
-ghost use Rattle.cb_top.specs.Run.{Answers, TakesFront, TakesNothing, HasRead, BlamesFile, BlamesOut, Says, StopsAt, Shows, OnStop, memory_line};
+ghost use Rattle.cb_top.specs.Run.{Answers, TakesFront, TakesNothing, HasRead, BlamesFile, BlamesOut, Says, StopsAt, Shows, OnStop};
 
 use crate::burst::burst;
 use crate::command::Command;
 use crate::conclude::conclude;
 use crate::halt::Halt;
+use crate::model::model;
 use crate::status::Status;
 use cb_io::{Files, Sink};
 use cb_steps::Steps;
@@ -30,9 +34,10 @@ pub fn run<F: Files, O: Sink, E: Sink, L: Ledger>(
         Answers (texts words.now) left result (O.tells out.old) (O.tells out.new) (E.tells err.old) (E.tells err.new))) }
     // At every status, the output is the outcome's up to some byte.
     ensures front { IfSome (F.tells files.old).left (λ left. TakesFront (texts words.now) left (O.tells out.old) (O.tells out.new)) }
-    // Where the words are no command, nothing else matters.
-    ensures no_command { file_words (texts words.now) ≡ [] → result ≡ Status.NotBuilt }
-    // The headline: what is printed are exactly the groups nearest to what is raised, by codes from what causes what; and
+    // Where the words are none of the table, or those of a command that isn't built, nothing else matters.
+    ensures usage { (¬ IsInTable (texts words.now)) → result ≡ Status.Usage }
+    ensures unbuilt { IsUnbuilt (texts words.now) → result ≡ Status.NotBuilt }
+    // The headline: what `burst` prints are exactly the groups nearest to what is raised, by codes from what causes what; and
     // where no more symptoms of one group are lost or spurious than the radius says, that group alone, and it is sure.
     ensures cause { OnDone result (IfSome (F.tells files.old).left (λ left.
         FindsTheCause (file_words (texts words.now)) left (O.tells out.old) (O.tells out.new))) }
@@ -49,10 +54,12 @@ pub fn run<F: Files, O: Sink, E: Sink, L: Ledger>(
 
 // Reads and judges the files of a command, and gives its output.
 fn answer<F: Files>(alloc: Global, words: &[String], files: &mut F) -> Result<Vec<u8>, Halt>
-    ensures answer { IfSome (F.tells files.old).left (λ left. Shows result (IsOutcome (texts words.now) left)) }
+    ensures answer { IfSome (F.tells files.old).left (λ left. Shows (file_words (texts words.now)) result (IsOutcome (texts words.now) left)) }
     ensures read { OnOk result (HasRead (file_words (texts words.now)) (F.tells files.old) (F.tells files.new)) }
     ensures stop { OnStop result (λ place. StopsAt (file_words (texts words.now)) place (F.tells files.old) (F.tells files.new)) }
-    ensures no_command { file_words (texts words.now) ≡ [] → result ≡ Err Halt.NotBuilt }
+    ensures placed { IfErr result (IsPlaced (file_words (texts words.now))) }
+    ensures usage { (¬ IsInTable (texts words.now)) → result ≡ Err Halt.Usage }
+    ensures unbuilt { IsUnbuilt (texts words.now) → result ≡ Err Halt.NotBuilt }
 {
     match Command::of(words) {
         Some(
@@ -62,6 +69,8 @@ fn answer<F: Files>(alloc: Global, words: &[String], files: &mut F) -> Result<Ve
                 symptoms,
             },
         ) => burst(alloc, files, model, topology, symptoms),
-        None => Err(Halt::NotBuilt),
+        Some(Command::Model { model: name }) => model(alloc, files, name),
+        Some(Command::NotBuilt) => Err(Halt::NotBuilt),
+        None => Err(Halt::Usage),
     }
 }

@@ -1,11 +1,9 @@
-use Rattle.std.proofs.Common.{List}
-use Rattle.cb_model.specs.declared.node.NodeName.{NodeName}
 use Rattle.cb_top.specs.Burst.{IsSymptomText}
-use Rattle.cb_io.specs.Outside.{left_of}
-use Rattle.cb_top.proofs.Judged.{of_read}
+use Rattle.cb_top.specs.Halts.{JudgesUnbuilt}
+use Rattle.cb_top.proofs.Judged.{stops_by_text}
 use Rattle.cb_top.proofs.burst.read_symptom_file.Goals as goal
 
-pub returns-clause-not_built : goal.returns-clause-not_built
-returns-clause-not_built g c = λ is.
-    of_read (left_of (g.F.Files.tells c.args.files.now) c.args.name.now) _ c.in_ok-text.text.items (λ text. (nodes : List NodeName) → ¬ IsSymptomText text nodes) c.in_ok-text.ensures.text
-    (rw c.deref.ensures.value at (c.raised_in.ensures.not_built is))
+pub returns-in-Ok-clause-halt : goal.returns-in-Ok-clause-halt
+returns-in-Ok-clause-halt g c =
+    stops_by_text 2 c.args.name.now (JudgesUnbuilt IsSymptomText) (g.F.Files.tells c.args.files.now) (g.F.Files.tells c.read_file.new.files)
+    c.raised_in.result c.in-Ok.text.items c.in-Ok.ensures.text (λ at j. j) (λ at j. j) (rw c.deref.ensures.value at c.raised_in.ensures.halt)
