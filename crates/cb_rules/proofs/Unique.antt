@@ -83,10 +83,6 @@ module _ (tree : Tree) where
   pub has_if : (k : ℕ) (name : List ℕ) (m : Member) (P : Member → Type 0) → HasMember tree k name m → P m → Has tree k P
   has_if k name m P found p = let has = found.2 in (found.0, found.1, (has.0, m, has.2, found.3, p))
 
-  -- whatever declares no name has none of its kinds
-  pub has_declares : (k : ℕ) (name : List ℕ) (P : Member → Type 0) → ((x : Member) → P x → Declares name x) → Has tree k P → Has tree k (Declares name)
-  has_declares k name P declares has = let at = has.2 in (has.0, has.1, (at.0, at.1, at.2, at.3, declares at.1 at.4))
-
   -- a path that leads on past a place, up to there
   leads_past : (path : List Token) (k m n x : ℕ) (step : Token) → m < n → Leads tree k (take n path) x → slice_get path m ≡ Some step →
       (i : ℕ) × (next : ℕ) × Leads tree k (take m path) i × LeadsOn tree i step.name next

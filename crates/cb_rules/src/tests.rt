@@ -16,7 +16,7 @@ fn token(alloc: Global, line: Line, place: usize) -> Result<Token, AllocError> {
     };
     Ok(Token {
         name,
-        line: number.saturating_add(place as u32),
+        line: number.saturating_add(place.min(99) as u32),
         start: 0,
     })
 }
@@ -55,14 +55,11 @@ fn member_of(alloc: Global, line: Line) -> Result<Member, AllocError> {
 }
 
 // A class by its first line, `class NAME` or `class NAME PARENT`, and its members.
-fn class_of(alloc: Global, lines: &[Line]) -> Result<ClassDecl, AllocError> {
-    let head = match lines.first() {
-        Some(head) => *head,
-        None => (0, [].as_slice()),
-    };
+fn class_of(alloc: Global, head: Line, lines: &[Line]) -> Result<ClassDecl, AllocError> {
     let mut members = List::new(alloc);
-    for line in lines.iter().skip(1) {
-        members.push(member_of(alloc, *line)?)?;
+    for line in lines {
+        let member = member_of(alloc, *line)?;
+        members.push(member)?;
     }
     let parent = if head.1.len() > 2 {
         Some(token(alloc, head, 2)?)
@@ -81,7 +78,10 @@ fn fault_of(alloc: Global, classes: &[&[Line]]) -> Result<Option<BrokenRule>, Al
         classes: List::new(alloc),
     };
     for lines in classes {
-        tree.classes.push(class_of(alloc, lines)?)?;
+        if let Some((head, members)) = lines.split_first() {
+            let class = class_of(alloc, *head, members)?;
+            tree.classes.push(class)?;
+        }
     }
     let directory = Directory::of(alloc, &tree)?;
     first_fault(alloc, &directory)
