@@ -4,8 +4,8 @@ ghost use Rattle.std.specs.Simd.Lanes.{zip2};
 ghost use Rattle.cb_bits.specs.Bits.{Packs, differing};
 
 use crate::words::{
-    are_same, clear_bit, count_differing, count_differing_below, count_ones, is_set, set_bit, unite,
-    zero_words,
+    are_same, as_words, clear_bit, count_differing, count_differing_below, count_ones, is_set,
+    set_bit, unite, zero_words,
 };
 use std::alloc::{AllocError, Global};
 use std::marker::Model;
@@ -131,6 +131,6 @@ impl Row {
     pub fn words(&self) -> &[u64]
         ensures { Packs self.now result.now }
     {
-        &self.words
+        as_words(&self.words)
     }
 }

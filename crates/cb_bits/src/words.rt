@@ -1,9 +1,18 @@
 //! Single bits of a slice of words: bit k is bit k % 64, counted from the least, of word k / 64.
 ghost use Rattle.std.specs.Prelude.{◌≡◌, ◌≢◌, ◌<◌, ◌↔◌, ◌*◌, ◌^◌, ℕ, length, true, false, replicate, bit_or, bit_xor, IfOk, SomeIff, IsTrue};
 ghost use Rattle.std.specs.Simd.Lanes.{zip2};
+ghost use Rattle.std.specs.List.{All};
 ghost use Rattle.cb_bits.specs.Bits.{bit_of, words_for, count_bits, HaveSameBits};
 
 use std::alloc::{AllocError, Global};
+
+/// The words as they are, which contracts see to be of 64 bits.
+pub fn as_words(words: &[u64]) -> &[u64]
+    ensures same { result.now ≡ words.now }
+    ensures small { All (λ word. word < 2 ^ 64) result.now }
+{
+    words
+}
 
 /// The bit at a place.
 pub fn is_set(words: &[u64], k: usize) -> bool
