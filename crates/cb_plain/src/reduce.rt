@@ -49,12 +49,7 @@ pub fn is_good(codes: &List<Row>, columns: &List<u32>, distance: u32) -> bool
 }
 
 // Whether a code is at least that far from each code before it.
-fn is_far_from_earlier(
-    codes: &List<Row>,
-    second: usize,
-    columns: &List<u32>,
-    distance: u32,
-) -> bool
+fn is_far_from_earlier(codes: &List<Row>, second: usize, columns: &List<u32>, distance: u32) -> bool
     requires { second < length codes.now }
     ensures { IsTrue result ↔ ((first : ℕ) → first < second → distance ≤ apart columns.now codes.now first second) }
 {
