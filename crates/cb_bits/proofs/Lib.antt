@@ -1,4 +1,5 @@
 pub mod Values
+pub mod Packed
 pub mod Places
 pub mod Written
 pub mod Zeros
@@ -7,4 +8,5 @@ pub mod Counted
 pub mod United
 pub mod Sums
 pub mod Alike
+pub mod Filled
 pub mod Grown

@@ -1,6 +1,6 @@
 -- Truth values packed into words of 64 bits.
 use Rattle.std.specs.Prelude.{◌≡◌, ℕ, ◌+◌, ◌*◌, ◌/◌, ◌%◌, ◌<◌, ◌≤◌, ◌^◌, ◌==◌, Bool, false, not, List, length, map, min, slice_index_or}
-use Rattle.std.specs.List.{count_by, range_with_len}
+use Rattle.std.specs.List.{All, count_by, range_with_len}
 use Rattle.std.specs.Int.{bit_at}
 use mathlib.Core.Bool.{beq}
 
@@ -34,6 +34,7 @@ pub record Holds (words : List ℕ) (n : ℕ) : Type 0 where
 -- the words are those of these values
 pub record Packs (row : List Bool) (words : List ℕ) : Type 0 where
   pub holds : Holds words (length row)
+  pub small : All (λ word. word < 2 ^ 64) words
   pub bits : (k : ℕ) → k < length row → bit_of words k ≡ slice_index_or row k false
 
 -- at how many places two rows differ

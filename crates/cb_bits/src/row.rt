@@ -1,10 +1,11 @@
 //! A row of truth values.
-ghost use Rattle.std.specs.Prelude.{◌≡◌, ◌<◌, ◌≤◌, ◌-◌, ◌++◌, ◌↔◌, ◌||◌, length, replicate, IfOk, OnOk, OnErr, IsTrue, true, false, slice_index_or, slice_set, count_by};
+ghost use Rattle.std.specs.Prelude.{◌≡◌, ◌<◌, ◌≤◌, ◌-◌, ◌++◌, ◌↔◌, ◌||◌, length, replicate, SomeIff, IfOk, OnOk, OnErr, IsTrue, true, false, slice_index_or, slice_set, count_by};
 ghost use Rattle.std.specs.Simd.Lanes.{zip2};
 ghost use Rattle.cb_bits.specs.Bits.{Packs, differing};
 
 use crate::words::{
-    are_same, clear_bit, count_differing, count_ones, is_set, set_bit, unite, zero_words,
+    are_same, as_words, clear_bit, count_differing, count_differing_below, count_ones, is_set,
+    set_bit, unite, zero_words,
 };
 use std::alloc::{AllocError, Global};
 use std::marker::Model;
@@ -34,6 +35,17 @@ impl Row {
     {
         let words = zero_words(alloc, n)?;
         Ok(Row { len: n, words })
+    }
+
+    /// A copy, which may lack memory.
+    pub fn copy(&self, alloc: Global) -> Result<Row, AllocError>
+        ensures { IfOk result (λ copy. copy ≡ self.now) }
+    {
+        let words = Vec::from_slice(alloc, &self.words)?;
+        Ok(Row {
+            len: self.len,
+            words,
+        })
     }
 
     pub fn len(&self) -> usize
@@ -95,6 +107,15 @@ impl Row {
         count_differing(&self.words, &other.words)
     }
 
+    /// At how many places the two differ, where these are fewer than the limit. It stops once there are as many.
+    pub fn distance_below(&self, other: &Row, limit: usize) -> Option<usize>
+        requires { length self.now ≡ length other.now }
+        ensures { let distance = differing self.now other.now in
+            SomeIff result (distance < limit) distance }
+    {
+        count_differing_below(&self.words, &other.words, limit)
+    }
+
     /// Adds values at the end, all false, so that there are `n`.
     pub fn grow(&mut self, n: usize) -> Result<(), AllocError>
         requires { length self.old ≤ n }
@@ -110,6 +131,6 @@ impl Row {
     pub fn words(&self) -> &[u64]
         ensures { Packs self.now result.now }
     {
-        &self.words
+        as_words(&self.words)
     }
 }

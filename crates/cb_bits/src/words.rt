@@ -1,9 +1,18 @@
 //! Single bits of a slice of words: bit k is bit k % 64, counted from the least, of word k / 64.
-ghost use Rattle.std.specs.Prelude.{◌≡◌, ◌≢◌, ◌<◌, ◌↔◌, ◌*◌, ◌^◌, ℕ, length, true, false, replicate, bit_or, bit_xor, IfOk, IsTrue};
+ghost use Rattle.std.specs.Prelude.{◌≡◌, ◌≢◌, ◌<◌, ◌↔◌, ◌*◌, ◌^◌, ℕ, length, true, false, replicate, bit_or, bit_xor, IfOk, SomeIff, IsTrue};
 ghost use Rattle.std.specs.Simd.Lanes.{zip2};
+ghost use Rattle.std.specs.List.{All};
 ghost use Rattle.cb_bits.specs.Bits.{bit_of, words_for, count_bits, HaveSameBits};
 
 use std::alloc::{AllocError, Global};
+
+/// The words as they are, which contracts see to be of 64 bits.
+pub fn as_words(words: &[u64]) -> &[u64]
+    ensures same { result.now ≡ words.now }
+    ensures small { All (λ word. word < 2 ^ 64) result.now }
+{
+    words
+}
 
 /// The bit at a place.
 pub fn is_set(words: &[u64], k: usize) -> bool
@@ -71,6 +80,24 @@ pub fn count_differing(words: &[u64], other: &[u64]) -> usize
         count += (words[i] ^ other[i]).count_ones() as usize;
     }
     count
+}
+
+/// How many bits differ, where these are fewer than the limit.
+pub fn count_differing_below(words: &[u64], other: &[u64], limit: usize) -> Option<usize>
+    requires same { length words.now ≡ length other.now }
+    requires few { count_bits (zip2 bit_xor words.now other.now) < 2 ^ 64 }
+    ensures { let count = count_bits (zip2 bit_xor words.now other.now) in
+        SomeIff result (count < limit) count }
+{
+    let mut count = 0;
+    for i in 0..words.len() {
+        if limit <= count {
+            return None;
+        }
+        let apart = words[i] ^ other[i];
+        count += apart.count_ones() as usize;
+    }
+    if count < limit { Some(count) } else { None }
 }
 
 /// Whether all bits are the same.

@@ -10,6 +10,7 @@ ghost use Rattle.cb_flat.specs.Steps.{LeadsToNamed};
 
 use crate::nodes::list_of;
 use crate::topology::FlatTopology;
+use cb_bits::Row;
 use cb_coding::Problem;
 use cb_model::{ClassId, EventId, List, Model, Name, NodeName, Rule};
 use std::alloc::{AllocError, Global};
@@ -49,7 +50,7 @@ impl FlatTopology {
         model: &Model,
         columns: &List<NodeName>,
         problem: &NodeName,
-    ) -> Result<List<bool>, AllocError>
+    ) -> Result<Row, AllocError>
         requires nodes { HasNodes model.now self.now }
         requires columns { AreColumns (topology_of model.now self.now) columns.now }
         requires problem { IsProblem (topology_of model.now self.now) problem.now }
@@ -57,9 +58,11 @@ impl FlatTopology {
     {
         let class = *self.classes.get(&problem.instance).unwrap();
         let cause = model.event_named(class, problem.event.bytes()).unwrap();
-        let mut code = List::new(alloc);
-        for column in columns.as_slice() {
-            code.push(is_caused(model, class, cause, &problem.instance, column))?;
+        let mut code = Row::zeroed(alloc, columns.len())?;
+        for k in 0..columns.len() {
+            if is_caused(model, class, cause, &problem.instance, columns.at(k)) {
+                code.set(k);
+            }
         }
         Ok(code)
     }

@@ -6,6 +6,7 @@ use std::test::Fail;
 
 // An instance's name of 63 bytes, the longest one, and one byte more.
 const LONGEST: &[u8] = b"a@x23456789012345678901234567890123456789012345678901234567890123";
+
 const TOO_LONG: &[u8] = b"a@x234567890123456789012345678901234567890123456789012345678901234";
 
 // How many nodes the text lists, if it is a symptom file, with the events of the first one.

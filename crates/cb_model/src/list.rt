@@ -31,6 +31,13 @@ impl<T> List<T> {
         }
     }
 
+    /// The items of a vector.
+    pub fn of(items: Vec<T>) -> List<T>
+        ensures { result ≡ items.items }
+    {
+        List { items }
+    }
+
     pub fn len(&self) -> usize
         ensures { result ≡ length self.now }
     {

@@ -152,7 +152,7 @@ module _ (width : ℕ) (problems : List Problem) where
           (zero_is_zeros p.code no_symptom ∙ ap zeros wide))
 
       -- no problem before has the code
-      is_new : (j : ℕ) (q : Problem) → j < i → slice_get problems j ≡ Some q → same_code p.code q.code ≡ false
+      pub is_new : (j : ℕ) (q : Problem) → j < i → slice_get problems j ≡ Some q → same_code p.code q.code ≡ false
       is_new j q lt is = false_from_ne_true _ (λ same.
           let code = same_code_true p.code q.code same in
           not_yet (group_of problems q.code) (in_groups _ (before.all j q lt is (rw code at nonzero))) code)

@@ -1,3 +1,4 @@
 pub mod Closest
 pub mod AtDistance
 pub mod Finds
+pub mod Grouped

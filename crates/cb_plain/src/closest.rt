@@ -5,11 +5,12 @@ ghost use Rattle.cb_coding.specs.Pairs.{IsLeast};
 ghost use Rattle.cb_plain.specs.Closest.{IsLeastBefore, limit_of};
 
 use crate::measure::distance_below;
+use cb_bits::Row;
 use cb_coding::Pair;
 use cb_model::List;
 
 /// The closest pair of codes, the first of those that are as close; there is none with fewer than two codes.
-pub fn least(codes: &List<List<bool>>, width: usize) -> Option<Pair>
+pub fn least(codes: &List<Row>, width: usize) -> Option<Pair>
     requires have_width { HaveWidth width codes.now }
     requires places_fit { length codes.now < 2 ^ 32 }
     requires columns_fit { width < 2 ^ 32 }
@@ -24,7 +25,7 @@ pub fn least(codes: &List<List<bool>>, width: usize) -> Option<Pair>
 
 // The closest of all pairs up to those that have this first place; the best is the closest of the earlier ones.
 fn closest_from(
-    codes: &List<List<bool>>,
+    codes: &List<Row>,
     width: usize,
     first: usize,
     mut best: Option<Pair>,

@@ -3,7 +3,8 @@ ghost use Rattle.std.specs.Prelude.{◌≡◌, ◌<◌, ◌≤◌, ◌^◌, ℕ,
 ghost use Rattle.cb_coding.specs.Answers.{IsAnswer, from_word};
 ghost use Rattle.cb_plain.specs.AtDistance.{places_at};
 
-use crate::measure::distance_over;
+use crate::measure::{are_all, distance_from};
+use cb_bits::Row;
 use cb_coding::{Answer, Book};
 use cb_model::List;
 use std::alloc::{AllocError, Global};
@@ -11,9 +12,9 @@ use std::alloc::{AllocError, Global};
 /// The answer for a word over the columns of a book. A code or a word that is too short says false past its end.
 pub fn nearest(
     alloc: Global,
-    codes: &List<List<bool>>,
+    codes: &List<Row>,
     book: &Book,
-    word: &List<bool>,
+    word: &Row,
 ) -> Result<Answer, AllocError>
     requires some { 0 < length codes.now }
     requires places_fit { length codes.now < 2 ^ 32 }
@@ -31,15 +32,16 @@ pub fn nearest(
 }
 
 // The least distance from the word to a code.
-fn least_distance(codes: &List<List<bool>>, columns: &List<u32>, word: &List<bool>) -> u32
+fn least_distance(codes: &List<Row>, columns: &List<u32>, word: &Row) -> u32
     requires some { 0 < length codes.now }
     requires columns_fit { length columns.now < 2 ^ 32 }
     ensures attained { (i : ℕ) × (i < length codes.now) × (from_word columns.now codes.now word.now i ≡ result) }
     ensures least { (i : ℕ) → i < length codes.now → result ≤ from_word columns.now codes.now word.now i }
 {
-    let mut least = distance_over(word, codes.at(0), columns);
+    let all = are_all(columns, word.len());
+    let mut least = distance_from(word, codes.at(0), columns, all);
     for i in 1..codes.len() {
-        let distance = distance_over(word, codes.at(i), columns);
+        let distance = distance_from(word, codes.at(i), columns, all);
         if distance < least {
             least = distance;
         }
@@ -50,18 +52,19 @@ fn least_distance(codes: &List<List<bool>>, columns: &List<u32>, word: &List<boo
 // The places of all codes at that distance from the word, in order.
 fn all_at(
     alloc: Global,
-    codes: &List<List<bool>>,
+    codes: &List<Row>,
     columns: &List<u32>,
-    word: &List<bool>,
+    word: &Row,
     distance: u32,
 ) -> Result<List<u32>, AllocError>
     requires places_fit { length codes.now < 2 ^ 32 }
     requires columns_fit { length columns.now < 2 ^ 32 }
     ensures { IfOk result (λ found. found ≡ places_at columns.now codes.now word.now distance (length codes.now)) }
 {
+    let all = are_all(columns, word.len());
     let mut found = List::new(alloc);
     for i in 0..codes.len() {
-        if distance_over(word, codes.at(i), columns) == distance {
+        if distance_from(word, codes.at(i), columns, all) == distance {
             found.push(i as u32)?;
         }
     }

@@ -11,6 +11,7 @@ use crate::closest::least;
 use crate::decode::nearest;
 use crate::grouping::{codes, groups};
 use crate::reduce::every_column;
+use cb_bits::Row;
 use cb_coding::{Book, Group, Pair, Problem};
 use cb_model::{List, NamedGroup, NodeName};
 use cb_network::Finding;
@@ -73,12 +74,14 @@ fn word_of(
     alloc: Global,
     columns: &List<NodeName>,
     raised: &List<NodeName>,
-) -> Result<List<bool>, AllocError>
+) -> Result<Row, AllocError>
     ensures { IfOk result (λ word. word ≡ word_of_raised columns.now raised.now) }
 {
-    let mut word = List::new(alloc);
-    for column in columns.as_slice() {
-        word.push(is_among(raised, column))?;
+    let mut word = Row::zeroed(alloc, columns.len())?;
+    for k in 0..columns.len() {
+        if is_among(raised, columns.at(k)) {
+            word.set(k);
+        }
     }
     Ok(word)
 }

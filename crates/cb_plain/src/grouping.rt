@@ -1,10 +1,14 @@
 //! Groups of problems that no symptom tells apart.
-ghost use Rattle.std.specs.Prelude.{◌≡◌, ◌≤◌, ◌+◌, IfOk, length, replicate, false};
-ghost use Rattle.std.specs.List.{list_any};
-ghost use Rattle.cb_coding.specs.Groups.{AreProblems, AreGroups, group_of as group_of_code, same_code, zeros as no_symptom, codes_of};
+ghost use Rattle.std.specs.Prelude.{◌≡◌, ◌≤◌, ◌+◌, ℕ, [], ◌∷◌, ◌++◌, IfOk, OnOk, IfSome, IfNone, Some, length, slice_get};
+ghost use Rattle.std.specs.Global.{Vec as Items};
+ghost use Rattle.cb_bits.specs.Bits.{Packs};
+ghost use Rattle.cb_coding.specs.Groups.{AreProblems, AreGroups, zeros as no_symptom, codes_of};
+ghost use Rattle.cb_plain.specs.Grouped.{group as group_with, AreWordsOf, HaveWidth, IsNew, AddsProblem};
 
+use cb_bits::Row;
 use cb_coding::{Group, Problem};
-use cb_model::List;
+use cb_model::{List, NodeName};
+use indexmap::IndexSet;
 use std::alloc::{AllocError, Global};
 
 /// The groups of problems in order, each with a code of that width: quiet, and then the others by their least members.
@@ -17,68 +21,82 @@ pub fn groups(
     ensures groups { IfOk result (AreGroups width problems.now) }
     ensures few { IfOk result (λ groups. length groups ≤ length problems.now + 1) }
 {
-    let mut groups = List::new(alloc);
-    groups.push(group_of(alloc, problems, zeros(alloc, width)?)?)?;
+    let mut grouping = Grouping::quiet(alloc, width)?;
     for problem in problems.as_slice() {
-        if !has_code(&groups, &problem.code) {
-            groups.push(group_of(alloc, problems, copy(alloc, &problem.code)?)?)?;
-        }
+        grouping.add(alloc, problem)?;
     }
-    Ok(groups)
+    Ok(List::of(grouping.groups))
 }
 
 /// The codes of groups, copied.
-pub fn codes(alloc: Global, groups: &List<Group>) -> Result<List<List<bool>>, AllocError>
+pub fn codes(alloc: Global, groups: &List<Group>) -> Result<List<Row>, AllocError>
     ensures { IfOk result (λ codes. codes ≡ codes_of groups.now) }
 {
     let mut codes = List::new(alloc);
     for group in groups.as_slice() {
-        codes.push(copy(alloc, &group.code)?)?;
+        codes.push(group.code.copy(alloc)?)?;
     }
     Ok(codes)
 }
 
-// The code with all its problems.
-fn group_of(alloc: Global, problems: &List<Problem>, code: List<bool>) -> Result<Group, AllocError>
-    ensures { IfOk result (λ group. group ≡ group_of_code problems.now code) }
-{
-    let mut members = List::new(alloc);
-    for candidate in problems.as_slice() {
-        if code.as_slice() == candidate.code.as_slice() {
-            members.push(candidate.name.copy(alloc)?)?;
+// Groups, and the words of their codes in the same order, by which a group is found.
+#[derive(Drop)]
+struct Grouping {
+    groups: Vec<Group>,
+    words: IndexSet<Vec<u64>>,
+}
+
+impl Grouping {
+    // Quiet alone, without problems.
+    fn quiet(alloc: Global, width: usize) -> Result<Grouping, AllocError>
+        ensures words { IfOk result (λ made. AreWordsOf made.groups.items made.words.keys) }
+        ensures quiet { IfOk result (λ made. made.groups.items ≡ group_with (no_symptom width) [] ∷ []) }
+    {
+        let mut grouping = Grouping {
+            groups: Vec::new(alloc),
+            words: IndexSet::new(alloc),
+        };
+        grouping.open(alloc, Row::zeroed(alloc, width)?, List::new(alloc))?;
+        Ok(grouping)
+    }
+
+    // Adds a problem to the group of its code, which is opened where there is none.
+    fn add(&mut self, alloc: Global, problem: &Problem) -> Result<(), AllocError>
+        requires words { AreWordsOf self.old.groups.items self.old.words.keys }
+        requires width { HaveWidth (length problem.now.code) self.old.groups.items }
+        ensures words { OnOk result (AreWordsOf self.new.groups.items self.new.words.keys) }
+        ensures added { OnOk result (AddsProblem problem.now self.old.groups.items self.new.groups.items) }
+    {
+        let name = problem.name.copy(alloc)?;
+        match place_of(&self.words, &problem.code) {
+            Some(place) => self.groups[place].members.push(name)?,
+            None => {
+                let mut members = List::new(alloc);
+                members.push(name)?;
+                self.open(alloc, problem.code.copy(alloc)?, members)?;
+            }
         }
+        Ok(())
     }
-    Ok(Group { code, members })
+
+    // Opens a group, which has a code that no other group has.
+    fn open(&mut self, alloc: Global, code: Row, members: List<NodeName>) -> Result<(), AllocError>
+        requires words { AreWordsOf self.old.groups.items self.old.words.keys }
+        requires new { IsNew code self.old.words.keys }
+        ensures words { OnOk result (AreWordsOf self.new.groups.items self.new.words.keys) }
+        ensures opened { OnOk result (self.new.groups.items ≡ self.old.groups.items ++ group_with code members ∷ []) }
+    {
+        let words = Vec::from_slice(alloc, code.words())?;
+        self.words.insert(words)?;
+        self.groups.push(Group { code, members })?;
+        Ok(())
+    }
 }
 
-// Whether one of the groups has the code.
-fn has_code(groups: &List<Group>, code: &List<bool>) -> bool
-    ensures { result ≡ list_any (λ group. same_code code.now group.code) groups.now }
+// The place of the words of a code.
+fn place_of(words: &IndexSet<Vec<u64>>, code: &Row) -> Option<usize>
+    ensures found { IfSome result (λ i. (key : Items ℕ) × (slice_get words.now.keys i ≡ Some key) × Packs code.now key.items) }
+    ensures none { IfNone result (IsNew code.now words.now.keys) }
 {
-    groups
-        .as_slice()
-        .iter()
-        .any(|group| code.as_slice() == group.code.as_slice())
-}
-
-// The code without any symptom.
-fn zeros(alloc: Global, width: usize) -> Result<List<bool>, AllocError>
-    ensures { IfOk result (λ code. code ≡ no_symptom width) }
-{
-    let mut code = List::new(alloc);
-    for _ in 0..width {
-        code.push(false)?;
-    }
-    Ok(code)
-}
-
-// A copy of a code.
-fn copy(alloc: Global, code: &List<bool>) -> Result<List<bool>, AllocError>
-    ensures { IfOk result (λ copied. copied ≡ code.now) }
-{
-    let mut copied = List::new(alloc);
-    for bit in code.as_slice() {
-        copied.push(*bit)?;
-    }
-    Ok(copied)
+    words.get_index_of(code.words())
 }

@@ -6,6 +6,7 @@ ghost use Rattle.cb_coding.specs.Books.{IsBook};
 ghost use Rattle.cb_coding.specs.Laws.{leaving_out};
 
 use crate::measure::are_apart;
+use cb_bits::Row;
 use cb_coding::Book;
 use cb_model::List;
 use std::alloc::{AllocError, Global};
@@ -13,7 +14,7 @@ use std::alloc::{AllocError, Global};
 /// The book at a distance; there is none where two codes are closer over all columns.
 pub fn book(
     alloc: Global,
-    codes: &List<List<bool>>,
+    codes: &List<Row>,
     width: usize,
     distance: u32,
 ) -> Result<Option<Book>, AllocError>
@@ -36,7 +37,7 @@ pub fn book(
 }
 
 /// Whether every two codes are at least that far apart over these columns.
-pub fn is_good(codes: &List<List<bool>>, columns: &List<u32>, distance: u32) -> bool
+pub fn is_good(codes: &List<Row>, columns: &List<u32>, distance: u32) -> bool
     ensures { IsTrue result ↔ Good codes.now columns.now distance }
 {
     for second in 0..codes.len() {
@@ -48,12 +49,7 @@ pub fn is_good(codes: &List<List<bool>>, columns: &List<u32>, distance: u32) -> 
 }
 
 // Whether a code is at least that far from each code before it.
-fn is_far_from_earlier(
-    codes: &List<List<bool>>,
-    second: usize,
-    columns: &List<u32>,
-    distance: u32,
-) -> bool
+fn is_far_from_earlier(codes: &List<Row>, second: usize, columns: &List<u32>, distance: u32) -> bool
     requires { second < length codes.now }
     ensures { IsTrue result ↔ ((first : ℕ) → first < second → distance ≤ apart columns.now codes.now first second) }
 {

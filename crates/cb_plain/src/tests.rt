@@ -6,6 +6,7 @@ ghost use Rattle.cb_coding.specs.Distance.{HaveWidth};
 ghost use Rattle.cb_coding.specs.Groups.{AreProblems};
 
 use super::*;
+use cb_bits::Row;
 use cb_coding::{Book, Pair, Problem};
 use cb_model::{List, Name, NodeName};
 use std::alloc::{AllocError, Global};
@@ -159,18 +160,20 @@ fn comes_last(problems: &List<Problem>, i: usize) -> bool
 }
 
 // A code from its text, as wide as is told.
-fn code_of(alloc: Global, width: usize, text: &str) -> Result<List<bool>, AllocError>
+fn code_of(alloc: Global, width: usize, text: &str) -> Result<Row, AllocError>
     ensures { IfOk result (λ code. length code ≡ width) }
 {
-    let mut code = List::new(alloc);
+    let mut code = Row::zeroed(alloc, width)?;
     for k in 0..width {
-        code.push(text.as_bytes().get(k) == Some(&b'1'))?;
+        if text.as_bytes().get(k) == Some(&b'1') {
+            code.set(k);
+        }
     }
     Ok(code)
 }
 
 // Codes from their texts.
-fn codes_of(alloc: Global, width: usize, texts: &[&str]) -> Result<List<List<bool>>, AllocError>
+fn codes_of(alloc: Global, width: usize, texts: &[&str]) -> Result<List<Row>, AllocError>
     ensures width { IfOk result (HaveWidth width) }
     ensures count { IfOk result (λ codes. length codes ≡ length texts.now) }
 {

@@ -1,42 +1,38 @@
-use Rattle.std.proofs.Common.{◌≡◌, refl, sym, subst, arith, length-append}
+use Rattle.std.proofs.Common.{◌≡◌, length, refl, sym, ap, subst, ◌∙◌, arith}
 use Rattle.std.proofs.lemmas.Option.{slice_get_read}
-use Rattle.cb_coding.specs.Groups.{AreProblems, group_of, zeros}
-use Rattle.cb_plain.proofs.Before.{none_yet, all_groups, has_group, opens_group}
+use Rattle.cb_coding.specs.Groups.{AreProblems, AreGroups}
+use Rattle.cb_plain.proofs.Grouped.{AreGrouped, quiet_grouped, one_more_grouped, all_grouped}
 use Rattle.cb_plain.proofs.grouping.groups.Goals as goal
-use Rattle.cb_plain.proofs.grouping.groups.Goals.{then-not-has_code+in_ok-copy+in_ok-group_of-2+in_ok-push-2, else-not-has_code}
 
 pub loop-problem-init : goal.loop-problem-init
-loop-problem-init c =
-    let problems = c.as_slice-problem-items.result.now in
-    let quiet : c.in_ok-group_of.field-0 ≡ group_of problems (zeros c.args.width) = rw (c.as_slice-problem-items.ensures, c.in_ok-group_of.ensures, c.in_ok-zeros.ensures) refl in
-    record {
-      are = rw (c.in_ok-push.ensures.ok, c.new-groups.ensures, quiet) (none_yet c.args.width problems);
-      few = rw (c.in_ok-push.ensures.ok, c.new-groups.ensures) (omega arith);
-    }
+loop-problem-init c = record {
+  words = c.in_ok-grouping.ensures.words;
+  are = subst (AreGrouped c.args.width c.as_slice-problem-items.result.now 0) (sym c.in_ok-grouping.ensures.quiet)
+      (quiet_grouped c.args.width c.as_slice-problem-items.result.now);
+}
 
 pub loop-problem-preserved : goal.loop-problem-preserved
 loop-problem-preserved c =
     let problems = c.as_slice-problem-items.result.now in
     let are = subst (AreProblems c.args.width) (sym c.as_slice-problem-items.ensures) c.requires in
     let at = slice_get_read problems _ c.loop-problem.problem-index c.problem-item.result refl c.loop-problem-test.true c.problem-item.is in
-    elim c.if-not-has_code.branch [
-      | then-not-has_code+in_ok-copy+in_ok-group_of-2+in_ok-push-2 w ↦
-          let new : w.in_ok-group_of-2.field-0 ≡ group_of problems c.problem-item.result.code =
-          rw (c.as_slice-problem-items.ensures, w.in_ok-group_of-2.ensures, w.in_ok-copy.ensures) refl
-          in
-          record {
-            are = rw (w.groups-is, w.in_ok-push-2.ensures.ok, new) (opens_group c.args.width problems are c.loop-problem.problem-index c.problem-item.result at
-                c.loop-problem.groups c.loop-problem.invariant.are (sym w.if-not-has_code.ensures));
-            few = rw (w.groups-is, w.in_ok-push-2.ensures.ok, length-append) (omega (arith, c.loop-problem.invariant.few));
-          }
-      | else-not-has_code w ↦
-          record {
-            are = rw w.groups-is (has_group c.args.width problems are c.loop-problem.problem-index c.problem-item.result at
-                c.loop-problem.groups c.loop-problem.invariant.are (sym w.if-not-has_code.ensures));
-            few = rw w.groups-is (omega (arith, c.loop-problem.invariant.few));
-          }
-    ]
+    record {
+      words = c.in_ok-add.ensures.words;
+      are = one_more_grouped c.args.width problems are c.loop-problem.problem-index c.problem-item.result at _ _ c.loop-problem.invariant.are c.in_ok-add.ensures.added;
+    }
 
 pub returns-clause-groups : goal.returns-clause-groups
 returns-clause-groups c =
-    rw (← c.as_slice-problem-items.ensures) (all_groups c.args.width c.as_slice-problem-items.result.now c.loop-problem.problem-index c.loop-problem-test.false c.loop-problem.groups c.loop-problem.invariant.are)
+    let problems = c.as_slice-problem-items.result.now in
+    let groups = c.loop-problem.grouping.groups.items in
+    subst (AreGroups c.args.width c.args.problems.now) (sym c.of.ensures)
+    (subst (λ ps. AreGroups c.args.width ps groups) c.as_slice-problem-items.ensures
+    (all_grouped c.args.width problems c.loop-problem.problem-index c.loop-problem-test.false groups c.loop-problem.invariant.are))
+
+pub returns-clause-few : goal.returns-clause-few
+returns-clause-few c =
+    let few = c.loop-problem.invariant.are.few in
+    let end = c.loop-problem.auto.problem-index-end in
+    let all = ap length c.of.ensures in
+    let problems = ap length c.as_slice-problem-items.ensures in
+    omega arith

@@ -7,8 +7,7 @@ pub returns : goal.returns
 returns c =
     let columns = c.as_slice-column-items.result.now in
     let all : take c.loop-column.column-index columns ≡ columns = take_all c.loop-column.column-index columns (omega arith) in
-    let whole : distance (take c.loop-column.column-index columns) c.as_slice-a.result.now c.as_slice-b.result.now
-    ≡ distance c.args.columns.now c.args.a.now c.args.b.now =
-    rw (all, c.as_slice-column-items.ensures, c.as_slice-a.ensures, c.as_slice-b.ensures) refl
+    let whole : distance (take c.loop-column.column-index columns) c.args.a.now c.args.b.now ≡ distance c.args.columns.now c.args.a.now c.args.b.now =
+    rw (all, c.as_slice-column-items.ensures) refl
     in
     (λ h. let e = eqb-true c.loop-column.lacking 0 h in omega (arith, c.loop-column.invariant), λ h. eq-eqb c.loop-column.lacking 0 (omega (arith, c.loop-column.invariant)))
