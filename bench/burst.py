@@ -1,5 +1,5 @@
 #!/usr/bin/env python3
-"""Measures `burst` on generated inputs, beside another program with the same command line where one is given.
+"""Measures `burst` on generated pumps, beside another program with the same command line where one is given.
 
     bench/burst.py [--peer PROGRAM] [--program PROGRAM] [PUMPS ..]
 
@@ -8,16 +8,12 @@ a symptom file, runs the program on them, and prints processor seconds and peak 
 and whether they answer alike. The program is built by `rt run` in crates/cb_cli, which leaves it in out/. Nothing here
 is a test: machines are noisy, so read ratios out of one run.
 """
-import argparse
-import os
 import pathlib
-import resource
-import subprocess
-import sys
 import tempfile
 
-ROOT = pathlib.Path(__file__).resolve().parent.parent
-MODEL = ROOT / "examples" / "pumps" / "pump.model"
+import measure
+
+MODEL = measure.ROOT / "examples" / "pumps" / "pump.model"
 SYMPTOMS = ("Noise", "Heat", "LowFlow")
 
 
@@ -29,44 +25,13 @@ def write_inputs(folder, pumps):
     (folder / "s").write_text("".join(raised))
 
 
-def run(program, folder):
-    """The status, the output, the processor seconds and the peak memory in MiB of one run."""
-    with tempfile.TemporaryFile() as out, tempfile.TemporaryFile() as err:
-        process = subprocess.Popen([str(program), "burst", "m", "t", "s"], cwd=folder, stdout=out, stderr=err)
-        _, status, usage = os.wait4(process.pid, 0)
-        process.returncode = os.waitstatus_to_exitcode(status)
-        out.seek(0)
-        err.seek(0)
-        text = out.read() + err.read()
-    return process.returncode, text, usage.ru_utime + usage.ru_stime, usage.ru_maxrss / 1024
-
-
-def measure(program, peer, pumps):
-    with tempfile.TemporaryDirectory() as name:
-        folder = pathlib.Path(name)
-        write_inputs(folder, pumps)
-        status, text, seconds, memory = run(program, folder)
-        line = f"{pumps:6} pumps: status {status}, {seconds:8.3f} s, {memory:8.1f} MiB"
-        if peer is not None:
-            peer_status, peer_text, peer_seconds, peer_memory = run(peer, folder)
-            alike = "alike" if (status, text) == (peer_status, peer_text) else "DIFFERENT"
-            line += f" | peer {peer_seconds:8.3f} s, {peer_memory:8.1f} MiB"
-            line += f" | ratio {seconds / max(peer_seconds, 0.001):7.1f}, {memory / peer_memory:5.1f} | {alike}"
-        print(line, flush=True)
-
-
 def main():
-    parser = argparse.ArgumentParser(description=__doc__, formatter_class=argparse.RawDescriptionHelpFormatter)
-    parser.add_argument("--program", type=pathlib.Path, default=ROOT / "crates" / "cb_cli" / "out" / "cb_cli")
-    parser.add_argument("--peer", type=pathlib.Path, default=ROOT.parent / "shared" / "peer" / "correlator")
-    parser.add_argument("pumps", type=int, nargs="*", default=[1, 10, 100, 1000])
-    words = parser.parse_args()
-    if not words.program.exists():
-        sys.exit(f"{words.program} isn't there: run `rt run` in crates/cb_cli first")
-    peer = words.peer if words.peer.exists() else None
-    resource.setrlimit(resource.RLIMIT_CORE, (0, 0))
-    for pumps in words.pumps:
-        measure(words.program.resolve(), peer and peer.resolve(), pumps)
+    words = measure.programs(__doc__, type=int, nargs="*", default=[1, 10, 100, 1000, 2700])
+    for pumps in words.sizes:
+        with tempfile.TemporaryDirectory() as name:
+            folder = pathlib.Path(name)
+            write_inputs(folder, pumps)
+            measure.compare(f"{pumps:6} pumps", ["burst", "m", "t", "s"], words, folder)
 
 
 if __name__ == "__main__":

@@ -1,0 +1,50 @@
+"""Runs programs on inputs in a folder, and prints processor seconds, peak memory and ratios. The scripts beside use it."""
+import argparse
+import os
+import pathlib
+import resource
+import subprocess
+import sys
+import tempfile
+
+ROOT = pathlib.Path(__file__).resolve().parent.parent
+
+
+def programs(description, **argument):
+    """The words of a script's command line, with the two programs; one more argument may be told."""
+    parser = argparse.ArgumentParser(description=description, formatter_class=argparse.RawDescriptionHelpFormatter)
+    parser.add_argument("--program", type=pathlib.Path, default=ROOT / "crates" / "cb_cli" / "out" / "cb_cli")
+    parser.add_argument("--peer", type=pathlib.Path, default=ROOT.parent / "shared" / "peer" / "correlator")
+    if argument:
+        parser.add_argument("sizes", **argument)
+    words = parser.parse_args()
+    if not words.program.exists():
+        sys.exit(f"{words.program} isn't there: run `rt run` in crates/cb_cli first")
+    words.program = words.program.resolve()
+    words.peer = words.peer.resolve() if words.peer.exists() else None
+    resource.setrlimit(resource.RLIMIT_CORE, (0, 0))
+    return words
+
+
+def run(program, words, folder):
+    """The status, the output, the processor seconds and the peak memory in MiB of one run."""
+    with tempfile.TemporaryFile() as out, tempfile.TemporaryFile() as err:
+        process = subprocess.Popen([str(program), *words], cwd=folder, stdout=out, stderr=err)
+        _, status, usage = os.wait4(process.pid, 0)
+        process.returncode = os.waitstatus_to_exitcode(status)
+        out.seek(0)
+        err.seek(0)
+        text = out.read() + err.read()
+    return process.returncode, text, usage.ru_utime + usage.ru_stime, usage.ru_maxrss / 1024
+
+
+def compare(what, command, programs_of, folder):
+    """Runs the command with one program or both, and prints one line of numbers."""
+    status, text, seconds, memory = run(programs_of.program, command, folder)
+    line = f"{what}: status {status}, {seconds:8.3f} s, {memory:8.1f} MiB"
+    if programs_of.peer is not None:
+        peer_status, peer_text, peer_seconds, peer_memory = run(programs_of.peer, command, folder)
+        alike = "alike" if (status, text) == (peer_status, peer_text) else "DIFFERENT"
+        line += f" | peer {peer_seconds:8.3f} s, {peer_memory:8.1f} MiB"
+        line += f" | ratio {seconds / max(peer_seconds, 0.001):7.1f}, {memory / peer_memory:5.1f} | {alike}"
+    print(line, flush=True)
