@@ -1,0 +1,6 @@
+pub mod RowLemmas
+pub mod Gathered
+pub mod Showing
+pub mod Placing
+pub mod Creating
+pub mod Reading

@@ -1,0 +1,8 @@
+pub mod Rows
+pub mod Numbered
+pub mod Codes
+pub mod Slots
+pub mod Shown
+pub mod Places
+pub mod Sound
+pub mod Law

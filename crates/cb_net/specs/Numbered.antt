@@ -1,0 +1,52 @@
+-- A topology whose instances have numbers.
+use Rattle.std.specs.Prelude.{◌≡◌, ◌≢◌, ℕ, List, [], Option, Some, None, refl, slice_index_or}
+use Rattle.std.specs.List.{AllPairs}
+use Rattle.std.specs.FinMap as map
+use Rattle.std.specs.FinSet as set
+use Rattle.cb_model.specs.declared.id.RelId.{RelId}
+use Rattle.cb_model.specs.declared.tables.Tables.{Tables}
+use Rattle.cb_network.specs.Topology.{Topology, empty_topology, HasLink}
+use Rattle.cb_net.specs.declared.id.InstanceId.{InstanceId}
+
+-- a topology, the name of the instance of each number, and a number above all of them
+pub record Net : Type 0 where
+  pub topology : Topology
+  pub names : List (Option (List ℕ))
+  pub room : ℕ
+
+-- no instance
+abbrev pub empty_net : Tables → Net
+empty_net tables = record { topology = empty_topology tables; names = []; room = 0 }
+
+-- what a number has, if it has something
+abbrev pub slot : {X : Type 0} → List (Option X) → ℕ → Option X
+slot xs i = slice_index_or xs i None
+
+-- the instance of this number has this name
+abbrev pub IsNamed : Net → InstanceId → List ℕ → Type 0
+IsNamed n id name = slot n.names id.0 ≡ Some name
+
+-- the number is that of an instance
+abbrev pub IsLive : Net → InstanceId → Type 0
+IsLive n id = (name : List ℕ) × IsNamed n id name
+
+-- the number is that of no instance
+abbrev pub IsFree : Net → InstanceId → Type 0
+IsFree n id = slot n.names id.0 ≡ None
+
+-- a link leads from the one instance to the other by the relation
+pub record LinkAt (n : Net) (i : InstanceId) (r : RelId) (j : InstanceId) : Type 0 where
+  pub from : List ℕ
+  pub to : List ℕ
+  pub from_is : IsNamed n i from
+  pub to_is : IsNamed n j to
+  pub linked : HasLink n.topology from r to
+
+-- this number has x now, and each other what it had
+pub record SetsOnly {X : Type 0} (old new : List (Option X)) (i : InstanceId) (x : Option X) : Type 0 where
+  pub this : slot new i.0 ≡ x
+  pub others : (j : InstanceId) → j ≢ i → slot new j.0 ≡ slot old j.0
+
+-- no item stands twice
+abbrev pub Once : {X : Type 0} → List X → Type 0
+Once xs = AllPairs (λ x y. x ≢ y) xs

@@ -1,0 +1,11 @@
+//! Live instances under numbers that stay, found by name, with links and mutes, changed in place.
+#![tactic(auto)]
+
+mod id;
+mod instance;
+mod laws;
+mod links;
+mod net;
+
+pub use id::InstanceId;
+pub use net::Net;

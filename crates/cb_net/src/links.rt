@@ -1,0 +1,55 @@
+//! The links of one instance.
+ghost use Rattle.std.specs.Prelude.{◌≡◌, [], ◌∷◌, ◌++◌, IfSome, IfNone, OnOk, None};
+ghost use Rattle.cb_net.specs.Rows.{first, row_of, IsPlaceOf};
+
+use crate::id::InstanceId;
+use cb_model::RelId;
+use std::alloc::{AllocError, Global};
+
+/// The instances that one relation leads to.
+#[derive(Debug, Drop)]
+pub struct Row {
+    pub rel: RelId,
+    pub to: Vec<InstanceId>,
+}
+
+/// What each relation of an instance leads to. A class may have many relations, of which its instances use few: so
+/// there is one row for each relation in use.
+#[derive(Debug, Drop)]
+pub struct Links {
+    pub rows: Vec<Row>,
+}
+
+impl Links {
+    /// Of an instance without links.
+    pub fn new(alloc: Global) -> Links
+        ensures { result.rows.items ≡ [] }
+    {
+        Links {
+            rows: Vec::new(alloc),
+        }
+    }
+
+    // The place of the relation's row.
+    fn place_of(&self, rel: RelId) -> Option<usize>
+        ensures found { IfSome result (IsPlaceOf self.now.rows.items rel) }
+        ensures absent { IfNone result (first self.now.rows.items rel ≡ None) }
+    {
+        for (place, row) in self.rows.iter().enumerate() {
+            if row.rel == rel {
+                return Some(place);
+            }
+        }
+        None
+    }
+
+    /// The instances that the relation leads to.
+    pub fn to(&self, rel: RelId) -> &[InstanceId]
+        ensures { result.now ≡ row_of self.now.rows.items rel }
+    {
+        match self.place_of(rel) {
+            Some(place) => &self.rows[place].to,
+            None => &[],
+        }
+    }
+}

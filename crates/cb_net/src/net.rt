@@ -1,0 +1,132 @@
+//! Live instances under numbers that stay.
+ghost use Rattle.std.specs.Prelude.{◌≡◌, ◌<◌, ◌+◌, ◌↔◌, ℕ, List, max, IfOk, OnOk, OnErr, IfSome, IfNone, Some, None};
+ghost use Rattle.std.specs.List.{Contains};
+ghost use Rattle.cb_model.specs.declared.tables.Tables.{Tables};
+ghost use Rattle.cb_model.specs.WellTyped.{IsClass};
+ghost use Rattle.cb_network.specs.Topology.{IsLive as IsLiveName, IsOf};
+ghost use Rattle.cb_network.specs.Edits.{with_instance};
+ghost use Rattle.cb_net.specs.declared.id.InstanceId.{InstanceId as Id};
+ghost use Rattle.cb_net.specs.Numbered.{Net as Numbered, empty_net, IsNamed, IsLive, IsFree, LinkAt, SetsOnly, Once};
+
+use crate::id::InstanceId;
+use crate::instance::Instance;
+use crate::links::Links;
+use cb_model::{ClassId, Model, Name, RelId};
+use indexmap::IndexMap;
+use slab::Slab;
+use std::alloc::{AllocError, Global};
+
+/// A model, and live instances of its classes, each under a number that it keeps.
+#[derive(Drop)]
+pub struct Net {
+    model: Model,
+    slots: Slab<Instance>,
+    places: IndexMap<Vec<u8>, usize>,
+    // Above the number of each instance.
+    room: usize,
+}
+
+impl std::marker::Model for Net {
+    ghost use Rattle.cb_net.specs.Numbered.{Net};
+    ghost use Rattle.cb_net.specs.Codes.{net_code};
+
+    ghost Value = { Net };
+
+    ghost coded = { net_code };
+
+    ghost use Rattle.cb_net.specs.Shown.{seen};
+    ghost use Rattle.cb_net.specs.Sound.{IsSound};
+
+    ghost view = { λ s. seen s.model s.slots.slots s.room };
+
+    ghost invariant = { λ s. IsSound s.model s.slots.slots s.places.entries s.room };
+}
+
+impl Net {
+    /// No instance of any class.
+    pub fn new(alloc: Global, model: Model) -> Net
+        ensures { result ≡ empty_net model }
+    {
+        let _typed = model.tables();
+        Net {
+            model,
+            slots: Slab::new(alloc),
+            places: IndexMap::new(alloc),
+            room: 0,
+        }
+    }
+
+    pub fn model(&self) -> &Model
+        ensures { result.now ≡ self.now.topology.model }
+    {
+        &self.model
+    }
+
+    /// The number of the instance of this name.
+    pub fn instance_named(&self, name: &[u8]) -> Option<InstanceId>
+        ensures found { IfSome result (λ id. IsNamed self.now id name.now) }
+        ensures absent { IfNone result (¬ IsLiveName self.now.topology name.now) }
+    {
+        match self.places.get(name) {
+            Some(place) => Some(InstanceId(*place)),
+            None => None,
+        }
+    }
+
+    pub fn name_of(&self, id: InstanceId) -> &[u8]
+        requires { IsLive self.now id }
+        ensures { IsNamed self.now id result.now }
+    {
+        self.slots[id.0].name.bytes()
+    }
+
+    pub fn class_of(&self, id: InstanceId) -> ClassId
+        requires { IsLive self.now id }
+        ensures { (name : List ℕ) → IsNamed self.now id name → IsOf self.now.topology name result }
+    {
+        self.slots[id.0].class
+    }
+
+    /// The instances that the relation leads to from this one.
+    pub fn links(&self, id: InstanceId, rel: RelId) -> &[InstanceId]
+        requires { IsLive self.now id }
+        ensures exactly { (to : Id) → Contains result.now to ↔ LinkAt self.now id rel to }
+        ensures once { Once result.now }
+    {
+        self.slots[id.0].links.to(rel)
+    }
+
+    /// Above the number of each instance.
+    pub fn room(&self) -> usize
+        ensures above { (id : Id) → IsLive self.now id → id.0 < result }
+        ensures value { result ≡ self.now.room }
+    {
+        self.room
+    }
+
+    /// A new instance, under a number that was free.
+    pub fn create(&mut self, alloc: Global, name: &[u8], class: ClassId) -> Result<InstanceId, AllocError>
+        requires class { IsClass self.old.topology.model class }
+        requires absent { ¬ IsLiveName self.old.topology name.now }
+        ensures free { IfOk result (IsFree self.old) }
+        ensures named { IfOk result (λ id. SetsOnly self.old.names self.new.names id (Some name.now)) }
+        ensures made { OnOk result (self.new.topology ≡ with_instance self.old.topology name.now class) }
+        ensures room { IfOk result (λ id. self.new.room ≡ max self.old.room (id.0 + 1)) }
+        ensures err { OnErr result (self.new ≡ self.old) }
+    {
+        self.slots.reserve(1)?;
+        let id = self.slots.vacant_key();
+        let above = id.checked_add(1).ok_or(AllocError)?;
+        let instance = Instance {
+            name: Name::of(alloc, name)?,
+            class,
+            links: Links::new(alloc),
+            muted: Vec::new(alloc),
+        };
+        let key = Vec::from_slice(alloc, name)?;
+        self.places.insert(key, id)?;
+        self.slots.insert_reserved(instance);
+        self.room = self.room.max(above);
+        Ok(InstanceId(id))
+    }
+}
