@@ -31,3 +31,13 @@ IsFirstAt (x ∷ xs) r (suc k) row = (nat_eq x.rel.0 r.0 ≡ false) × IsFirstAt
 -- the first row of the relation is at this place
 abbrev pub IsPlaceOf : List Row → RelId → ℕ → Type 0
 IsPlaceOf rows r k = (row : Row) × IsFirstAt rows r k row
+
+-- one instance more fits under the relation
+abbrev pub HasRoom : List Row → RelId → Type 0
+HasRoom rows r = (row : Row) × (first rows r ≡ Some row) × (vec_len row.to < vec_capacity row.to)
+
+-- the relation leads to these instances now, and each other relation has the row that it had
+pub record Puts (old new : List Row) (rel : RelId) (to : List InstanceId) : Type 0 where
+  pub this : row_of new rel ≡ to
+  pub others : (r : RelId) → r ≢ rel → first new r ≡ first old r
+  pub apart : AreApart old → AreApart new

@@ -1,6 +1,6 @@
 //! The links of one instance.
 ghost use Rattle.std.specs.Prelude.{◌≡◌, [], ◌∷◌, ◌++◌, IfSome, IfNone, OnOk, None};
-ghost use Rattle.cb_net.specs.Rows.{first, row_of, IsPlaceOf};
+ghost use Rattle.cb_net.specs.Rows.{first, row_of, IsPlaceOf, HasRoom, Puts};
 
 use crate::id::InstanceId;
 use cb_model::RelId;
@@ -50,6 +50,31 @@ impl Links {
         match self.place_of(rel) {
             Some(place) => &self.rows[place].to,
             None => &[],
+        }
+    }
+
+    /// Makes room for one instance more under the relation.
+    pub fn reserve(&mut self, alloc: Global, rel: RelId) -> Result<(), AllocError>
+        ensures same { Puts self.old.rows.items self.new.rows.items rel (row_of self.old.rows.items rel) }
+        ensures room { OnOk result (HasRoom self.new.rows.items rel) }
+    {
+        match self.place_of(rel) {
+            Some(place) => self.rows[place].to.reserve(1),
+            None => {
+                let to = Vec::with_capacity(alloc, 1)?;
+                self.rows.push(Row { rel, to })?;
+                Ok(())
+            }
+        }
+    }
+
+    /// Adds an instance under the relation.
+    pub fn add(&mut self, rel: RelId, to: InstanceId)
+        requires { HasRoom self.old.rows.items rel }
+        ensures { Puts self.old.rows.items self.new.rows.items rel (row_of self.old.rows.items rel ++ to ∷ []) }
+    {
+        if let Some(place) = self.place_of(rel) {
+            self.rows[place].to.push_reserved(to);
         }
     }
 }
