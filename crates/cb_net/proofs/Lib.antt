@@ -4,3 +4,4 @@ pub mod Showing
 pub mod Placing
 pub mod Creating
 pub mod Reading
+pub mod Losing

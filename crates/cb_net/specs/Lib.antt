@@ -1,5 +1,6 @@
-pub mod Rows
+
 pub mod Numbered
+pub mod Rows
 pub mod Codes
 pub mod Slots
 pub mod Shown

@@ -1,5 +1,7 @@
 -- The rows of an instance's links.
-use Rattle.std.specs.Prelude.{◌≡◌, ◌≢◌, ℕ, zero, suc, ◌<◌, List, [], ◌∷◌, Option, Some, None, cond, true, false, nat_eq, slice_get, vec_len, vec_capacity}
+use Rattle.std.specs.Prelude.{◌≡◌, ◌≢◌, ℕ, zero, suc, ◌<◌, List, [], ◌∷◌, Option, Some, None, cond, true, false, nat_eq, slice_get, vec_len, vec_capacity, ◌↔◌}
+use Rattle.std.specs.List.{Contains}
+use Rattle.cb_net.specs.Numbered.{Once}
 use Rattle.cb_model.specs.declared.id.RelId.{RelId}
 use Rattle.cb_net.specs.declared.id.InstanceId.{InstanceId}
 use Rattle.cb_net.specs.declared.links.Row.{Row}
@@ -41,3 +43,14 @@ pub record Puts (old new : List Row) (rel : RelId) (to : List InstanceId) : Type
   pub this : row_of new rel ≡ to
   pub others : (r : RelId) → r ≢ rel → first new r ≡ first old r
   pub apart : AreApart old → AreApart new
+
+-- the list has lost the item, and nothing else
+pub record Loses (item : InstanceId) (old new : List InstanceId) : Type 0 where
+  pub others : (x : InstanceId) → x ≢ item → Contains new x ↔ Contains old x
+  pub gone : Once old → ¬ Contains new item
+  pub once : Once old → Once new
+
+-- the relation has lost the instance, and each other relation has the row that it had
+pub record Removes (old new : List Row) (rel : RelId) (to : InstanceId) : Type 0 where
+  pub puts : Puts old new rel (row_of new rel)
+  pub loses : Loses to (row_of old rel) (row_of new rel)

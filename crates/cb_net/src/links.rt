@@ -1,6 +1,7 @@
 //! The links of one instance.
-ghost use Rattle.std.specs.Prelude.{◌≡◌, [], ◌∷◌, ◌++◌, IfSome, IfNone, OnOk, None};
-ghost use Rattle.cb_net.specs.Rows.{first, row_of, IsPlaceOf, HasRoom, Puts};
+ghost use Rattle.std.specs.Prelude.{◌≡◌, [], ◌∷◌, ◌++◌, IfSome, IfNone, OnOk, Some, None, slice_get};
+ghost use Rattle.std.specs.List.{Contains};
+ghost use Rattle.cb_net.specs.Rows.{first, row_of, IsPlaceOf, HasRoom, Puts, Loses, Removes};
 
 use crate::id::InstanceId;
 use cb_model::RelId;
@@ -18,6 +19,28 @@ pub struct Row {
 #[derive(Debug, Drop)]
 pub struct Links {
     pub rows: Vec<Row>,
+}
+
+/// The first place of the item.
+pub fn place_in(list: &[InstanceId], item: InstanceId) -> Option<usize>
+    ensures found { IfSome result (λ place. slice_get list.now place ≡ Some item) }
+    ensures absent { IfNone result (¬ Contains list.now item) }
+{
+    for (place, other) in list.iter().enumerate() {
+        if *other == item {
+            return Some(place);
+        }
+    }
+    None
+}
+
+// Takes the item away; the last one comes into its place.
+fn take_away(list: &mut Vec<InstanceId>, item: InstanceId)
+    ensures { Loses item list.old.items list.new.items }
+{
+    if let Some(place) = place_in(list, item) {
+        list.swap_remove(place);
+    }
 }
 
 impl Links {
@@ -75,6 +98,15 @@ impl Links {
     {
         if let Some(place) = self.place_of(rel) {
             self.rows[place].to.push_reserved(to);
+        }
+    }
+
+    /// Takes the instance away from those under the relation.
+    pub fn remove(&mut self, rel: RelId, to: InstanceId)
+        ensures { Removes self.old.rows.items self.new.rows.items rel to }
+    {
+        if let Some(place) = self.place_of(rel) {
+            take_away(&mut self.rows[place].to, to);
         }
     }
 }

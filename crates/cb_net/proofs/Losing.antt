@@ -1,0 +1,65 @@
+-- A list that loses an item.
+use Rattle.std.proofs.Common.{◌≡◌, ◌≢◌, ◌<◌, ◌↔◌, ◌⊎◌, ℕ, suc, List, [], ◌∷◌, length, get_or, Bool, true, false, nat_eq, Some, refl, sym, ap, subst, ◌∙◌, inl, inr, arith}
+use Rattle.std.specs.Prelude.{slice_get}
+use Rattle.std.specs.List.{Contains, swap_remove, IsDistinct}
+use Rattle.std.specs.List.Sorted.{IsPermutation}
+use Rattle.std.specs.Bool.{Decides}
+use Rattle.std.proofs.lemmas.Bool.Decides.{nat_tests}
+use Rattle.std.proofs.lemmas.List.Sorted.{IsPermutation-swap_remove, IsPermutation-sym, Contains-permutation}
+use Rattle.std.proofs.lemmas.Map.Keys.{IsDistinct-IsPermutation, IsDistinct-tail, IsDistinct-head}
+use Rattle.std.proofs.lemmas.Map.Made.{AllPairs-from_IsDistinct, IsDistinct-from_AllPairs}
+use Rattle.std.proofs.lemmas.Option.{slice_get_within, get_or_from_slice_get}
+use Rattle.cb_model.proofs.Rising.{contains_cases, contains_head, contains_tail}
+use Rattle.cb_net.specs.declared.id.InstanceId.{InstanceId}
+use Rattle.cb_net.specs.Numbered.{Once}
+use Rattle.cb_net.specs.Rows.{Loses}
+
+same_item : InstanceId → InstanceId → Bool
+same_item a b = nat_eq a.0 b.0
+
+decides_same : (a b : InstanceId) → Decides (same_item a b) (a ≡ b)
+unfolding same_item
+decides_same a b = (
+  λ e. let n : a.0 ≡ b.0 = grind (arith, nat_tests) in (λ i. record { 0 = n i }),
+  λ e. let n : a.0 ≡ b.0 = ap (λ (x : InstanceId). x.0) e in grind (arith, nat_tests),
+)
+
+pub item_of : (a b : InstanceId) → nat_eq a.0 b.0 ≡ true → a ≡ b
+unfolding same_item
+item_of a b e = (decides_same a b).0 e
+
+pub other_item : (a b : InstanceId) → nat_eq a.0 b.0 ≡ false → a ≢ b
+unfolding same_item
+other_item a b e same = let f = (decides_same a b).1 same in absurd (cc)
+
+flips : (a b : InstanceId) → same_item a b ≡ same_item b a
+unfolding same_item
+flips a b = grind (arith, nat_tests)
+
+once_moved : (xs ys : List InstanceId) → IsPermutation xs ys → Once xs → Once ys
+once_moved xs ys moved once =
+    AllPairs-from_IsDistinct decides_same ys (IsDistinct-IsPermutation same_item flips xs ys moved (IsDistinct-from_AllPairs decides_same xs once))
+
+once_tail : (x : InstanceId) (xs : List InstanceId) → Once (x ∷ xs) → Once xs
+once_tail x xs once i j d lt le = once (suc i) (suc j) d (omega arith) (omega arith)
+
+once_head : (x : InstanceId) (xs : List InstanceId) → Once (x ∷ xs) → ¬ Contains xs x
+once_head x xs once (k, lt, e) = once 0 (suc k) x (omega arith) (omega arith) (sym e)
+
+-- where one of a list's places is given to the last item
+pub loses_one : (xs : List InstanceId) (k : ℕ) (x taken : InstanceId) → slice_get xs k ≡ Some x → taken ≡ get_or xs k taken → Loses x xs (swap_remove xs k taken)
+loses_one xs k x taken is read =
+    let same : taken ≡ x = read ∙ get_or_from_slice_get xs k x taken is in
+    let ys : List InstanceId = swap_remove xs k taken in
+    let moved : IsPermutation xs (x ∷ ys) = subst (λ z. IsPermutation xs (z ∷ ys)) same (IsPermutation-swap_remove xs k taken (slice_get_within xs k x is) read) in
+    record {
+      others = λ y ne. (
+        λ has. Contains-permutation (x ∷ ys) xs y (IsPermutation-sym xs (x ∷ ys) moved) (contains_tail x ys y has),
+        λ has. elim (contains_cases x ys y (Contains-permutation xs (x ∷ ys) y moved has)) [ inl e ↦ absurd (ne (sym e)) | inr later ↦ later ],
+      );
+      gone = λ once. once_head x ys (once_moved xs (x ∷ ys) moved once);
+      once = λ once. once_tail x ys (once_moved xs (x ∷ ys) moved once);
+    }
+
+pub loses_none : (xs : List InstanceId) (x : InstanceId) → ¬ Contains xs x → Loses x xs xs
+loses_none xs x none = record { others = λ y ne. (λ has. has, λ has. has); gone = λ once. none; once = λ once. once }
