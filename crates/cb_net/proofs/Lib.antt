@@ -5,3 +5,5 @@ pub mod Placing
 pub mod Creating
 pub mod Reading
 pub mod Losing
+pub mod Rewiring
+pub mod Joining

@@ -7,3 +7,4 @@ pub mod Shown
 pub mod Places
 pub mod Sound
 pub mod Law
+pub mod Joined

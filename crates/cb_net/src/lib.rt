@@ -3,6 +3,7 @@
 
 mod id;
 mod instance;
+mod join;
 mod laws;
 mod links;
 mod net;

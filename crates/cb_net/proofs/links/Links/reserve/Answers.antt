@@ -2,7 +2,7 @@ use Rattle.std.proofs.Common.{◌≡◌, ◌<◌, ◌≤◌, ◌+◌, ◌++◌, 
 use Rattle.std.specs.Prelude.{slice_set, OnOk, Result}
 use Rattle.cb_net.specs.declared.links.Row.{Row}
 use Rattle.cb_net.specs.Rows.{items_of, Puts, first, HasRoom}
-use Rattle.cb_net.proofs.RowLemmas.{first_is, row_read, row_rel, place_within, set_puts, set_first, push_puts, push_this}
+use Rattle.cb_net.proofs.RowLemmas.{on_ok, first_is, row_read, row_rel, place_within, set_puts, set_first, push_puts, push_this}
 use Rattle.cb_net.proofs.links.Links.reserve.Goals as goal
 
 pub index_mut-requires : goal.index_mut-requires
@@ -20,10 +20,6 @@ returns-in-Some-clause-same c =
     let new : Row = record { rel = x.rel; to = c.reserve.new.self } in
     let items : new.to.items ≡ items_of (first rows c.args.rel) = c.reserve.ensures.items ∙ ap items_of (sym (first_is rows c.args.rel c.in-Some.place x at)) in
     subst (Puts rows (slice_set rows c.in-Some.place new) c.args.rel) items (set_puts c.args.rel new (row_rel rows c.args.rel c.in-Some.place x at) rows c.in-Some.place x at)
-
-on_ok : {A E : Type 0} (result : Result A E) (P Q : Type 0) → (P → Q) → OnOk result P → OnOk result Q
-on_ok (Ok x) P Q to p = to p
-on_ok (Err e) P Q to p = p
 
 pub returns-in-Some-clause-room : goal.returns-in-Some-clause-room
 returns-in-Some-clause-room c =
