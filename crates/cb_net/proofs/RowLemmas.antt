@@ -1,6 +1,6 @@
 -- The row of a relation, and the rows after it is written.
 use Rattle.std.proofs.Common.{◌≡◌, ◌≢◌, ◌⊎◌, ℕ, zero, suc, ◌+◌, ◌<◌, List, [], ◌∷◌, ◌++◌, length, get_or, drop, cond, nat_eq, Bool, true, false, Option, Some, None, Ok, Err, refl, sym, ap, subst, ◌∙◌, inl, inr, arith}
-use Rattle.std.specs.Prelude.{slice_get, slice_set, OnOk, Result}
+use Rattle.std.specs.Prelude.{slice_get, slice_set, OnOk, OnErr, Result}
 use Rattle.std.specs.List.{Contains}
 use Rattle.std.proofs.lemmas.Bool.{cases_Bool}
 use Rattle.std.proofs.lemmas.Option.{get_or_from_slice_get}
@@ -172,3 +172,10 @@ keeps_puts rows r = record { this = refl; others = λ q ne. refl; apart = λ a. 
 pub on_ok : {A E : Type 0} (result : Result A E) (P Q : Type 0) → (P → Q) → OnOk result P → OnOk result Q
 on_ok (Ok x) P Q to p = to p
 on_ok (Err e) P Q to p = p
+
+pub on_err : {A E : Type 0} (result : Result A E) (P : Type 0) → P → OnErr result P
+on_err (Ok x) P p = tt
+on_err (Err e) P p = p
+
+pub differs : (r s : RelId) → nat_eq r.0 s.0 ≡ false → r ≢ s
+differs r s other same = let e : nat_eq r.0 s.0 ≡ true = subst (λ q. nat_eq r.0 q.0 ≡ true) same (rel_itself r) in absurd (cc)
