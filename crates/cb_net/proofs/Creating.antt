@@ -10,12 +10,12 @@ use Rattle.cb_network.specs.Topology.{Topology}
 use Rattle.cb_network.proofs.Sets.{got_insert}
 use Rattle.cb_net.specs.declared.id.InstanceId.{InstanceId}
 use Rattle.cb_net.specs.declared.instance.Instance.{Instance}
-use Rattle.cb_net.specs.Numbered.{slot, SetsOnly, Once}
+use Rattle.cb_net.specs.Numbered.{slot, SetsOnly, Once, inverse_of}
 use Rattle.cb_net.specs.Places.{Entries, IsIndexed}
 use Rattle.cb_net.specs.Rows.{row_of, AreApart}
 use Rattle.cb_net.specs.Shown.{topology_of, Shows, HoldsInstance, HoldsLink, HoldsMute}
 use Rattle.cb_net.specs.Slots.{Slots, At, NamedAt, Lists}
-use Rattle.cb_net.specs.Sound.{IsSound, IsTidy, StandBothWays, inverse_of}
+use Rattle.cb_net.specs.Sound.{IsSound, IsTidy, StandBothWays}
 use Rattle.cb_net.proofs.Placing.{told, elsewhere, stays, either}
 use Rattle.cb_net.proofs.Showing.{AreTold, one_at, same_inside, shows_made, shown_once}
 

@@ -7,3 +7,4 @@ pub mod Reading
 pub mod Losing
 pub mod Rewiring
 pub mod Joining
+pub mod Linking

@@ -7,7 +7,7 @@ use Rattle.cb_network.specs.Topology.{IsLive as IsLiveName, IsOf}
 use Rattle.cb_network.proofs.Kept.{class_of, live_of}
 use Rattle.cb_net.specs.declared.id.InstanceId.{InstanceId}
 use Rattle.cb_net.specs.declared.instance.Instance.{Instance}
-use Rattle.cb_net.specs.Numbered.{slot, LinkAt}
+use Rattle.cb_net.specs.Numbered.{Net, slot, IsLive, LinkAt}
 use Rattle.cb_net.specs.Places.{Entries, IsIndexed, place_of}
 use Rattle.cb_net.specs.Rows.{row_of}
 use Rattle.cb_net.specs.Shown.{topology_of, seen, name_in, Shows}
@@ -19,6 +19,10 @@ use Rattle.cb_net.proofs.Showing.{one_at, same_inside}
 
 pub occupied : (slots : Slots) (i : InstanceId) (name : List ℕ) → NamedAt slots i name → IsSome (slot slots i.0)
 occupied slots i name (x, at, is) = subst IsSome (sym at) refl
+
+-- a live number is that of an instance of some name
+pub live_at : (tables : Tables) (slots : Slots) (room : ℕ) (n : Net) → seen tables slots room ≡ n → (i : InstanceId) → IsLive n i → (name : List ℕ) × NamedAt slots i name
+live_at tables slots room n is i live = (live.0, seen_at slots i live.0 (subst (λ (m : Net). slot m.names i.0 ≡ Some live.0) (sym is) live.1))
 
 module _ (tables : Tables) (slots : Slots) (entries : Entries) (room : ℕ) (sound : IsSound tables slots entries room) where
   shown : Shows slots (topology_of tables slots)
@@ -74,3 +78,7 @@ module _ (tables : Tables) (slots : Slots) (entries : Entries) (room : ℕ) (sou
           let to : h.to ≡ j = told slots entries sound.indexed h.to j l.to h.to_is (seen_at slots j l.to l.to_is) in
           let same : h.lists.lister ≡ x = one_at slots i h.lists.lister x (subst (λ k. At slots k h.lists.lister) from h.lists.is) at in
           subst (λ k. Contains (row_of x.links.rows.items r) k) to (subst (λ (z : Instance). Contains (row_of z.links.rows.items r) h.to) same h.lists.listed)
+
+  -- where no link leads, nothing is listed
+  pub not_listed : (n : Net) → seen tables slots room ≡ n → (i : InstanceId) (r : RelId) (j : InstanceId) → ¬ LinkAt n i r j → ¬ Lists slots i r j
+  not_listed n is i r j none l = none (subst (λ m. LinkAt m i r j) is ((row_is i r l.lister l.is j).0 l.listed))

@@ -1,11 +1,13 @@
 -- A topology whose instances have numbers.
-use Rattle.std.specs.Prelude.{◌≡◌, ◌≢◌, ℕ, List, [], Option, Some, None, refl, slice_index_or}
+use Rattle.std.specs.Prelude.{◌≡◌, ◌≢◌, ℕ, List, [], Option, Some, None, refl, slice_index_or, slice_get}
 use Rattle.std.specs.List.{AllPairs}
 use Rattle.std.specs.FinMap as map
 use Rattle.std.specs.FinSet as set
 use Rattle.cb_model.specs.declared.id.RelId.{RelId}
+use Rattle.cb_model.specs.declared.tables.RelRow.{RelRow}
 use Rattle.cb_model.specs.declared.tables.Tables.{Tables}
 use Rattle.cb_network.specs.Topology.{Topology, empty_topology, HasLink}
+use Rattle.cb_network.specs.Edits.{with_link, without_link}
 use Rattle.cb_net.specs.declared.id.InstanceId.{InstanceId}
 
 -- a topology, the name of the instance of each number, and a number above all of them
@@ -50,3 +52,27 @@ pub record SetsOnly {X : Type 0} (old new : List (Option X)) (i : InstanceId) (x
 -- no item stands twice
 abbrev pub Once : {X : Type 0} → List X → Type 0
 Once xs = AllPairs (λ x y. x ≢ y) xs
+
+abbrev pub inverse_in : RelId → Option RelRow → RelId
+inverse_in r None = r
+inverse_in r (Some row) = row.inverse
+
+-- the inverse of a relation of the tables
+abbrev pub inverse_of : Tables → RelId → RelId
+inverse_of tables r = inverse_in r (slice_get tables.relations r.0)
+
+abbrev pub name_or : Option (List ℕ) → List ℕ
+name_or None = []
+name_or (Some name) = name
+
+-- the name of the instance of this number
+abbrev pub name_at : Net → InstanceId → List ℕ
+name_at n id = name_or (slot n.names id.0)
+
+-- the net with the link and its inverse
+abbrev pub linked : Net → InstanceId → RelId → InstanceId → Net
+linked n i r j = record n { topology = with_link n.topology (name_at n i) r (inverse_of n.topology.model r) (name_at n j) }
+
+-- the net without the link and without its inverse
+abbrev pub unlinked : Net → InstanceId → RelId → InstanceId → Net
+unlinked n i r j = record n { topology = without_link n.topology (name_at n i) r (inverse_of n.topology.model r) (name_at n j) }

@@ -7,18 +7,10 @@ use Rattle.cb_model.specs.WellTyped.{WellTyped, IsRelation}
 use Rattle.cb_net.specs.declared.id.InstanceId.{InstanceId}
 use Rattle.cb_net.specs.declared.instance.Instance.{Instance}
 use Rattle.cb_net.specs.declared.links.Row.{Row}
-use Rattle.cb_net.specs.Numbered.{Once}
+use Rattle.cb_net.specs.Numbered.{Once, inverse_of}
 use Rattle.cb_net.specs.Places.{Entries, IsIndexed}
 use Rattle.cb_net.specs.Rows.{AreApart, row_of}
 use Rattle.cb_net.specs.Slots.{Slots, At, Lists}
-
-abbrev pub inverse_in : RelId → Option RelRow → RelId
-inverse_in r None = r
-inverse_in r (Some row) = row.inverse
-
--- the inverse of a relation of the tables
-abbrev pub inverse_of : Tables → RelId → RelId
-inverse_of tables r = inverse_in r (slice_get tables.relations r.0)
 
 -- each relation has one row, in which no instance stands twice
 pub record IsTidy (rows : List Row) : Type 0 where

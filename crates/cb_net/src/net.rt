@@ -2,14 +2,15 @@
 ghost use Rattle.std.specs.Prelude.{◌≡◌, ◌<◌, ◌+◌, ◌↔◌, ℕ, List, max, IfOk, OnOk, OnErr, IfSome, IfNone, Some, None};
 ghost use Rattle.std.specs.List.{Contains};
 ghost use Rattle.cb_model.specs.declared.tables.Tables.{Tables};
-ghost use Rattle.cb_model.specs.WellTyped.{IsClass};
+ghost use Rattle.cb_model.specs.WellTyped.{IsClass, IsRelation};
 ghost use Rattle.cb_network.specs.Topology.{IsLive as IsLiveName, IsOf};
 ghost use Rattle.cb_network.specs.Edits.{with_instance};
 ghost use Rattle.cb_net.specs.declared.id.InstanceId.{InstanceId as Id};
-ghost use Rattle.cb_net.specs.Numbered.{Net as Numbered, empty_net, IsNamed, IsLive, IsFree, LinkAt, SetsOnly, Once};
+ghost use Rattle.cb_net.specs.Numbered.{Net as Numbered, empty_net, IsNamed, IsLive, IsFree, LinkAt, SetsOnly, Once, inverse_of, linked, unlinked};
 
 use crate::id::InstanceId;
 use crate::instance::Instance;
+use crate::join::{join, part};
 use crate::links::Links;
 use cb_model::{ClassId, Model, Name, RelId};
 use indexmap::IndexMap;
@@ -128,5 +129,37 @@ impl Net {
         self.slots.insert_reserved(instance);
         self.room = self.room.max(above);
         Ok(InstanceId(id))
+    }
+
+    fn inverse(&self, rel: RelId) -> RelId
+        requires { IsRelation self.now.topology.model rel }
+        ensures { result ≡ inverse_of self.now.topology.model rel }
+    {
+        self.model.tables().relations.at(rel.0 as usize).inverse
+    }
+
+    /// Adds the link and its inverse. A link that is its own inverse is added once.
+    pub fn link(&mut self, alloc: Global, from: InstanceId, rel: RelId, to: InstanceId) -> Result<(), AllocError>
+        requires from { IsLive self.old from }
+        requires to { IsLive self.old to }
+        requires rel { IsRelation self.old.topology.model rel }
+        requires absent { ¬ LinkAt self.old from rel to }
+        ensures ok { OnOk result (self.new ≡ linked self.old from rel to) }
+        ensures err { OnErr result (self.new ≡ self.old) }
+    {
+        let back = self.inverse(rel);
+        join(alloc, &mut self.slots, from, rel, to, back)?;
+        Ok(())
+    }
+
+    /// Takes the link and its inverse away.
+    pub fn unlink(&mut self, from: InstanceId, rel: RelId, to: InstanceId)
+        requires from { IsLive self.old from }
+        requires to { IsLive self.old to }
+        requires rel { IsRelation self.old.topology.model rel }
+        ensures { self.new ≡ unlinked self.old from rel to }
+    {
+        let back = self.inverse(rel);
+        part(&mut self.slots, from, rel, to, back);
     }
 }

@@ -1,0 +1,35 @@
+use Rattle.std.proofs.Common.{◌≡◌, sym, subst, ◌∙◌, ap}
+use Rattle.cb_model.specs.WellTyped.{IsRelation}
+use Rattle.cb_net.specs.Numbered.{Net, inverse_of, linked}
+use Rattle.cb_net.proofs.Linking.{joined_sound, joined_net, same_sound, same_net}
+use Rattle.cb_net.proofs.Reading.{live_at, not_listed}
+use Rattle.cb_net.proofs.RowLemmas.{on_err}
+use Rattle.cb_net.proofs.net.Net.link.Goals as goal
+
+pub join-requires-clause-from : goal.join-requires-clause-from
+join-requires-clause-from c = let from = live_at _ _ _ _ c.self.view_is c.args.from c.requires.from in (from.1.0, from.1.1)
+
+pub join-requires-clause-to : goal.join-requires-clause-to
+join-requires-clause-to c = let to = live_at _ _ _ _ c.self.view_is c.args.to c.requires.to in (to.1.0, to.1.1)
+
+pub invariant_of-self : goal.invariant_of-self
+invariant_of-self c = ?
+
+pub invariant_of-self-2 : goal.invariant_of-self-2
+invariant_of-self-2 c =
+    let from = live_at _ _ _ _ c.self.view_is c.args.from c.requires.from in
+    let to = live_at _ _ _ _ c.self.view_is c.args.to c.requires.to in
+    let rel = subst (λ (n : Net). IsRelation n.topology.model c.args.rel) (sym c.self.view_is) c.requires.rel in
+    let back = subst (λ (n : Net). c.inverse-back.result ≡ inverse_of n.topology.model c.args.rel) (sym c.self.view_is) c.inverse-back.ensures in
+    let none = not_listed _ _ _ _ c.self.invariant _ c.self.view_is c.args.from c.args.rel c.args.to c.requires.absent in
+    joined_sound c.self.inside.model _ _ _ _ _ _ _ _ from.0 to.0 from.1 to.1 rel back c.self.invariant c.in_ok-join.ensures.ok none
+
+pub returns-in_ok-join-clause-ok : goal.returns-in_ok-join-clause-ok
+returns-in_ok-join-clause-ok c =
+    let from = live_at _ _ _ _ c.self.view_is c.args.from c.requires.from in
+    let to = live_at _ _ _ _ c.self.view_is c.args.to c.requires.to in
+    let rel = subst (λ (n : Net). IsRelation n.topology.model c.args.rel) (sym c.self.view_is) c.requires.rel in
+    let back = subst (λ (n : Net). c.inverse-back.result ≡ inverse_of n.topology.model c.args.rel) (sym c.self.view_is) c.inverse-back.ensures in
+    let none = not_listed _ _ _ _ c.self.invariant _ c.self.view_is c.args.from c.args.rel c.args.to c.requires.absent in
+    joined_net c.self.inside.model _ _ _ _ _ _ _ _ from.0 to.0 from.1 to.1 rel back c.self.invariant c.in_ok-join.ensures.ok none
+    ∙ ap (λ n. linked n c.args.from c.args.rel c.args.to) c.self.view_is
