@@ -8,3 +8,5 @@ pub mod Losing
 pub mod Rewiring
 pub mod Joining
 pub mod Linking
+pub mod Forgetting
+pub mod Deleting

@@ -8,3 +8,4 @@ pub mod Places
 pub mod Sound
 pub mod Law
 pub mod Joined
+pub mod Forgotten

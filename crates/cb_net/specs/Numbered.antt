@@ -1,5 +1,5 @@
 -- A topology whose instances have numbers.
-use Rattle.std.specs.Prelude.{◌≡◌, ◌≢◌, ℕ, List, [], Option, Some, None, refl, slice_index_or, slice_get}
+use Rattle.std.specs.Prelude.{◌≡◌, ◌≢◌, ℕ, List, [], Option, Some, None, refl, slice_index_or, slice_get, slice_set}
 use Rattle.std.specs.List.{AllPairs}
 use Rattle.std.specs.FinMap as map
 use Rattle.std.specs.FinSet as set
@@ -7,7 +7,7 @@ use Rattle.cb_model.specs.declared.id.RelId.{RelId}
 use Rattle.cb_model.specs.declared.tables.RelRow.{RelRow}
 use Rattle.cb_model.specs.declared.tables.Tables.{Tables}
 use Rattle.cb_network.specs.Topology.{Topology, empty_topology, HasLink}
-use Rattle.cb_network.specs.Edits.{with_link, without_link}
+use Rattle.cb_network.specs.Edits.{with_link, without_link, without_instance}
 use Rattle.cb_net.specs.declared.id.InstanceId.{InstanceId}
 
 -- a topology, the name of the instance of each number, and a number above all of them
@@ -76,3 +76,7 @@ linked n i r j = record n { topology = with_link n.topology (name_at n i) r (inv
 -- the net without the link and without its inverse
 abbrev pub unlinked : Net → InstanceId → RelId → InstanceId → Net
 unlinked n i r j = record n { topology = without_link n.topology (name_at n i) r (inverse_of n.topology.model r) (name_at n j) }
+
+-- the net without the instance, its links and its mutes; its number is free
+abbrev pub without : Net → InstanceId → Net
+without n i = record n { topology = without_instance n.topology (name_at n i); names = slice_set n.names i.0 None }

@@ -1,6 +1,7 @@
 //! Live instances under numbers that stay, found by name, with links and mutes, changed in place.
 #![tactic(auto)]
 
+mod forget;
 mod id;
 mod instance;
 mod join;

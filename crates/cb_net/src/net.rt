@@ -6,8 +6,9 @@ ghost use Rattle.cb_model.specs.WellTyped.{IsClass, IsRelation};
 ghost use Rattle.cb_network.specs.Topology.{IsLive as IsLiveName, IsOf};
 ghost use Rattle.cb_network.specs.Edits.{with_instance};
 ghost use Rattle.cb_net.specs.declared.id.InstanceId.{InstanceId as Id};
-ghost use Rattle.cb_net.specs.Numbered.{Net as Numbered, empty_net, IsNamed, IsLive, IsFree, LinkAt, SetsOnly, Once, inverse_of, linked, unlinked};
+ghost use Rattle.cb_net.specs.Numbered.{Net as Numbered, empty_net, IsNamed, IsLive, IsFree, LinkAt, SetsOnly, Once, inverse_of, linked, unlinked, without};
 
+use crate::forget::{forget, inverse};
 use crate::id::InstanceId;
 use crate::instance::Instance;
 use crate::join::{join, part};
@@ -131,13 +132,6 @@ impl Net {
         Ok(InstanceId(id))
     }
 
-    fn inverse(&self, rel: RelId) -> RelId
-        requires { IsRelation self.now.topology.model rel }
-        ensures { result ≡ inverse_of self.now.topology.model rel }
-    {
-        self.model.tables().relations.at(rel.0 as usize).inverse
-    }
-
     /// Adds the link and its inverse. A link that is its own inverse is added once.
     pub fn link(&mut self, alloc: Global, from: InstanceId, rel: RelId, to: InstanceId) -> Result<(), AllocError>
         requires from { IsLive self.old from }
@@ -147,7 +141,7 @@ impl Net {
         ensures ok { OnOk result (self.new ≡ linked self.old from rel to) }
         ensures err { OnErr result (self.new ≡ self.old) }
     {
-        let back = self.inverse(rel);
+        let back = inverse(&self.model, rel);
         join(alloc, &mut self.slots, from, rel, to, back)?;
         Ok(())
     }
@@ -159,7 +153,17 @@ impl Net {
         requires rel { IsRelation self.old.topology.model rel }
         ensures { self.new ≡ unlinked self.old from rel to }
     {
-        let back = self.inverse(rel);
+        let back = inverse(&self.model, rel);
         part(&mut self.slots, from, rel, to, back);
+    }
+
+    /// Takes the instance away, with its links and its mutes; its number is free then.
+    pub fn delete(&mut self, id: InstanceId)
+        requires { IsLive self.old id }
+        ensures { self.new ≡ without self.old id }
+    {
+        let instance = self.slots.remove(id.0);
+        self.places.swap_remove(instance.name.bytes());
+        forget(&self.model, &mut self.slots, id, &instance.links);
     }
 }

@@ -6,6 +6,9 @@ use Rattle.cb_net.proofs.Reading.{live_at, not_listed}
 use Rattle.cb_net.proofs.RowLemmas.{on_err}
 use Rattle.cb_net.proofs.net.Net.link.Goals as goal
 
+pub inverse-back-requires : goal.inverse-back-requires
+inverse-back-requires c = subst (λ (n : Net). IsRelation n.topology.model c.args.rel) (sym c.self.view_is) c.requires.rel
+
 pub join-requires-clause-from : goal.join-requires-clause-from
 join-requires-clause-from c = let from = live_at _ _ _ _ c.self.view_is c.args.from c.requires.from in (from.1.0, from.1.1)
 
@@ -20,7 +23,7 @@ invariant_of-self-2 c =
     let from = live_at _ _ _ _ c.self.view_is c.args.from c.requires.from in
     let to = live_at _ _ _ _ c.self.view_is c.args.to c.requires.to in
     let rel = subst (λ (n : Net). IsRelation n.topology.model c.args.rel) (sym c.self.view_is) c.requires.rel in
-    let back = subst (λ (n : Net). c.inverse-back.result ≡ inverse_of n.topology.model c.args.rel) (sym c.self.view_is) c.inverse-back.ensures in
+    let back = c.inverse-back.ensures in
     let none = not_listed _ _ _ _ c.self.invariant _ c.self.view_is c.args.from c.args.rel c.args.to c.requires.absent in
     joined_sound c.self.inside.model _ _ _ _ _ _ _ _ from.0 to.0 from.1 to.1 rel back c.self.invariant c.in_ok-join.ensures.ok none
 
@@ -29,7 +32,7 @@ returns-clause-ok c =
     let from = live_at _ _ _ _ c.self.view_is c.args.from c.requires.from in
     let to = live_at _ _ _ _ c.self.view_is c.args.to c.requires.to in
     let rel = subst (λ (n : Net). IsRelation n.topology.model c.args.rel) (sym c.self.view_is) c.requires.rel in
-    let back = subst (λ (n : Net). c.inverse-back.result ≡ inverse_of n.topology.model c.args.rel) (sym c.self.view_is) c.inverse-back.ensures in
+    let back = c.inverse-back.ensures in
     let none = not_listed _ _ _ _ c.self.invariant _ c.self.view_is c.args.from c.args.rel c.args.to c.requires.absent in
     joined_net c.self.inside.model _ _ _ _ _ _ _ _ from.0 to.0 from.1 to.1 rel back c.self.invariant c.in_ok-join.ensures.ok none
     ∙ ap (λ n. linked n c.args.from c.args.rel c.args.to) c.self.view_is
