@@ -1,6 +1,6 @@
 -- A list that loses an item.
 use Rattle.std.proofs.Common.{◌≡◌, ◌≢◌, ◌<◌, ◌↔◌, ◌⊎◌, ℕ, suc, List, [], ◌∷◌, length, get_or, Bool, true, false, nat_eq, Some, refl, sym, ap, subst, ◌∙◌, inl, inr, arith}
-use Rattle.std.specs.Prelude.{slice_get}
+use Rattle.std.specs.Prelude.{slice_get, IfSome, IfNone, Option, None, is_some}
 use Rattle.std.specs.List.{Contains, swap_remove, IsDistinct}
 use Rattle.std.specs.List.Sorted.{IsPermutation}
 use Rattle.std.specs.Bool.{Decides}
@@ -63,3 +63,11 @@ loses_one xs k x taken is read =
 
 pub loses_none : (xs : List InstanceId) (x : InstanceId) → ¬ Contains xs x → Loses x xs xs
 loses_none xs x none = record { others = λ y ne. (λ has. has, λ has. has); gone = λ once. none; once = λ once. once }
+
+-- an item that is found is in the list, and one that is not found is not
+pub found_is : (r : Option ℕ) (xs : List InstanceId) (x : InstanceId) → IfSome r (λ k. slice_get xs k ≡ Some x) → IfNone r (¬ Contains xs x) → (is_some r ≡ true) ↔ Contains xs x
+found_is (Some k) xs x found absent = (
+  λ _. (k, slice_get_within xs k x found, get_or_from_slice_get xs k x x found),
+  λ _. refl,
+)
+found_is None xs x found absent = (λ e. absurd (cc), λ has. absurd (absent has))

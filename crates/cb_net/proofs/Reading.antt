@@ -7,13 +7,15 @@ use Rattle.cb_network.specs.Topology.{IsLive as IsLiveName, IsOf}
 use Rattle.cb_network.proofs.Kept.{class_of, live_of}
 use Rattle.cb_net.specs.declared.id.InstanceId.{InstanceId}
 use Rattle.cb_net.specs.declared.instance.Instance.{Instance}
-use Rattle.cb_net.specs.Numbered.{Net, slot, IsLive, LinkAt}
+use Rattle.cb_net.specs.Numbered.{Net, slot, IsLive, LinkAt, IsWhole, inverse_of}
 use Rattle.cb_net.specs.Places.{Entries, IsIndexed, place_of}
 use Rattle.cb_net.specs.Rows.{row_of}
 use Rattle.cb_net.specs.Shown.{topology_of, seen, name_in, Shows}
 use Rattle.cb_net.specs.Slots.{Slots, At, NamedAt, Lists}
 use Rattle.cb_net.specs.Sound.{IsSound}
 use Rattle.cb_net.proofs.Creating.{listed_live, shown_of}
+use Rattle.cb_model.specs.WellTyped.{IsRelation}
+use Rattle.cb_net.proofs.Linking.{inverse_twice}
 use Rattle.cb_net.proofs.Placing.{told, seen_at, at_seen}
 use Rattle.cb_net.proofs.Showing.{one_at, same_inside}
 
@@ -82,3 +84,28 @@ module _ (tables : Tables) (slots : Slots) (entries : Entries) (room : ℕ) (sou
   -- where no link leads, nothing is listed
   pub not_listed : (n : Net) → seen tables slots room ≡ n → (i : InstanceId) (r : RelId) (j : InstanceId) → ¬ LinkAt n i r j → ¬ Lists slots i r j
   not_listed n is i r j none l = none (subst (λ m. LinkAt m i r j) is ((row_is i r l.lister l.is j).0 l.listed))
+
+  pub whole : IsWhole (seen tables slots room)
+  whole = record {
+    one = λ i j name a b. told slots entries sound.indexed i j name (seen_at slots i name a) (seen_at slots j name b);
+    named = λ name live. let at = live_name name live in (at.0, at_seen slots at.0 name at.1);
+    live = λ i name is.
+        let at = seen_at slots i name is in
+        live_of (topology_of tables slots) name at.0.class (class_is i at.0 name at.1 at);
+    ends = λ a r b h.
+        let g = (shown.links a r b).0 h in
+        (g.from, g.to, at_seen slots g.from a g.from_is, at_seen slots g.to b g.to_is);
+  }
+
+  -- a link that is listed at its end stands
+  pub listed_back : (i : InstanceId) (r s : RelId) (j : InstanceId) → IsRelation tables r → s ≡ inverse_of tables r → LinkAt (seen tables slots room) j s i ↔ LinkAt (seen tables slots room) i r j
+  listed_back i r s j of_tables is = (
+    λ l. subst (λ q. LinkAt (seen tables slots room) i q j) (ap (inverse_of tables) is ∙ (inverse_twice tables sound.typed r of_tables).1) (turn j s i l),
+    λ l. subst (λ q. LinkAt (seen tables slots room) j q i) (sym is) (turn i r j l),
+  )
+    where
+      turn : (i : InstanceId) (r : RelId) (j : InstanceId) → LinkAt (seen tables slots room) i r j → LinkAt (seen tables slots room) j (inverse_of tables r) i
+      turn i r j l =
+          let x = seen_at slots i l.from l.from_is in
+          let back = (sound.both_ways i r j (record { lister = x.0; is = x.1; listed = (row_is i r x.0 x.1 j).1 l })).1 in
+          (row_is j (inverse_of tables r) back.lister back.is i).0 back.listed

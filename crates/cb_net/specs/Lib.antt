@@ -1,4 +1,3 @@
-
 pub mod Numbered
 pub mod Rows
 pub mod Codes
@@ -6,6 +5,5 @@ pub mod Slots
 pub mod Shown
 pub mod Places
 pub mod Sound
-pub mod Law
 pub mod Joined
 pub mod Forgotten

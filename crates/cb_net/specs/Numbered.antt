@@ -6,7 +6,7 @@ use Rattle.std.specs.FinSet as set
 use Rattle.cb_model.specs.declared.id.RelId.{RelId}
 use Rattle.cb_model.specs.declared.tables.RelRow.{RelRow}
 use Rattle.cb_model.specs.declared.tables.Tables.{Tables}
-use Rattle.cb_network.specs.Topology.{Topology, empty_topology, HasLink}
+use Rattle.cb_network.specs.Topology.{Topology, empty_topology, HasLink, IsLive as IsLiveName}
 use Rattle.cb_network.specs.Edits.{with_link, without_link, without_instance}
 use Rattle.cb_net.specs.declared.id.InstanceId.{InstanceId}
 
@@ -80,3 +80,10 @@ unlinked n i r j = record n { topology = without_link n.topology (name_at n i) r
 -- the net without the instance, its links and its mutes; its number is free
 abbrev pub without : Net → InstanceId → Net
 without n i = record n { topology = without_instance n.topology (name_at n i); names = slice_set n.names i.0 None }
+
+-- names tell instances apart, and links end at instances
+pub record IsWhole (n : Net) : Type 0 where
+  pub one : (i j : InstanceId) (name : List ℕ) → IsNamed n i name → IsNamed n j name → i ≡ j
+  pub named : (name : List ℕ) → IsLiveName n.topology name → (i : InstanceId) × IsNamed n i name
+  pub live : (i : InstanceId) (name : List ℕ) → IsNamed n i name → IsLiveName n.topology name
+  pub ends : (a : List ℕ) (r : RelId) (b : List ℕ) → HasLink n.topology a r b → (i : InstanceId) × (j : InstanceId) × IsNamed n i a × IsNamed n j b

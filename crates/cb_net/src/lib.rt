@@ -5,7 +5,6 @@ mod forget;
 mod id;
 mod instance;
 mod join;
-mod laws;
 mod links;
 mod net;
 

@@ -1,5 +1,5 @@
 //! The links of one instance.
-ghost use Rattle.std.specs.Prelude.{◌≡◌, [], ◌∷◌, ◌++◌, IfSome, IfNone, OnOk, Some, None, slice_get};
+ghost use Rattle.std.specs.Prelude.{◌≡◌, [], ◌∷◌, ◌++◌, ◌↔◌, IsTrue, IfSome, IfNone, OnOk, Some, None, slice_get};
 ghost use Rattle.std.specs.List.{Contains};
 ghost use Rattle.cb_net.specs.Rows.{first, row_of, IsPlaceOf, HasRoom, Puts, Loses, Removes};
 
@@ -21,8 +21,8 @@ pub struct Links {
     pub rows: Vec<Row>,
 }
 
-/// The first place of the item.
-pub fn place_in(list: &[InstanceId], item: InstanceId) -> Option<usize>
+// The first place of the item.
+fn place_in(list: &[InstanceId], item: InstanceId) -> Option<usize>
     ensures found { IfSome result (λ place. slice_get list.now place ≡ Some item) }
     ensures absent { IfNone result (¬ Contains list.now item) }
 {
@@ -32,6 +32,13 @@ pub fn place_in(list: &[InstanceId], item: InstanceId) -> Option<usize>
         }
     }
     None
+}
+
+/// Whether the item is in the list.
+pub fn lists(list: &[InstanceId], item: InstanceId) -> bool
+    ensures { IsTrue result ↔ Contains list.now item }
+{
+    place_in(list, item).is_some()
 }
 
 // Takes the item away; the last one comes into its place.

@@ -1,18 +1,18 @@
 //! Live instances under numbers that stay.
-ghost use Rattle.std.specs.Prelude.{◌≡◌, ◌<◌, ◌+◌, ◌↔◌, ℕ, List, max, IfOk, OnOk, OnErr, IfSome, IfNone, Some, None};
+ghost use Rattle.std.specs.Prelude.{◌≡◌, ◌<◌, ◌+◌, ◌↔◌, ℕ, List, max, IfOk, OnOk, OnErr, IfSome, IfNone, IsTrue, Some, None};
 ghost use Rattle.std.specs.List.{Contains};
 ghost use Rattle.cb_model.specs.declared.tables.Tables.{Tables};
 ghost use Rattle.cb_model.specs.WellTyped.{IsClass, IsRelation};
 ghost use Rattle.cb_network.specs.Topology.{IsLive as IsLiveName, IsOf};
 ghost use Rattle.cb_network.specs.Edits.{with_instance};
 ghost use Rattle.cb_net.specs.declared.id.InstanceId.{InstanceId as Id};
-ghost use Rattle.cb_net.specs.Numbered.{Net as Numbered, empty_net, IsNamed, IsLive, IsFree, LinkAt, SetsOnly, Once, inverse_of, linked, unlinked, without};
+ghost use Rattle.cb_net.specs.Numbered.{Net as Numbered, empty_net, IsNamed, IsLive, IsFree, LinkAt, SetsOnly, Once, inverse_of, linked, unlinked, without, IsWhole};
 
 use crate::forget::{forget, inverse};
 use crate::id::InstanceId;
 use crate::instance::Instance;
 use crate::join::{join, part};
-use crate::links::Links;
+use crate::links::{Links, lists};
 use cb_model::{ClassId, Model, Name, RelId};
 use indexmap::IndexMap;
 use slab::Slab;
@@ -96,6 +96,29 @@ impl Net {
         ensures once { Once result.now }
     {
         self.slots[id.0].links.to(rel)
+    }
+
+    /// Whether the link stands. Of the two lists that tell it, the shorter is looked through.
+    pub fn is_linked(&self, from: InstanceId, rel: RelId, to: InstanceId) -> bool
+        requires from { IsLive self.now from }
+        requires to { IsLive self.now to }
+        requires rel { IsRelation self.now.topology.model rel }
+        ensures { IsTrue result ↔ LinkAt self.now from rel to }
+    {
+        let there = self.links(from, rel);
+        let back = self.links(to, inverse(&self.model, rel));
+        if there.len() <= back.len() {
+            lists(there, to)
+        } else {
+            lists(back, from)
+        }
+    }
+
+    /// Says that names tell instances apart, and that links end at instances. It does nothing.
+    pub fn is_whole(&self)
+        ensures { IsWhole self.now }
+    {
+        let _ = &self.slots;
     }
 
     /// Above the number of each instance.

@@ -1,3 +1,0 @@
-use Rattle.std.specs.Prelude.{ℕ}
-abbrev pub Law : Type 0
-Law = ℕ
