@@ -14,8 +14,8 @@ use Rattle.cb_net.specs.Numbered.{slot, SetsOnly, Once, inverse_of}
 use Rattle.cb_net.specs.Places.{Entries, IsIndexed}
 use Rattle.cb_net.specs.Rows.{row_of, AreApart}
 use Rattle.cb_net.specs.Shown.{topology_of, Shows, HoldsInstance, HoldsLink, HoldsMute}
-use Rattle.cb_net.specs.Slots.{Slots, At, NamedAt, Lists}
-use Rattle.cb_net.specs.Sound.{IsSound, IsTidy, StandBothWays}
+use Rattle.cb_net.specs.Slots.{head_of, Slots, At, NamedAt, Lists}
+use Rattle.cb_net.specs.Sound.{IsSound, IsTidy, StandBothWays, FitsMutes}
 use Rattle.cb_net.proofs.Placing.{told, elsewhere, stays, either}
 use Rattle.cb_net.proofs.Showing.{AreTold, one_at, same_inside, shows_made, shown_once}
 
@@ -31,7 +31,7 @@ shown_of tables slots entries room sound = shows_made tables slots (told slots e
 
 module _ (tables : Tables) (old new : Slots) (id : InstanceId) (x : Instance) (free : slot old id.0 ≡ None) (sets : SetsOnly old new id (Some x))
     (bare : x.links.rows.items ≡ []) (unmuted : x.muted.items ≡ []) (both : StandBothWays tables old)
-    (fresh : (i : InstanceId) (y : Instance) → At old i y → y.name ≡ x.name → ⊥) where
+    (fresh : (i : InstanceId) (y : Instance) → At old i y → y.name ≡ x.name → ⊥) (fits : FitsMutes tables (head_of x)) where
   keeps : (i : InstanceId) (y : Instance) → At old i y → At new i y
   keeps = stays old new id x free sets
 
@@ -72,6 +72,10 @@ module _ (tables : Tables) (old new : Slots) (id : InstanceId) (x : Instance) (f
     ];
     both_ways = both_ways;
     tidy = tidy sound.tidy;
+    mutes = λ i y at. elim (now i y at) [
+      | inl e ↦ subst (λ z. FitsMutes tables (head_of z)) (sym e.1) fits
+      | inr was ↦ sound.mutes i y was
+    ];
   }
 
   pub created_shows : (t : Topology) → Shows old t → Shows new (with_instance t x.name x.class)

@@ -21,13 +21,13 @@ use Rattle.cb_net.specs.declared.id.InstanceId.{InstanceId}
 use Rattle.cb_net.specs.declared.instance.Instance.{Instance}
 use Rattle.cb_net.specs.declared.links.Row.{Row}
 use Rattle.cb_net.specs.Forgotten.{Sheds, ForgetsAll}
-use Rattle.cb_net.specs.Joined.{Head, head_of, AllTidy}
+use Rattle.cb_net.specs.Joined.{AllTidy}
 use Rattle.cb_net.specs.Numbered.{Net, slot, inverse_of, name_at, name_or, without}
 use Rattle.cb_net.specs.Places.{Entries, IsIndexed, place_of}
 use Rattle.cb_net.specs.Rows.{first, items_of, row_of}
 use Rattle.cb_net.specs.Shown.{topology_of, seen, name_in, Shows, HoldsInstance, HoldsLink, HoldsMute}
-use Rattle.cb_net.specs.Slots.{Slots, At, NamedAt, Lists}
-use Rattle.cb_net.specs.Sound.{IsSound, StandBothWays}
+use Rattle.cb_net.specs.Slots.{Head, head_of, Slots, At, NamedAt, Lists}
+use Rattle.cb_net.specs.Sound.{IsSound, StandBothWays, FitsMutes}
 use Rattle.cb_net.proofs.Creating.{shown_of}
 use Rattle.cb_net.proofs.Linking.{inverse_twice, same_names}
 use Rattle.cb_net.proofs.Placing.{told, at_seen, same_id, decide_id}
@@ -173,6 +173,7 @@ module _ (tables : Tables) (old new : Slots) (entries entries' : Entries) (room 
         let turn = sound.both_ways i r j w.2 in
         (turn.0, lists_stay j (inverse_of tables r) i w.1 w.0 turn.1);
     tidy = sheds.tidy mid_tidy;
+    mutes = λ i y is. let w = was i y is in subst (FitsMutes tables) (sym w.1.2) (sound.mutes i w.1.0 w.1.1);
   }
 
   pub deleted_shows : (t : Topology) → Shows old t → Shows new (without_instance t x.name)

@@ -14,12 +14,12 @@ use Rattle.cb_network.specs.Edits.{with_link, without_link, link_of}
 use Rattle.cb_network.proofs.Sets.{link_cmp_total, link_cmp_exact, in_insert, in_remove}
 use Rattle.cb_net.specs.declared.id.InstanceId.{InstanceId}
 use Rattle.cb_net.specs.declared.instance.Instance.{Instance}
-use Rattle.cb_net.specs.Joined.{Head, head_of, head_in, SameHeads, SameLinks, Joins, Parts, IsJoin, AllTidy}
+use Rattle.cb_net.specs.Joined.{head_in, SameHeads, SameLinks, Joins, Parts, IsJoin, AllTidy}
 use Rattle.cb_net.specs.Numbered.{Net, slot, inverse_of, inverse_in, name_at, name_or, linked, unlinked}
 use Rattle.cb_net.specs.Places.{Entries, IsIndexed, place_of}
 use Rattle.cb_net.specs.Shown.{topology_of, seen, name_in, Shows, HoldsInstance, HoldsLink, HoldsMute}
-use Rattle.cb_net.specs.Slots.{Slots, At, NamedAt, Lists}
-use Rattle.cb_net.specs.Sound.{IsSound, StandBothWays}
+use Rattle.cb_net.specs.Slots.{Head, head_of, Slots, At, NamedAt, Lists}
+use Rattle.cb_net.specs.Sound.{IsSound, StandBothWays, FitsMutes}
 use Rattle.cb_net.proofs.Creating.{shown_of}
 use Rattle.cb_net.proofs.Placing.{at_seen, told}
 use Rattle.cb_net.proofs.Rewiring.{same_head}
@@ -77,6 +77,7 @@ module _ (old new : Slots) (heads : SameHeads old new) where
     below = λ i y at. let x = was i y at in sound.below i x.0 x.1;
     both_ways = both;
     tidy = tidy;
+    mutes = λ i y at. let x = was i y at in subst (FitsMutes tables) (sym x.2) (sound.mutes i x.0 x.1);
   }
 
   pub relinked_shows : (t : Topology) (links : set.FinSet link_cmp) → Shows old t

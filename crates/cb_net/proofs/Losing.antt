@@ -14,58 +14,78 @@ use Rattle.cb_net.specs.declared.id.InstanceId.{InstanceId}
 use Rattle.cb_net.specs.Numbered.{Once}
 use Rattle.cb_net.specs.Rows.{Loses}
 
-same_item : InstanceId → InstanceId → Bool
-same_item a b = nat_eq a.0 b.0
+-- items that are told by a number
+module _ {X : Type 0} (number : X → ℕ) (exact : (a b : X) → number a ≡ number b → a ≡ b) where
+  same_item : X → X → Bool
+  same_item a b = nat_eq (number a) (number b)
 
-decides_same : (a b : InstanceId) → Decides (same_item a b) (a ≡ b)
-unfolding same_item
-decides_same a b = (
-  λ e. let n : a.0 ≡ b.0 = grind (arith, nat_tests) in (λ i. record { 0 = n i }),
-  λ e. let n : a.0 ≡ b.0 = ap (λ (x : InstanceId). x.0) e in grind (arith, nat_tests),
-)
+  decides_same : (a b : X) → Decides (same_item a b) (a ≡ b)
+  unfolding same_item
+  decides_same a b = (
+    λ e. exact a b (grind (arith, nat_tests)),
+    λ e. let n : number a ≡ number b = ap number e in grind (arith, nat_tests),
+  )
+
+  pub same_by : (a b : X) → nat_eq (number a) (number b) ≡ true → a ≡ b
+  unfolding same_item
+  same_by a b e = (decides_same a b).0 e
+
+  pub other_by : (a b : X) → nat_eq (number a) (number b) ≡ false → a ≢ b
+  unfolding same_item
+  other_by a b e same = let f = (decides_same a b).1 same in absurd (cc)
+
+  flips : (a b : X) → same_item a b ≡ same_item b a
+  unfolding same_item
+  flips a b = grind (arith, nat_tests)
+
+  once_moved : (xs ys : List X) → IsPermutation xs ys → Once xs → Once ys
+  once_moved xs ys moved once =
+      AllPairs-from_IsDistinct decides_same ys (IsDistinct-IsPermutation same_item flips xs ys moved (IsDistinct-from_AllPairs decides_same xs once))
+
+  once_tail : (x : X) (xs : List X) → Once (x ∷ xs) → Once xs
+  once_tail x xs once i j d lt le = once (suc i) (suc j) d (omega arith) (omega arith)
+
+  once_head : (x : X) (xs : List X) → Once (x ∷ xs) → ¬ Contains xs x
+  once_head x xs once (k, lt, e) = once 0 (suc k) x (omega arith) (omega arith) (sym e)
+
+  -- where one of a list's places is given to the last item
+  pub loses_by : (xs : List X) (k : ℕ) (x taken : X) → slice_get xs k ≡ Some x → taken ≡ get_or xs k taken → Loses x xs (swap_remove xs k taken)
+  loses_by xs k x taken is read =
+      let same : taken ≡ x = read ∙ get_or_from_slice_get xs k x taken is in
+      let ys : List X = swap_remove xs k taken in
+      let moved : IsPermutation xs (x ∷ ys) = subst (λ z. IsPermutation xs (z ∷ ys)) same (IsPermutation-swap_remove xs k taken (slice_get_within xs k x is) read) in
+      record {
+        others = λ y ne. (
+          λ has. Contains-permutation (x ∷ ys) xs y (IsPermutation-sym xs (x ∷ ys) moved) (contains_tail x ys y has),
+          λ has. elim (contains_cases x ys y (Contains-permutation xs (x ∷ ys) y moved has)) [ inl e ↦ absurd (ne (sym e)) | inr later ↦ later ],
+        );
+        gone = λ once. once_head x ys (once_moved xs (x ∷ ys) moved once);
+        once = λ once. once_tail x ys (once_moved xs (x ∷ ys) moved once);
+      }
+
+id_number : InstanceId → ℕ
+id_number i = i.0
+
+id_exact : (a b : InstanceId) → id_number a ≡ id_number b → a ≡ b
+unfolding id_number
+id_exact a b e = λ i. record { 0 = e i }
 
 pub item_of : (a b : InstanceId) → nat_eq a.0 b.0 ≡ true → a ≡ b
-unfolding same_item
-item_of a b e = (decides_same a b).0 e
+unfolding id_number
+item_of = same_by id_number id_exact
 
 pub other_item : (a b : InstanceId) → nat_eq a.0 b.0 ≡ false → a ≢ b
-unfolding same_item
-other_item a b e same = let f = (decides_same a b).1 same in absurd (cc)
+unfolding id_number
+other_item = other_by id_number id_exact
 
-flips : (a b : InstanceId) → same_item a b ≡ same_item b a
-unfolding same_item
-flips a b = grind (arith, nat_tests)
-
-once_moved : (xs ys : List InstanceId) → IsPermutation xs ys → Once xs → Once ys
-once_moved xs ys moved once =
-    AllPairs-from_IsDistinct decides_same ys (IsDistinct-IsPermutation same_item flips xs ys moved (IsDistinct-from_AllPairs decides_same xs once))
-
-once_tail : (x : InstanceId) (xs : List InstanceId) → Once (x ∷ xs) → Once xs
-once_tail x xs once i j d lt le = once (suc i) (suc j) d (omega arith) (omega arith)
-
-once_head : (x : InstanceId) (xs : List InstanceId) → Once (x ∷ xs) → ¬ Contains xs x
-once_head x xs once (k, lt, e) = once 0 (suc k) x (omega arith) (omega arith) (sym e)
-
--- where one of a list's places is given to the last item
 pub loses_one : (xs : List InstanceId) (k : ℕ) (x taken : InstanceId) → slice_get xs k ≡ Some x → taken ≡ get_or xs k taken → Loses x xs (swap_remove xs k taken)
-loses_one xs k x taken is read =
-    let same : taken ≡ x = read ∙ get_or_from_slice_get xs k x taken is in
-    let ys : List InstanceId = swap_remove xs k taken in
-    let moved : IsPermutation xs (x ∷ ys) = subst (λ z. IsPermutation xs (z ∷ ys)) same (IsPermutation-swap_remove xs k taken (slice_get_within xs k x is) read) in
-    record {
-      others = λ y ne. (
-        λ has. Contains-permutation (x ∷ ys) xs y (IsPermutation-sym xs (x ∷ ys) moved) (contains_tail x ys y has),
-        λ has. elim (contains_cases x ys y (Contains-permutation xs (x ∷ ys) y moved has)) [ inl e ↦ absurd (ne (sym e)) | inr later ↦ later ],
-      );
-      gone = λ once. once_head x ys (once_moved xs (x ∷ ys) moved once);
-      once = λ once. once_tail x ys (once_moved xs (x ∷ ys) moved once);
-    }
+loses_one = loses_by id_number id_exact
 
-pub loses_none : (xs : List InstanceId) (x : InstanceId) → ¬ Contains xs x → Loses x xs xs
+pub loses_none : {X : Type 0} (xs : List X) (x : X) → ¬ Contains xs x → Loses x xs xs
 loses_none xs x none = record { others = λ y ne. (λ has. has, λ has. has); gone = λ once. none; once = λ once. once }
 
 -- an item that is found is in the list, and one that is not found is not
-pub found_is : (r : Option ℕ) (xs : List InstanceId) (x : InstanceId) → IfSome r (λ k. slice_get xs k ≡ Some x) → IfNone r (¬ Contains xs x) → (is_some r ≡ true) ↔ Contains xs x
+pub found_is : {X : Type 0} (r : Option ℕ) (xs : List X) (x : X) → IfSome r (λ k. slice_get xs k ≡ Some x) → IfNone r (¬ Contains xs x) → (is_some r ≡ true) ↔ Contains xs x
 found_is (Some k) xs x found absent = (
   λ _. (k, slice_get_within xs k x found, get_or_from_slice_get xs k x x found),
   λ _. refl,

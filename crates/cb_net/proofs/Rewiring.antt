@@ -8,10 +8,10 @@ use Rattle.cb_network.proofs.Decided.{Decision, decide_number, decide_same, deci
 use Rattle.cb_net.specs.declared.id.InstanceId.{InstanceId}
 use Rattle.cb_net.specs.declared.instance.Instance.{Instance}
 use Rattle.cb_net.specs.declared.links.Row.{Row}
-use Rattle.cb_net.specs.Joined.{Head, head_of, head_in, SameHeads, Rewires, Stays, Gains, HasRoomAt, AllTidy, SameLinks}
+use Rattle.cb_net.specs.Joined.{head_in, SameHeads, Rewires, Stays, Gains, HasRoomAt, AllTidy, SameLinks}
 use Rattle.cb_net.specs.Numbered.{slot, Once}
 use Rattle.cb_net.specs.Rows.{first, items_of, row_of, HasRoom, Puts, Loses}
-use Rattle.cb_net.specs.Slots.{Slots, At, Lists}
+use Rattle.cb_net.specs.Slots.{Head, head_of, Slots, At, Lists}
 use Rattle.cb_net.specs.Sound.{IsTidy}
 use Rattle.cb_net.proofs.Placing.{decide_id}
 use Rattle.cb_net.proofs.Showing.{one_at, same_inside, slot_within}
@@ -187,10 +187,10 @@ gains_lists old new at rel to x is w i r j = elim (decide_both (i ≡ at) (r ≡
       (λ l. inl (same.0 l), λ s. elim s [ inl l ↦ same.1 l | inr e ↦ absurd (apart (e.0, e.1)) ])
 ]
 
-once_more : (xs : List InstanceId) (y : InstanceId) → Once xs → ¬ Contains xs y → Once (xs ++ y ∷ [])
+pub once_more : {X : Type 0} (xs : List X) (y : X) → Once xs → ¬ Contains xs y → Once (xs ++ y ∷ [])
 once_more xs y once none = all_pairs_push (λ a b. a ≢ b) xs y once (λ k d lt e. none (k, lt, get_or_same xs k d y lt e))
   where
-    get_or_same : (xs : List InstanceId) (k : ℕ) (d y : InstanceId) → k < length xs → get_or xs k d ≡ y → get_or xs k y ≡ y
+    get_or_same : {X : Type 0} (xs : List X) (k : ℕ) (d y : X) → k < length xs → get_or xs k d ≡ y → get_or xs k y ≡ y
     get_or_same [] k d y lt e = absurd (omega arith)
     get_or_same (x ∷ xs) zero d y lt e = e
     get_or_same (x ∷ xs) (suc k) d y lt e = get_or_same xs k d y (omega arith) e

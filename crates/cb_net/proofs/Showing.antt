@@ -19,10 +19,10 @@ use Rattle.cb_network.proofs.Sets.{link_cmp_total, link_cmp_exact}
 use Rattle.cb_net.specs.declared.id.InstanceId.{InstanceId}
 use Rattle.cb_net.specs.declared.instance.Instance.{Instance}
 use Rattle.cb_net.specs.declared.links.Row.{Row}
-use Rattle.cb_net.specs.Numbered.{slot}
+use Rattle.cb_net.specs.Numbered.{slot, event_name}
 use Rattle.cb_net.specs.Rows.{first, row_of, items_of, AreApart}
 use Rattle.cb_net.specs.Slots.{Slots, At, NamedAt, Lists}
-use Rattle.cb_net.specs.Shown.{entries_in, links_in, links_by, links_to, mutes_in, event_name, topology_of, HoldsInstance, HoldsLink, HoldsMute, Shows}
+use Rattle.cb_net.specs.Shown.{entries_in, links_in, links_by, links_to, mutes_in, topology_of, HoldsInstance, HoldsLink, HoldsMute, Shows}
 use Rattle.cb_net.proofs.Gathered.{from_flat, to_flat, only, in_set, in_map}
 use Rattle.cb_net.proofs.RowLemmas.{own_row, first_listed}
 

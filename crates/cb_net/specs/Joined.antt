@@ -10,17 +10,8 @@ use Rattle.cb_net.specs.declared.instance.Instance.{Instance}
 use Rattle.cb_net.specs.declared.links.Row.{Row}
 use Rattle.cb_net.specs.Numbered.{slot}
 use Rattle.cb_net.specs.Rows.{row_of, HasRoom, Puts, Loses}
-use Rattle.cb_net.specs.Slots.{Slots, At, Lists}
+use Rattle.cb_net.specs.Slots.{Head, head_of, Slots, At, Lists}
 use Rattle.cb_net.specs.Sound.{IsTidy}
-
--- what an instance is but for its links
-pub record Head : Type 0 where
-  pub name : List ℕ
-  pub class : ClassId
-  pub muted : Vec EventId Global
-
-abbrev pub head_of : Instance → Head
-head_of x = record { name = x.name; class = x.class; muted = x.muted }
 
 abbrev pub head_in : Option Instance → Option Head
 head_in None = None

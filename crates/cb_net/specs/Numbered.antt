@@ -3,11 +3,16 @@ use Rattle.std.specs.Prelude.{◌≡◌, ◌≢◌, ℕ, List, [], Option, Some,
 use Rattle.std.specs.List.{AllPairs}
 use Rattle.std.specs.FinMap as map
 use Rattle.std.specs.FinSet as set
+use Rattle.cb_model.specs.Classes.{HasEvent}
+use Rattle.cb_model.specs.declared.id.ClassId.{ClassId}
+use Rattle.cb_model.specs.declared.id.EventId.{EventId}
 use Rattle.cb_model.specs.declared.id.RelId.{RelId}
+use Rattle.cb_model.specs.declared.node.NodeName.{NodeName}
+use Rattle.cb_model.specs.declared.tables.EventRow.{EventRow}
 use Rattle.cb_model.specs.declared.tables.RelRow.{RelRow}
 use Rattle.cb_model.specs.declared.tables.Tables.{Tables}
-use Rattle.cb_network.specs.Topology.{Topology, empty_topology, HasLink, IsLive as IsLiveName}
-use Rattle.cb_network.specs.Edits.{with_link, without_link, without_instance}
+use Rattle.cb_network.specs.Topology.{Topology, empty_topology, HasLink, IsMuted, IsOf, IsLive as IsLiveName}
+use Rattle.cb_network.specs.Edits.{with_link, without_link, without_instance, with_mute, without_mute, node_of}
 use Rattle.cb_net.specs.declared.id.InstanceId.{InstanceId}
 
 -- a topology, the name of the instance of each number, and a number above all of them
@@ -87,3 +92,31 @@ pub record IsWhole (n : Net) : Type 0 where
   pub named : (name : List ℕ) → IsLiveName n.topology name → (i : InstanceId) × IsNamed n i name
   pub live : (i : InstanceId) (name : List ℕ) → IsNamed n i name → IsLiveName n.topology name
   pub ends : (a : List ℕ) (r : RelId) (b : List ℕ) → HasLink n.topology a r b → (i : InstanceId) × (j : InstanceId) × IsNamed n i a × IsNamed n j b
+
+abbrev pub name_in_row : Option EventRow → List ℕ
+name_in_row None = []
+name_in_row (Some row) = row.name
+
+-- the name of an event of the tables
+abbrev pub event_name : Tables → EventId → List ℕ
+event_name tables e = name_in_row (slice_get tables.events e.0)
+
+-- the node of an event at the instance of this number
+abbrev pub node_at : Net → InstanceId → EventId → NodeName
+node_at n id e = node_of (event_name n.topology.model e) (name_at n id)
+
+-- the class of the instance has the event
+abbrev pub HasEventAt : Net → InstanceId → EventId → Type 0
+HasEventAt n id e = (c : ClassId) × IsOf n.topology (name_at n id) c × HasEvent n.topology.model c e
+
+-- the event is muted at the instance
+abbrev pub IsMutedAt : Net → InstanceId → EventId → Type 0
+IsMutedAt n id e = IsMuted n.topology (node_at n id e)
+
+-- the net with the event muted at the instance
+abbrev pub muted : Net → InstanceId → EventId → Net
+muted n id e = record n { topology = with_mute n.topology (node_at n id e) }
+
+-- the net without that mute
+abbrev pub unmuted : Net → InstanceId → EventId → Net
+unmuted n id e = record n { topology = without_mute n.topology (node_at n id e) }

@@ -45,8 +45,8 @@ pub record Puts (old new : List Row) (rel : RelId) (to : List InstanceId) : Type
   pub apart : AreApart old → AreApart new
 
 -- the list has lost the item, and nothing else
-pub record Loses (item : InstanceId) (old new : List InstanceId) : Type 0 where
-  pub others : (x : InstanceId) → x ≢ item → Contains new x ↔ Contains old x
+pub record Loses {X : Type 0} (item : X) (old new : List X) : Type 0 where
+  pub others : (x : X) → x ≢ item → Contains new x ↔ Contains old x
   pub gone : Once old → ¬ Contains new item
   pub once : Once old → Once new
 

@@ -1,5 +1,5 @@
 -- The topology that slots show.
-use Rattle.std.specs.Prelude.{◌≡◌, ◌↔◌, ℕ, List, [], ◌∷◌, Option, Some, None, map, slice_get}
+use Rattle.std.specs.Prelude.{◌≡◌, ◌↔◌, ℕ, List, [], ◌∷◌, Option, Some, None, map}
 use Rattle.std.specs.List.{Contains, flat_map}
 use Rattle.std.specs.FinMap as fin_map
 use Rattle.std.specs.FinSet as set
@@ -7,14 +7,13 @@ use Rattle.cb_model.specs.declared.id.ClassId.{ClassId}
 use Rattle.cb_model.specs.declared.id.EventId.{EventId}
 use Rattle.cb_model.specs.declared.id.RelId.{RelId}
 use Rattle.cb_model.specs.declared.node.NodeName.{NodeName}
-use Rattle.cb_model.specs.declared.tables.EventRow.{EventRow}
 use Rattle.cb_model.specs.declared.tables.Tables.{Tables}
 use Rattle.cb_network.specs.Topology.{Topology, Link, IsOf, HasLink, IsMuted}
 use Rattle.cb_network.specs.Edits.{link_of, node_of}
 use Rattle.cb_net.specs.declared.id.InstanceId.{InstanceId}
 use Rattle.cb_net.specs.declared.instance.Instance.{Instance}
 use Rattle.cb_net.specs.declared.links.Row.{Row}
-use Rattle.cb_net.specs.Numbered.{Net, slot}
+use Rattle.cb_net.specs.Numbered.{Net, slot, event_name}
 use Rattle.cb_net.specs.Slots.{Slots, At, NamedAt, Lists}
 
 abbrev pub name_in : Option Instance → Option (List ℕ)
@@ -35,14 +34,6 @@ links_by slots a row = flat_map (λ j. links_to a row.rel (slot slots j.0)) row.
 abbrev pub links_in : Slots → Option Instance → List Link
 links_in slots None = []
 links_in slots (Some x) = flat_map (links_by slots x.name) x.links.rows.items
-
-abbrev pub name_in_row : Option EventRow → List ℕ
-name_in_row None = []
-name_in_row (Some row) = row.name
-
--- the name of an event of the tables
-abbrev pub event_name : Tables → EventId → List ℕ
-event_name tables e = name_in_row (slice_get tables.events e.0)
 
 abbrev pub mutes_in : Tables → Option Instance → List NodeName
 mutes_in tables None = []

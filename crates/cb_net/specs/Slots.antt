@@ -1,12 +1,24 @@
 -- Slots of instances, and what they have.
 use Rattle.std.specs.Prelude.{◌≡◌, ℕ, List, Option, Some, None}
 use Rattle.std.specs.List.{Contains}
+use Rattle.std.specs.Global.{Global}
+use Rattle.std.specs.declared.vec.Vec.{Vec}
+use Rattle.cb_model.specs.declared.id.EventId.{EventId}
 use Rattle.cb_model.specs.declared.id.ClassId.{ClassId}
 use Rattle.cb_model.specs.declared.id.RelId.{RelId}
 use Rattle.cb_net.specs.declared.id.InstanceId.{InstanceId}
 use Rattle.cb_net.specs.declared.instance.Instance.{Instance}
 use Rattle.cb_net.specs.Numbered.{slot}
 use Rattle.cb_net.specs.Rows.{row_of}
+
+-- what an instance is but for its links
+pub record Head : Type 0 where
+  pub name : List ℕ
+  pub class : ClassId
+  pub muted : Vec EventId Global
+
+abbrev pub head_of : Instance → Head
+head_of x = record { name = x.name; class = x.class; muted = x.muted }
 
 abbrev pub Slots : Type 0
 Slots = List (Option Instance)

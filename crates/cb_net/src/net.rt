@@ -146,7 +146,7 @@ impl Net {
             name: Name::of(alloc, name)?,
             class,
             links: Links::new(alloc),
-            muted: Vec::new(alloc),
+            muted: Vec::with_capacity(alloc, self.model.events_of(class).len())?,
         };
         let key = Vec::from_slice(alloc, name)?;
         self.places.insert(key, id)?;

@@ -1,5 +1,8 @@
 use Rattle.std.proofs.Common.{◌≡◌, ◌≢◌, ◌<◌, ℕ, max, ◌+◌, List, Option, map, Some, None, cond, sym, ◌∙◌, ap, subst, arith, refl, rules}
+use Rattle.std.specs.List.{Contains}
 use Rattle.std.specs.Map.{lookup}
+use Rattle.cb_model.specs.WellTyped.{IsClass}
+use Rattle.cb_model.proofs.Rising.{nothing_in_empty}
 use Rattle.std.specs.Str.{bytes_eq}
 use Rattle.cb_model.proofs.NameLemmas.{lookup-insert_entry}
 use Rattle.cb_network.specs.Topology.{IsLive as IsLiveName, Topology}
@@ -9,9 +12,9 @@ use Rattle.cb_net.specs.declared.instance.Instance.{Instance}
 use Rattle.cb_net.specs.Numbered.{Net, slot, SetsOnly}
 use Rattle.cb_net.specs.Places.{place_of, IsIndexed}
 use Rattle.cb_net.specs.Shown.{name_in, topology_of}
-use Rattle.cb_net.specs.Slots.{Slots, At}
-use Rattle.cb_net.specs.Sound.{IsSound}
-use Rattle.cb_net.proofs.Creating.{created_sound, created_topology}
+use Rattle.cb_net.specs.Slots.{Slots, At, head_of}
+use Rattle.cb_net.specs.Sound.{IsSound, FitsMutes}
+use Rattle.cb_net.proofs.Creating.{nothing_twice, created_sound, created_topology}
 use Rattle.cb_net.proofs.Placing.{indexed_more, named_only, same_id}
 use Rattle.cb_net.proofs.Reading.{fresh_name}
 use Rattle.cb_net.proofs.net.Net.create.Goals as goal
@@ -22,7 +25,7 @@ module _ (c : After-self-1) where
   id = record { 0 = c.vacant_key-id.result }
 
   abbrev x : Instance
-  x = record { name = c.in_ok-of.field-0; class = c.args.class; links = c.new.result; muted = c.new-2.result }
+  x = record { name = c.in_ok-of.field-0; class = c.args.class; links = c.new.result; muted = c.in_ok-with_capacity.field-0 }
 
   abbrev old : Slots
   old = c.self.inside.slots.slots
@@ -59,9 +62,21 @@ module _ (c : After-self-1) where
   above : c.max-self-inside.result ≡ max c.self.inside.room (id.0 + 1)
   above = search rules
 
+  fits : FitsMutes c.self.inside.model (head_of x)
+  fits = record {
+    events = c.events_of.result.now;
+    are = c.events_of.ensures;
+    room = omega (arith, c.in_ok-with_capacity.ensures.capacity, c.len.ensures);
+    of_class = λ e has. absurd (nothing_in_empty e (subst (λ es. Contains es e) c.in_ok-with_capacity.ensures.items has));
+    once = nothing_twice _ c.in_ok-with_capacity.ensures.items;
+  }
+
   sound : IsSound c.self.inside.model new c.insert.new.self.entries c.max-self-inside.result
-  sound = created_sound c.self.inside.model old new id x free sets c.new.ensures c.new-2.ensures.items c.self.invariant.both_ways fresh
+  sound = created_sound c.self.inside.model old new id x free sets c.new.ensures c.in_ok-with_capacity.ensures.items c.self.invariant.both_ways fresh fits
       c.self.inside.places.entries c.insert.new.self.entries c.self.inside.room c.max-self-inside.result c.self.invariant indexed above
+
+pub events_of-requires : goal.events_of-requires
+events_of-requires c = subst (λ (n : Net). IsClass n.topology.model c.args.class) (sym c.self.view_is) c.requires.class
 
 pub invariant_of-self-2 : goal.invariant_of-self-2
 invariant_of-self-2 c = sound c
@@ -72,7 +87,7 @@ returns-clause-named c =
 
 pub returns-clause-made : goal.returns-clause-made
 returns-clause-made c =
-    let made = created_topology c.self.inside.model (old c) (new c) (id c) (x c) (free c) (sets c) c.new.ensures c.new-2.ensures.items c.self.invariant.both_ways (fresh c)
+    let made = created_topology c.self.inside.model (old c) (new c) (id c) (x c) (free c) (sets c) c.new.ensures c.in_ok-with_capacity.ensures.items c.self.invariant.both_ways (fresh c) (fits c)
       c.self.inside.places.entries c.insert.new.self.entries c.self.inside.room c.max-self-inside.result c.self.invariant (sound c) in
     made
     ∙ (ap (λ (n : Net). with_instance n.topology (x c).name c.args.class) c.self.view_is
