@@ -10,3 +10,4 @@ pub mod Joining
 pub mod Linking
 pub mod Forgetting
 pub mod Deleting
+pub mod Muting

@@ -10,6 +10,7 @@ use Rattle.std.proofs.lemmas.Map.Keys.{IsDistinct-IsPermutation, IsDistinct-tail
 use Rattle.std.proofs.lemmas.Map.Made.{AllPairs-from_IsDistinct, IsDistinct-from_AllPairs}
 use Rattle.std.proofs.lemmas.Option.{slice_get_within, get_or_from_slice_get}
 use Rattle.cb_model.proofs.Rising.{contains_cases, contains_head, contains_tail}
+use Rattle.cb_model.specs.declared.id.EventId.{EventId}
 use Rattle.cb_net.specs.declared.id.InstanceId.{InstanceId}
 use Rattle.cb_net.specs.Numbered.{Once}
 use Rattle.cb_net.specs.Rows.{Loses}
@@ -91,3 +92,21 @@ found_is (Some k) xs x found absent = (
   λ _. refl,
 )
 found_is None xs x found absent = (λ e. absurd (cc), λ has. absurd (absent has))
+
+event_number : EventId → ℕ
+event_number e = e.0
+
+event_exact : (a b : EventId) → event_number a ≡ event_number b → a ≡ b
+unfolding event_number
+event_exact a b e = λ i. record { 0 = e i }
+
+pub event_of : (a b : EventId) → nat_eq a.0 b.0 ≡ true → a ≡ b
+unfolding event_number
+event_of = same_by event_number event_exact
+
+pub other_event : (a b : EventId) → nat_eq a.0 b.0 ≡ false → a ≢ b
+unfolding event_number
+other_event = other_by event_number event_exact
+
+pub loses_event : (xs : List EventId) (k : ℕ) (x taken : EventId) → slice_get xs k ≡ Some x → taken ≡ get_or xs k taken → Loses x xs (swap_remove xs k taken)
+loses_event = loses_by event_number event_exact

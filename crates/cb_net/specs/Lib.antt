@@ -7,3 +7,4 @@ pub mod Places
 pub mod Sound
 pub mod Joined
 pub mod Forgotten
+pub mod Muted

@@ -6,6 +6,7 @@ mod id;
 mod instance;
 mod join;
 mod links;
+mod mutes;
 mod net;
 
 pub use id::InstanceId;

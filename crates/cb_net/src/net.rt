@@ -6,14 +6,15 @@ ghost use Rattle.cb_model.specs.WellTyped.{IsClass, IsRelation};
 ghost use Rattle.cb_network.specs.Topology.{IsLive as IsLiveName, IsOf};
 ghost use Rattle.cb_network.specs.Edits.{with_instance};
 ghost use Rattle.cb_net.specs.declared.id.InstanceId.{InstanceId as Id};
-ghost use Rattle.cb_net.specs.Numbered.{Net as Numbered, empty_net, IsNamed, IsLive, IsFree, LinkAt, SetsOnly, Once, inverse_of, linked, unlinked, without, IsWhole};
+ghost use Rattle.cb_net.specs.Numbered.{Net as Numbered, empty_net, IsNamed, IsLive, IsFree, LinkAt, SetsOnly, Once, inverse_of, linked, unlinked, without, muted, unmuted, HasEventAt, IsMutedAt, IsWhole};
 
 use crate::forget::{forget, inverse};
 use crate::id::InstanceId;
 use crate::instance::Instance;
 use crate::join::{join, part};
 use crate::links::{Links, lists};
-use cb_model::{ClassId, Model, Name, RelId};
+use crate::mutes::{has, mute, unmute};
+use cb_model::{ClassId, EventId, Model, Name, RelId};
 use indexmap::IndexMap;
 use slab::Slab;
 use std::alloc::{AllocError, Global};
@@ -188,5 +189,33 @@ impl Net {
         let instance = self.slots.remove(id.0);
         self.places.swap_remove(instance.name.bytes());
         forget(&self.model, &mut self.slots, id, &instance.links);
+    }
+
+    /// Whether the event is muted at the instance.
+    pub fn is_muted(&self, id: InstanceId, event: EventId) -> bool
+        requires live { IsLive self.now id }
+        requires event { HasEventAt self.now id event }
+        ensures { IsTrue result ↔ IsMutedAt self.now id event }
+    {
+        has(&self.slots[id.0].muted, event)
+    }
+
+    /// Mutes the event at the instance. It takes no memory.
+    pub fn mute(&mut self, id: InstanceId, event: EventId)
+        requires live { IsLive self.old id }
+        requires event { HasEventAt self.old id event }
+        requires absent { ¬ IsMutedAt self.old id event }
+        ensures { self.new ≡ muted self.old id event }
+    {
+        mute(&mut self.slots, id, event);
+    }
+
+    /// The event is muted at the instance no more.
+    pub fn unmute(&mut self, id: InstanceId, event: EventId)
+        requires live { IsLive self.old id }
+        requires event { HasEventAt self.old id event }
+        ensures { self.new ≡ unmuted self.old id event }
+    {
+        unmute(&mut self.slots, id, event);
     }
 }
