@@ -11,3 +11,4 @@ pub mod Linking
 pub mod Forgetting
 pub mod Deleting
 pub mod Muting
+pub mod Counting

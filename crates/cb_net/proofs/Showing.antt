@@ -65,7 +65,7 @@ module _ (slots : Slots) (told : AreTold slots) where
       let same = one_at slots b.at a.instance b.instance (subst (λ k. At slots k a.instance) i a.is) b.is in
       sym a.of_class ∙ (ap (λ (x : Instance). x.class) same ∙ b.of_class)
 
-  shows_instances : (name : List ℕ) (c : ClassId)
+  pub shows_instances : (name : List ℕ) (c : ClassId)
       → (fin_map.get (fin_map.from_entries {R = name_cmp} (flat_map entries_in slots)) name ≡ Some c) ↔ HoldsInstance slots name c
   shows_instances name c =
       let one : (q : List ℕ) (v w : ClassId) → Contains (flat_map entries_in slots) (q, v) → Contains (flat_map entries_in slots) (q, w) → v ≡ w = λ q v w a b. holds_one q v w (entry_at q v a) (entry_at q w b) in

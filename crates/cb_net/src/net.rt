@@ -1,5 +1,6 @@
 //! Live instances under numbers that stay.
 ghost use Rattle.std.specs.Prelude.{◌≡◌, ◌<◌, ◌+◌, ◌↔◌, ℕ, List, max, IfOk, OnOk, OnErr, IfSome, IfNone, IsTrue, Some, None};
+ghost use Rattle.std.specs.FinMap as fin_map;
 ghost use Rattle.std.specs.List.{Contains};
 ghost use Rattle.cb_model.specs.declared.tables.Tables.{Tables};
 ghost use Rattle.cb_model.specs.WellTyped.{IsClass, IsRelation};
@@ -120,6 +121,13 @@ impl Net {
         ensures { IsWhole self.now }
     {
         let _ = &self.slots;
+    }
+
+    /// How many instances there are.
+    pub fn count(&self) -> usize
+        ensures { result ≡ fin_map.len self.now.topology.instances }
+    {
+        self.slots.len()
     }
 
     /// Above the number of each instance.
