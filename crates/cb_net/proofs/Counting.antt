@@ -3,7 +3,7 @@ use Rattle.std.proofs.Common.{◌≡◌, ◌≢◌, ◌+◌, ◌<◌, ℕ, zero,
 use Rattle.std.specs.List.{flat_map, count_by}
 use Rattle.std.specs.FinMap as fin_map
 use Rattle.std.proofs.lemmas.Bool.{cases_Bool}
-use Rattle.std.proofs.lemmas.List.Sums.{count_by-cons}
+use Rattle.std.proofs.lemmas.List.Sums.{sum_by-cons}
 use Rattle.cb_model.specs.declared.id.ClassId.{ClassId}
 use Rattle.cb_model.specs.declared.tables.Tables.{Tables}
 use Rattle.cb_model.specs.Order.{name_cmp}
@@ -26,9 +26,13 @@ later slots o told i j name a b =
     let m : i.0 ≡ j.0 = omega arith in
     λ k. record { 0 = m k }
 
+-- one for what is there
+abbrev passes : Option Instance → ℕ
+passes o = cond (is_some o) 1 0
+
 pub counted : (tables : Tables) (slots : Slots) → AreTold slots → fin_map.len (fin_map.from_entries {R = name_cmp} (flat_map entries_in slots)) ≡ count_by is_some slots
 counted tables [] told = fin_map.len-empty name_cmp ClassId
-counted tables (None ∷ slots) told = counted tables slots (later slots None told) ∙ sym (count_by-cons is_some None slots)
+counted tables (None ∷ slots) told = counted tables slots (later slots None told) ∙ (let e : count_by is_some slots ≡ 0 + count_by is_some slots = omega arith in e ∙ sym (sum_by-cons passes None slots))
 counted tables (Some x ∷ slots) told =
     let rest = counted tables slots (later slots (Some x) told) in
     let m : fin_map.FinMap name_cmp ClassId = fin_map.from_entries (flat_map entries_in slots) in
@@ -44,5 +48,5 @@ counted tables (Some x ∷ slots) told =
       | inr off ↦ off
     ] in
     let more : fin_map.len (fin_map.insert m x.name x.class) ≡ fin_map.len m + 1 = rw fresh at (fin_map.len-insert name_cmp_total m x.name x.class) in
-    let count = count_by-cons is_some (Some x) slots in
-    more ∙ ?
+    let count = sum_by-cons passes (Some x) slots in
+    more ∙ (ap (λ n. n + 1) rest ∙ (let e : count_by is_some slots + 1 ≡ 1 + count_by is_some slots = omega arith in e ∙ sym count))
