@@ -1,22 +1,27 @@
 -- An instance more.
-use Rattle.std.proofs.Common.{◌≡◌, ◌≢◌, ◌⊎◌, ◌↔◌, ℕ, ◌+◌, ◌<◌, max, List, [], ◌∷◌, Option, Some, None, refl, sym, ap, subst, ◌∙◌, inl, inr, arith}
+use Rattle.std.proofs.Common.{◌≡◌, ◌≢◌, ◌⊎◌, ◌↔◌, ℕ, ◌+◌, ◌<◌, ◌≤◌, max, length, vec_capacity, List, [], ◌∷◌, cond, map, Option, Some, None, refl, sym, ap, subst, ◌∙◌, inl, inr, arith}
 use Rattle.std.specs.List.{Contains}
+use Rattle.std.specs.Str.{bytes_eq}
+use Rattle.cb_model.specs.Views.{AreEventsOf}
+use Rattle.cb_model.specs.declared.id.ClassId.{ClassId}
+use Rattle.cb_model.specs.declared.id.EventId.{EventId}
 use Rattle.cb_model.specs.declared.id.RelId.{RelId}
 use Rattle.cb_model.specs.declared.tables.Tables.{Tables}
 use Rattle.cb_model.specs.Order.{name_cmp}
 use Rattle.cb_model.proofs.Rising.{nothing_in_empty, name_cmp_total, name_cmp_exact}
 use Rattle.cb_network.specs.Edits.{with_instance}
-use Rattle.cb_network.specs.Topology.{Topology}
+use Rattle.cb_network.specs.Topology.{Topology, IsLive as IsLiveName}
+use Rattle.cb_network.proofs.Kept.{live_of}
 use Rattle.cb_network.proofs.Sets.{got_insert}
 use Rattle.cb_net.specs.declared.id.InstanceId.{InstanceId}
 use Rattle.cb_net.specs.declared.instance.Instance.{Instance}
 use Rattle.cb_net.specs.Numbered.{slot, SetsOnly, Once, inverse_of}
-use Rattle.cb_net.specs.Places.{Entries, IsIndexed}
+use Rattle.cb_net.specs.Places.{Entries, IsIndexed, place_of}
 use Rattle.cb_net.specs.Rows.{row_of, AreApart}
-use Rattle.cb_net.specs.Shown.{topology_of, Shows, HoldsInstance, HoldsLink, HoldsMute}
+use Rattle.cb_net.specs.Shown.{topology_of, name_in, Shows, HoldsInstance, HoldsLink, HoldsMute}
 use Rattle.cb_net.specs.Slots.{head_of, Slots, At, NamedAt, Lists}
 use Rattle.cb_net.specs.Sound.{IsSound, IsTidy, StandBothWays, FitsMutes}
-use Rattle.cb_net.proofs.Placing.{told, elsewhere, stays, either}
+use Rattle.cb_net.proofs.Placing.{told, elsewhere, stays, either, indexed_more, named_only, same_id}
 use Rattle.cb_net.proofs.Showing.{AreTold, one_at, same_inside, shows_made, shown_once}
 
 -- who is listed is there
@@ -132,3 +137,44 @@ module _ (tables : Tables) (old new : Slots) (id : InstanceId) (x : Instance) (f
       shown_once new (topology_of tables new) (with_instance (topology_of tables old) x.name x.class) refl
       (shown_of tables new entries' room' after)
       (created_shows (topology_of tables old) (shown_of tables old entries room before))
+
+-- what a new instance makes of the slots
+pub record IsMade (tables : Tables) (old new : Slots) (entries entries' : Entries) (room room' : ℕ) (id : InstanceId) (name : List ℕ) (class : ClassId) : Type 0 where
+  pub named : SetsOnly (map name_in old) (map name_in new) id (Some name)
+  pub sound : IsSound tables new entries' room'
+  pub topology : topology_of tables new ≡ with_instance (topology_of tables old) name class
+
+-- a slot that was free is set, and its name is placed
+pub made : (tables : Tables) (old mid new : Slots) (entries entries' : Entries) (room room' : ℕ) (id : InstanceId) (k : ℕ) (x : Instance) (name : List ℕ)
+    → IsSound tables old entries room → mid ≡ old → slot mid id.0 ≡ None → k ≡ id.0 → slot new k ≡ Some x → ((j : ℕ) → j ≢ k → slot new j ≡ slot mid j)
+    → x.name ≡ name → ¬ IsLiveName (topology_of tables old) name
+    → x.links.rows.items ≡ [] → x.muted.items ≡ [] → FitsMutes tables (head_of x)
+    → ((q : List ℕ) → place_of entries' q ≡ cond (bytes_eq q name) (Some id.0) (place_of entries q))
+    → room' ≡ max room (id.0 + 1) → IsMade tables old new entries entries' room room' id name x.class
+made tables old mid new entries entries' room room' id k x name sound kept vacant key this others named absent bare unmuted fits finds above =
+    let free : slot old id.0 ≡ None = subst (λ (s : Slots). slot s id.0 ≡ None) kept vacant in
+    let sets : SetsOnly old new id (Some x) = record {
+      this = subst (λ i. slot new i ≡ Some x) key this;
+      others = λ j ne. others j.0 (λ e. ne (same_id j id (e ∙ key))) ∙ ap (λ (s : Slots). slot s j.0) kept;
+    } in
+    let fresh : (i : InstanceId) (y : Instance) → At old i y → y.name ≡ x.name → ⊥ = λ i y at e.
+    absent (subst (λ n. IsLiveName (topology_of tables old) n) (e ∙ named) (live_of (topology_of tables old) y.name y.class (((shown_of tables old entries room sound).instances y.name y.class).1 (record { at = i; instance = y; is = at; named = refl; of_class = refl })))) in
+    let indexed : IsIndexed new entries' = indexed_more old new id x free sets entries entries' sound.indexed fresh (λ q. finds q ∙ ap (λ n. cond (bytes_eq q n) (Some id.0) (place_of entries q)) (sym named)) in
+    let after : IsSound tables new entries' room' = created_sound tables old new id x free sets bare unmuted sound.both_ways fresh fits entries entries' room room' sound indexed above in
+    record {
+      named = named_only old new id x name sets named;
+      sound = after;
+      topology = created_topology tables old new id x free sets bare unmuted sound.both_ways fresh fits entries entries' room room' sound after
+          ∙ ap (λ n. with_instance (topology_of tables old) n x.class) named;
+    }
+
+-- an instance at which nothing is muted
+pub no_mutes : (tables : Tables) (x : Instance) (events : List EventId) → AreEventsOf tables x.class events → length events ≤ vec_capacity x.muted → x.muted.items ≡ []
+    → FitsMutes tables (head_of x)
+no_mutes tables x events are room unmuted = record {
+  events = events;
+  are = are;
+  room = room;
+  of_class = λ e has. absurd (nothing_in_empty e (subst (λ es. Contains es e) unmuted has));
+  once = nothing_twice x.muted.items unmuted;
+}
