@@ -1,5 +1,5 @@
 -- How many instances there are.
-use Rattle.std.proofs.Common.{◌≡◌, ◌≢◌, ◌+◌, ◌<◌, ℕ, zero, suc, List, [], ◌∷◌, cond, Bool, true, false, Option, Some, None, is_some, refl, sym, ap, subst, ◌∙◌, inl, inr, arith}
+use Rattle.std.proofs.Common.{◌≡◌, ◌+◌, ℕ, suc, [], ◌∷◌, cond, false, Option, Some, None, is_some, refl, sym, ap, ◌∙◌, inl, inr, arith}
 use Rattle.std.specs.List.{flat_map, count_by}
 use Rattle.std.specs.FinMap as fin_map
 use Rattle.std.proofs.lemmas.Bool.{cases_Bool}
@@ -9,11 +9,10 @@ use Rattle.cb_model.specs.declared.tables.Tables.{Tables}
 use Rattle.cb_model.specs.Order.{name_cmp}
 use Rattle.cb_model.proofs.Rising.{name_cmp_total}
 use Rattle.cb_network.proofs.Kept.{class_of}
-use Rattle.cb_network.specs.Topology.{Topology}
 use Rattle.cb_net.specs.declared.id.InstanceId.{InstanceId}
 use Rattle.cb_net.specs.declared.instance.Instance.{Instance}
 use Rattle.cb_net.specs.Shown.{entries_in, topology_of}
-use Rattle.cb_net.specs.Slots.{Slots, At, NamedAt}
+use Rattle.cb_net.specs.Slots.{Slots}
 use Rattle.cb_net.proofs.Showing.{AreTold, shows_instances}
 
 -- the slots after the first

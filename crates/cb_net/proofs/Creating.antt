@@ -1,5 +1,5 @@
 -- An instance more.
-use Rattle.std.proofs.Common.{◌≡◌, ◌≢◌, ◌⊎◌, ◌↔◌, ℕ, ◌+◌, ◌<◌, ◌≤◌, max, length, vec_capacity, List, [], ◌∷◌, cond, map, Option, Some, None, refl, sym, ap, subst, ◌∙◌, inl, inr, arith}
+use Rattle.std.proofs.Common.{◌≡◌, ◌≢◌, ◌⊎◌, ℕ, ◌+◌, ◌≤◌, max, length, vec_capacity, List, [], cond, map, Some, None, refl, sym, ap, subst, ◌∙◌, inl, inr, arith}
 use Rattle.std.specs.List.{Contains}
 use Rattle.std.specs.Str.{bytes_eq}
 use Rattle.cb_model.specs.Views.{AreEventsOf}
@@ -7,7 +7,6 @@ use Rattle.cb_model.specs.declared.id.ClassId.{ClassId}
 use Rattle.cb_model.specs.declared.id.EventId.{EventId}
 use Rattle.cb_model.specs.declared.id.RelId.{RelId}
 use Rattle.cb_model.specs.declared.tables.Tables.{Tables}
-use Rattle.cb_model.specs.Order.{name_cmp}
 use Rattle.cb_model.proofs.Rising.{nothing_in_empty, name_cmp_total, name_cmp_exact}
 use Rattle.cb_network.specs.Edits.{with_instance}
 use Rattle.cb_network.specs.Topology.{Topology, IsLive as IsLiveName}
@@ -17,12 +16,12 @@ use Rattle.cb_net.specs.declared.id.InstanceId.{InstanceId}
 use Rattle.cb_net.specs.declared.instance.Instance.{Instance}
 use Rattle.cb_net.specs.Numbered.{slot, SetsOnly, Once, inverse_of}
 use Rattle.cb_net.specs.Places.{Entries, IsIndexed, place_of}
-use Rattle.cb_net.specs.Rows.{row_of, AreApart}
-use Rattle.cb_net.specs.Shown.{topology_of, name_in, Shows, HoldsInstance, HoldsLink, HoldsMute}
-use Rattle.cb_net.specs.Slots.{head_of, Slots, At, NamedAt, Lists}
+use Rattle.cb_net.specs.Rows.{row_of}
+use Rattle.cb_net.specs.Shown.{topology_of, name_in, Shows}
+use Rattle.cb_net.specs.Slots.{head_of, Slots, At, Lists}
 use Rattle.cb_net.specs.Sound.{IsSound, IsTidy, StandBothWays, FitsMutes}
-use Rattle.cb_net.proofs.Placing.{told, elsewhere, stays, either, indexed_more, named_only, same_id}
-use Rattle.cb_net.proofs.Showing.{AreTold, one_at, same_inside, shows_made, shown_once}
+use Rattle.cb_net.proofs.Placing.{told, stays, either, indexed_more, named_only, same_id}
+use Rattle.cb_net.proofs.Showing.{one_at, shows_made, shown_once}
 
 -- who is listed is there
 pub listed_live : (tables : Tables) (slots : Slots) → StandBothWays tables slots → (i : InstanceId) (r : RelId) (j : InstanceId) → Lists slots i r j → (y : Instance) × At slots j y

@@ -1,20 +1,17 @@
 -- An instance less.
-use Rattle.std.proofs.Common.{◌≡◌, ◌≢◌, ◌↔◌, ◌⊎◌, ℕ, zero, suc, ◌<◌, List, [], ◌∷◌, map, get_or, set, not, ◌||◌, Bool, true, false, Option, Some, None, refl, sym, ap, subst, ◌∙◌, inl, inr, arith, get_or-set_same, get_or-set_other}
+use Rattle.std.proofs.Common.{◌≡◌, ◌≢◌, ℕ, zero, suc, List, [], ◌∷◌, map, set, not, ◌||◌, Bool, true, false, Option, Some, None, refl, sym, ap, subst, ◌∙◌, inl, inr, arith, get_or-set_same, get_or-set_other}
 use Rattle.std.specs.List.{Contains}
-use Rattle.std.specs.Map.{lookup, KeepsOthers}
+use Rattle.std.specs.Map.{KeepsOthers}
 use Rattle.std.specs.Str.{bytes_eq}
 use Rattle.std.specs.Global.{Global}
 use Rattle.std.specs.declared.vec.Vec.{Vec}
 use Rattle.std.proofs.lemmas.Bool.{cases_Bool}
 use Rattle.std.proofs.lemmas.Slice.Eq.{bytes_eq-Decides}
 use Rattle.cb_model.specs.declared.id.RelId.{RelId}
-use Rattle.cb_model.specs.declared.node.NodeName.{NodeName}
 use Rattle.cb_model.specs.declared.tables.Tables.{Tables}
-use Rattle.cb_model.specs.Order.{name_cmp}
-use Rattle.cb_model.specs.WellTyped.{IsRelation}
 use Rattle.cb_model.proofs.Rising.{name_cmp_total, name_cmp_exact, node_cmp_total, node_cmp_exact}
 use Rattle.cb_network.specs.Edits.{without_instance, same_name, link_of}
-use Rattle.cb_network.specs.Topology.{Topology, Link}
+use Rattle.cb_network.specs.Topology.{Topology}
 use Rattle.cb_network.proofs.Counts.{same_name_is, same_name_of}
 use Rattle.cb_network.proofs.Sets.{link_cmp_total, link_cmp_exact, got_remove, in_retain}
 use Rattle.cb_net.specs.declared.id.InstanceId.{InstanceId}
@@ -23,17 +20,17 @@ use Rattle.cb_net.specs.declared.links.Row.{Row}
 use Rattle.cb_net.specs.Forgotten.{Sheds, ForgetsAll}
 use Rattle.cb_net.specs.Joined.{AllTidy}
 use Rattle.cb_net.specs.Numbered.{Net, slot, inverse_of, name_at, name_or, without}
-use Rattle.cb_net.specs.Places.{Entries, IsIndexed, place_of}
+use Rattle.cb_net.specs.Places.{Entries, place_of}
 use Rattle.cb_net.specs.Rows.{first, items_of, row_of}
-use Rattle.cb_net.specs.Shown.{topology_of, seen, name_in, Shows, HoldsInstance, HoldsLink, HoldsMute}
+use Rattle.cb_net.specs.Shown.{topology_of, seen, name_in, Shows}
 use Rattle.cb_net.specs.Slots.{Head, head_of, Slots, At, NamedAt, Lists}
-use Rattle.cb_net.specs.Sound.{IsSound, StandBothWays, FitsMutes}
+use Rattle.cb_net.specs.Sound.{IsSound, FitsMutes}
 use Rattle.cb_net.proofs.Creating.{shown_of}
 use Rattle.cb_net.proofs.Linking.{inverse_twice, same_names}
 use Rattle.cb_net.proofs.Placing.{told, at_seen, same_id, decide_id}
 use Rattle.cb_net.proofs.Rewiring.{same_head}
 use Rattle.cb_net.proofs.RowLemmas.{first_listed}
-use Rattle.cb_net.proofs.Showing.{one_at, same_inside, shown_once, slot_within}
+use Rattle.cb_net.proofs.Showing.{one_at, shown_once, slot_within}
 
 -- neither of two names is this one
 neither : (name a b : List ℕ) → not (same_name name a || same_name name b) ≡ true → (a ≢ name) × (b ≢ name)

@@ -1,5 +1,5 @@
 -- What is gathered from a list into a set or a map.
-use Rattle.std.proofs.Common.{◌≡◌, ◌↔◌, ◌++◌, ℕ, zero, suc, List, [], ◌∷◌, cond, Bool, true, false, Option, Some, None, refl, sym, ap, subst, ◌∙◌, inl, inr, arith}
+use Rattle.std.proofs.Common.{◌≡◌, ◌↔◌, List, [], ◌∷◌, true, Some, refl, sym, ap, subst, ◌∙◌, inl, inr, arith}
 use Rattle.std.specs.List.{Contains, flat_map}
 use Rattle.std.specs.FinMap as fin_map
 use Rattle.std.specs.FinSet as set

@@ -1,10 +1,8 @@
 -- What slots show once links came or went.
-use Rattle.std.proofs.Common.{◌≡◌, ◌≢◌, ◌<◌, ◌↔◌, ◌⊎◌, ℕ, zero, suc, List, [], ◌∷◌, map, Option, Some, None, true, refl, sym, ap, subst, ◌∙◌, inl, inr, arith}
-use Rattle.std.specs.Prelude.{slice_get, length}
+use Rattle.std.proofs.Common.{◌≡◌, ◌≢◌, ◌↔◌, ℕ, List, [], ◌∷◌, map, Option, Some, None, refl, sym, ap, subst, ◌∙◌, inl, inr, arith}
 use Rattle.std.specs.FinSet as set
 use Rattle.std.specs.List.{Contains}
 use Rattle.std.proofs.lemmas.Option.{slice_get_cases, slice_get_within}
-use Rattle.cb_model.specs.declared.id.EventId.{EventId}
 use Rattle.cb_model.specs.declared.id.RelId.{RelId}
 use Rattle.cb_model.specs.declared.tables.RelRow.{RelRow}
 use Rattle.cb_model.specs.declared.tables.Tables.{Tables}
@@ -15,9 +13,9 @@ use Rattle.cb_network.proofs.Sets.{link_cmp_total, link_cmp_exact, in_insert, in
 use Rattle.cb_net.specs.declared.id.InstanceId.{InstanceId}
 use Rattle.cb_net.specs.declared.instance.Instance.{Instance}
 use Rattle.cb_net.specs.Joined.{head_in, SameHeads, SameLinks, Joins, Parts, IsJoin, AllTidy}
-use Rattle.cb_net.specs.Numbered.{Net, slot, inverse_of, inverse_in, name_at, name_or, linked, unlinked}
-use Rattle.cb_net.specs.Places.{Entries, IsIndexed, place_of}
-use Rattle.cb_net.specs.Shown.{topology_of, seen, name_in, Shows, HoldsInstance, HoldsLink, HoldsMute}
+use Rattle.cb_net.specs.Numbered.{Net, inverse_of, inverse_in, name_at, name_or, linked, unlinked}
+use Rattle.cb_net.specs.Places.{Entries, place_of}
+use Rattle.cb_net.specs.Shown.{topology_of, seen, name_in, Shows, HoldsLink}
 use Rattle.cb_net.specs.Slots.{Head, head_of, Slots, At, NamedAt, Lists}
 use Rattle.cb_net.specs.Sound.{IsSound, StandBothWays, FitsMutes}
 use Rattle.cb_net.proofs.Creating.{shown_of}
@@ -141,11 +139,11 @@ pub same_net : (old new : Slots) → SameLinks old new → (tables : Tables) (en
     → seen tables new room ≡ seen tables old room
 same_net old new same tables entries room sound =
     relinked_net old new same.heads tables entries room (topology_of tables old).links sound (same_sound old new same tables entries room sound) (λ a r b.
-        let is = (shown_of tables old entries room sound).links a r b in (
-          λ h. let g = is.0 h in
-              record { from = g.from; to = g.to; from_is = named_after old new same.heads g.from a g.from_is; to_is = named_after old new same.heads g.to b g.to_is; lists = (same.lists g.from r g.to).1 g.lists },
-          λ g. is.1 (record { from = g.from; to = g.to; from_is = named_before old new same.heads g.from a g.from_is; to_is = named_before old new same.heads g.to b g.to_is; lists = (same.lists g.from r g.to).0 g.lists }),
-        ))
+    let is = (shown_of tables old entries room sound).links a r b in (
+      λ h. let g = is.0 h in
+          record { from = g.from; to = g.to; from_is = named_after old new same.heads g.from a g.from_is; to_is = named_after old new same.heads g.to b g.to_is; lists = (same.lists g.from r g.to).1 g.lists },
+      λ g. is.1 (record { from = g.from; to = g.to; from_is = named_before old new same.heads g.from a g.from_is; to_is = named_before old new same.heads g.to b g.to_is; lists = (same.lists g.from r g.to).0 g.lists }),
+    ))
 
 -- the names of one number are one
 one_name : (slots : Slots) (i k : InstanceId) (a b : List ℕ) → i ≡ k → NamedAt slots i a → NamedAt slots k b → a ≡ b
@@ -204,20 +202,20 @@ module _ (tables : Tables) (old new : Slots) (entries : Entries) (room : ℕ) (f
         let before = named_before old new joins.heads in (
           λ h. elim (two.0 h) [
             | inl e ↦ record {
-                from = to;
-                to = from;
-                from_is = subst (NamedAt new to) (sym (ap (λ (l : Link). l.from) e)) (after to b to_is);
-                to_is = subst (NamedAt new from) (sym (ap (λ (l : Link). l.to) e)) (after from a from_is);
-                lists = (joins.lists to r from).1 (inr (inr (refl, ap (λ (l : Link). l.rel) e, refl)));
-              }
+              from = to;
+              to = from;
+              from_is = subst (NamedAt new to) (sym (ap (λ (l : Link). l.from) e)) (after to b to_is);
+              to_is = subst (NamedAt new from) (sym (ap (λ (l : Link). l.to) e)) (after from a from_is);
+              lists = (joins.lists to r from).1 (inr (inr (refl, ap (λ (l : Link). l.rel) e, refl)));
+            }
             | inr h ↦ elim (one.0 h) [
               | inl e ↦ record {
-                  from = from;
-                  to = to;
-                  from_is = subst (NamedAt new from) (sym (ap (λ (l : Link). l.from) e)) (after from a from_is);
-                  to_is = subst (NamedAt new to) (sym (ap (λ (l : Link). l.to) e)) (after to b to_is);
-                  lists = (joins.lists from r to).1 (inr (inl (refl, ap (λ (l : Link). l.rel) e, refl)));
-                }
+                from = from;
+                to = to;
+                from_is = subst (NamedAt new from) (sym (ap (λ (l : Link). l.from) e)) (after from a from_is);
+                to_is = subst (NamedAt new to) (sym (ap (λ (l : Link). l.to) e)) (after to b to_is);
+                lists = (joins.lists from r to).1 (inr (inl (refl, ap (λ (l : Link). l.rel) e, refl)));
+              }
               | inr h ↦ let g = shows.0 h in
                   record { from = g.from; to = g.to; from_is = after g.from x g.from_is; to_is = after g.to y g.to_is; lists = (joins.lists g.from r g.to).1 (inl g.lists) }
             ]

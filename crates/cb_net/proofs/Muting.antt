@@ -1,6 +1,5 @@
 -- Mutes that come and go.
-use Rattle.std.proofs.Common.{◌≡◌, ◌≢◌, ◌↔◌, ◌⊎◌, ℕ, zero, suc, ◌+◌, ◌-◌, ◌<◌, ◌≤◌, List, [], ◌∷◌, ◌++◌, length, map, set, Option, Some, None, refl, sym, ap, subst, ◌∙◌, inl, inr, arith, vec_len, vec_capacity, get_or-set_same, get_or-set_other}
-use Rattle.std.specs.Prelude.{slice_get}
+use Rattle.std.proofs.Common.{◌≡◌, ◌≢◌, ◌↔◌, ◌⊎◌, ℕ, zero, suc, ◌+◌, ◌-◌, ◌<◌, ◌≤◌, List, [], ◌∷◌, ◌++◌, length, map, set, Some, None, refl, sym, ap, subst, ◌∙◌, inl, inr, arith, vec_capacity, get_or-set_same, get_or-set_other}
 use Rattle.std.specs.FinSet as fin_set
 use Rattle.std.specs.Global.{Global}
 use Rattle.std.specs.List.{Contains, All}
@@ -8,12 +7,11 @@ use Rattle.std.specs.declared.vec.Vec.{Vec}
 use Rattle.std.proofs.lemmas.Bool.{cases_order}
 use Rattle.std.proofs.lemmas.List.{length-map, length-append}
 use Rattle.std.proofs.lemmas.List.Elements.{Contains-append_left, Contains-push, Contains-push_cases, Contains-get_or}
-use Rattle.cb_model.specs.Classes.{ancestor, parent_of_some, IsA, HasEvent}
+use Rattle.cb_model.specs.Classes.{ancestor, parent_of_some, HasEvent}
 use Rattle.cb_model.specs.declared.id.ClassId.{ClassId}
 use Rattle.cb_model.specs.declared.id.EventId.{EventId}
 use Rattle.cb_model.specs.declared.id.RelId.{RelId}
 use Rattle.cb_model.specs.declared.node.NodeName.{NodeName}
-use Rattle.cb_model.specs.declared.tables.EventRow.{EventRow}
 use Rattle.cb_model.specs.declared.tables.Tables.{Tables}
 use Rattle.cb_model.specs.NodeOrder.{node_cmp}
 use Rattle.cb_model.specs.WellTyped.{WellTyped, Member, Declares}
@@ -25,17 +23,17 @@ use Rattle.cb_network.proofs.Sets.{in_insert, in_remove}
 use Rattle.cb_net.specs.declared.id.InstanceId.{InstanceId}
 use Rattle.cb_net.specs.declared.instance.Instance.{Instance}
 use Rattle.cb_net.specs.declared.links.Links.{Links}
-use Rattle.cb_net.specs.Muted.{Remutes, GainsEvent, HasRoomToMute}
+use Rattle.cb_net.specs.Muted.{Remutes, GainsEvent}
 use Rattle.cb_net.specs.Numbered.{Net, slot, event_name, name_in_row, name_at, name_or, node_at, muted, unmuted, HasEventAt, IsMutedAt, inverse_of, Once}
 use Rattle.cb_net.specs.Places.{Entries, place_of}
 use Rattle.cb_net.specs.Rows.{Loses, row_of}
-use Rattle.cb_net.specs.Shown.{topology_of, seen, name_in, Shows, HoldsInstance, HoldsLink, HoldsMute}
+use Rattle.cb_net.specs.Shown.{topology_of, seen, name_in, Shows, HoldsMute}
 use Rattle.cb_net.specs.Slots.{Slots, At, NamedAt, Lists, head_of}
 use Rattle.cb_net.specs.Sound.{IsSound, IsTidy, FitsMutes}
 use Rattle.cb_net.proofs.Creating.{shown_of}
 use Rattle.cb_net.proofs.Placing.{told, at_seen, same_id, decide_id}
 use Rattle.cb_net.proofs.Rewiring.{once_more}
-use Rattle.cb_net.proofs.Showing.{one_at, same_inside, shown_once, slot_within}
+use Rattle.cb_net.proofs.Showing.{one_at, shown_once, slot_within}
 
 -- the ancestors of an ancestor
 further : (t : Tables) (c a : ClassId) (k n m : ℕ) → k + n ≡ m → ancestor t c n ≡ Some a → ancestor t c m ≡ ancestor t a k
@@ -76,8 +74,7 @@ remuted old id Step x m at room step =
       names = remuted_names old id.0 x y at refl;
       others = λ i ne. get_or-set_other old id.0 i.0 (Some y) None (λ e. ne (same_id i id e));
       this = λ z at_z.
-          let same : x ≡ z = one_at old id x z at at_z in
-          (
+          let same : x ≡ z = one_at old id x z at at_z in (
             m,
             subst (λ (w : Instance). At (set old id.0 (Some y)) id (record w { muted = m })) same now,
             subst (λ (w : Instance). vec_capacity m ≡ vec_capacity w.muted) same room,

@@ -1,6 +1,5 @@
 -- The numbers of names, as instances come and go.
-use Rattle.std.proofs.Common.{◌≡◌, ◌≢◌, ◌⊎◌, ◌↔◌, ℕ, zero, suc, List, [], ◌∷◌, cond, map, Bool, true, false, Option, Some, None, nat_eq, refl, sym, ap, subst, ◌∙◌, inl, inr, arith}
-use Rattle.std.specs.Map.{lookup}
+use Rattle.std.proofs.Common.{◌≡◌, ◌≢◌, ◌⊎◌, ℕ, zero, suc, List, [], ◌∷◌, cond, map, true, Option, Some, None, refl, sym, ap, subst, ◌∙◌, inl, inr}
 use Rattle.std.specs.Str.{bytes_eq}
 use Rattle.std.proofs.lemmas.Bool.{cases_Bool}
 use Rattle.std.proofs.lemmas.Slice.Eq.{bytes_eq-Decides}
@@ -11,7 +10,7 @@ use Rattle.cb_net.specs.Numbered.{slot, SetsOnly}
 use Rattle.cb_net.specs.Places.{Entries, place_of, IsIndexed}
 use Rattle.cb_net.specs.Shown.{name_in}
 use Rattle.cb_net.specs.Slots.{Slots, At, NamedAt}
-use Rattle.cb_net.proofs.Showing.{AreTold, one_at, same_inside}
+use Rattle.cb_net.proofs.Showing.{AreTold, same_inside}
 
 pub same_id : (i j : InstanceId) → i.0 ≡ j.0 → i ≡ j
 same_id i j e = λ k. record { 0 = e k }

@@ -1,5 +1,5 @@
 -- What is read from a net.
-use Rattle.std.proofs.Common.{◌≡◌, ◌↔◌, ℕ, List, map, Option, Some, None, IsSome, refl, sym, ap, subst, ◌∙◌, inl, inr}
+use Rattle.std.proofs.Common.{◌≡◌, ◌↔◌, ℕ, List, Some, None, IsSome, refl, sym, ap, subst, ◌∙◌}
 use Rattle.std.specs.List.{Contains}
 use Rattle.cb_model.specs.declared.id.RelId.{RelId}
 use Rattle.cb_model.specs.declared.tables.Tables.{Tables}
@@ -8,16 +8,16 @@ use Rattle.cb_network.proofs.Kept.{class_of, live_of}
 use Rattle.cb_net.specs.declared.id.InstanceId.{InstanceId}
 use Rattle.cb_net.specs.declared.instance.Instance.{Instance}
 use Rattle.cb_net.specs.Numbered.{Net, slot, IsLive, LinkAt, IsWhole, inverse_of}
-use Rattle.cb_net.specs.Places.{Entries, IsIndexed, place_of}
+use Rattle.cb_net.specs.Places.{Entries, place_of}
 use Rattle.cb_net.specs.Rows.{row_of}
-use Rattle.cb_net.specs.Shown.{topology_of, seen, name_in, Shows}
+use Rattle.cb_net.specs.Shown.{topology_of, seen, Shows}
 use Rattle.cb_net.specs.Slots.{Slots, At, NamedAt, Lists}
 use Rattle.cb_net.specs.Sound.{IsSound}
 use Rattle.cb_net.proofs.Creating.{listed_live, shown_of}
 use Rattle.cb_model.specs.WellTyped.{IsRelation}
 use Rattle.cb_net.proofs.Linking.{inverse_twice}
 use Rattle.cb_net.proofs.Placing.{told, seen_at, at_seen}
-use Rattle.cb_net.proofs.Showing.{one_at, same_inside}
+use Rattle.cb_net.proofs.Showing.{one_at}
 
 pub occupied : (slots : Slots) (i : InstanceId) (name : List ℕ) → NamedAt slots i name → IsSome (slot slots i.0)
 occupied slots i name (x, at, is) = subst IsSome (sym at) refl

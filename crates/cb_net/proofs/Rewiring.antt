@@ -7,11 +7,10 @@ use Rattle.cb_model.specs.declared.id.RelId.{RelId}
 use Rattle.cb_network.proofs.Decided.{Decision, decide_number, decide_same, decide_both}
 use Rattle.cb_net.specs.declared.id.InstanceId.{InstanceId}
 use Rattle.cb_net.specs.declared.instance.Instance.{Instance}
-use Rattle.cb_net.specs.declared.links.Row.{Row}
 use Rattle.cb_net.specs.Joined.{head_in, SameHeads, Rewires, Stays, Gains, HasRoomAt, AllTidy, SameLinks}
 use Rattle.cb_net.specs.Numbered.{slot, Once}
-use Rattle.cb_net.specs.Rows.{first, items_of, row_of, HasRoom, Puts, Loses}
-use Rattle.cb_net.specs.Slots.{Head, head_of, Slots, At, Lists}
+use Rattle.cb_net.specs.Rows.{first, items_of, row_of, Puts, Loses}
+use Rattle.cb_net.specs.Slots.{head_of, Slots, At, Lists}
 use Rattle.cb_net.specs.Sound.{IsTidy}
 use Rattle.cb_net.proofs.Placing.{decide_id}
 use Rattle.cb_net.proofs.Showing.{one_at, same_inside, slot_within}
@@ -49,8 +48,7 @@ rewired old at rel Step x y is head puts step = record {
   this = λ z at_z.
       let same : x ≡ z = one_at old at x z is at_z in
       let P : Instance → Type 0 = λ w. (y : Instance) × At (set old at.0 (Some y)) at y × Puts w.links.rows.items y.links.rows.items rel (row_of y.links.rows.items rel) × Step (row_of w.links.rows.items rel) (row_of y.links.rows.items rel) in
-      let now : At (set old at.0 (Some y)) at y = get_or-set_same old at.0 (Some y) None (slot_within old at.0 x is) in
-      (
+      let now : At (set old at.0 (Some y)) at y = get_or-set_same old at.0 (Some y) None (slot_within old at.0 x is) in (
         y,
         now,
         subst (λ (w : Instance). Puts w.links.rows.items y.links.rows.items rel (row_of y.links.rows.items rel)) same puts,

@@ -1,5 +1,5 @@
 -- Slots show one topology, the one that is made of them.
-use Rattle.std.proofs.Common.{◌≡◌, ◌≢◌, ◌⊎◌, ◌↔◌, ℕ, zero, suc, ◌<◌, List, [], ◌∷◌, length, map, get_or, Bool, true, false, Option, Some, None, refl, sym, ap, subst, ◌∙◌, inl, inr, arith}
+use Rattle.std.proofs.Common.{◌≡◌, ◌↔◌, ℕ, zero, suc, ◌<◌, List, [], ◌∷◌, length, map, Bool, true, false, Option, Some, None, refl, sym, ap, subst, ◌∙◌, inl, inr, arith}
 use Rattle.std.specs.List.{Contains, flat_map}
 use Rattle.std.specs.FinMap as fin_map
 use Rattle.std.specs.FinSet as set
@@ -13,7 +13,7 @@ use Rattle.cb_model.specs.declared.tables.Tables.{Tables}
 use Rattle.cb_model.specs.Order.{name_cmp}
 use Rattle.cb_model.specs.NodeOrder.{node_cmp}
 use Rattle.cb_model.proofs.Rising.{contains_cases, contains_head, contains_tail, nothing_in_empty, name_cmp_total, name_cmp_exact, node_cmp_total, node_cmp_exact}
-use Rattle.cb_network.specs.Topology.{Topology, Link, link_cmp, IsOf, HasLink, IsMuted}
+use Rattle.cb_network.specs.Topology.{Topology, Link, link_cmp}
 use Rattle.cb_network.specs.Edits.{link_of, node_of}
 use Rattle.cb_network.proofs.Sets.{link_cmp_total, link_cmp_exact}
 use Rattle.cb_net.specs.declared.id.InstanceId.{InstanceId}
@@ -21,7 +21,7 @@ use Rattle.cb_net.specs.declared.instance.Instance.{Instance}
 use Rattle.cb_net.specs.declared.links.Row.{Row}
 use Rattle.cb_net.specs.Numbered.{slot, event_name}
 use Rattle.cb_net.specs.Rows.{first, row_of, items_of, AreApart}
-use Rattle.cb_net.specs.Slots.{Slots, At, NamedAt, Lists}
+use Rattle.cb_net.specs.Slots.{Slots, At, NamedAt}
 use Rattle.cb_net.specs.Shown.{entries_in, links_in, links_by, links_to, mutes_in, topology_of, HoldsInstance, HoldsLink, HoldsMute, Shows}
 use Rattle.cb_net.proofs.Gathered.{from_flat, to_flat, only, in_set, in_map}
 use Rattle.cb_net.proofs.RowLemmas.{own_row, first_listed}

@@ -1,5 +1,5 @@
 -- Slots in which an instance is listed no more.
-use Rattle.std.specs.Prelude.{◌≢◌, ℕ, ◌<◌, List, take}
+use Rattle.std.specs.Prelude.{◌≢◌, List}
 use Rattle.std.specs.List.{Contains}
 use Rattle.cb_model.specs.declared.id.RelId.{RelId}
 use Rattle.cb_model.specs.declared.tables.Tables.{Tables}

@@ -1,15 +1,10 @@
 -- Slots in which links come and go.
-use Rattle.std.specs.Prelude.{◌≡◌, ◌≢◌, ◌↔◌, ◌⊎◌, ◌∷◌, ◌++◌, [], ℕ, List, Option, Some, None, map}
-use Rattle.std.specs.Global.{Global}
-use Rattle.std.specs.declared.vec.Vec.{Vec}
-use Rattle.cb_model.specs.declared.id.ClassId.{ClassId}
-use Rattle.cb_model.specs.declared.id.EventId.{EventId}
+use Rattle.std.specs.Prelude.{◌≡◌, ◌≢◌, ◌↔◌, ◌⊎◌, ◌∷◌, ◌++◌, [], List, Option, Some, None, map}
 use Rattle.cb_model.specs.declared.id.RelId.{RelId}
 use Rattle.cb_net.specs.declared.id.InstanceId.{InstanceId}
 use Rattle.cb_net.specs.declared.instance.Instance.{Instance}
-use Rattle.cb_net.specs.declared.links.Row.{Row}
 use Rattle.cb_net.specs.Numbered.{slot}
-use Rattle.cb_net.specs.Rows.{row_of, HasRoom, Puts, Loses}
+use Rattle.cb_net.specs.Rows.{row_of, HasRoom, Puts}
 use Rattle.cb_net.specs.Slots.{Head, head_of, Slots, At, Lists}
 use Rattle.cb_net.specs.Sound.{IsTidy}
 

@@ -1,8 +1,6 @@
 -- A topology whose instances have numbers.
-use Rattle.std.specs.Prelude.{◌≡◌, ◌≢◌, ℕ, List, [], Option, Some, None, refl, slice_index_or, slice_get, slice_set}
+use Rattle.std.specs.Prelude.{◌≡◌, ◌≢◌, ℕ, List, [], Option, Some, None, slice_index_or, slice_get, slice_set}
 use Rattle.std.specs.List.{AllPairs}
-use Rattle.std.specs.FinMap as map
-use Rattle.std.specs.FinSet as set
 use Rattle.cb_model.specs.Classes.{HasEvent}
 use Rattle.cb_model.specs.declared.id.ClassId.{ClassId}
 use Rattle.cb_model.specs.declared.id.EventId.{EventId}

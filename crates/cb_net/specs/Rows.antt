@@ -1,5 +1,5 @@
 -- The rows of an instance's links.
-use Rattle.std.specs.Prelude.{◌≡◌, ◌≢◌, ℕ, zero, suc, ◌<◌, List, [], ◌∷◌, Option, Some, None, cond, true, false, nat_eq, slice_get, vec_len, vec_capacity, ◌↔◌}
+use Rattle.std.specs.Prelude.{◌≡◌, ◌≢◌, ℕ, zero, suc, ◌<◌, List, [], ◌∷◌, Option, Some, None, cond, true, false, nat_eq, vec_len, vec_capacity, ◌↔◌}
 use Rattle.std.specs.List.{Contains}
 use Rattle.cb_net.specs.Numbered.{Once}
 use Rattle.cb_model.specs.declared.id.RelId.{RelId}

@@ -1,11 +1,10 @@
 -- What holds of the slots of a net.
-use Rattle.std.specs.Prelude.{◌≡◌, ℕ, ◌<◌, ◌≤◌, length, vec_capacity, List, Option, Some, None, slice_get}
+use Rattle.std.specs.Prelude.{ℕ, ◌<◌, ◌≤◌, length, vec_capacity, List}
 use Rattle.std.specs.List.{Contains}
 use Rattle.cb_model.specs.Classes.{HasEvent}
 use Rattle.cb_model.specs.Views.{AreEventsOf}
 use Rattle.cb_model.specs.declared.id.EventId.{EventId}
 use Rattle.cb_model.specs.declared.id.RelId.{RelId}
-use Rattle.cb_model.specs.declared.tables.RelRow.{RelRow}
 use Rattle.cb_model.specs.declared.tables.Tables.{Tables}
 use Rattle.cb_model.specs.WellTyped.{WellTyped, IsRelation}
 use Rattle.cb_net.specs.declared.id.InstanceId.{InstanceId}

@@ -33,7 +33,13 @@ pub fn forget(model: &Model, slots: &mut Slab<Instance>, id: InstanceId, links: 
 }
 
 // Those of one row.
-fn forget_row(model: &Model, slots: &mut Slab<Instance>, id: InstanceId, rel: RelId, list: &[InstanceId])
+fn forget_row(
+    model: &Model,
+    slots: &mut Slab<Instance>,
+    id: InstanceId,
+    rel: RelId,
+    list: &[InstanceId],
+)
     requires { (at : Id) → Contains list.now at → IsRelation model.now rel }
     ensures { ForgetsRow slots.old.slots slots.new.slots id (inverse_of model.now rel) list.now }
 {

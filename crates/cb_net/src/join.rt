@@ -55,7 +55,12 @@ pub fn take_away(slots: &mut Slab<Instance>, at: InstanceId, rel: RelId, to: Ins
     }
 }
 
-fn reserve(alloc: Global, slots: &mut Slab<Instance>, at: InstanceId, rel: RelId) -> Result<(), AllocError>
+fn reserve(
+    alloc: Global,
+    slots: &mut Slab<Instance>,
+    at: InstanceId,
+    rel: RelId,
+) -> Result<(), AllocError>
     ensures same { Rewires slots.old.slots slots.new.slots at rel Stays }
     ensures room { OnOk result (HasRoomAt slots.new.slots at rel) }
 {

@@ -139,7 +139,12 @@ impl Net {
     }
 
     /// A new instance, under a number that was free.
-    pub fn create(&mut self, alloc: Global, name: &[u8], class: ClassId) -> Result<InstanceId, AllocError>
+    pub fn create(
+        &mut self,
+        alloc: Global,
+        name: &[u8],
+        class: ClassId,
+    ) -> Result<InstanceId, AllocError>
         requires class { IsClass self.old.topology.model class }
         requires absent { ¬ IsLiveName self.old.topology name.now }
         ensures free { IfOk result (IsFree self.old) }
@@ -165,7 +170,13 @@ impl Net {
     }
 
     /// Adds the link and its inverse. A link that is its own inverse is added once.
-    pub fn link(&mut self, alloc: Global, from: InstanceId, rel: RelId, to: InstanceId) -> Result<(), AllocError>
+    pub fn link(
+        &mut self,
+        alloc: Global,
+        from: InstanceId,
+        rel: RelId,
+        to: InstanceId,
+    ) -> Result<(), AllocError>
         requires from { IsLive self.old from }
         requires to { IsLive self.old to }
         requires rel { IsRelation self.old.topology.model rel }

@@ -1,8 +1,7 @@
-use Rattle.std.proofs.Common.{◌≡◌, ◌<◌, ◌+◌, ◌++◌, ◌∷◌, [], List, length, take, sym, subst, get_or, ◌∙◌, ap}
+use Rattle.std.proofs.Common.{◌≡◌, ◌<◌, ◌+◌, ◌++◌, ◌∷◌, [], length, take, sym, subst, get_or, ◌∙◌, ap}
 use Rattle.std.specs.List.{Contains}
 use Rattle.std.proofs.lemmas.List.{take_more}
 use Rattle.std.proofs.lemmas.List.Elements.{Contains-get_or}
-use Rattle.cb_net.specs.declared.links.Row.{Row}
 use Rattle.cb_net.specs.Forgotten.{ForgetsRow, ForgetsAll}
 use Rattle.cb_net.specs.Numbered.{inverse_of}
 use Rattle.cb_net.proofs.Forgetting.{forgets_row}

@@ -1,4 +1,4 @@
-use Rattle.std.proofs.Common.{◌≡◌, take, sym, subst, get_or}
+use Rattle.std.proofs.Common.{sym, subst, get_or}
 use Rattle.std.proofs.lemmas.List.{take_more}
 use Rattle.std.proofs.lemmas.List.Elements.{Contains-get_or}
 use Rattle.cb_net.specs.declared.id.InstanceId.{InstanceId}
@@ -6,7 +6,7 @@ use Rattle.cb_net.specs.Forgotten.{ForgetsRow}
 use Rattle.cb_net.specs.Joined.{Rewires}
 use Rattle.cb_net.specs.Numbered.{inverse_of}
 use Rattle.cb_net.specs.Rows.{Loses}
-use Rattle.cb_net.proofs.Forgetting.{forgets_one, forgets_none}
+use Rattle.cb_net.proofs.Forgetting.{forgets_one}
 use Rattle.cb_net.proofs.forget.forget_row.Goals as goal
 
 pub inverse-back-requires : goal.inverse-back-requires

@@ -1,6 +1,5 @@
-use Rattle.std.proofs.Common.{◌≡◌, sym, ◌∙◌, subst}
-use Rattle.cb_net.specs.Joined.{Stays, Gains, HasRoomAt, SameLinks}
-use Rattle.cb_net.specs.Slots.{At}
+use Rattle.std.proofs.Common.{◌≡◌, sym, ◌∙◌}
+use Rattle.cb_net.specs.Joined.{Stays, Gains}
 use Rattle.cb_net.proofs.Joining.{joins_once, joins_twice, remains, same_twice}
 use Rattle.cb_net.proofs.Losing.{item_of, other_item}
 use Rattle.cb_net.proofs.Rewiring.{stays_links, room_elsewhere}

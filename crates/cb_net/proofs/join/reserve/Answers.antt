@@ -1,7 +1,7 @@
-use Rattle.std.proofs.Common.{◌≡◌, Some, None, set, sym, refl, subst, ap, ◌∙◌, get_or-set_same}
+use Rattle.std.proofs.Common.{◌≡◌, Some, None, set, sym, refl, subst, ◌∙◌, get_or-set_same}
 use Rattle.cb_net.specs.declared.instance.Instance.{Instance}
 use Rattle.cb_net.specs.Joined.{Stays, HasRoomAt}
-use Rattle.cb_net.specs.Rows.{Puts, row_of, HasRoom}
+use Rattle.cb_net.specs.Rows.{Puts, HasRoom}
 use Rattle.cb_net.specs.Slots.{At}
 use Rattle.cb_net.proofs.RowLemmas.{on_ok}
 use Rattle.cb_net.proofs.Rewiring.{rewired, rewired_none}

@@ -1,4 +1,4 @@
-use Rattle.std.proofs.Common.{◌≡◌, ◌≢◌, ◌<◌, ◌+◌, ℕ, get_or, false, nat_eq, sym, ◌∙◌, ap, subst, arith, inl, inr, Some}
+use Rattle.std.proofs.Common.{get_or, sym, ◌∙◌, ap, arith, inl, inr, Some}
 use Rattle.std.proofs.lemmas.List.{get_or_default}
 use Rattle.std.proofs.lemmas.Option.{slice_get-get_or}
 use Rattle.cb_network.proofs.Decided.{decide_number}

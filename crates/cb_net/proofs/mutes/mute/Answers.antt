@@ -1,6 +1,6 @@
 use Rattle.std.proofs.Common.{sym}
 use Rattle.cb_net.specs.Muted.{GainsEvent}
-use Rattle.cb_net.proofs.Muting.{remuted, remuted_none, event_told, room_to_mute}
+use Rattle.cb_net.proofs.Muting.{remuted, remuted_none}
 use Rattle.cb_net.proofs.mutes.mute.Goals as goal
 
 pub push_reserved-requires : goal.push_reserved-requires

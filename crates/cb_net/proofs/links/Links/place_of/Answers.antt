@@ -1,4 +1,4 @@
-use Rattle.std.proofs.Common.{◌≡◌, ◌<◌, ap, arith, sym, ◌∙◌, true, false, nat_eq, slice_get, Some, length}
+use Rattle.std.proofs.Common.{◌≡◌, ap, arith, sym, ◌∙◌, true, nat_eq, length}
 use Rattle.cb_model.proofs.Numbers.{read_at}
 use Rattle.cb_net.proofs.RowLemmas.{first_found, none_before_more, none_found}
 use Rattle.cb_net.proofs.links.Links.place_of.Goals as goal

@@ -1,9 +1,8 @@
-use Rattle.std.proofs.Common.{◌≡◌, ◌<◌, Some, sym, ap, subst, ◌∙◌, arith}
+use Rattle.std.proofs.Common.{◌≡◌, sym, ap, subst, arith}
 use Rattle.std.specs.Prelude.{slice_set}
 use Rattle.cb_net.specs.declared.links.Row.{Row}
-use Rattle.cb_net.specs.Rows.{items_of, Puts, first, row_of, Removes, Loses}
-use Rattle.cb_net.proofs.Losing.{loses_none}
-use Rattle.cb_net.proofs.RowLemmas.{first_is, row_read, row_rel, place_within, set_puts, keeps_puts}
+use Rattle.cb_net.specs.Rows.{items_of, Puts, row_of, Loses}
+use Rattle.cb_net.proofs.RowLemmas.{first_is, row_read, row_rel, place_within, set_puts}
 use Rattle.cb_net.proofs.links.Links.remove.Goals as goal
 
 pub index_mut-requires : goal.index_mut-requires

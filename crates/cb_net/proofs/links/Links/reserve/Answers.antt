@@ -1,5 +1,5 @@
-use Rattle.std.proofs.Common.{◌≡◌, ◌<◌, ◌≤◌, ◌+◌, ◌++◌, ◌∷◌, [], length, Some, Ok, Err, sym, ap, subst, ◌∙◌, arith, refl, vec_len, vec_capacity}
-use Rattle.std.specs.Prelude.{slice_set, OnOk, Result}
+use Rattle.std.proofs.Common.{◌≡◌, ◌≤◌, ◌+◌, ◌++◌, ◌∷◌, [], sym, ap, subst, ◌∙◌, arith, vec_len, vec_capacity}
+use Rattle.std.specs.Prelude.{slice_set}
 use Rattle.cb_net.specs.declared.links.Row.{Row}
 use Rattle.cb_net.specs.Rows.{items_of, Puts, first, HasRoom}
 use Rattle.cb_net.proofs.RowLemmas.{on_ok, first_is, row_read, row_rel, place_within, set_puts, set_first, push_puts, push_this}

@@ -1,4 +1,4 @@
-use Rattle.std.proofs.Common.{◌≡◌, ◌<◌, length, Some, sym, ap, ◌∙◌, arith}
+use Rattle.std.proofs.Common.{sym, ap, ◌∙◌, arith}
 use Rattle.cb_net.specs.Rows.{items_of}
 use Rattle.cb_net.proofs.RowLemmas.{first_is, row_read, place_within}
 use Rattle.cb_net.proofs.links.Links.to.Goals as goal

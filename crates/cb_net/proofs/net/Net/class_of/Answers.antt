@@ -1,4 +1,4 @@
-use Rattle.std.proofs.Common.{◌≡◌, List, ℕ, sym, subst}
+use Rattle.std.proofs.Common.{sym, subst}
 use Rattle.cb_network.specs.Topology.{IsOf}
 use Rattle.cb_net.specs.Numbered.{Net, IsNamed}
 use Rattle.cb_net.proofs.Placing.{seen_at}

@@ -1,4 +1,4 @@
-use Rattle.std.proofs.Common.{◌≡◌, sym, subst, ◌∙◌, ap}
+use Rattle.std.proofs.Common.{sym, ◌∙◌, ap}
 use Rattle.std.specs.FinMap as fin_map
 use Rattle.cb_net.specs.Numbered.{Net}
 use Rattle.cb_net.proofs.Counting.{counted}

@@ -1,6 +1,4 @@
-use Rattle.std.proofs.Common.{◌≡◌, ◌≤◌, ℕ, List, length, vec_capacity, cond, map, max, ◌+◌, Some, [], sym, ◌∙◌, ap, subst, arith, refl, rules}
-use Rattle.std.specs.Global.{Global}
-use Rattle.std.specs.declared.vec.Vec.{Vec}
+use Rattle.std.proofs.Common.{◌≡◌, ℕ, List, cond, map, max, ◌+◌, Some, sym, ◌∙◌, ap, subst, arith, refl, rules}
 use Rattle.std.specs.Str.{bytes_eq}
 use Rattle.cb_model.specs.WellTyped.{IsClass}
 use Rattle.cb_model.proofs.NameLemmas.{lookup-insert_entry}
@@ -10,10 +8,8 @@ use Rattle.cb_net.specs.declared.id.InstanceId.{InstanceId}
 use Rattle.cb_net.specs.declared.instance.Instance.{Instance}
 use Rattle.cb_net.specs.Numbered.{Net, SetsOnly}
 use Rattle.cb_net.specs.Places.{place_of}
-use Rattle.cb_net.specs.Shown.{name_in, topology_of, seen}
-use Rattle.cb_net.specs.Sound.{FitsMutes}
-use Rattle.cb_net.specs.Slots.{head_of}
-use Rattle.cb_net.proofs.Creating.{IsMade, made, no_mutes}
+use Rattle.cb_net.specs.Shown.{name_in}
+use Rattle.cb_net.proofs.Creating.{made, no_mutes}
 use Rattle.cb_net.proofs.net.Net.create.Goals as goal
 
 pub events_of-requires : goal.events_of-requires

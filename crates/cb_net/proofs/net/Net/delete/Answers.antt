@@ -1,12 +1,9 @@
-use Rattle.std.proofs.Common.{◌≡◌, ◌≢◌, ℕ, List, None, set, refl, sym, subst, ap, ◌∙◌}
-use Rattle.std.specs.Str.{bytes_eq}
-use Rattle.std.specs.Map.{lookup, KeepsOthers}
+use Rattle.std.proofs.Common.{◌≡◌, ◌≢◌, ℕ, List, None, refl, subst, ap, ◌∙◌}
 use Rattle.cb_net.specs.Forgotten.{ForgetsAll}
 use Rattle.cb_net.specs.Numbered.{without}
 use Rattle.cb_net.specs.Places.{place_of}
 use Rattle.cb_net.proofs.Deleting.{deleted_sound, deleted_net, other_places}
 use Rattle.cb_net.proofs.Forgetting.{rows_of_tables}
-use Rattle.cb_net.proofs.Reading.{live_at, occupied}
 use Rattle.cb_net.proofs.net.Net.delete.Goals as goal
 
 pub forget-requires : goal.forget-requires

@@ -1,4 +1,4 @@
-use Rattle.std.proofs.Common.{◌≡◌, ◌↔◌, sym, subst}
+use Rattle.std.proofs.Common.{◌↔◌, sym, subst}
 use Rattle.cb_model.specs.WellTyped.{IsRelation}
 use Rattle.cb_net.specs.Numbered.{Net, LinkAt}
 use Rattle.cb_net.proofs.Reading.{listed_back}

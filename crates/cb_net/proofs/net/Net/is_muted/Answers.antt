@@ -1,4 +1,4 @@
-use Rattle.std.proofs.Common.{◌≡◌, ◌↔◌, sym, subst}
+use Rattle.std.proofs.Common.{sym, subst}
 use Rattle.std.specs.List.{Contains}
 use Rattle.cb_net.specs.Numbered.{Net, IsNamed}
 use Rattle.cb_net.proofs.Muting.{class_has, muted_at}

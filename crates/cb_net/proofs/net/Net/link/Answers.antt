@@ -1,6 +1,6 @@
-use Rattle.std.proofs.Common.{◌≡◌, sym, subst, ◌∙◌, ap}
+use Rattle.std.proofs.Common.{sym, subst, ◌∙◌, ap}
 use Rattle.cb_model.specs.WellTyped.{IsRelation}
-use Rattle.cb_net.specs.Numbered.{Net, inverse_of, linked}
+use Rattle.cb_net.specs.Numbered.{Net, linked}
 use Rattle.cb_net.proofs.Linking.{joined_sound, joined_net, same_sound, same_net}
 use Rattle.cb_net.proofs.Reading.{live_at, not_listed}
 use Rattle.cb_net.proofs.RowLemmas.{on_err}

@@ -1,4 +1,4 @@
-use Rattle.std.proofs.Common.{◌≡◌, ◌↔◌, List, sym, subst}
+use Rattle.std.proofs.Common.{◌↔◌, List, sym, subst}
 use Rattle.std.specs.List.{Contains}
 use Rattle.cb_net.specs.declared.id.InstanceId.{InstanceId}
 use Rattle.cb_net.specs.Numbered.{Net, IsNamed, LinkAt, Once}

@@ -1,9 +1,8 @@
-use Rattle.std.proofs.Common.{◌≡◌, ◌<◌, sym, subst, ◌∙◌, ap, arith}
+use Rattle.std.proofs.Common.{◌∙◌, ap, arith}
 use Rattle.std.specs.List.{Contains}
 use Rattle.cb_net.specs.Numbered.{muted}
 use Rattle.cb_net.proofs.Muting.{gained_sound, gained_net, class_has, muted_at, room_to_mute}
 use Rattle.cb_net.proofs.Reading.{live_at}
-use Rattle.cb_net.proofs.Showing.{one_at}
 use Rattle.cb_net.proofs.net.Net.mute.Goals as goal
 
 pub mute-requires : goal.mute-requires

@@ -1,6 +1,5 @@
-use Rattle.std.proofs.Common.{◌≡◌, Some, sym, subst, refl, ◌∙◌, ap, map}
-use Rattle.cb_net.specs.Numbered.{Net, slot, IsNamed}
-use Rattle.cb_net.specs.Shown.{name_in}
+use Rattle.std.proofs.Common.{sym, subst}
+use Rattle.cb_net.specs.Numbered.{Net, IsNamed}
 use Rattle.cb_net.proofs.Placing.{at_seen, seen_at}
 use Rattle.cb_net.proofs.Reading.{occupied}
 use Rattle.cb_net.proofs.net.Net.name_of.Goals as goal

@@ -1,4 +1,4 @@
-use Rattle.std.proofs.Common.{◌≡◌, ◌<◌, sym, subst}
+use Rattle.std.proofs.Common.{sym, subst}
 use Rattle.cb_net.specs.Numbered.{Net, IsNamed}
 use Rattle.cb_net.proofs.Placing.{seen_at}
 use Rattle.cb_net.proofs.net.Net.room.Goals as goal

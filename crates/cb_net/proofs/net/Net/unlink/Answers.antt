@@ -1,6 +1,6 @@
-use Rattle.std.proofs.Common.{◌≡◌, sym, subst, ◌∙◌, ap}
+use Rattle.std.proofs.Common.{sym, subst, ◌∙◌, ap}
 use Rattle.cb_model.specs.WellTyped.{IsRelation}
-use Rattle.cb_net.specs.Numbered.{Net, inverse_of, unlinked}
+use Rattle.cb_net.specs.Numbered.{Net, unlinked}
 use Rattle.cb_net.proofs.Linking.{parted_sound, parted_net}
 use Rattle.cb_net.proofs.Reading.{live_at}
 use Rattle.cb_net.proofs.net.Net.unlink.Goals as goal

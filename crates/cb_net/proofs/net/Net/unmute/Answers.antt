@@ -1,4 +1,4 @@
-use Rattle.std.proofs.Common.{◌≡◌, sym, subst, ◌∙◌, ap}
+use Rattle.std.proofs.Common.{◌∙◌, ap}
 use Rattle.cb_net.specs.Numbered.{unmuted}
 use Rattle.cb_net.proofs.Muting.{lost_sound, lost_net, class_has}
 use Rattle.cb_net.proofs.Reading.{live_at}
