@@ -2,12 +2,11 @@
 ghost use Rattle.std.specs.Prelude.{◌≡◌, ◌<◌, ◌+◌, ◌↔◌, ℕ, List, max, IfOk, OnOk, OnErr, IfSome, IfNone, IsTrue, Some, None};
 ghost use Rattle.std.specs.FinMap as fin_map;
 ghost use Rattle.std.specs.List.{Contains};
-ghost use Rattle.cb_model.specs.declared.tables.Tables.{Tables};
 ghost use Rattle.cb_model.specs.WellTyped.{IsClass, IsRelation};
 ghost use Rattle.cb_network.specs.Topology.{IsLive as IsLiveName, IsOf};
 ghost use Rattle.cb_network.specs.Edits.{with_instance};
 ghost use Rattle.cb_net.specs.declared.id.InstanceId.{InstanceId as Id};
-ghost use Rattle.cb_net.specs.Numbered.{Net as Numbered, empty_net, IsNamed, IsLive, IsFree, LinkAt, SetsOnly, Once, inverse_of, linked, unlinked, without, muted, unmuted, HasEventAt, IsMutedAt, IsWhole};
+ghost use Rattle.cb_net.specs.Numbered.{empty_net, IsNamed, IsLive, IsFree, LinkAt, SetsOnly, Once, inverse_of, linked, unlinked, without, muted, unmuted, HasEventAt, IsMutedAt, IsWhole};
 
 use crate::forget::{forget, inverse};
 use crate::id::InstanceId;
