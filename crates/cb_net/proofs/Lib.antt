@@ -1,0 +1,14 @@
+pub mod RowLemmas
+pub mod Gathered
+pub mod Showing
+pub mod Placing
+pub mod Creating
+pub mod Reading
+pub mod Losing
+pub mod Rewiring
+pub mod Joining
+pub mod Linking
+pub mod Forgetting
+pub mod Deleting
+pub mod Muting
+pub mod Counting

@@ -1,0 +1,10 @@
+pub mod Numbered
+pub mod Rows
+pub mod Codes
+pub mod Slots
+pub mod Shown
+pub mod Places
+pub mod Sound
+pub mod Joined
+pub mod Forgotten
+pub mod Muted

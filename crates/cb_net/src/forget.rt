@@ -1,0 +1,50 @@
+//! The links that lead to an instance which is gone.
+ghost use Rattle.std.specs.Prelude.{◌≡◌};
+ghost use Rattle.std.specs.List.{Contains};
+ghost use Rattle.cb_model.specs.WellTyped.{IsRelation};
+ghost use Rattle.cb_net.specs.declared.id.InstanceId.{InstanceId as Id};
+ghost use Rattle.cb_net.specs.declared.links.Row.{Row as TheRow};
+ghost use Rattle.cb_net.specs.Forgotten.{ForgetsRow, ForgetsAll};
+ghost use Rattle.cb_net.specs.Numbered.{inverse_of};
+
+use crate::id::InstanceId;
+use crate::instance::Instance;
+use crate::join::take_away;
+use crate::links::Links;
+use cb_model::{Model, RelId};
+use slab::Slab;
+
+/// The inverse of the relation.
+pub fn inverse(model: &Model, rel: RelId) -> RelId
+    requires { IsRelation model.now rel }
+    ensures { result ≡ inverse_of model.now rel }
+{
+    model.tables().relations.at(rel.0 as usize).inverse
+}
+
+/// Those that were listed by an instance list it no more.
+pub fn forget(model: &Model, slots: &mut Slab<Instance>, id: InstanceId, links: &Links)
+    requires { (row : TheRow) (at : Id) → Contains links.now.rows.items row → Contains row.to.items at → IsRelation model.now row.rel }
+    ensures { ForgetsAll model.now slots.old.slots slots.new.slots id links.now.rows.items }
+{
+    for row in &links.rows {
+        forget_row(model, slots, id, row.rel, &row.to);
+    }
+}
+
+// Those of one row.
+fn forget_row(
+    model: &Model,
+    slots: &mut Slab<Instance>,
+    id: InstanceId,
+    rel: RelId,
+    list: &[InstanceId],
+)
+    requires { (at : Id) → Contains list.now at → IsRelation model.now rel }
+    ensures { ForgetsRow slots.old.slots slots.new.slots id (inverse_of model.now rel) list.now }
+{
+    for at in list {
+        let back = inverse(model, rel);
+        take_away(slots, *at, back, id);
+    }
+}
