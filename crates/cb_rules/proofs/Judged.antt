@@ -12,7 +12,9 @@ use Rattle.cb_rules.specs.Rules.{IsNoClass, Owns, HasNoParent, IsTooDeep, IsSeco
 use Rattle.cb_rules.specs.Fault.{Keeps}
 use Rattle.cb_rules.specs.Directory.{IsFirstNamed}
 use Rattle.cb_rules.specs.Least.{IsLeast, blamed}
-use Rattle.cb_rules.specs.Finds.{DeclaresBefore, Inherits, StopsAt, IsDeep, IsBadInverse, IsBadEffect}
+use Rattle.cb_rules.specs.Finds.{IsDeep}
+use Rattle.cb_rules.specs.Classes.{DeclaresBefore, Inherits}
+use Rattle.cb_rules.specs.Rules.{StopsAt, IsBadInverse, IsBadEffect}
 use Rattle.cb_rules.proofs.Found.{one_class}
 use Rattle.cb_rules.proofs.Walks.{steps_are, above_split, above_first, one_above, one_named, named_within}
 use Rattle.cb_rules.proofs.Unique.{one_reached, never_stops, one_stop}

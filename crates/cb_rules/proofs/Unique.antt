@@ -10,7 +10,8 @@ use Rattle.cb_rules.specs.Classes.{IsNamed, IsAbove, MemberAt, HasAt, Has, Decla
 use Rattle.cb_rules.specs.Rules.{Owns}
 use Rattle.cb_rules.specs.Fault.{Keeps}
 use Rattle.cb_rules.specs.Directory.{HasMember, is_event, is_rule}
-use Rattle.cb_rules.specs.Finds.{is_symptom, LooksBack, LeadsOn, StopsAt}
+use Rattle.cb_rules.specs.Finds.{is_symptom, LooksBack, LeadsOn}
+use Rattle.cb_rules.specs.Rules.{StopsAt}
 use Rattle.cb_rules.proofs.Found.{one_member}
 use Rattle.cb_rules.proofs.Walks.{below_or_same, steps_are, above_split, one_above, one_named}
 

@@ -1,6 +1,6 @@
 -- What the classes of a text have, by their places in it and by names. A class has what it declares and what its ancestors
 -- declare; blocks and hides take nothing away here.
-use Rattle.std.specs.Prelude.{◌≡◌, ℕ, zero, suc, List, [], ◌∷◌, Option, Some, None, slice_get, true}
+use Rattle.std.specs.Prelude.{◌≡◌, ℕ, ◌<◌, zero, suc, List, [], ◌∷◌, Option, Some, None, slice_get, true}
 use Rattle.cb_grammar.specs.declared.tree.Token.{Token}
 use Rattle.cb_grammar.specs.declared.tree.Tree.{Tree}
 use Rattle.cb_grammar.specs.declared.tree.ClassDecl.{ClassDecl}
@@ -92,3 +92,19 @@ IsRuleNamed called member = ⊥
 abbrev pub Leads : Tree → ℕ → List Token → ℕ → Type 0
 Leads tree k [] j = k ≡ j
 Leads tree k (name ∷ rest) j = (to : List ℕ) × (i : ℕ) × Has tree k (IsRelationTo name.name to) × IsNamed tree to i × Leads tree i rest j
+
+-- a class before place k has this name
+abbrev pub IsNamedBefore : Tree → ℕ → List ℕ → Type 0
+IsNamedBefore tree k name = (earlier : ℕ) × (earlier < k) × IsNamed tree name earlier
+
+-- the class declares the name before place i of its members
+abbrev pub DeclaresBefore : Tree → ℕ → ℕ → List ℕ → Type 0
+DeclaresBefore tree k i name = (earlier : ℕ) × (other : Member) × (earlier < i) × MemberAt tree k earlier other × Declares name other
+
+-- an ancestor of the class declares the name
+abbrev pub Inherits : Tree → ℕ → List ℕ → Type 0
+Inherits tree k name = (n : ℕ) × (j : ℕ) × (place : ℕ) × (other : Member) × IsAbove tree k (suc n) j × MemberAt tree j place other × Declares name other
+
+-- the class is its own ancestor
+abbrev pub IsOnLoop : Tree → ℕ → Type 0
+IsOnLoop tree k = (n : ℕ) × IsAbove tree k (suc n) k

@@ -34,10 +34,6 @@ pub record MarksEnds (jumps : List (Option ℕ)) (marks : List Bool) : Type 0 wh
   pub all : length marks ≡ length jumps
   pub each : (place : ℕ) (mark : Bool) → slice_get marks place ≡ Some mark → IsTrue mark ↔ IsEnd jumps place
 
--- the class is its own ancestor
-abbrev pub IsOnLoop : Tree → ℕ → Type 0
-IsOnLoop tree k = (n : ℕ) × IsAbove tree k (suc n) k
-
 -- these classes are marked
 pub record MarksLoops (tree : Tree) (marks : List Bool) : Type 0 where
   pub all : length marks ≡ length tree.classes

@@ -8,11 +8,11 @@ use Rattle.cb_grammar.specs.declared.tree.Tree.{Tree}
 use Rattle.cb_grammar.specs.declared.tree.ClassDecl.{ClassDecl}
 use Rattle.cb_grammar.specs.declared.tree.Member.{Member}
 use Rattle.cb_grammar.specs.declared.tree.Member.TheVariants.{Relation, Rule, Block, Hide}
-use Rattle.cb_rules.specs.Classes.{ClassAt, IsNamed, IsAbove, MemberAt, HasAt, Has, declared, Declares, IsEvent, IsEventNamed, IsSymptomNamed, IsRelation, IsRelationNamed, IsRelationBack, IsRule, IsRuleNamed, Leads}
+use Rattle.cb_rules.specs.Classes.{ClassAt, IsNamed, IsAbove, MemberAt, HasAt, Has, declared, Declares, IsEvent, IsEventNamed, IsSymptomNamed, IsRelation, IsRelationNamed, IsRelationBack, IsRule, IsRuleNamed, Leads, IsNamedBefore, DeclaresBefore, Inherits, IsOnLoop}
 
 -- an earlier class has the class's name
 abbrev pub IsSecondClass : Tree → ℕ → ClassDecl → ℕ → Type 0
-IsSecondClass tree k decl line = (line ≡ decl.name.line) × ((earlier : ℕ) × (earlier < k) × IsNamed tree decl.name.name earlier)
+IsSecondClass tree k decl line = (line ≡ decl.name.line) × IsNamedBefore tree k decl.name.name
 
 -- no class has this name
 abbrev pub IsNoClass : Tree → List ℕ → Type 0
@@ -24,7 +24,7 @@ HasNoParent tree k decl line = (parent : Token) × (decl.parent ≡ Some parent)
 
 -- the class is its own ancestor
 abbrev pub IsInLoop : Tree → ℕ → ClassDecl → ℕ → Type 0
-IsInLoop tree k decl line = (line ≡ decl.name.line) × ((n : ℕ) × IsAbove tree k (suc n) k)
+IsInLoop tree k decl line = (line ≡ decl.name.line) × IsOnLoop tree k
 
 -- the class has too many ancestors
 abbrev pub IsTooDeep : Tree → ℕ → ClassDecl → ℕ → Type 0
@@ -33,8 +33,7 @@ IsTooDeep tree k decl line = (line ≡ decl.name.line) × ((j : ℕ) × IsAbove 
 -- the member's name is declared earlier in the class, or in an ancestor
 abbrev pub IsSecondName : Tree → ℕ → ℕ → Member → ℕ → Type 0
 IsSecondName tree k i member line = (name : Token) × (declared member ≡ Some name) × (line ≡ name.line)
-    × (((earlier : ℕ) × (other : Member) × (earlier < i) × MemberAt tree k earlier other × Declares name.name other)
-    ⊎ ((n : ℕ) × (j : ℕ) × (place : ℕ) × (other : Member) × IsAbove tree k (suc n) j × MemberAt tree j place other × Declares name.name other))
+    × (DeclaresBefore tree k i name.name ⊎ Inherits tree k name.name)
 
 -- no class has the name of the relation's target
 abbrev pub HasNoTarget : Tree → ℕ → ℕ → Member → ℕ → Type 0
@@ -45,10 +44,15 @@ HasNoTarget tree k i member line = ⊥
 abbrev pub Owns : Tree → ℕ → (Member → Type 0) → Type 0
 Owns tree k P = (i : ℕ) × (member : Member) × MemberAt tree k i member × P member
 
--- the target itself declares no relation of the inverse's name that leads to this class and has this relation as its inverse
+-- the target itself declares no relation of the inverse's name that leads to this class and has this relation as its
+-- inverse, and this line is blamed
+abbrev pub IsBadInverse : Tree → ℕ → Token → Token → Token → ℕ → Type 0
+IsBadInverse tree k name target inverse line = (decl : ClassDecl) × (j : ℕ) × ClassAt tree k decl × IsNamed tree target.name j × (line ≡ inverse.line)
+    × (¬ Owns tree j (IsRelationBack inverse.name decl.name.name name.name))
+
+-- the relation's inverse doesn't lead back
 abbrev pub HasBadInverse : Tree → ℕ → ℕ → Member → ℕ → Type 0
-HasBadInverse tree k i (Relation name target many inverse) line = (decl : ClassDecl) × (j : ℕ) × ClassAt tree k decl × IsNamed tree target.name j
-    × (line ≡ inverse.line) × (¬ Owns tree j (IsRelationBack inverse.name decl.name.name name.name))
+HasBadInverse tree k i (Relation name target many inverse) line = IsBadInverse tree k name target inverse line
 HasBadInverse tree k i member line = ⊥
 
 -- the rule's cause is no event of the class
@@ -56,15 +60,23 @@ abbrev pub HasNoCause : Tree → ℕ → ℕ → Member → ℕ → Type 0
 HasNoCause tree k i (Rule name cause path effect) line = (line ≡ cause.line) × (¬ Has tree k (IsEventNamed cause.name))
 HasNoCause tree k i member line = ⊥
 
+-- the path stops at a place whose name is no relation of the class that is reached there, and this line is blamed
+abbrev pub StopsAt : Tree → ℕ → List Token → ℕ → Type 0
+StopsAt tree k path line = (m : ℕ) × (step : Token) × (j : ℕ) × (slice_get path m ≡ Some step) × Leads tree k (take m path) j × (line ≡ step.line)
+    × (¬ Has tree j (IsRelationNamed step.name))
+
 -- a place of the rule's path is no relation of the class that is reached there
 abbrev pub HasNoRelation : Tree → ℕ → ℕ → Member → ℕ → Type 0
-HasNoRelation tree k i (Rule name cause path effect) line = (m : ℕ) × (step : Token) × (j : ℕ) × (slice_get path m ≡ Some step)
-    × Leads tree k (take m path) j × (line ≡ step.line) × (¬ Has tree j (IsRelationNamed step.name))
+HasNoRelation tree k i (Rule name cause path effect) line = StopsAt tree k path line
 HasNoRelation tree k i member line = ⊥
+
+-- the effect is no event of the class that the path reaches, and this line is blamed
+abbrev pub IsBadEffect : Tree → ℕ → List Token → Token → ℕ → Type 0
+IsBadEffect tree k path effect line = (j : ℕ) × Leads tree k path j × (line ≡ effect.line) × (¬ Has tree j (IsEventNamed effect.name))
 
 -- the rule's effect is no event of the class that its path reaches
 abbrev pub HasNoEffect : Tree → ℕ → ℕ → Member → ℕ → Type 0
-HasNoEffect tree k i (Rule name cause path effect) line = (j : ℕ) × Leads tree k path j × (line ≡ effect.line) × (¬ Has tree j (IsEventNamed effect.name))
+HasNoEffect tree k i (Rule name cause path effect) line = IsBadEffect tree k path effect line
 HasNoEffect tree k i member line = ⊥
 
 -- the block names no rule of the class

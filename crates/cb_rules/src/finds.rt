@@ -5,7 +5,9 @@ ghost use Rattle.cb_rules.specs.Classes.{Has, IsEventNamed, IsSymptomNamed, IsRu
 ghost use Rattle.cb_rules.specs.Rules.{Owns};
 ghost use Rattle.cb_rules.specs.Fault.{KeepsBefore};
 ghost use Rattle.cb_rules.specs.Directory.{is_event as counts_event, is_rule as counts_rule};
-ghost use Rattle.cb_rules.specs.Finds.{is_symptom as counts_symptom, IsNamedBefore, DeclaresBefore, Inherits, LeadsOn, StopsAt, LooksBack};
+ghost use Rattle.cb_rules.specs.Finds.{is_symptom as counts_symptom, LeadsOn, LooksBack};
+ghost use Rattle.cb_rules.specs.Classes.{IsNamedBefore, DeclaresBefore, Inherits};
+ghost use Rattle.cb_rules.specs.Rules.{StopsAt};
 
 use crate::directory::Directory;
 use cb_grammar::{Member, Token};

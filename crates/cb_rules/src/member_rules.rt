@@ -5,7 +5,8 @@ ghost use Rattle.cb_rules.specs.Classes.{MemberAt, declared};
 ghost use Rattle.cb_rules.specs.Rules.{IsSecondName, HasNoTarget, HasBadInverse, HasNoCause, HasNoRelation, HasNoEffect, BlocksNothing, HidesNothing};
 ghost use Rattle.cb_rules.specs.Fault.{KeepsBefore};
 ghost use Rattle.cb_rules.specs.Least.{IsLeast};
-ghost use Rattle.cb_rules.specs.Finds.{DeclaresBefore, Inherits, StopsAt, IsBadInverse, IsBadEffect};
+ghost use Rattle.cb_rules.specs.Classes.{DeclaresBefore, Inherits};
+ghost use Rattle.cb_rules.specs.Rules.{StopsAt, IsBadInverse, IsBadEffect};
 
 use crate::blame::blame;
 use crate::directory::Directory;

@@ -1,4 +1,6 @@
 //! The type rules by name, and what is wrong with a tree.
+ghost use Rattle.std.specs.Prelude.{◌≡◌};
+ghost use Rattle.cb_rules.specs.Fault.{number_of};
 
 /// A rule that models keep. They are read in this order, each one only where those before it are kept.
 #[derive(Clone, Copy, Debug, PartialEq, Eq)]
@@ -51,6 +53,28 @@ impl TypeRule {
         TypeRule::TooManyClasses,
         TypeRule::TooManyMembers,
     ];
+
+    /// The place of the rule in that order, from 1.
+    pub fn number(self) -> u8
+        ensures { result ≡ number_of self }
+    {
+        match self {
+            TypeRule::TwoClasses => 1,
+            TypeRule::NoParent => 2,
+            TypeRule::Loop => 3,
+            TypeRule::Depth => 4,
+            TypeRule::TwoNames => 5,
+            TypeRule::NoTarget => 6,
+            TypeRule::BadInverse => 7,
+            TypeRule::NoCause => 8,
+            TypeRule::NoRelation => 9,
+            TypeRule::NoEffect => 10,
+            TypeRule::NoBlocked => 11,
+            TypeRule::NoHidden => 12,
+            TypeRule::TooManyClasses => 13,
+            TypeRule::TooManyMembers => 14,
+        }
+    }
 }
 
 /// The first rule that a tree breaks, and the least line at which it does.

@@ -4,7 +4,8 @@ use Rattle.std.proofs.lemmas.Slice.Eq.{bytes_eq-Decides}
 use Rattle.std.specs.Prelude.{codes, MatchBool, if◌then◌else◌}
 use Rattle.std.specs.Str.{bytes_eq}
 use Rattle.cb_top.specs.Commands.{IsUnbuilt, IsInTable}
-use Rattle.cb_top.specs.Outcome.{IsOutcome, ModelGives, BurstGives, UnreadGives, contents, file_words, usage, not_built}
+use Rattle.cb_top.specs.Outcome.{IsOutcome, ModelGives, BurstGives, UnreadGives, file_words, usage, not_built}
+use Rattle.cb_io.specs.Outside.{contents}
 
 -- the outcome of a command that isn't built
 pub unbuilt_outcome : (words : List (List ℕ)) (left : List (List ℕ × List ℕ)) → IsUnbuilt words → IsOutcome words left not_built

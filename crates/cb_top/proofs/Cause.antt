@@ -17,7 +17,8 @@ use Rattle.cb_top.specs.declared.halt.Halt.TheVariants as halts
 use Rattle.cb_top.specs.declared.status.Status.{Status}
 use Rattle.cb_top.specs.declared.status.Status.TheVariants.{Done, Model, Limit, WriteFault, NotBuilt}
 use Rattle.cb_top.specs.Status.{OnDone}
-use Rattle.cb_top.specs.Outcome.{Outcome, IsOutcome, BurstGives, UnreadGives, contents, file_words, done, nothing}
+use Rattle.cb_top.specs.Outcome.{Outcome, IsOutcome, BurstGives, UnreadGives, file_words, done, nothing}
+use Rattle.cb_io.specs.Outside.{contents}
 use Rattle.cb_top.specs.Cause.{ListsTheNearest, PrintsTheCause, FindsTheCause}
 use Rattle.cb_top.specs.Halts.{status_of}
 use Rattle.cb_top.proofs.Reading.{if_some}
@@ -60,20 +61,16 @@ module _ (name model topology symptoms : List ℕ) (old new : SinkTold) (bytes :
   prints (inr (inr (none, e))) = absurd (not_done bytes NotBuilt _ (λ e. cc) e)
 
 module _ (left : List (List ℕ × List ℕ)) (old new : SinkTold) (bytes : List ℕ) (written : WritesAll old new bytes) where
-  finds : (words : List (List ℕ)) → IsOutcome words left (done bytes) → FindsTheCause (file_words words) left old new
+  finds : (words : List (List ℕ)) → IsOutcome words left (done bytes) → FindsTheCause words left old new
   finds [] is = tt
   finds (c ∷ []) is = tt
-  finds (c ∷ m ∷ []) is = by_test (bytes_eq c (codes "model"))
-    where
-      by_test : (is_model : Bool) → FindsTheCause (if is_model then m ∷ [] else []) left old new
-      by_test true = tt
-      by_test false = tt
+  finds (c ∷ m ∷ []) is = tt
   finds (c ∷ m ∷ t ∷ []) is = tt
   finds (c ∷ m ∷ t ∷ s ∷ []) is = by_test (bytes_eq c (codes "burst")) is
     where
       by_test : (is_burst : Bool)
           → MatchBool is_burst (BurstGives m (contents left [] m) (contents left (m ∷ []) t) (contents left (m ∷ t ∷ []) s) (done bytes)) (UnreadGives (c ∷ m ∷ t ∷ s ∷ []) (done bytes))
-          → FindsTheCause (if is_burst then m ∷ t ∷ s ∷ [] else []) left old new
+          → MatchBool is_burst (PrintsTheCause (contents left [] m) (contents left (m ∷ []) t) (contents left (m ∷ t ∷ []) s) old new) (Unit {0})
       by_test true gives = prints m (contents left [] m) (contents left (m ∷ []) t) (contents left (m ∷ t ∷ []) s) old new bytes written gives
       by_test false other = tt
   finds (c ∷ m ∷ t ∷ s ∷ x ∷ xs) is = tt
@@ -89,10 +86,10 @@ not_at_a_halt halts.NotBuilt P = tt
 -- at status 0 the output names the cause
 pub names_the_cause : (words names : List (List ℕ)) (o : Option (List (List ℕ × List ℕ))) (answer : Result (Vec ℕ Global) Halt) (status : Status) (out out' err err' : SinkTold)
     → IfSome o (λ left. Shows names answer (IsOutcome words left)) → Concludes words answer status out out' err err'
-    → OnDone status (IfSome o (λ left. FindsTheCause (file_words words) left out out'))
+    → OnDone status (IfSome o (λ left. FindsTheCause words left out out'))
 names_the_cause words names o (Ok bytes) Done out out' err err' shown ends =
     if_some o _ _ (λ left is. finds left out out' bytes.items ends.0 words is) shown
 names_the_cause words names o (Ok bytes) WriteFault out out' err err' shown ends = tt
 names_the_cause words names o (Ok bytes) status out out' err err' shown ends = absurd ends
 names_the_cause words names o (Err halt) status out out' err err' shown ends =
-    subst (λ (s : Status). OnDone s (IfSome o (λ left. FindsTheCause (file_words words) left out out'))) (sym ends.1) (not_at_a_halt halt _)
+    subst (λ (s : Status). OnDone s (IfSome o (λ left. FindsTheCause words left out out'))) (sym ends.1) (not_at_a_halt halt _)

@@ -3,16 +3,16 @@ use Rattle.std.proofs.Common.{◌≡◌, ◌<◌, ◌+◌, ℕ, suc, List, [], �
 use Rattle.std.specs.Prelude.{codes, MatchBool, if◌then◌else◌, Option, IfSome}
 use Rattle.std.specs.Str.{bytes_eq}
 use Rattle.std.specs.declared.alloc.Global.{Global}
-use Rattle.cb_io.specs.Outside.{SinkTold, FilesTold, WritesFront}
-use Rattle.cb_io.proofs.Told.{WritesFront-all}
+use Rattle.cb_io.specs.Outside.{SinkTold, FilesTold}
 use Rattle.cb_top.specs.declared.halt.Halt.{Halt}
 use Rattle.cb_top.specs.declared.halt.Halt.TheVariants as halts
 use Rattle.cb_top.specs.declared.status.Status.{Status}
 use Rattle.cb_top.specs.declared.status.Status.TheVariants.{Done, WriteFault}
-use Rattle.cb_top.specs.Status.{OnAnswer, OnReadFault}
+use Rattle.cb_top.specs.Status.{OnAnswer, OnDone, OnNoOutput, OnReadFault, OnWriteFault}
 use Rattle.cb_top.specs.Faults.{limit_line, read_line}
 use Rattle.cb_top.specs.Halts.{status_of}
-use Rattle.cb_top.specs.Outcome.{Outcome, IsOutcome, ModelGives, BurstGives, UnreadGives, file_words, contents, done, usage, faulty, too_long, not_built}
+use Rattle.cb_top.specs.Outcome.{Outcome, IsOutcome, ModelGives, BurstGives, UnreadGives, file_words, done, usage, faulty, too_long, not_built}
+use Rattle.cb_io.specs.Outside.{contents}
 use Rattle.cb_top.specs.Run.{Shows, HaltShows, Explains, Concludes, OnFileFault, OnStop, StopsAt, Answers, BlamesFile, TakesFront, TakesNothing, Says}
 use Rattle.cb_top.proofs.Texts.{model_gives_one}
 use Rattle.cb_top.proofs.Bursts.{burst_gives_one}
@@ -41,23 +41,57 @@ outcome_is_one (c ∷ m ∷ t ∷ s ∷ []) left a b p q =
     (burst_gives_one (contents left [] m) (contents left (m ∷ []) t) (contents left (m ∷ t ∷ []) s) m a b) (unread_one (c ∷ m ∷ t ∷ s ∷ []) a b) p q
 outcome_is_one (c ∷ m ∷ t ∷ s ∷ x ∷ xs) left a b p q = unread_one (c ∷ m ∷ t ∷ s ∷ x ∷ xs) a b p q
 
-front_of_nothing : (old new : SinkTold) (bytes : List ℕ) → TakesNothing old new → WritesFront old new bytes
-front_of_nothing old new bytes h = (0, omega arith, h)
+-- where a write failed, the output is a front of the outcome's
+pub takes_front : (words : List (List ℕ)) (o : Option (List (List ℕ × List ℕ))) (names : List (List ℕ)) (answer : Result (Vec ℕ Global) Halt) (status : Status) (out out' err err' : SinkTold)
+    → IfSome o (λ left. Shows names answer (IsOutcome words left)) → Concludes words answer status out out' err err'
+    → OnWriteFault status (IfSome o (λ left. TakesFront words left out out'))
+takes_front words o names (Ok bytes) Done out out' err err' shown ends = tt
+takes_front words o names (Ok bytes) WriteFault out out' err err' shown ends = if_some o _ _ (λ left is. (done bytes.items, is, ends.0)) shown
+takes_front words o names (Ok bytes) status out out' err err' shown ends = absurd ends
+takes_front words o names (Err halt) status out out' err err' shown ends =
+    subst (λ (s : Status). OnWriteFault s (IfSome o (λ left. TakesFront words left out out'))) (sym ends.1) (not_at_a_halt halt)
+  where
+    not_at_a_halt : (h : Halt) → OnWriteFault (status_of h) (IfSome o (λ left. TakesFront words left out out'))
+    not_at_a_halt halts.Usage = tt
+    not_at_a_halt (halts.Model fault) = tt
+    not_at_a_halt (halts.TooLong place) = tt
+    not_at_a_halt (halts.ReadFault place) = tt
+    not_at_a_halt halts.Memory = tt
+    not_at_a_halt halts.NotBuilt = tt
 
-module _ (words : List (List ℕ)) (left : List (List ℕ × List ℕ)) where
-  -- the bytes that a run shows are the outcome's
-  same_bytes : (bytes : List ℕ) (old new : SinkTold) → IsOutcome words left (done bytes) → WritesFront old new bytes → TakesFront words left old new
-  same_bytes bytes old new shown front = λ outcome is.
-      let same : done bytes ≡ outcome = outcome_is_one words left (done bytes) outcome shown is in
-      subst (λ (o : Outcome). WritesFront old new o.out) same front
+-- where there is no output, nothing was written
+pub no_output : (words : List (List ℕ)) (answer : Result (Vec ℕ Global) Halt) (status : Status) (out out' err err' : SinkTold)
+    → Concludes words answer status out out' err err' → OnNoOutput status (TakesNothing out out')
+no_output words (Ok bytes) Done out out' err err' ends = tt
+no_output words (Ok bytes) WriteFault out out' err err' ends = tt
+no_output words (Ok bytes) status out out' err err' ends = absurd ends
+no_output words (Err halt) status out out' err err' ends =
+    subst (λ (s : Status). OnNoOutput s (TakesNothing out out')) (sym ends.1) (at_a_halt halt)
+  where
+    at_a_halt : (h : Halt) → OnNoOutput (status_of h) (TakesNothing out out')
+    at_a_halt halts.Usage = ends.0
+    at_a_halt (halts.Model fault) = ends.0
+    at_a_halt (halts.TooLong place) = ends.0
+    at_a_halt (halts.ReadFault place) = ends.0
+    at_a_halt halts.Memory = ends.0
+    at_a_halt halts.NotBuilt = ends.0
 
-  -- however a run ends, its output is a front of the outcome's
-  pub takes_front : (names : List (List ℕ)) (answer : Result (Vec ℕ Global) Halt) (status : Status) (out out' err err' : SinkTold)
-      → Shows names answer (IsOutcome words left) → Concludes words answer status out out' err err' → TakesFront words left out out'
-  takes_front names (Ok bytes) Done out out' err err' shown ends = same_bytes bytes.items out out' shown (WritesFront-all out out' bytes.items ends.0)
-  takes_front names (Ok bytes) WriteFault out out' err err' shown ends = same_bytes bytes.items out out' shown ends.0
-  takes_front names (Ok bytes) status out out' err err' shown ends = absurd ends
-  takes_front names (Err halt) status out out' err err' shown ends = λ outcome is. front_of_nothing out out' outcome.out ends.0
+-- where the output is whole, no line was written
+pub no_line : (words : List (List ℕ)) (answer : Result (Vec ℕ Global) Halt) (status : Status) (out out' err err' : SinkTold)
+    → Concludes words answer status out out' err err' → OnDone status (TakesNothing err err')
+no_line words (Ok bytes) Done out out' err err' ends = ends.1
+no_line words (Ok bytes) WriteFault out out' err err' ends = tt
+no_line words (Ok bytes) status out out' err err' ends = absurd ends
+no_line words (Err halt) status out out' err err' ends =
+    subst (λ (s : Status). OnDone s (TakesNothing err err')) (sym ends.1) (not_at_a_halt halt)
+  where
+    not_at_a_halt : (h : Halt) → OnDone (status_of h) (TakesNothing err err')
+    not_at_a_halt halts.Usage = tt
+    not_at_a_halt (halts.Model fault) = tt
+    not_at_a_halt (halts.TooLong place) = tt
+    not_at_a_halt (halts.ReadFault place) = tt
+    not_at_a_halt halts.Memory = tt
+    not_at_a_halt halts.NotBuilt = tt
 
 -- a file word stands one place behind its place among the file words
 file_word_at : (words : List (List ℕ)) (place : ℕ) (name : List ℕ) → slice_get (file_words words) place ≡ Some name → slice_get words (suc place) ≡ Some name

@@ -8,3 +8,4 @@ pub mod Judged
 pub mod Outcome
 pub mod Run
 pub mod Cause
+pub mod Laws

@@ -1,11 +1,10 @@
 -- What a run is to answer: a relation between the words, the bytes of the files, and the outcome.
-use Rattle.std.specs.Prelude.{◌≡◌, ◌⊎◌, ◌<◌, ℕ, List, [], ◌∷◌, length, if◌then◌else◌, map, unwrap_or, String, string_bytes, codes, MatchBool}
+use Rattle.std.specs.Prelude.{◌≡◌, ◌⊎◌, ◌<◌, ℕ, List, [], ◌∷◌, length, if◌then◌else◌, map, String, string_bytes, codes, MatchBool}
 use Rattle.std.specs.declared.alloc.Global.{Global}
 use Rattle.std.specs.Str.{bytes_eq}
-use Rattle.std.specs.List.{list_any}
 use Rattle.cb_grammar.specs.declared.tree.Tree.{Tree}
 use Rattle.cb_syntax.specs.Canonical.{canonical_text}
-use Rattle.cb_io.specs.Pairs.{look_up}
+use Rattle.cb_io.specs.Outside.{contents}
 use Rattle.cb_network.specs.declared.finding.Finding.{Finding}
 use Rattle.cb_report.specs.Lines.{burst_text}
 use Rattle.cb_top.specs.declared.fault.ModelFault.{ModelFault}
@@ -49,10 +48,6 @@ not_built = nothing NotBuilt not_built_line
 -- the words of the command line, as bytes
 abbrev pub texts : List (String Global) → List (List ℕ)
 texts words = map string_bytes words
-
--- the bytes of a file word: those left of its name, and none where an earlier file word has that name
-abbrev pub contents : List (List ℕ × List ℕ) → List (List ℕ) → List ℕ → List ℕ
-contents left earlier name = if list_any (λ other. bytes_eq other name) earlier then [] else unwrap_or (look_up left name) []
 
 -- the model file of this name, with these bytes, is too long or has a fault
 abbrev pub RefusesModel : List ℕ → List ℕ → Outcome → Type 0

@@ -8,11 +8,8 @@ use Rattle.cb_top.specs.declared.halt.Halt.{Halt}
 use Rattle.cb_top.specs.declared.halt.Halt.TheVariants as halts
 use Rattle.cb_top.specs.Faults.{usage_line, model_line, limit_line, read_line, write_line, memory_line, not_built_line}
 use Rattle.cb_top.specs.Halts.{status_of}
-use Rattle.cb_top.specs.Outcome.{Outcome, IsOutcome, contents, file_words, done, usage, faulty, too_long, not_built}
-
--- these files were read whole, and the others have left what they had
-abbrev pub HasRead : List (List ℕ) → FilesTold → FilesTold → Type 0
-HasRead names old new = IfSome old.left (λ left. (name : List ℕ) → left_of new name ≡ Some (contents left names name))
+use Rattle.cb_top.specs.Outcome.{Outcome, IsOutcome, file_words, done, usage, faulty, too_long, not_built}
+use Rattle.cb_io.specs.Outside.{contents}
 
 -- the sink took the line, or a front of it where a write failed
 abbrev pub Says : SinkTold → SinkTold → List ℕ → Type 0
@@ -49,9 +46,9 @@ pub record Answers (words : List (List ℕ)) (left : List (List ℕ × List ℕ)
   pub output : WritesAll out_old out_new outcome.out
   pub says : Says err_old err_new outcome.line
 
--- the output took no more than a front of the outcome's bytes
+-- the output took a front of the outcome's bytes
 abbrev pub TakesFront : List (List ℕ) → List (List ℕ × List ℕ) → SinkTold → SinkTold → Type 0
-TakesFront words left old new = (outcome : Outcome) → IsOutcome words left outcome → WritesFront old new outcome.out
+TakesFront words left old new = (outcome : Outcome) × IsOutcome words left outcome × WritesFront old new outcome.out
 
 -- a fact where a file word couldn't be read, of its place
 abbrev pub OnFileFault : Halt → (ℕ → Type 0) → Type 0

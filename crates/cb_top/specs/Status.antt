@@ -23,6 +23,12 @@ OnAnswer WriteFault P = Unit {0}
 OnAnswer Memory P = Unit {0}
 OnAnswer status P = P
 
+-- a fact at each status at which there is no output: all but 0 and 9
+abbrev pub OnNoOutput : Status → Type 0 → Type 0
+OnNoOutput Done P = Unit {0}
+OnNoOutput WriteFault P = Unit {0}
+OnNoOutput status P = P
+
 -- a fact at one status
 abbrev pub OnDone : Status → Type 0 → Type 0
 OnDone Done P = P

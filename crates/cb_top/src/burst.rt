@@ -6,8 +6,9 @@ ghost use Rattle.cb_flat.specs.FlatTopology.{topology_of, HasNodes};
 ghost use Rattle.cb_top.specs.Model.{IsModelText};
 ghost use Rattle.cb_top.specs.Burst.{IsTopologyText, IsSymptomText};
 ghost use Rattle.cb_top.specs.Halts.{IsPlaced, ReadsSuch, StopsFile, JudgesModel, JudgesUnbuilt};
-ghost use Rattle.cb_top.specs.Outcome.{contents, BurstGives};
-ghost use Rattle.cb_top.specs.Run.{HasRead, StopsAt, Shows, OnStop};
+ghost use Rattle.cb_top.specs.Outcome.{BurstGives};
+ghost use Rattle.cb_io.specs.Outside.{contents, ReadsEach};
+ghost use Rattle.cb_top.specs.Run.{StopsAt, Shows, OnStop};
 
 use crate::files::read_file;
 use crate::halt::Halt;
@@ -27,7 +28,7 @@ pub fn burst<F: Files>(
 ) -> Result<Vec<u8>, Halt>
     ensures answer { IfSome (F.tells files.old).left (λ left. Shows (model.now ∷ topology.now ∷ symptoms.now ∷ []) result
         (BurstGives model.now (contents left [] model.now) (contents left (model.now ∷ []) topology.now) (contents left (model.now ∷ topology.now ∷ []) symptoms.now))) }
-    ensures read { OnOk result (HasRead (model.now ∷ topology.now ∷ symptoms.now ∷ []) (F.tells files.old) (F.tells files.new)) }
+    ensures read { OnOk result (ReadsEach (F.tells files.old) (F.tells files.new) (model.now ∷ topology.now ∷ symptoms.now ∷ [])) }
     ensures stop { OnStop result (λ place. StopsAt (model.now ∷ topology.now ∷ symptoms.now ∷ []) place (F.tells files.old) (F.tells files.new)) }
     ensures placed { IfErr result (IsPlaced (model.now ∷ topology.now ∷ symptoms.now ∷ [])) }
 {

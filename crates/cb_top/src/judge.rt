@@ -13,12 +13,14 @@ ghost use Rattle.cb_top.specs.Model.{HasShortText, IsModelText, IsTreeText};
 ghost use Rattle.cb_top.specs.Burst.{IsTopologyText, IsSymptomText};
 ghost use Rattle.cb_top.specs.Halts.{JudgesModel, JudgesUnbuilt};
 
+use crate::fault::ModelFault;
 use crate::halt::Halt;
 use cb_check::check;
 use cb_flat::{FlatTopology, read_symptoms, read_topology};
 use cb_model::{List, Model, NodeName};
 use cb_plain::find;
 use cb_report::burst_text;
+use cb_rules::{Directory, first_fault};
 use cb_syntax::{parse, print};
 use std::alloc::{AllocError, Global};
 
@@ -39,7 +41,10 @@ pub fn canonical_of(alloc: Global, text: &[u8]) -> Result<Vec<u8>, Halt>
     ensures halt { IfErr result (JudgesModel text.now) }
 {
     let tree = parse(alloc, text)?;
-    let _model = check(alloc, &tree)?;
+    let directory = Directory::of(alloc, &tree)?;
+    if let Some(broken) = first_fault(alloc, &directory)? {
+        return Err(Halt::Model(ModelFault::Broken(broken)));
+    }
     Ok(print(alloc, &tree)?)
 }
 

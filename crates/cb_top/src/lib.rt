@@ -9,10 +9,12 @@ mod fault_line;
 mod files;
 mod halt;
 mod judge;
+mod laws;
 mod model;
 mod status;
 mod top;
 
+pub use laws::outcome_is_one;
 pub use status::Status;
 pub use top::run;
 

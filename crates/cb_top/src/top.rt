@@ -1,12 +1,13 @@
 //! The top call.
 ghost use Rattle.std.specs.Prelude.{◌≡◌, OnOk, IfErr, IfSome};
-ghost use Rattle.cb_top.specs.Status.{OnAnswer, OnDone, OnReadFault, OnWriteFault, OnMemory};
+ghost use Rattle.cb_top.specs.Status.{OnAnswer, OnDone, OnNoOutput, OnReadFault, OnWriteFault, OnMemory};
 ghost use Rattle.cb_top.specs.Commands.{IsInTable, IsUnbuilt};
 ghost use Rattle.cb_top.specs.Faults.{memory_line};
 ghost use Rattle.cb_top.specs.Halts.{IsPlaced};
 ghost use Rattle.cb_top.specs.Outcome.{texts, file_words, IsOutcome};
 ghost use Rattle.cb_top.specs.Cause.{FindsTheCause};
-ghost use Rattle.cb_top.specs.Run.{Answers, TakesFront, TakesNothing, HasRead, BlamesFile, BlamesOut, Says, StopsAt, Shows, OnStop};
+ghost use Rattle.cb_io.specs.Outside.{ReadsEach};
+ghost use Rattle.cb_top.specs.Run.{Answers, TakesFront, TakesNothing, BlamesFile, BlamesOut, Says, StopsAt, Shows, OnStop};
 
 use crate::burst::burst;
 use crate::command::Command;
@@ -32,18 +33,19 @@ pub fn run<F: Files, O: Sink, E: Sink, L: Ledger>(
     // Status, output and line are those of the outcome, unless a read or a write failed or memory ran out.
     ensures answer { OnAnswer result (IfSome (F.tells files.old).left (λ left.
         Answers (texts words.now) left result (O.tells out.old) (O.tells out.new) (E.tells err.old) (E.tells err.new))) }
-    // At every status, the output is the outcome's up to some byte.
-    ensures front { IfSome (F.tells files.old).left (λ left. TakesFront (texts words.now) left (O.tells out.old) (O.tells out.new)) }
+    // Where a write failed, the output is the outcome's up to some byte; at each other status but 0 there is none.
+    ensures front { OnWriteFault result (IfSome (F.tells files.old).left (λ left. TakesFront (texts words.now) left (O.tells out.old) (O.tells out.new))) }
+    ensures no_output { OnNoOutput result (TakesNothing (O.tells out.old) (O.tells out.new)) }
+    ensures no_line { OnDone result (TakesNothing (E.tells err.old) (E.tells err.new)) }
     // Where the words are none of the table, or those of a command that isn't built, nothing else matters.
     ensures usage { (¬ IsInTable (texts words.now)) → result ≡ Status.Usage }
     ensures unbuilt { IsUnbuilt (texts words.now) → result ≡ Status.NotBuilt }
     // The headline: what `burst` prints are exactly the groups nearest to what is raised, by codes from what causes what; and
     // where no more symptoms of one group are lost or spurious than the radius says, that group alone, and it is sure.
     ensures cause { OnDone result (IfSome (F.tells files.old).left (λ left.
-        FindsTheCause (file_words (texts words.now)) left (O.tells out.old) (O.tells out.new))) }
-    ensures read_whole { OnDone result (HasRead (file_words (texts words.now)) (F.tells files.old) (F.tells files.new)) }
+        FindsTheCause (texts words.now) left (O.tells out.old) (O.tells out.new))) }
+    ensures read_whole { OnDone result (ReadsEach (F.tells files.old) (F.tells files.new) (file_words (texts words.now))) }
     ensures read_fault { OnReadFault result (BlamesFile (texts words.now) (F.tells files.old) (F.tells files.new) (E.tells err.old) (E.tells err.new)) }
-    ensures read_quiet { OnReadFault result (TakesNothing (O.tells out.old) (O.tells out.new)) }
     ensures write_fault { OnWriteFault result (BlamesOut (O.tells out.old) (O.tells out.new) (E.tells err.old) (E.tells err.new)) }
     ensures memory { OnMemory result (Says (E.tells err.old) (E.tells err.new) memory_line) }
     ensures steps { steps.new ≡ steps.old }
@@ -55,7 +57,7 @@ pub fn run<F: Files, O: Sink, E: Sink, L: Ledger>(
 // Reads and judges the files of a command, and gives its output.
 fn answer<F: Files>(alloc: Global, words: &[String], files: &mut F) -> Result<Vec<u8>, Halt>
     ensures answer { IfSome (F.tells files.old).left (λ left. Shows (file_words (texts words.now)) result (IsOutcome (texts words.now) left)) }
-    ensures read { OnOk result (HasRead (file_words (texts words.now)) (F.tells files.old) (F.tells files.new)) }
+    ensures read { OnOk result (ReadsEach (F.tells files.old) (F.tells files.new) (file_words (texts words.now))) }
     ensures stop { OnStop result (λ place. StopsAt (file_words (texts words.now)) place (F.tells files.old) (F.tells files.new)) }
     ensures placed { IfErr result (IsPlaced (file_words (texts words.now))) }
     ensures usage { (¬ IsInTable (texts words.now)) → result ≡ Err Halt.Usage }

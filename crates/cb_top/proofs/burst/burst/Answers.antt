@@ -8,9 +8,11 @@ use Rattle.cb_top.specs.declared.halt.Halt.TheVariants.{Memory}
 use Rattle.cb_top.specs.Model.{IsModelText}
 use Rattle.cb_top.specs.Burst.{IsTopologyText, IsSymptomText}
 use Rattle.cb_top.specs.Halts.{JudgesModel, JudgesUnbuilt}
-use Rattle.cb_top.specs.Outcome.{contents, BurstGives, done}
+use Rattle.cb_top.specs.Outcome.{BurstGives, done}
+use Rattle.cb_io.specs.Outside.{contents}
 use Rattle.cb_top.proofs.Bursts.{not_flat}
-use Rattle.cb_top.proofs.Reading.{if_some, if_some3, of_any, of_all, halt_shows, placed, stops_at, read_none, read_next, read_contents, err_is}
+use Rattle.cb_top.proofs.Reading.{if_some, if_some3, of_any, of_all, halt_shows, placed, stops_at, err_is}
+use Rattle.cb_io.proofs.Told.{ReadsEach-nil, ReadsEach-next, ReadsEach-gives}
 use Rattle.cb_top.proofs.Shown.{refused_for_burst, topology_unbuilt, symptoms_unbuilt}
 use Rattle.cb_top.proofs.burst.burst.Goals as goal
 
@@ -21,7 +23,7 @@ returns-in_err-model-clause-answer g c =
     let t = c.args.topology.now in
     let s = c.args.symptoms.now in
     rw (err_is _ _ c.from_residual.ensures.1)
-    (halt_shows (m ∷ t ∷ s ∷ []) [] m 0 JudgesModel refl old old (g.F.Files.tells c.read_model.new.files) (read_none old) (λ left. BurstGives m (contents left [] m) (contents left (m ∷ []) t) (contents left (m ∷ t ∷ []) s)) c.in_err-model.field-0.0
+    (halt_shows (m ∷ t ∷ s ∷ []) [] m 0 JudgesModel refl old old (g.F.Files.tells c.read_model.new.files) (ReadsEach-nil old) (λ left. BurstGives m (contents left [] m) (contents left (m ∷ []) t) (contents left (m ∷ t ∷ []) s)) c.in_err-model.field-0.0
     (of_all old.left _ (λ left halt j. refused_for_burst m (contents left [] m) (contents left (m ∷ []) t) (contents left (m ∷ t ∷ []) s) halt j)) c.in_err-model.ensures.halt)
 
 pub returns-then-not-is_flat-clause-answer : goal.returns-then-not-is_flat-clause-answer
@@ -32,8 +34,8 @@ returns-then-not-is_flat-clause-answer g c =
     let s = c.args.symptoms.now in
     let one = g.F.Files.tells c.read_model.new.files in
     let model_text = c.in_ok-model.ensures.model in
-    let model_is = read_contents old old one [] m model_text.0 (read_none old) model_text.1 in
-    let first = read_next old old one [] m model_text.0 (read_none old) c.in_ok-model.ensures.others model_text.1 in
+    let model_is = ReadsEach-gives old old one [] m model_text.0 (ReadsEach-nil old) model_text.1 in
+    let first = ReadsEach-next old old one [] m model_text.0 (ReadsEach-nil old) c.in_ok-model.ensures.others model_text.1 in
     let tables : Tables = c.in_ok-model.model in
     if_some old.left _ _ (λ left is. inr (inr (
       not_flat (contents left [] m) (contents left (m ∷ []) t) (contents left (m ∷ t ∷ []) s) tables (subst (λ (x : List ℕ). IsModelText x tables) is model_text.2)
@@ -49,8 +51,8 @@ returns-in_err-topology-clause-answer g c =
     let s = c.args.symptoms.now in
     let one = g.F.Files.tells c.read_model.new.files in
     let model_text = c.in_ok-model.ensures.model in
-    let model_is = read_contents old old one [] m model_text.0 (read_none old) model_text.1 in
-    let first = read_next old old one [] m model_text.0 (read_none old) c.in_ok-model.ensures.others model_text.1 in
+    let model_is = ReadsEach-gives old old one [] m model_text.0 (ReadsEach-nil old) model_text.1 in
+    let first = ReadsEach-next old old one [] m model_text.0 (ReadsEach-nil old) c.in_ok-model.ensures.others model_text.1 in
     let tables : Tables = c.in_ok-model.model in
     rw (err_is _ _ c.from_residual-in_err-topology.ensures.1)
     (halt_shows (m ∷ t ∷ s ∷ []) (m ∷ []) t 1 (JudgesUnbuilt (IsTopologyText c.in_ok-model.model)) refl old one (g.F.Files.tells c.read_topology_file.new.files) first (λ left. BurstGives m (contents left [] m) (contents left (m ∷ []) t) (contents left (m ∷ t ∷ []) s)) c.in_err-topology.field-0.0
@@ -65,8 +67,8 @@ returns-in_err-topology-clause-stop g c =
     let s = c.args.symptoms.now in
     let one = g.F.Files.tells c.read_model.new.files in
     let model_text = c.in_ok-model.ensures.model in
-    let model_is = read_contents old old one [] m model_text.0 (read_none old) model_text.1 in
-    let first = read_next old old one [] m model_text.0 (read_none old) c.in_ok-model.ensures.others model_text.1 in
+    let model_is = ReadsEach-gives old old one [] m model_text.0 (ReadsEach-nil old) model_text.1 in
+    let first = ReadsEach-next old old one [] m model_text.0 (ReadsEach-nil old) c.in_ok-model.ensures.others model_text.1 in
     rw (err_is _ _ c.from_residual-in_err-topology.ensures.1)
     (stops_at (m ∷ t ∷ s ∷ []) (m ∷ []) t 1 (JudgesUnbuilt (IsTopologyText c.in_ok-model.model)) refl old one (g.F.Files.tells c.read_topology_file.new.files) first c.in_err-topology.field-0.0 refl
     c.in_ok-model.ensures.counts c.in_err-topology.ensures.others c.in_err-topology.ensures.halt)
@@ -79,11 +81,11 @@ returns-in_err-raised-clause-answer g c =
     let s = c.args.symptoms.now in
     let one = g.F.Files.tells c.read_model.new.files in
     let model_text = c.in_ok-model.ensures.model in
-    let model_is = read_contents old old one [] m model_text.0 (read_none old) model_text.1 in
-    let first = read_next old old one [] m model_text.0 (read_none old) c.in_ok-model.ensures.others model_text.1 in
+    let model_is = ReadsEach-gives old old one [] m model_text.0 (ReadsEach-nil old) model_text.1 in
+    let first = ReadsEach-next old old one [] m model_text.0 (ReadsEach-nil old) c.in_ok-model.ensures.others model_text.1 in
     let two = g.F.Files.tells c.read_topology_file.new.files in
     let topology_text = c.in_ok-topology.ensures.topology in
-    let second = read_next old one two (m ∷ []) t topology_text.0 first c.in_ok-topology.ensures.others topology_text.1 in
+    let second = ReadsEach-next old one two (m ∷ []) t topology_text.0 first c.in_ok-topology.ensures.others topology_text.1 in
     let tables : Tables = c.in_ok-model.model in
     rw (err_is _ _ c.from_residual-in_err-raised.ensures.1)
     (halt_shows (m ∷ t ∷ s ∷ []) (m ∷ t ∷ []) s 2 (JudgesUnbuilt IsSymptomText) refl old two (g.F.Files.tells c.read_symptom_file.new.files) second (λ left. BurstGives m (contents left [] m) (contents left (m ∷ []) t) (contents left (m ∷ t ∷ []) s)) c.in_err-raised.field-0.0
@@ -98,11 +100,11 @@ returns-in_err-raised-clause-stop g c =
     let s = c.args.symptoms.now in
     let one = g.F.Files.tells c.read_model.new.files in
     let model_text = c.in_ok-model.ensures.model in
-    let model_is = read_contents old old one [] m model_text.0 (read_none old) model_text.1 in
-    let first = read_next old old one [] m model_text.0 (read_none old) c.in_ok-model.ensures.others model_text.1 in
+    let model_is = ReadsEach-gives old old one [] m model_text.0 (ReadsEach-nil old) model_text.1 in
+    let first = ReadsEach-next old old one [] m model_text.0 (ReadsEach-nil old) c.in_ok-model.ensures.others model_text.1 in
     let two = g.F.Files.tells c.read_topology_file.new.files in
     let topology_text = c.in_ok-topology.ensures.topology in
-    let second = read_next old one two (m ∷ []) t topology_text.0 first c.in_ok-topology.ensures.others topology_text.1 in
+    let second = ReadsEach-next old one two (m ∷ []) t topology_text.0 first c.in_ok-topology.ensures.others topology_text.1 in
     let counts = NoCountFalls-trans old one two c.in_ok-model.ensures.counts c.in_ok-topology.ensures.counts in
     rw (err_is _ _ c.from_residual-in_err-raised.ensures.1)
     (stops_at (m ∷ t ∷ s ∷ []) (m ∷ t ∷ []) s 2 (JudgesUnbuilt IsSymptomText) refl old two (g.F.Files.tells c.read_symptom_file.new.files) second c.in_err-raised.field-0.0 refl
@@ -126,13 +128,13 @@ returns-clause-read g c =
     let s = c.args.symptoms.now in
     let one = g.F.Files.tells c.read_model.new.files in
     let model_text = c.in_ok-model.ensures.model in
-    let model_is = read_contents old old one [] m model_text.0 (read_none old) model_text.1 in
-    let first = read_next old old one [] m model_text.0 (read_none old) c.in_ok-model.ensures.others model_text.1 in
+    let model_is = ReadsEach-gives old old one [] m model_text.0 (ReadsEach-nil old) model_text.1 in
+    let first = ReadsEach-next old old one [] m model_text.0 (ReadsEach-nil old) c.in_ok-model.ensures.others model_text.1 in
     let two = g.F.Files.tells c.read_topology_file.new.files in
     let topology_text = c.in_ok-topology.ensures.topology in
-    let second = read_next old one two (m ∷ []) t topology_text.0 first c.in_ok-topology.ensures.others topology_text.1 in
+    let second = ReadsEach-next old one two (m ∷ []) t topology_text.0 first c.in_ok-topology.ensures.others topology_text.1 in
     let raised_text = c.in_ok-raised.ensures.raised in
-    read_next old two (g.F.Files.tells c.read_symptom_file.new.files) (m ∷ t ∷ []) s raised_text.0 second c.in_ok-raised.ensures.others raised_text.1
+    ReadsEach-next old two (g.F.Files.tells c.read_symptom_file.new.files) (m ∷ t ∷ []) s raised_text.0 second c.in_ok-raised.ensures.others raised_text.1
 
 pub returns-clause-answer : goal.returns-clause-answer
 returns-clause-answer g c =
@@ -142,15 +144,15 @@ returns-clause-answer g c =
     let s = c.args.symptoms.now in
     let one = g.F.Files.tells c.read_model.new.files in
     let model_text = c.in_ok-model.ensures.model in
-    let model_is = read_contents old old one [] m model_text.0 (read_none old) model_text.1 in
-    let first = read_next old old one [] m model_text.0 (read_none old) c.in_ok-model.ensures.others model_text.1 in
+    let model_is = ReadsEach-gives old old one [] m model_text.0 (ReadsEach-nil old) model_text.1 in
+    let first = ReadsEach-next old old one [] m model_text.0 (ReadsEach-nil old) c.in_ok-model.ensures.others model_text.1 in
     let two = g.F.Files.tells c.read_topology_file.new.files in
     let topology_text = c.in_ok-topology.ensures.topology in
-    let second = read_next old one two (m ∷ []) t topology_text.0 first c.in_ok-topology.ensures.others topology_text.1 in
+    let second = ReadsEach-next old one two (m ∷ []) t topology_text.0 first c.in_ok-topology.ensures.others topology_text.1 in
     let three = g.F.Files.tells c.read_symptom_file.new.files in
     let raised_text = c.in_ok-raised.ensures.raised in
-    let topology_is = read_contents old one two (m ∷ []) t topology_text.0 first topology_text.1 in
-    let raised_are = read_contents old two three (m ∷ t ∷ []) s raised_text.0 second raised_text.1 in
+    let topology_is = ReadsEach-gives old one two (m ∷ []) t topology_text.0 first topology_text.1 in
+    let raised_are = ReadsEach-gives old two three (m ∷ t ∷ []) s raised_text.0 second raised_text.1 in
     let found = c.in_ok-lines_of_burst.ensures in
     let tables : Tables = c.in_ok-model.model in
     let network : Topology = topology_of tables c.in_ok-topology.topology in

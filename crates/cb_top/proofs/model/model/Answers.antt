@@ -1,9 +1,11 @@
 use Rattle.std.proofs.Common.{List, ℕ, [], ◌∷◌, refl, subst}
 use Rattle.cb_top.specs.Halts.{JudgesModel}
-use Rattle.cb_top.specs.Outcome.{contents, ModelGives}
+use Rattle.cb_top.specs.Outcome.{ModelGives}
+use Rattle.cb_io.specs.Outside.{contents}
 use Rattle.cb_top.specs.Run.{Shows}
 use Rattle.cb_top.proofs.Judged.{model_unread}
-use Rattle.cb_top.proofs.Reading.{if_some, of_all, halt_shows, read_none, read_contents, err_is}
+use Rattle.cb_top.proofs.Reading.{if_some, of_all, halt_shows, err_is}
+use Rattle.cb_io.proofs.Told.{ReadsEach-nil, ReadsEach-gives}
 use Rattle.cb_top.proofs.Shown.{refused_for_model, model_shows}
 use Rattle.cb_top.proofs.model.model.Goals as goal
 
@@ -13,7 +15,7 @@ returns-in_err-text-clause-answer g c =
     let new = g.F.Files.tells c.read_file.new.files in
     let name = c.args.name.now in
     rw (err_is _ _ c.from_residual.ensures.1)
-    (halt_shows (name ∷ []) [] name 0 JudgesModel refl old old new (read_none old) (λ left. ModelGives name (contents left [] name)) c.in_err-text.field-0.0
+    (halt_shows (name ∷ []) [] name 0 JudgesModel refl old old new (ReadsEach-nil old) (λ left. ModelGives name (contents left [] name)) c.in_err-text.field-0.0
     (of_all old.left _ (λ left halt j. refused_for_model name (contents left [] name) halt j)) (model_unread 0 name old new c.in_err-text.field-0.0 c.in_err-text.ensures.halt))
 
 pub returns-clause-answer : goal.returns-clause-answer
@@ -25,4 +27,4 @@ returns-clause-answer g c =
     let shown = model_shows name text c.canonical_of.result c.in_ok-text.ensures.short
     (rw c.deref.ensures.value at c.canonical_of.ensures.canonical) (rw c.deref.ensures.value at c.canonical_of.ensures.halt) in
     if_some old.left _ _ (λ left is. subst (λ (x : List ℕ). Shows (name ∷ []) c.canonical_of.result (ModelGives name x)) is shown)
-    (read_contents old old new [] name text (read_none old) c.in_ok-text.ensures.text)
+    (ReadsEach-gives old old new [] name text (ReadsEach-nil old) c.in_ok-text.ensures.text)

@@ -1,7 +1,6 @@
 use Rattle.cb_top.specs.Outcome.{texts, file_words}
-use Rattle.cb_top.proofs.Reading.{if_some}
 use Rattle.cb_top.proofs.Cause.{names_the_cause}
-use Rattle.cb_top.proofs.Outcomes.{answers, takes_front, blames_file}
+use Rattle.cb_top.proofs.Outcomes.{answers, takes_front, no_output, no_line, blames_file}
 use Rattle.cb_top.proofs.top.run.Goals as goal
 
 pub returns-clause-answer : goal.returns-clause-answer
@@ -10,8 +9,13 @@ returns-clause-answer g c =
 
 pub returns-clause-front : goal.returns-clause-front
 returns-clause-front g c =
-    if_some (g.F.Files.tells c.args.files.now).left _ _
-    (λ left shown. takes_front (texts c.args.words.now) left (file_words (texts c.args.words.now)) c.answer-answer.result c.conclude.result _ _ _ _ shown c.conclude.ensures) c.answer-answer.ensures.answer
+    takes_front (texts c.args.words.now) (g.F.Files.tells c.args.files.now).left (file_words (texts c.args.words.now)) c.answer-answer.result c.conclude.result _ _ _ _ c.answer-answer.ensures.answer c.conclude.ensures
+
+pub returns-clause-no_output : goal.returns-clause-no_output
+returns-clause-no_output g c = no_output (texts c.args.words.now) c.answer-answer.result c.conclude.result _ _ _ _ c.conclude.ensures
+
+pub returns-clause-no_line : goal.returns-clause-no_line
+returns-clause-no_line g c = no_line (texts c.args.words.now) c.answer-answer.result c.conclude.result _ _ _ _ c.conclude.ensures
 
 pub returns-clause-read_fault : goal.returns-clause-read_fault
 returns-clause-read_fault g c = blames_file (texts c.args.words.now) _ _ _ _ c.answer-answer.result c.conclude.result _ _ c.answer-answer.ensures.stop c.conclude.ensures

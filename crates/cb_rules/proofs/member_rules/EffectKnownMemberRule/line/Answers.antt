@@ -3,7 +3,7 @@ use Rattle.cb_grammar.specs.declared.tree.Token.{Token}
 use Rattle.cb_grammar.specs.declared.tree.Member.{Member}
 use Rattle.cb_rules.specs.Rules.{HasNoEffect}
 use Rattle.cb_rules.specs.Least.{IsLeast}
-use Rattle.cb_rules.specs.Finds.{IsBadEffect}
+use Rattle.cb_rules.specs.Rules.{IsBadEffect}
 use Rattle.cb_rules.proofs.member_rules.EffectKnownMemberRule.line.Goals as goal
 
 pub returns-in-Rule : goal.returns-in-Rule
