@@ -1,7 +1,7 @@
 -- How the classes that are their own ancestors are found.
 use Rattle.std.specs.Prelude.{◌≡◌, ℕ, suc, ◌<◌, ◌↔◌, IsTrue, List, length, Bool, Option, None, Some, slice_get, MatchOption}
 use Rattle.cb_grammar.specs.declared.tree.Tree.{Tree}
-use Rattle.cb_rules.specs.Classes.{IsAbove}
+use Rattle.cb_rules.specs.Classes.{IsAbove, IsOnLoop}
 
 -- the class is so many steps below that to which its jump leads; it has no such ancestor where there is no jump
 abbrev pub IsJump : Tree → ℕ → ℕ → Option ℕ → Type 0
