@@ -23,8 +23,14 @@ fn finds_the_first_closest_pair(rt: HostRuntime) -> Result<(), Fail> {
         second: 1,
         distance: 3,
     };
-    assert_eq!(rt; least(&codes_of(rt.alloc(), 5, &CODES)?, 5), Some(closest));
-    assert_eq!(rt; least(&codes_of(rt.alloc(), 5, &["00000"])?, 5), None);
+    assert_eq!(rt;
+        least(rt.alloc(), &codes_of(rt.alloc(), 5, &CODES)?, 5)?,
+        Some(closest)
+    );
+    assert_eq!(rt;
+        least(rt.alloc(), &codes_of(rt.alloc(), 5, &["00000"])?, 5)?,
+        None
+    );
     Ok(())
 }
 

@@ -27,8 +27,8 @@ pub returns : goal.returns
 returns c = record {
   groups = c.in_ok-groups.groups;
   groups_are = rw c.len.ensures at c.in_ok-groups.ensures.groups;
-  least = c.least.result;
-  least_is = rw (c.in_ok-codes.ensures, c.len-3.ensures) at c.least.ensures;
+  least = c.in_ok-least.field-0;
+  least_is = rw (c.in_ok-codes.ensures, c.len-3.ensures) at c.in_ok-least.ensures;
   found = record {
     rise = c.requires.raised;
     raised_are = c.len-4.ensures;
