@@ -1,4 +1,4 @@
-use Rattle.std.proofs.Common.{◌≡◌, slice_index_or, sym, subst, inl, inr, arith}
+use Rattle.std.proofs.Common.{◌≡◌, slice_index_or, subst, inl, inr, arith}
 use Rattle.std.proofs.lemmas.Bool.{cases_lt}
 use Rattle.cb_plain.specs.Closest.{Beats, IsPairOf}
 use Rattle.cb_plain.proofs.Best.{no_worse, improves_on}

@@ -1,4 +1,4 @@
-use Rattle.std.proofs.Common.{◌++◌, ◌∷◌, [], ap, sym, ◌∙◌, arith}
+use Rattle.std.proofs.Common.{◌++◌, ◌∷◌, [], ap, sym, ◌∙◌}
 use Rattle.cb_coding.specs.Distance.{bit}
 use Rattle.cb_plain.proofs.Places.{code_at_is}
 use Rattle.cb_plain.proofs.Sparse.{one_more_holder, no_more_holder}

@@ -1,9 +1,8 @@
-use Rattle.std.proofs.Common.{◌≡◌, ◌<◌, ℕ, List, true, length, get_or, sym, subst, ap, ◌∙◌, inl, inr, arith}
+use Rattle.std.proofs.Common.{◌≡◌, ◌<◌, ℕ, List, true, length, get_or, sym, subst, ◌∙◌, inl, inr, arith}
 use Rattle.std.specs.List.{All, AllPairs}
 use Rattle.std.proofs.lemmas.Bool.{cases_lt}
 use Rattle.cb_coding.specs.Distance.{bit, code_at}
-use Rattle.cb_coding.specs.Pairs.{IsPair}
-use Rattle.cb_plain.specs.Closest.{Beats, IsPairOf, holders_of}
+use Rattle.cb_plain.specs.Closest.{Beats, IsPairOf}
 use Rattle.cb_plain.proofs.Best.{best_of_all}
 use Rattle.cb_plain.proofs.Sparse.{beats_all, holders_rise, holders_within, pair_of_holders}
 use Rattle.cb_plain.proofs.closest.least_of_sharing.Goals as goal

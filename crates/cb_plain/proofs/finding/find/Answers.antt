@@ -1,9 +1,8 @@
-use Rattle.std.proofs.Common.{◌≡◌, refl, arith, length, map, get_or, ap, ◌∙◌, subst}
+use Rattle.std.proofs.Common.{refl, arith, length, get_or}
 use Rattle.std.proofs.lemmas.List.FromFn.{length-range_with_len}
 use Rattle.std.proofs.lemmas.List.Elements.{Contains-get_or}
 use Rattle.std.proofs.lemmas.List.{length-map}
 use Rattle.cb_coding.specs.declared.group.Group.{Group}
-use Rattle.cb_coding.specs.Groups.{AreGroups, codes_of}
 use Rattle.cb_coding.proofs.GroupLaws.{groups_are_wide}
 use Rattle.cb_plain.proofs.finding.find.Goals as goal
 
