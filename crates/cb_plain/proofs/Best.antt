@@ -1,95 +1,64 @@
--- The closest pair so far, one pair and one row of pairs on.
-use Rattle.std.proofs.Common.{◌≡◌, ℕ, ◌+◌, ◌<◌, ◌≤◌, List, length, Option, Some, None, Bool, refl, ap, ◌∙◌, inl, inr, ◌⊎◌, arith}
-use Rattle.std.proofs.lemmas.List.FromFn.{length-range_with_len}
-use Rattle.std.proofs.lemmas.List.Sums.{count_by-le-length}
+-- The better of pairs of codes.
+use Rattle.std.proofs.Common.{◌≡◌, ℕ, ◌+◌, ◌<◌, List, length, Option, Some, None, Bool, true, false, inl, inr, arith}
+use Rattle.std.proofs.lemmas.Bool.{cases_Bool}
+use Rattle.std.proofs.lemmas.Bool.Decides.{nat_tests}
 use Rattle.cb_coding.specs.declared.book.Pair.{Pair}
-use Rattle.cb_coding.specs.Distance.{differ, bit, apart, all_columns, code_at}
+use Rattle.cb_coding.specs.Distance.{apart, all_columns, code_at}
 use Rattle.cb_coding.specs.Pairs.{IsPair, ComesBefore, IsLeast}
-use Rattle.cb_plain.specs.Closest.{IsClosestBefore, IsLeastBefore, limit_of}
+use Rattle.cb_plain.specs.Closest.{IsTold, Beats, Improves, is_before, limit_of}
+use Rattle.cb_plain.proofs.Places.{at_most_all}
 
-module _ (width : ℕ) (codes : List (List Bool)) (i : ℕ) where
+before_is : (i j : ℕ) (p : Pair) → is_before i j p ≡ true → ComesBefore i j p.first p.second
+before_is i j p e = grind (arith, nat_tests)
+
+is_before_is : (i j : ℕ) (p : Pair) → is_before i j p ≡ false → ComesBefore i j p.first p.second → ⊥
+is_before_is i j p e before = grind (arith, nat_tests)
+
+module _ (width : ℕ) (codes : List (List Bool)) where
   abbrev far : ℕ → ℕ → ℕ
   far k l = apart (all_columns width) codes k l
 
-  -- a pair before the next one is before this one, or this one
-  before_more : (j k l : ℕ) → ComesBefore k l i (j + 1) → ComesBefore k l i j ⊎ ((k ≡ i) × (l ≡ j))
-  before_more j k l b = grind arith
+  -- what is told stays as good
+  pub no_worse : (best : Option Pair) → IsTold width codes best → Improves width codes best best
+  no_worse best told = record { told = told; no_less = λ i j b. b }
 
-  far_same : (j k l : ℕ) → (k ≡ i) × (l ≡ j) → far k l ≡ far i j
-  far_same j k l same = ap (λ m. far m l) same.0 ∙ ap (far i) same.1
+  pub improves_on : (a b c : Option Pair) → Improves width codes a b → Improves width codes b c → Improves width codes a c
+  improves_on a b c first second = record { told = second.told; no_less = λ i j beats. second.no_less i j (first.no_less i j beats) }
 
-  module _ (j : ℕ) (pair : IsPair codes i j) where
-    takes : (d : ℕ) → d ≡ far i j → ((k l : ℕ) → IsPair codes k l → ComesBefore k l i j → d < far k l)
-        → IsClosestBefore width codes i (j + 1) (record { first = i; second = j; distance = d })
-    takes d is closer = record {
-      is_pair = pair;
-      before = inr (refl, omega arith);
-      distance = is;
-      least = λ k l p b. elim (before_more j k l b) [
-        | inl early ↦ let low = closer k l p early in omega arith
-        | inr same ↦ let e = far_same j k l same in omega arith
+  module _ (i j : ℕ) (pair : IsPair codes i j) where
+    -- the best stays, where this pair is no better
+    pub stays : (best : Option Pair) → (far i j < limit_of width i j best → ⊥) → Beats width codes best i j
+    stays None above = absurd (above (let most = at_most_all width (code_at codes i) (code_at codes j) in omega arith))
+    stays (Some p) above = elim (cases_Bool (is_before i j p)) [
+      | inl e ↦ let high : far i j < p.distance + 1 → ⊥ = rw e at above in (omega arith, λ before. omega arith)
+      | inr e ↦ let high : far i j < p.distance → ⊥ = rw e at above in (omega arith, λ before. absurd (is_before_is i j p e before))
+    ]
+
+    pub takes : (best : Option Pair) (d : ℕ) → d ≡ far i j → d < limit_of width i j best
+        → Improves width codes best (Some (record { first = i; second = j; distance = d }))
+    takes None d is below = record { told = (pair, is); no_less = λ k l b. absurd b }
+    takes (Some p) d is below = record {
+      told = (pair, is);
+      no_less = λ k l b. elim (cases_Bool (is_before i j p)) [
+        | inl e ↦
+            let low : d < p.distance + 1 = rw e at below in
+            let before = before_is i j p e in
+            (let le = b.0 in omega arith, λ earlier. (let lt = b.1 (grind arith) in omega arith))
+        | inr e ↦ let low : d < p.distance = rw e at below in let le = b.0 in (omega arith, λ earlier. omega arith)
       ];
-      first = closer;
     }
 
-    -- this pair is the closest, where it is closer than all before it
-    pub closer_pair : (d : ℕ) → d ≡ far i j → (best : Option Pair) → d < limit_of width best → IsLeastBefore width codes i j best
-        → IsClosestBefore width codes i (j + 1) (record { first = i; second = j; distance = d })
-    closer_pair d is None below none = takes d is (λ k l p b. absurd (none k l p b))
-    closer_pair d is (Some p) below best = takes d is (λ k l q b. let low = best.least k l q b in omega arith)
+    pub beats_itself : (d : ℕ) → d ≡ far i j → Beats width codes (Some (record { first = i; second = j; distance = d })) i j
+    beats_itself d is = (omega arith, λ before. grind arith)
 
-    -- the best stays, where this pair is no closer
-    pub no_closer_pair : (best : Option Pair) → (far i j < limit_of width best → ⊥) → IsLeastBefore width codes i j best
-        → IsLeastBefore width codes i (j + 1) best
-    no_closer_pair None above none =
-        let short = count_by-le-length (λ k. differ (bit (code_at codes i) k) (bit (code_at codes j) k)) (all_columns width) in
-        absurd (above (omega (arith, length-range_with_len 0 width)))
-    no_closer_pair (Some p) above best = record {
-      is_pair = best.is_pair;
-      before = let s = best.before in grind arith;
-      distance = best.distance;
-      least = λ k l q b. elim (before_more j k l b) [
-        | inl early ↦ best.least k l q early
-        | inr same ↦ let e = far_same j k l same in omega arith
-      ];
-      first = best.first;
-    }
-
-  -- no pair stands between (i, 0) and (i, i + 1)
-  pub row_starts : (best : Option Pair) → IsLeastBefore width codes i 0 best → IsLeastBefore width codes i (i + 1) best
-  row_starts None none = λ k l p b. none k l p (grind arith)
-  row_starts (Some p) best = record {
-    is_pair = best.is_pair;
-    before = let s = best.before in grind arith;
-    distance = best.distance;
-    least = λ k l q b. best.least k l q (grind arith);
-    first = best.first;
+  -- a pair that beats all is the closest
+  pub best_of_all : (best : Option Pair) → IsTold width codes best → ((i j : ℕ) → IsPair codes i j → Beats width codes best i j) → IsLeast width codes best
+  best_of_all None told beats =
+      let alone : 1 < length codes → ⊥ = λ lt. beats 0 1 (omega arith, lt) in
+      omega arith
+  best_of_all (Some p) told beats = record {
+    is_pair = told.0;
+    distance = told.1;
+    least = λ i j q. (beats i j q).0;
+    first = λ i j q before. (beats i j q).1 before;
   }
-
-  -- after a row comes the next one
-  pub row_ends : (j : ℕ) → length codes ≤ j → (best : Option Pair) → IsLeastBefore width codes i j best → IsLeastBefore width codes (i + 1) 0 best
-  row_ends j ends None none = λ k l p b. none k l p (grind arith)
-  row_ends j ends (Some p) best = record {
-    is_pair = best.is_pair;
-    before = let s = best.before in grind arith;
-    distance = best.distance;
-    least = λ k l q b. best.least k l q (grind arith);
-    first = best.first;
-  }
-
--- before the first row there is no pair
-pub none_yet : (width : ℕ) (codes : List (List Bool)) → IsLeastBefore width codes 0 0 None
-none_yet width codes = λ k l p b. grind arith
-
--- after the last row the best is the closest of all
-pub best_of_all : (width : ℕ) (codes : List (List Bool)) (i : ℕ) → length codes ≤ i → (best : Option Pair) → IsLeastBefore width codes i 0 best
-    → IsLeast width codes best
-best_of_all width codes i ends None none =
-    let alone : 1 < length codes → ⊥ = λ lt. none 0 1 (omega arith, lt) (inl (omega arith)) in
-    omega arith
-best_of_all width codes i ends (Some p) best = record {
-  is_pair = best.is_pair;
-  distance = best.distance;
-  least = λ k l q. best.least k l q (inl (omega arith));
-  first = best.first;
-}

@@ -1,23 +1,47 @@
--- The closest pair so far, where the pairs are gone over in order.
-use Rattle.std.specs.Prelude.{◌≡◌, ℕ, ◌+◌, ◌<◌, ◌≤◌, List, Bool, Option, None, Some}
+-- The best of the pairs that were tried, in any order.
+use Rattle.std.specs.Prelude.{◌≡◌, ℕ, false, length, ◌+◌, ◌<◌, ◌≤◌, List, Bool, Option, None, Some, ⊤, nat_lt, ◌==◌, ◌||◌, ◌&&◌, if◌then◌else◌}
 use Rattle.cb_coding.specs.declared.book.Pair.{Pair}
-use Rattle.cb_coding.specs.Distance.{apart, all_columns}
+use Rattle.std.specs.List.{filter}
+use Rattle.cb_coding.specs.Distance.{apart, all_columns, code_at, bit}
 use Rattle.cb_coding.specs.Pairs.{IsPair, ComesBefore}
 
--- of the pairs before (i, j) none is closer, and this one is the first that is as close
-pub record IsClosestBefore (width : ℕ) (codes : List (List Bool)) (i j : ℕ) (pair : Pair) : Type 0 where
-  pub is_pair : IsPair codes pair.first pair.second
-  pub before : ComesBefore pair.first pair.second i j
-  pub distance : pair.distance ≡ apart (all_columns width) codes pair.first pair.second
-  pub least : (k l : ℕ) → IsPair codes k l → ComesBefore k l i j → pair.distance ≤ apart (all_columns width) codes k l
-  pub first : (k l : ℕ) → IsPair codes k l → ComesBefore k l pair.first pair.second → pair.distance < apart (all_columns width) codes k l
+-- what is told of the pair is so
+abbrev pub IsTold : ℕ → List (List Bool) → Option Pair → Type 0
+IsTold width codes None = ⊤
+IsTold width codes (Some pair) = IsPair codes pair.first pair.second × (pair.distance ≡ apart (all_columns width) codes pair.first pair.second)
 
--- the closest of the pairs before (i, j), if there are any
-abbrev pub IsLeastBefore : ℕ → List (List Bool) → ℕ → ℕ → Option Pair → Type 0
-IsLeastBefore width codes i j None = (k l : ℕ) → IsPair codes k l → ¬ ComesBefore k l i j
-IsLeastBefore width codes i j (Some pair) = IsClosestBefore width codes i j pair
+-- the pair is as close as (i, j), and closer where (i, j) comes before it
+abbrev pub Beats : ℕ → List (List Bool) → Option Pair → ℕ → ℕ → Type 0
+Beats width codes None i j = ⊥
+Beats width codes (Some pair) i j = (pair.distance ≤ apart (all_columns width) codes i j)
+    × (ComesBefore i j pair.first pair.second → pair.distance < apart (all_columns width) codes i j)
 
--- the distance that a pair has to stay below to be closer; all do where there is none yet
-abbrev pub limit_of : ℕ → Option Pair → ℕ
-limit_of width None = width + 1
-limit_of width (Some pair) = pair.distance
+-- what the old one beats the new one beats
+abbrev pub BeatsNoLess : ℕ → List (List Bool) → Option Pair → Option Pair → Type 0
+BeatsNoLess width codes old new = (i j : ℕ) → Beats width codes old i j → Beats width codes new i j
+
+-- the new one is told rightly, and beats what the old one beats
+pub record Improves (width : ℕ) (codes : List (List Bool)) (old new : Option Pair) : Type 0 where
+  pub told : IsTold width codes new
+  pub no_less : BeatsNoLess width codes old new
+
+-- whether (i, j) comes before the pair
+abbrev pub is_before : ℕ → ℕ → Pair → Bool
+is_before i j pair = nat_lt i pair.first || ((i == pair.first) && nat_lt j pair.second)
+
+-- what (i, j) has to stay below to be better; all do where there is none yet
+abbrev pub limit_of : ℕ → ℕ → ℕ → Option Pair → ℕ
+limit_of width i j None = width + 1
+limit_of width i j (Some pair) = if is_before i j pair then pair.distance + 1 else pair.distance
+
+-- the first code has no symptom
+abbrev pub StartsWithZero : List (List Bool) → Type 0
+StartsWithZero codes = (0 < length codes) × ((column : ℕ) → bit (code_at codes 0) column ≡ false)
+
+-- two different indices of places, the lesser first
+abbrev pub IsPairOf : List ℕ → ℕ → ℕ → Type 0
+IsPairOf places k l = (k < l) × (l < length places)
+
+-- which of the first n codes have the column
+abbrev pub holders_of : List (List Bool) → ℕ → ℕ → List ℕ
+holders_of codes column n = filter (λ i. bit (code_at codes i) column) (all_columns n)

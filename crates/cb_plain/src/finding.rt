@@ -35,7 +35,7 @@ pub fn find(
     let codes = codes(alloc, &groups)?;
     let book = Book {
         columns: every_column(alloc, columns.len())?,
-        distance: distance_or_one(least(&codes, columns.len())),
+        distance: distance_or_one(least(alloc, &codes, columns.len())?),
     };
     let word = word_of(alloc, columns, raised)?;
     let answer = nearest(alloc, &codes, &book, &word)?;

@@ -1,4 +1,4 @@
-//! The plain program for codes: it computes each definition of `cb_coding` from lists of truth values by simple loops.
+//! The definitions of `cb_coding`, computed: groups are found by the words of codes, distances are counted by words.
 #![tactic(auto)]
 
 mod closest;

@@ -91,7 +91,7 @@ fn differ(a: &Row, b: &Row, column: u32) -> bool
 }
 
 // What a code says of a column.
-fn bit(code: &Row, column: u32) -> bool
+pub(crate) fn bit(code: &Row, column: u32) -> bool
     ensures { result ≡ bit_of code.now column }
 {
     let k = column as usize;

@@ -18,14 +18,35 @@ const CODES: [&str; 4] = ["00000", "11100", "00111", "11011"];
 
 #[test]
 fn finds_the_first_closest_pair(rt: HostRuntime) -> Result<(), Fail> {
-    let closest = Pair {
-        first: 0,
-        second: 1,
-        distance: 3,
-    };
-    assert_eq!(rt; least(&codes_of(rt.alloc(), 5, &CODES)?, 5), Some(closest));
-    assert_eq!(rt; least(&codes_of(rt.alloc(), 5, &["00000"])?, 5), None);
+    let alloc = rt.alloc();
+    assert_eq!(rt; closest(alloc, 5, &["00000"])?, None);
+    assert_eq!(rt; closest(alloc, 5, &CODES)?, pair(0, 1, 3));
+    assert_eq!(rt;
+        closest(alloc, 5, &["11100", "00111", "11011"])?,
+        pair(0, 2, 3)
+    );
+    // Few columns, so that only pairs which share one are tried, and those with the first code.
+    let sharing = ["0000000000", "1111000000", "0000000111", "1110100000"];
+    assert_eq!(rt; closest(alloc, 10, &sharing)?, pair(1, 3, 2));
+    let apart = ["0000000000", "0000000111", "1100000000", "0011000000"];
+    assert_eq!(rt; closest(alloc, 10, &apart)?, pair(0, 2, 2));
     Ok(())
+}
+
+fn pair(first: u32, second: u32, distance: u32) -> Option<Pair> {
+    Some(Pair {
+        first,
+        second,
+        distance,
+    })
+}
+
+// The closest pair of codes from their texts.
+fn closest(alloc: Global, width: usize, texts: &[&str]) -> Result<Option<Pair>, AllocError>
+    requires few { length texts.now < 2 ^ 32 }
+    requires narrow { width < 2 ^ 32 }
+{
+    least(alloc, &codes_of(alloc, width, texts)?, width)
 }
 
 #[test]

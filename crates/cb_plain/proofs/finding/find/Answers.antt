@@ -1,9 +1,8 @@
-use Rattle.std.proofs.Common.{◌≡◌, refl, arith, length, map, get_or, ap, ◌∙◌, subst}
+use Rattle.std.proofs.Common.{refl, arith, length, get_or}
 use Rattle.std.proofs.lemmas.List.FromFn.{length-range_with_len}
 use Rattle.std.proofs.lemmas.List.Elements.{Contains-get_or}
 use Rattle.std.proofs.lemmas.List.{length-map}
 use Rattle.cb_coding.specs.declared.group.Group.{Group}
-use Rattle.cb_coding.specs.Groups.{AreGroups, codes_of}
 use Rattle.cb_coding.proofs.GroupLaws.{groups_are_wide}
 use Rattle.cb_plain.proofs.finding.find.Goals as goal
 
@@ -27,8 +26,8 @@ pub returns : goal.returns
 returns c = record {
   groups = c.in_ok-groups.groups;
   groups_are = rw c.len.ensures at c.in_ok-groups.ensures.groups;
-  least = c.least.result;
-  least_is = rw (c.in_ok-codes.ensures, c.len-3.ensures) at c.least.ensures;
+  least = c.in_ok-least.field-0;
+  least_is = rw (c.in_ok-codes.ensures, c.len-3.ensures) at c.in_ok-least.ensures;
   found = record {
     rise = c.requires.raised;
     raised_are = c.len-4.ensures;

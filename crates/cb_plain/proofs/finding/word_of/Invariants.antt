@@ -1,4 +1,4 @@
-use Rattle.std.proofs.Common.{◌≡◌, List, Bool, take, map, length}
+use Rattle.std.proofs.Common.{take, map, length}
 use Rattle.cb_bits.proofs.Filled.{IsFilled}
 use Rattle.cb_network.specs.Finding.{is_among}
 use Rattle.cb_plain.proofs.finding.word_of.Given as goal

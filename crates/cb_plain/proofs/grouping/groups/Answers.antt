@@ -1,4 +1,4 @@
-use Rattle.std.proofs.Common.{◌≡◌, length, refl, sym, ap, subst, ◌∙◌, arith}
+use Rattle.std.proofs.Common.{length, refl, sym, ap, subst, arith}
 use Rattle.std.proofs.lemmas.Option.{slice_get_read}
 use Rattle.cb_coding.specs.Groups.{AreProblems, AreGroups}
 use Rattle.cb_plain.proofs.Grouped.{AreGrouped, quiet_grouped, one_more_grouped, all_grouped}

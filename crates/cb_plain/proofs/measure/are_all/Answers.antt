@@ -1,4 +1,4 @@
-use Rattle.std.proofs.Common.{◌++◌, ◌∷◌, [], Some, length, slice_get, take, sym, ap, ◌∙◌, arith}
+use Rattle.std.proofs.Common.{◌++◌, ◌∷◌, [], length, slice_get, sym, ap, ◌∙◌, arith}
 use Rattle.std.proofs.lemmas.List.FromFn.{length-range_with_len}
 use Rattle.cb_model.proofs.Numbers.{take_more}
 use Rattle.cb_coding.specs.Distance.{all_columns}

@@ -1,4 +1,4 @@
-use Rattle.std.proofs.Common.{◌≡◌, take, length}
+use Rattle.std.proofs.Common.{◌≡◌, take}
 use Rattle.cb_coding.specs.Distance.{all_columns}
 use Rattle.cb_plain.proofs.measure.are_all.Given as goal
 

@@ -1,4 +1,4 @@
-use Rattle.std.proofs.Common.{◌≡◌, List, Bool, length, take}
+use Rattle.std.proofs.Common.{List, Bool, length, take}
 use Rattle.cb_bits.proofs.Filled.{IsFilled}
 use Rattle.cb_network.specs.Matrix.{IsCode}
 use Rattle.cb_flat.specs.FlatTopology.{topology_of}
