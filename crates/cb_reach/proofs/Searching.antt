@@ -1,0 +1,159 @@
+-- A search keeps what is settled, and ends with all that is led to.
+use Rattle.std.proofs.Common.{◌≡◌, ◌≢◌, ◌↔◌, ◌⊎◌, inl, inr, ◌+◌, ◌<◌, ◌≤◌, ℕ, zero, suc, cond, List, [], ◌∷◌, Bool, true, false, length, replicate, slice_index_or, slice_set, refl, sym, ap, subst, ◌∙◌, arith}
+use Rattle.std.proofs.lemmas.Bool.{cases_eq, cases_lt}
+use Rattle.std.proofs.lemmas.List.{same_lists, get_or_default, get_or_past, get_or-set_same, get_or-set_other, length-set, get_or-replicate, length-replicate}
+use Rattle.std.proofs.lemmas.List.Sums.{sum_by-set, sum_by-cons}
+use Rattle.cb_reach.specs.Rows.{Has, IsLeft, HasAllOf, ones}
+use Rattle.cb_reach.specs.Graphs.{HaveSameEdges, Chain, LeadsTo, IsLedTo, IsSettled}
+
+-- one edge more
+pub chain_more : (edge : ℕ → ℕ → Type 0) (from : ℕ) (rest : List ℕ) (to next : ℕ) → Chain edge from rest to → edge to next → LeadsTo edge from next
+chain_more edge from [] to next same e = (next ∷ [], (subst (λ node. edge node next) (sym same) e, refl))
+chain_more edge from (node ∷ rest) to next chain e = let more = chain_more edge node rest to next chain.1 e in (node ∷ more.0, (chain.0, more.1))
+
+-- a row that has the successors of its nodes has all that they lead to
+pub closed_along : (edge : ℕ → ℕ → Type 0) (row : List Bool) → ((a b : ℕ) → Has row a → edge a b → Has row b)
+    → (from : ℕ) (rest : List ℕ) (to : ℕ) → Chain edge from rest to → Has row from → Has row to
+closed_along edge row closed from [] to same has = subst (Has row) same has
+closed_along edge row closed from (node ∷ rest) to chain has = closed_along edge row closed node rest to chain.1 (closed from node has chain.0)
+
+abbrev one : Bool → ℕ
+one b = cond b 1 0
+
+-- a node more
+pub ones-set : (row : List Bool) (node : ℕ) → node < length row → slice_index_or row node false ≡ false → ones (slice_set row node true) ≡ ones row + 1
+ones-set row node lt off =
+    let e = sum_by-set one row node true false lt in
+    let f : one (slice_index_or row node false) ≡ 0 = ap one off in
+    omega (arith, e, f)
+
+pub has_set : (row : List Bool) (node : ℕ) → node < length row → Has (slice_set row node true) node
+has_set row node lt = get_or-set_same row node true false lt
+
+pub set_cases : (row : List Bool) (node k : ℕ) → Has (slice_set row node true) k → (k ≡ node) ⊎ Has row k
+set_cases row node k has = elim (cases_eq k node) [
+  | inl same ↦ inl same
+  | inr other ↦ inr (sym (get_or-set_other row node k true false other) ∙ has)
+]
+
+-- two truth values, each true where the other is
+alike : (a b : Bool) → (a ≡ true → b ≡ true) → (b ≡ true → a ≡ true) → a ≡ b
+alike true b to from = sym (to refl)
+alike false true to from = from refl
+alike false false to from = refl
+
+-- rows of one length with the same nodes are one
+pub same_rows : (a b : List Bool) → length a ≡ length b → ((k : ℕ) → Has a k → Has b k) → ((k : ℕ) → Has b k → Has a k) → a ≡ b
+same_rows a b same to from =
+    same_lists a b same (λ k d lt.
+    get_or_default a k d false lt ∙ alike (slice_index_or a k false) (slice_index_or b k false) (to k) (from k) ∙ get_or_default b k false d (omega arith))
+
+-- what a search keeps: it began with these rows and has made so many steps
+pub record IsSearch (edge : ℕ → ℕ → Type 0) (nodes : ℕ) (found0 done0 found done : List Bool) (steps0 steps : ℕ) : Type 0 where
+  pub len_found : length found ≡ nodes
+  pub len_done : length done ≡ nodes
+  pub settled : IsSettled edge found done
+  pub kept : (k : ℕ) → Has found0 k → Has found k
+  pub led : (k : ℕ) → Has found k → IsLedTo edge found0 k
+  pub cost : steps + ones done0 ≡ steps0 + ones done
+
+pub begun : (edge : ℕ → ℕ → Type 0) (nodes : ℕ) (found done : List Bool) (steps : ℕ) → length found ≡ nodes → length done ≡ nodes → IsSettled edge found done
+    → IsSearch edge nodes found done found done steps steps
+begun edge nodes found done steps len_found len_done settled = record {
+  len_found = len_found;
+  len_done = len_done;
+  settled = settled;
+  kept = λ k has. has;
+  led = λ k has. (k, has, ([], refl));
+  cost = refl;
+}
+
+module _ (edge : ℕ → ℕ → Type 0) (nodes : ℕ) (found0 done0 found done : List Bool) (steps0 steps : ℕ)
+    (old : IsSearch edge nodes found0 done0 found done steps0 steps) where
+  -- a node that is found is done, and its successors are added
+  pub visited : (now : ℕ → ℕ → Type 0) → HaveSameEdges now edge → (node : ℕ) (found' : List Bool) (steps' : ℕ) → IsLeft found done node → length found' ≡ length found
+      → ((k : ℕ) → Has found' k ↔ (Has found k ⊎ now node k)) → steps' ≡ steps + 1
+      → IsSearch edge nodes found0 done0 found' (slice_set done node true) steps0 steps'
+  visited now same_edges node found' steps' left len_found added step = record {
+    len_found = len_found ∙ old.len_found;
+    len_done = length-set done node true ∙ old.len_done;
+    settled = record {
+      within = λ k has. elim (set_cases done node k has) [
+        | inl same ↦ up k (subst (Has found) (sym same) left.0)
+        | inr had ↦ up k (old.settled.within k had)
+      ];
+      next = λ a b has e. elim (set_cases done node a has) [
+        | inl same ↦ (added b).1 (inr ((same_edges node b).1 (subst (λ n. edge n b) same e)))
+        | inr had ↦ up b (old.settled.next a b had e)
+      ];
+    };
+    kept = λ k has. up k (old.kept k has);
+    led = λ k has. elim ((added k).0 has) [
+      | inl had ↦ old.led k had
+      | inr e ↦ let from = old.led node left.0 in (from.0, from.1, chain_more edge from.0 from.2.0 node k from.2.1 ((same_edges node k).0 e))
+    ];
+    cost = let more = ones-set done node below left.1 in let e = old.cost in omega arith;
+  }
+    where
+      up : (k : ℕ) → Has found k → Has found' k
+      up k has = (added k).1 (inl has)
+
+      below : node < length done
+      below = elim (cases_lt node (length found)) [
+        | inl lt ↦ let e = old.len_found in let f = old.len_done in omega arith
+        | inr le ↦ absurd (let e = get_or_past found node false le in let f = left.0 in cc)
+      ]
+
+  -- where nothing is left to visit
+  module _ (none : HasAllOf found done 0) where
+    pub all_done : done ≡ found
+    all_done = same_rows done found (old.len_done ∙ sym old.len_found) old.settled.within (λ k. none k (omega arith))
+
+    pub all_led : (k : ℕ) → Has found k ↔ IsLedTo edge found0 k
+    all_led k = (
+      old.led k,
+      λ from. closed_along edge found (λ a b has e. old.settled.next a b (none a (omega arith) has) e) from.0 from.2.0 k from.2.1 (old.kept from.0 from.1),
+    )
+
+    pub all_counted : steps + ones done0 ≡ steps0 + ones found
+    all_counted = old.cost ∙ ap (λ row. steps0 + ones row) all_done
+
+pub edges_stay : (a b c : ℕ → ℕ → Type 0) → HaveSameEdges a b → HaveSameEdges b c → HaveSameEdges a c
+edges_stay a b c one two from to = (λ e. (two from to).0 ((one from to).0 e), λ e. (one from to).1 ((two from to).1 e))
+
+-- no node is in a row of false values
+nothing : (nodes k : ℕ) → Has (replicate nodes false) k → ⊥
+nothing nodes k has = elim (cases_lt k nodes) [
+  | inl lt ↦ let e = get_or-replicate nodes k false false lt in cc
+  | inr le ↦ let e = get_or_past (replicate nodes false) k false (let f = length-replicate nodes false in omega arith) in cc
+]
+
+no_ones : (nodes : ℕ) → ones (replicate nodes false) ≡ 0
+no_ones zero = refl
+no_ones (suc nodes) = let e = sum_by-cons one false (replicate nodes false) in let f = no_ones nodes in omega arith
+
+-- the row of one node, with nothing done
+module _ (edge : ℕ → ℕ → Type 0) (nodes from : ℕ) (lt : from < nodes) where
+  abbrev pub start : List Bool
+  start = slice_set (replicate nodes false) from true
+
+  pub start_length : length start ≡ nodes
+  start_length = length-set (replicate nodes false) from true ∙ length-replicate nodes false
+
+  pub start_settled : IsSettled edge start (replicate nodes false)
+  start_settled = record {
+    within = λ k has. absurd (nothing nodes k has);
+    next = λ a b has e. absurd (nothing nodes a has);
+  }
+
+  pub led_from_start : (k : ℕ) → IsLedTo edge start k ↔ LeadsTo edge from k
+  led_from_start k = (
+    λ led. elim (set_cases (replicate nodes false) from led.0 led.1) [
+      | inl same ↦ subst (λ n. LeadsTo edge n k) same led.2
+      | inr has ↦ absurd (nothing nodes led.0 has)
+    ],
+    λ leads. (from, has_set (replicate nodes false) from (let f = length-replicate nodes false in omega arith), leads),
+  )
+
+  pub counted_from_start : (steps0 steps all : ℕ) → steps + ones (replicate nodes false) ≡ steps0 + all → steps ≡ steps0 + all
+  counted_from_start steps0 steps all e = let f = no_ones nodes in omega arith
