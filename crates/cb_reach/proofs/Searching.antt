@@ -1,15 +1,23 @@
 -- A search keeps what is settled, and ends with all that is led to.
-use Rattle.std.proofs.Common.{◌≡◌, ◌≢◌, ◌↔◌, ◌⊎◌, inl, inr, ◌+◌, ◌<◌, ◌≤◌, ℕ, zero, suc, cond, List, [], ◌∷◌, Bool, true, false, length, replicate, slice_index_or, slice_set, refl, sym, ap, subst, ◌∙◌, arith}
+use Rattle.std.proofs.Common.{◌≡◌, ◌≢◌, ◌↔◌, ◌⊎◌, inl, inr, ◌+◌, ◌-◌, ◌<◌, ◌≤◌, ◌||◌, ℕ, zero, suc, cond, List, [], ◌∷◌, Bool, true, false, length, replicate, slice_index_or, slice_set, refl, sym, ap, subst, ◌∙◌, arith}
 use Rattle.std.proofs.lemmas.Bool.{cases_eq, cases_lt}
 use Rattle.std.proofs.lemmas.List.{same_lists, get_or_default, get_or_past, get_or-set_same, get_or-set_other, length-set, get_or-replicate, length-replicate}
-use Rattle.std.proofs.lemmas.List.Sums.{sum_by-set, sum_by-cons}
+use Rattle.std.specs.Simd.Lanes.{zip2}
+use Rattle.std.proofs.lemmas.Simd.{length-zip2, get_or-zip2}
+use Rattle.std.proofs.lemmas.List.Sums.{sum_by-set, sum_by-cons, count_by-le-length}
 use Rattle.cb_reach.specs.Rows.{Has, IsLeft, HasAllOf, ones}
-use Rattle.cb_reach.specs.Graphs.{HaveSameEdges, Chain, LeadsTo, IsLedTo, IsSettled}
+use Rattle.cb_reach.specs.Graphs.{HaveSameEdges, Chain, LeadsTo, IsLedTo, IsSettled, IsFinished}
 
 -- one edge more
 pub chain_more : (edge : ℕ → ℕ → Type 0) (from : ℕ) (rest : List ℕ) (to next : ℕ) → Chain edge from rest to → edge to next → LeadsTo edge from next
 chain_more edge from [] to next same e = (next ∷ [], (subst (λ node. edge node next) (sym same) e, refl))
 chain_more edge from (node ∷ rest) to next chain e = let more = chain_more edge node rest to next chain.1 e in (node ∷ more.0, (chain.0, more.1))
+
+-- one chain after another
+chains_joined : (edge : ℕ → ℕ → Type 0) (from : ℕ) (rest : List ℕ) (middle to : ℕ) → Chain edge from rest middle → LeadsTo edge middle to → LeadsTo edge from to
+chains_joined edge from [] middle to same leads = subst (λ node. LeadsTo edge node to) (sym same) leads
+chains_joined edge from (node ∷ rest) middle to chain leads =
+    let more = chains_joined edge node rest middle to chain.1 leads in (node ∷ more.0, (chain.0, more.1))
 
 -- a row that has the successors of its nodes has all that they lead to
 pub closed_along : (edge : ℕ → ℕ → Type 0) (row : List Bool) → ((a b : ℕ) → Has row a → edge a b → Has row b)
@@ -19,6 +27,10 @@ closed_along edge row closed from (node ∷ rest) to chain has = closed_along ed
 
 abbrev one : Bool → ℕ
 one b = cond b 1 0
+
+one_within : (a b : Bool) → (a ≡ true → b ≡ true) → one a ≤ one b
+one_within false b to = omega arith
+one_within true b to = let e = ap one (to refl) in omega arith
 
 -- a node more
 pub ones-set : (row : List Bool) (node : ℕ) → node < length row → slice_index_or row node false ≡ false → ones (slice_set row node true) ≡ ones row + 1
@@ -36,17 +48,59 @@ set_cases row node k has = elim (cases_eq k node) [
   | inr other ↦ inr (sym (get_or-set_other row node k true false other) ∙ has)
 ]
 
+-- a row within another has no more nodes
+pub ones_within : (a b : List Bool) → length a ≡ length b → ((k : ℕ) → Has a k → Has b k) → ones a ≤ ones b
+ones_within [] b same within = omega arith
+ones_within (x ∷ a) [] same within = omega arith
+ones_within (x ∷ a) (y ∷ b) same within =
+    let rest : ones a ≤ ones b = ones_within a b (omega arith) (λ k. within (suc k)) in
+    let first : one x ≤ one y = one_within x y (within 0) in
+    omega (arith, sum_by-cons one x a, sum_by-cons one y b)
+
+-- a row that has more nodes has fewer left
+pub fewer_left : (row more : List Bool) → length more ≡ length row → ones row + 1 ≤ ones more → length more - ones more < length row - ones row
+fewer_left row more same grown = let most = count_by-le-length (λ has. has) more in omega arith
+
 -- two truth values, each true where the other is
 alike : (a b : Bool) → (a ≡ true → b ≡ true) → (b ≡ true → a ≡ true) → a ≡ b
 alike true b to from = sym (to refl)
 alike false true to from = from refl
 alike false false to from = refl
 
+or_true : (a b : Bool) → b ≡ true → (a || b) ≡ true
+or_true true b is = refl
+or_true false b is = is
+
+one_true : (a b : Bool) → (a || b) ≡ true → (a ≡ true) ⊎ (b ≡ true)
+one_true true b is = inl refl
+one_true false b is = inr is
+
 -- rows of one length with the same nodes are one
 pub same_rows : (a b : List Bool) → length a ≡ length b → ((k : ℕ) → Has a k → Has b k) → ((k : ℕ) → Has b k → Has a k) → a ≡ b
 same_rows a b same to from =
     same_lists a b same (λ k d lt.
     get_or_default a k d false lt ∙ alike (slice_index_or a k false) (slice_index_or b k false) (to k) (from k) ∙ get_or_default b k false d (omega arith))
+
+-- the nodes of two rows that are joined
+module _ (row other : List Bool) (same : length row ≡ length other) where
+  abbrev both : List Bool
+  both = zip2 (λ one other. one || other) row other
+
+  or_at : (k : ℕ) → slice_index_or both k false ≡ (slice_index_or row k false || slice_index_or other k false)
+  or_at k = elim (cases_lt k (length row)) [
+    | inl lt ↦ get_or-zip2 (λ one other. one || other) row other k false false false lt (omega arith)
+    | inr le ↦ get_or_past both k false (let e = length-zip2 (λ one other. one || other) row other same in omega arith)
+        ∙ sym (ap (λ b. b || slice_index_or other k false) (get_or_past row k false le) ∙ get_or_past other k false (omega arith))
+  ]
+
+  or_left : (k : ℕ) → Has row k → Has (zip2 (λ one other. one || other) row other) k
+  or_left k has = or_at k ∙ ap (λ b. b || slice_index_or other k false) has
+
+  or_right : (k : ℕ) → Has other k → Has (zip2 (λ one other. one || other) row other) k
+  or_right k has = or_at k ∙ or_true (slice_index_or row k false) (slice_index_or other k false) has
+
+  or_cases : (k : ℕ) → Has (zip2 (λ one other. one || other) row other) k → Has row k ⊎ Has other k
+  or_cases k has = one_true (slice_index_or row k false) (slice_index_or other k false) (sym (or_at k) ∙ has)
 
 -- what a search keeps: it began with these rows and has made so many steps
 pub record IsSearch (edge : ℕ → ℕ → Type 0) (nodes : ℕ) (found0 done0 found done : List Bool) (steps0 steps : ℕ) : Type 0 where
@@ -55,7 +109,7 @@ pub record IsSearch (edge : ℕ → ℕ → Type 0) (nodes : ℕ) (found0 done0 
   pub settled : IsSettled edge found done
   pub kept : (k : ℕ) → Has found0 k → Has found k
   pub led : (k : ℕ) → Has found k → IsLedTo edge found0 k
-  pub cost : steps + ones done0 ≡ steps0 + ones done
+  pub cost : steps + ones done0 ≤ steps0 + ones done
 
 pub begun : (edge : ℕ → ℕ → Type 0) (nodes : ℕ) (found done : List Bool) (steps : ℕ) → length found ≡ nodes → length done ≡ nodes → IsSettled edge found done
     → IsSearch edge nodes found done found done steps steps
@@ -65,11 +119,17 @@ begun edge nodes found done steps len_found len_done settled = record {
   settled = settled;
   kept = λ k has. has;
   led = λ k has. (k, has, ([], refl));
-  cost = refl;
+  cost = omega arith;
 }
 
 module _ (edge : ℕ → ℕ → Type 0) (nodes : ℕ) (found0 done0 found done : List Bool) (steps0 steps : ℕ)
     (old : IsSearch edge nodes found0 done0 found done steps0 steps) where
+  pub left_below : (node : ℕ) → IsLeft found done node → node < length done
+  left_below node left = elim (cases_lt node (length found)) [
+    | inl lt ↦ let e = old.len_found in let f = old.len_done in omega arith
+    | inr le ↦ absurd (let e = get_or_past found node false le in let f = left.0 in cc)
+  ]
+
   -- a node that is found is done, and its successors are added
   pub visited : (now : ℕ → ℕ → Type 0) → HaveSameEdges now edge → (node : ℕ) (found' : List Bool) (steps' : ℕ) → IsLeft found done node → length found' ≡ length found
       → ((k : ℕ) → Has found' k ↔ (Has found k ⊎ now node k)) → steps' ≡ steps + 1
@@ -99,10 +159,43 @@ module _ (edge : ℕ → ℕ → Type 0) (nodes : ℕ) (found0 done0 found done 
       up k has = (added k).1 (inl has)
 
       below : node < length done
-      below = elim (cases_lt node (length found)) [
-        | inl lt ↦ let e = old.len_found in let f = old.len_done in omega arith
-        | inr le ↦ absurd (let e = get_or_past found node false le in let f = left.0 in cc)
-      ]
+      below = left_below node left
+
+  -- a row of all that such a node leads to is added and done
+  module _ (node : ℕ) (row : List Bool) (left : IsLeft found done node) (finished : IsFinished edge nodes node row) where
+    pub more_done : ones done + 1 ≤ ones (zip2 (λ one other. one || other) done row)
+    more_done =
+        let more = ones-set done node (left_below node left) left.1 in
+        let most = ones_within (slice_set done node true) (zip2 (λ one other. one || other) done row)
+        (length-set done node true ∙ sym (length-zip2 (λ one other. one || other) done row (old.len_done ∙ sym finished.room)))
+        (λ k has. elim (set_cases done node k has) [
+          | inl same ↦ or_right done row (old.len_done ∙ sym finished.room) k ((finished.each k).1 ([], sym same))
+          | inr had ↦ or_left done row (old.len_done ∙ sym finished.room) k had
+        ]) in
+        omega arith
+
+    pub joined : IsSearch edge nodes found0 done0 (zip2 (λ one other. one || other) found row) (zip2 (λ one other. one || other) done row) steps0 steps
+    joined = record {
+      len_found = length-zip2 (λ one other. one || other) found row (old.len_found ∙ sym finished.room) ∙ old.len_found;
+      len_done = length-zip2 (λ one other. one || other) done row (old.len_done ∙ sym finished.room) ∙ old.len_done;
+      settled = record {
+        within = λ k has. elim (or_cases done row (old.len_done ∙ sym finished.room) k has) [
+          | inl had ↦ or_left found row (old.len_found ∙ sym finished.room) k (old.settled.within k had)
+          | inr new ↦ or_right found row (old.len_found ∙ sym finished.room) k new
+        ];
+        next = λ a b has e. elim (or_cases done row (old.len_done ∙ sym finished.room) a has) [
+          | inl had ↦ or_left found row (old.len_found ∙ sym finished.room) b (old.settled.next a b had e)
+          | inr new ↦ or_right found row (old.len_found ∙ sym finished.room) b
+              (let led = (finished.each a).0 new in (finished.each b).1 (chain_more edge node led.0 a b led.1 e))
+        ];
+      };
+      kept = λ k has. or_left found row (old.len_found ∙ sym finished.room) k (old.kept k has);
+      led = λ k has. elim (or_cases found row (old.len_found ∙ sym finished.room) k has) [
+        | inl had ↦ old.led k had
+        | inr new ↦ let from = old.led node left.0 in (from.0, from.1, chains_joined edge from.0 from.2.0 node k from.2.1 ((finished.each k).0 new))
+      ];
+      cost = let more = more_done in let e = old.cost in omega arith;
+    }
 
   -- where nothing is left to visit
   module _ (none : HasAllOf found done 0) where
@@ -115,8 +208,8 @@ module _ (edge : ℕ → ℕ → Type 0) (nodes : ℕ) (found0 done0 found done 
       λ from. closed_along edge found (λ a b has e. old.settled.next a b (none a (omega arith) has) e) from.0 from.2.0 k from.2.1 (old.kept from.0 from.1),
     )
 
-    pub all_counted : steps + ones done0 ≡ steps0 + ones found
-    all_counted = old.cost ∙ ap (λ row. steps0 + ones row) all_done
+    pub all_counted : steps + ones done0 ≤ steps0 + ones found
+    all_counted = subst (λ row. steps + ones done0 ≤ steps0 + ones row) all_done old.cost
 
 pub edges_stay : (a b c : ℕ → ℕ → Type 0) → HaveSameEdges a b → HaveSameEdges b c → HaveSameEdges a c
 edges_stay a b c one two from to = (λ e. (two from to).0 ((one from to).0 e), λ e. (one from to).1 ((two from to).1 e))
@@ -155,5 +248,5 @@ module _ (edge : ℕ → ℕ → Type 0) (nodes from : ℕ) (lt : from < nodes) 
     λ leads. (from, has_set (replicate nodes false) from (let f = length-replicate nodes false in omega arith), leads),
   )
 
-  pub counted_from_start : (steps0 steps all : ℕ) → steps + ones (replicate nodes false) ≡ steps0 + all → steps ≡ steps0 + all
+  pub counted_from_start : (steps0 steps all : ℕ) → steps + ones (replicate nodes false) ≤ steps0 + all → steps ≤ steps0 + all
   counted_from_start steps0 steps all e = let f = no_ones nodes in omega arith

@@ -1,5 +1,5 @@
 -- Chains of edges, and rows of nodes under a search.
-use Rattle.std.specs.Prelude.{◌≡◌, ◌↔◌, ℕ, Bool, List, [], ◌∷◌}
+use Rattle.std.specs.Prelude.{◌≡◌, ◌↔◌, ℕ, Bool, List, [], ◌∷◌, Option, Some, length, slice_get}
 use Rattle.cb_reach.specs.Rows.{Has}
 
 -- two graphs have the same edges
@@ -23,3 +23,12 @@ IsLedTo edge row to = (from : ℕ) × Has row from × LeadsTo edge from to
 pub record IsSettled (edge : ℕ → ℕ → Type 0) (found done : List Bool) : Type 0 where
   pub within : (node : ℕ) → Has done node → Has found node
   pub next : (node next : ℕ) → Has done node → edge node next → Has found next
+
+-- the row has exactly the nodes that this one leads to
+pub record IsFinished (edge : ℕ → ℕ → Type 0) (count node : ℕ) (row : List Bool) : Type 0 where
+  pub room : length row ≡ count
+  pub each : (k : ℕ) → Has row k ↔ LeadsTo edge node k
+
+-- where there is a row at a node's place, it is finished
+abbrev pub AreFinished : (ℕ → ℕ → Type 0) → ℕ → List (Option (List Bool)) → Type 0
+AreFinished edge count rows = (node : ℕ) (row : List Bool) → slice_get rows node ≡ Some (Some row) → IsFinished edge count node row

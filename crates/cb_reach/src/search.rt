@@ -1,6 +1,6 @@
 //! The search along edges. It keeps no list of nodes to visit: those that are found and not done are still to be visited.
-ghost use Rattle.std.specs.Prelude.{◌≡◌, ◌<◌, ◌≤◌, ◌+◌, ◌↔◌, ℕ, length, replicate, false};
-ghost use Rattle.cb_reach.specs.Graphs.{HaveSameEdges, LeadsTo, IsLedTo, IsSettled};
+ghost use Rattle.std.specs.Prelude.{◌≡◌, ◌<◌, ◌≤◌, ◌+◌, ◌↔◌, ℕ, length, replicate, false, slice_get, IfSome};
+ghost use Rattle.cb_reach.specs.Graphs.{HaveSameEdges, LeadsTo, IsLedTo, IsSettled, AreFinished};
 ghost use Rattle.cb_reach.specs.Rows.{Has, ones};
 
 use crate::edges::Edges;
@@ -10,9 +10,11 @@ use cb_steps::Steps;
 use std::sync::ledger::Ledger;
 
 /// Adds to `found` all that its nodes lead to. The nodes in `done` have their successors in `found` already, and cost
-/// nothing; at the end all that is found is done.
+/// nothing; at the end all that is found is done. Where a row is known of all that some node leads to, at its place in
+/// `finished`, that row is added as a whole, and its nodes cost nothing either.
 pub fn extend<L: Ledger, G: Edges>(
     graph: &mut G,
+    finished: &[Option<Row>],
     found: &mut Row,
     done: &mut Row,
     steps: &mut Steps<L>,
@@ -20,30 +22,48 @@ pub fn extend<L: Ledger, G: Edges>(
     requires found { length found.old ≡ G.count graph.old }
     requires done { length done.old ≡ G.count graph.old }
     requires settled { IsSettled (G.edge graph.old) found.old done.old }
+    requires finished { AreFinished (G.edge graph.old) (G.count graph.old) finished.now }
     ensures edges { HaveSameEdges (G.edge graph.new) (G.edge graph.old) }
     ensures count { G.count graph.new ≡ G.count graph.old }
     ensures length { length found.new ≡ length found.old }
     ensures found { (node : ℕ) → Has found.new node ↔ IsLedTo (G.edge graph.old) found.old node }
     ensures done { done.new ≡ found.new }
-    ensures cost { steps.new + ones done.old ≡ steps.old + ones found.new }
+    ensures cost { steps.new + ones done.old ≤ steps.old + ones found.new }
 {
     let mut last = 0;
     while let Some(node) = next_around(found, done, last) {
-        done.set(node);
-        graph.add_successors(node, found, steps);
+        match row_at(finished, node) {
+            Some(row) => {
+                found.or_from(row);
+                done.or_from(row);
+            }
+            None => {
+                done.set(node);
+                graph.add_successors(node, found, steps);
+            }
+        }
         last = node / 64 * 64;
     }
 }
 
-/// Adds to a row without nodes all that a node leads to, in as many steps. The other row is room for the search.
+// The row at a node's place, if there is one.
+fn row_at(rows: &[Option<Row>], node: usize) -> Option<&Row>
+    ensures { IfSome result (λ row. slice_get rows.now node ≡ Some (Some row.now)) }
+{
+    rows.get(node)?.as_ref()
+}
+
+/// Adds to a row without nodes all that a node leads to. The other row is room for the search.
 pub fn reach<L: Ledger, G: Edges>(
     graph: &mut G,
     from: usize,
+    finished: &[Option<Row>],
     found: &mut Row,
     done: &mut Row,
     steps: &mut Steps<L>,
 )
     requires from { from < G.count graph.old }
+    requires finished { AreFinished (G.edge graph.old) (G.count graph.old) finished.now }
     requires found { found.old ≡ replicate (G.count graph.old) false }
     requires done { done.old ≡ replicate (G.count graph.old) false }
     ensures edges { HaveSameEdges (G.edge graph.new) (G.edge graph.old) }
@@ -51,8 +71,8 @@ pub fn reach<L: Ledger, G: Edges>(
     ensures length { length found.new ≡ G.count graph.old }
     ensures found { (node : ℕ) → Has found.new node ↔ LeadsTo (G.edge graph.old) from node }
     ensures done { done.new ≡ found.new }
-    ensures cost { steps.new ≡ steps.old + ones found.new }
+    ensures cost { steps.new ≤ steps.old + ones found.new }
 {
     found.set(from);
-    extend(graph, found, done, steps);
+    extend(graph, finished, found, done, steps);
 }
