@@ -1,3 +1,4 @@
 pub mod Firsts
 pub mod Sought
 pub mod Searching
+pub mod Listed

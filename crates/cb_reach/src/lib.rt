@@ -13,3 +13,5 @@ pub use search::{extend, reach};
 
 
 
+#[cfg(test)]
+mod tests;
