@@ -76,24 +76,27 @@ module _ (row0 : List Bool) (items : List ℕ) (i : ℕ) (row : List Bool) (old 
     );
   }
 
--- once all numbers are read, it has the successors
-pub added : (lists : List (Vec ℕ Global)) (node : ℕ) (list : Vec ℕ Global) (items : List ℕ) (i : ℕ) (row0 row : List Bool) → slice_get lists node ≡ Some list
-    → items ≡ list.items → i ≡ length items → length row0 ≡ length lists → IsMarked row0 items i row
+-- all numbers of a list are its members
+listed_in : (items : List ℕ) (k : ℕ) → Listed items (length items) k → Contains items k
+listed_in items k listed = (listed.0, listed.1, get_or_default items listed.0 k 0 listed.1 ∙ listed.2)
+
+in_listed : (items : List ℕ) (k : ℕ) → Contains items k → Listed items (length items) k
+in_listed items k there = (there.0, there.1, sym (get_or_default items there.0 k 0 there.1) ∙ there.2)
+
+-- once all numbers are read, the row has the successors too
+pub added : (lists : List (Vec ℕ Global)) (node : ℕ) (list : Vec ℕ Global) (row0 row : List Bool) → slice_get lists node ≡ Some list
+    → length row0 ≡ length lists → IsMarked row0 list.items (length list.items) row
     → (k : ℕ) → Has row k ↔ (Has row0 k ⊎ ((k < length lists) × ((x : Vec ℕ Global) × (slice_get lists node ≡ Some x) × Contains x.items k)))
-added lists node list items i row0 row is same all room marked k = (
+added lists node list row0 row is room marked k = (
   λ has. elim ((marked.each k).0 has) [
     | inl first ↦ inl first
-    | inr listed ↦ inr (
-        let lt = listed.0 in omega arith,
-        (list, is, subst (λ xs. Contains xs k) same (listed.1.0, (let lt = listed.1.1 in omega arith), get_or_default items listed.1.0 k 0 (let lt = listed.1.1 in omega arith) ∙ listed.1.2)),
-      )
+    | inr listed ↦ inr (let lt = listed.0 in omega arith, (list, is, listed_in list.items k listed.1))
   ],
   λ either. elim either [
     | inl first ↦ (marked.each k).1 (inl first)
     | inr e ↦
-        let one : Some list ≡ Some e.1.0 = sym is ∙ e.1.1 in
-        let f : list ≡ e.1.0 = cc in
-        let in_items : Contains items k = subst (λ xs. Contains xs k) (sym (same ∙ ap (λ (v : Vec ℕ Global). v.items) f)) e.1.2 in
-        (marked.each k).1 (inr (let lt = e.0 in omega arith, (in_items.0, (let lt = in_items.1 in omega arith), sym (get_or_default items in_items.0 k 0 in_items.1) ∙ in_items.2)))
+        let one : Some e.1.0 ≡ Some list = sym e.1.1 ∙ is in
+        let same : e.1.0 ≡ list = cc in
+        (marked.each k).1 (inr (let lt = e.0 in omega arith, in_listed list.items k (subst (λ (v : Vec ℕ Global). Contains v.items k) same e.1.2)))
   ],
 )

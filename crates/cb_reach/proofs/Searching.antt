@@ -1,12 +1,12 @@
 -- A search keeps what is settled, and ends with all that is led to.
-use Rattle.std.proofs.Common.{◌≡◌, ◌≢◌, ◌↔◌, ◌⊎◌, inl, inr, ◌+◌, ◌-◌, ◌<◌, ◌≤◌, ◌||◌, ℕ, zero, suc, cond, List, [], ◌∷◌, Bool, true, false, length, replicate, slice_index_or, slice_set, refl, sym, ap, subst, ◌∙◌, arith}
+use Rattle.std.proofs.Common.{◌≡◌, ◌≢◌, ◌↔◌, ◌⊎◌, inl, inr, ◌+◌, ◌-◌, ◌<◌, ◌≤◌, ◌||◌, ℕ, zero, suc, cond, List, [], ◌∷◌, Bool, true, false, length, replicate, slice_index_or, slice_set, slice_get, Option, Some, ◌++◌, refl, sym, ap, subst, ◌∙◌, arith}
 use Rattle.std.proofs.lemmas.Bool.{cases_eq, cases_lt}
 use Rattle.std.proofs.lemmas.List.{same_lists, get_or_default, get_or_past, get_or-set_same, get_or-set_other, length-set, get_or-replicate, length-replicate}
 use Rattle.std.specs.Simd.Lanes.{zip2}
 use Rattle.std.proofs.lemmas.Simd.{length-zip2, get_or-zip2}
 use Rattle.std.proofs.lemmas.List.Sums.{sum_by-set, sum_by-cons, count_by-le-length}
 use Rattle.cb_reach.specs.Rows.{Has, IsLeft, HasAllOf, ones}
-use Rattle.cb_reach.specs.Graphs.{HaveSameEdges, Chain, LeadsTo, IsLedTo, IsSettled, IsFinished}
+use Rattle.cb_reach.specs.Graphs.{HaveSameEdges, Chain, LeadsTo, IsLedTo, IsSettled, IsFinished, AreFinished}
 
 -- one edge more
 pub chain_more : (edge : ℕ → ℕ → Type 0) (from : ℕ) (rest : List ℕ) (to next : ℕ) → Chain edge from rest to → edge to next → LeadsTo edge from next
@@ -250,3 +250,35 @@ module _ (edge : ℕ → ℕ → Type 0) (nodes from : ℕ) (lt : from < nodes) 
 
   pub counted_from_start : (steps0 steps all : ℕ) → steps + ones (replicate nodes false) ≤ steps0 + all → steps ≤ steps0 + all
   counted_from_start steps0 steps all e = let f = no_ones nodes in omega arith
+
+-- where the edges are the same, so is what a node leads to, and a finished row stays finished
+leads_alike : (edge other : ℕ → ℕ → Type 0) → ((from to : ℕ) → edge from to → other from to) → (from : ℕ) (rest : List ℕ) (to : ℕ) → Chain edge from rest to → Chain other from rest to
+leads_alike edge other into from [] to same = same
+leads_alike edge other into from (node ∷ rest) to chain = (into from node chain.0, leads_alike edge other into node rest to chain.1)
+
+pub still_finished : (edge other : ℕ → ℕ → Type 0) → HaveSameEdges other edge → (count node : ℕ) (row : List Bool) → IsFinished edge count node row → IsFinished other count node row
+still_finished edge other same count node row finished = record {
+  room = finished.room;
+  each = λ k. (
+    λ has. let led = (finished.each k).0 has in (led.0, leads_alike edge other (λ from to. (same from to).1) node led.0 k led.1),
+    λ led. (finished.each k).1 (led.0, leads_alike other edge (λ from to. (same from to).0) node led.0 k led.1),
+  );
+}
+
+pub all_still_finished : (edge other : ℕ → ℕ → Type 0) → HaveSameEdges other edge → (count : ℕ) (rows : List (Option (List Bool))) → AreFinished edge count rows → AreFinished other count rows
+all_still_finished edge other same count rows finished node row at = still_finished edge other same count node row (finished node row at)
+
+-- what is read of a list with one item more
+appended : {X : Type 0} (xs : List X) (x : X) (i : ℕ) (y : X) → slice_get (xs ++ (x ∷ [])) i ≡ Some y → (slice_get xs i ≡ Some y) ⊎ ((i ≡ length xs) × (x ≡ y))
+appended [] x zero y at = inr (refl, cc)
+appended [] x (suc i) y at = absurd (cc)
+appended (z ∷ xs) x zero y at = inl at
+appended (z ∷ xs) x (suc i) y at = elim (appended xs x i y at) [ inl before ↦ inl before | inr last ↦ inr (let e = last.0 in omega arith, last.1) ]
+
+-- a row more, at its node's place
+pub all_finished_more : (edge : ℕ → ℕ → Type 0) (count : ℕ) (rows : List (Option (List Bool))) (row : List Bool) → AreFinished edge count rows → IsFinished edge count (length rows) row
+    → AreFinished edge count (rows ++ (Some row ∷ []))
+all_finished_more edge count rows row before finished node other at = elim (appended rows (Some row) node (Some other) at) [
+  | inl there ↦ before node other there
+  | inr last ↦ let same : row ≡ other = (let e = last.1 in cc) in subst (λ r. IsFinished edge count node r) same (subst (λ n. IsFinished edge count n row) (sym last.0) finished)
+]

@@ -33,23 +33,27 @@ impl Edges for Lists {
     }
 }
 
-// The nodes that one leads to.
-fn reached<L: Ledger>(
+// For each node in turn the nodes that it leads to, with the help of the rows before its own.
+fn all_reached<L: Ledger, G: Edges>(
     alloc: Global,
     blank: Blank,
-    graph: &mut Lists,
-    from: usize,
-) -> Result<Row, AllocError>
+    graph: &mut G,
+    count: usize,
+) -> Result<Vec<Option<Row>>, AllocError>
     requires name { blank.name ≡ L.name }
     requires parts { blank.parts ≡ L.parts }
     requires some { 0 < L.parts }
-    requires from { from < length graph.old.lists.items }
+    requires count { G.count graph.old ≡ count }
 {
     let mut steps = Steps::<L>::new(blank);
-    let mut found = Row::zeroed(alloc, graph.lists.len())?;
-    let mut done = Row::zeroed(alloc, graph.lists.len())?;
-    reach(graph, from, &[], &mut found, &mut done, &mut steps);
-    Ok(found)
+    let mut rows = Vec::new(alloc);
+    for from in 0..count {
+        let mut found = Row::zeroed(alloc, count)?;
+        let mut done = Row::zeroed(alloc, count)?;
+        reach(graph, from, &rows, &mut found, &mut done, &mut steps);
+        rows.push(Some(found))?;
+    }
+    Ok(rows)
 }
 
 // The lists of this graph.
@@ -64,22 +68,24 @@ fn graph_of(alloc: Global, all: &[&[usize]]) -> Result<Lists, AllocError> {
 #[test]
 fn what_each_node_leads_to(rt: HostRuntime) -> Result<(), Fail> {
     let all: [&[usize]; 7] = [&[1], &[2], &[0], &[3], &[0, 3], &[], &[5, 6, 4, 70]];
-    let mut graph = graph_of(rt.alloc(), &all)?;
-    let table: [(usize, &[usize]); 6] = [
-        (1, &[0, 1, 2]),
-        (2, &[0, 1, 2]),
-        (3, &[3]),
-        (4, &[0, 1, 2, 3, 4]),
-        (5, &[5]),
-        (6, &[0, 1, 2, 3, 4, 5, 6]),
+    let table: [&[usize]; 7] = [
+        &[0, 1, 2],
+        &[0, 1, 2],
+        &[0, 1, 2],
+        &[3],
+        &[0, 1, 2, 3, 4],
+        &[5],
+        &[0, 1, 2, 3, 4, 5, 6],
     ];
-    for (from, nodes) in table {
-        if from < graph.lists.len() {
-            let found = reached::<Brand>(rt.alloc(), Blank::new(1), &mut graph, from)?;
-            assert_eq!(rt; found.ones(), nodes.len(), "{from}");
-            for node in nodes {
-                assert!(rt; *node < found.len() && found.get(*node), "{from}, {node}");
-            }
+    let mut graph = graph_of(rt.alloc(), &all)?;
+    let count = graph.lists.len();
+    let rows = all_reached::<Brand, Lists>(rt.alloc(), Blank::new(1), &mut graph, count)?;
+    assert_eq!(rt; rows.len(), table.len());
+    for (row, nodes) in rows.iter().zip(table) {
+        let Some(row) = row else { continue };
+        assert_eq!(rt; row.ones(), nodes.len());
+        for node in nodes {
+            assert!(rt; *node < row.len() && row.get(*node), "{node}");
         }
     }
     Ok(())
