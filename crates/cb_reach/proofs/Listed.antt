@@ -6,7 +6,7 @@ use Rattle.std.specs.List.{Contains}
 use Rattle.std.proofs.lemmas.Bool.{cases_eq, cases_lt}
 use Rattle.std.proofs.lemmas.List.{get_or_default, get_or_past, get_or-set_other, length-set}
 use Rattle.cb_reach.specs.Rows.{Has}
-use Rattle.cb_reach.proofs.Searching.{has_set, set_cases}
+use Rattle.cb_reach.proofs.Marks.{has_set, set_cases}
 
 -- one of the first numbers of the list
 abbrev pub Listed : List ℕ → ℕ → ℕ → Type 0

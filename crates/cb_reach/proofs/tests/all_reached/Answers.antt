@@ -2,7 +2,7 @@ use Rattle.std.proofs.Common.{◌↔◌, ◌+◌, ℕ, length, sym, ap, subst, �
 use Rattle.std.proofs.lemmas.List.{length-append}
 use Rattle.cb_reach.specs.Graphs.{LeadsTo, IsFinished, AreFinished}
 use Rattle.cb_reach.specs.Rows.{Has}
-use Rattle.cb_reach.proofs.Searching.{all_still_finished, all_finished_more}
+use Rattle.cb_reach.proofs.Finished.{all_still_finished, all_finished_more}
 use Rattle.cb_reach.proofs.tests.all_reached.Goals as goal
 
 pub reach-requires-clause-finished : goal.reach-requires-clause-finished
