@@ -1,5 +1,5 @@
 -- Chains of edges.
-use Rattle.std.proofs.Common.{◌≡◌, ◌↔◌, ℕ, List, [], ◌∷◌, Bool, refl, sym, subst}
+use Rattle.std.proofs.Common.{◌↔◌, ℕ, List, [], ◌∷◌, Bool, refl, sym, subst}
 use Rattle.cb_reach.specs.Rows.{Has}
 use Rattle.cb_reach.specs.Graphs.{HaveSameEdges, Chain, LeadsTo}
 

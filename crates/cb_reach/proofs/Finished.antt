@@ -1,5 +1,5 @@
 -- Rows of all that a node leads to stay so while the edges stay.
-use Rattle.std.proofs.Common.{◌≡◌, ◌⊎◌, inl, inr, ℕ, zero, suc, List, [], ◌∷◌, ◌++◌, Bool, length, Option, Some, slice_get, refl, sym, subst, arith}
+use Rattle.std.proofs.Common.{◌≡◌, ◌⊎◌, inl, inr, ℕ, zero, suc, List, [], ◌∷◌, ◌++◌, Bool, length, Option, Some, slice_get, refl, sym, subst, ◌∙◌, arith}
 use Rattle.cb_reach.specs.Graphs.{HaveSameEdges, IsFinished, AreFinished}
 use Rattle.cb_reach.proofs.Chains.{leads_alike}
 
@@ -23,9 +23,9 @@ appended (z ∷ xs) x zero y at = inl at
 appended (z ∷ xs) x (suc i) y at = elim (appended xs x i y at) [ inl before ↦ inl before | inr last ↦ inr (let e = last.0 in omega arith, last.1) ]
 
 -- a row more, at its node's place
-pub all_finished_more : (edge : ℕ → ℕ → Type 0) (count : ℕ) (rows : List (Option (List Bool))) (row : List Bool) → AreFinished edge count rows → IsFinished edge count (length rows) row
+pub all_finished_more : (edge : ℕ → ℕ → Type 0) (count : ℕ) (rows : List (Option (List Bool))) (node : ℕ) (row : List Bool) → length rows ≡ node → AreFinished edge count rows → IsFinished edge count node row
     → AreFinished edge count (rows ++ (Some row ∷ []))
-all_finished_more edge count rows row before finished node other at = elim (appended rows (Some row) node (Some other) at) [
-  | inl there ↦ before node other there
-  | inr last ↦ let same : row ≡ other = (let e = last.1 in cc) in subst (λ r. IsFinished edge count node r) same (subst (λ n. IsFinished edge count n row) (sym last.0) finished)
+all_finished_more edge count rows node row here before finished k other at = elim (appended rows (Some row) k (Some other) at) [
+  | inl there ↦ before k other there
+  | inr last ↦ let same : row ≡ other = (let e = last.1 in cc) in subst (λ r. IsFinished edge count k r) same (subst (λ n. IsFinished edge count n row) (sym here ∙ sym last.0) finished)
 ]

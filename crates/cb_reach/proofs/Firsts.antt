@@ -1,11 +1,10 @@
 -- The first bit, from a place of a word on, that is one in the word and zero in another.
-use Rattle.std.proofs.Common.{◌≡◌, ◌≢◌, ℕ, zero, suc, ◌+◌, ◌-◌, ◌*◌, ◌/◌, ◌%◌, ◌^◌, ◌<◌, ◌≤◌, ◌==◌, ◌&&◌, Bool, true, false, not, min, max, List, slice_index_or, bit_and, refl, sym, ap, subst, ◌∙◌, inl, inr, Fits, w64, arith}
+use Rattle.std.proofs.Common.{◌≡◌, ◌≢◌, ℕ, zero, suc, ◌+◌, ◌-◌, ◌*◌, ◌/◌, ◌%◌, ◌^◌, ◌<◌, ◌≤◌, ◌==◌, ◌&&◌, false, not, min, max, List, slice_index_or, bit_and, refl, sym, ap, subst, ◌∙◌, inl, inr, Fits, w64, arith}
 use Rattle.std.specs.Int.{bit_at, bit_not, trailing_zeros}
 use Rattle.std.specs.Slice.Scan.{HoldsNowhere}
 use Rattle.std.proofs.lemmas.Bool.{cases_lt}
 use Rattle.std.proofs.lemmas.Nat.{shr-shr, shr_le, and_le_l}
 use Rattle.std.proofs.lemmas.Nat.Bits.{bit_at_and, bit_at_not, bit_at_above, bit_at-lt, bit_at-zero, bit_at-trailing_zeros}
-use Rattle.cb_bits.specs.Bits.{bit_of}
 use Rattle.cb_reach.specs.Rows.{in_not, IsNextBit}
 
 not_two : (n : ℕ) → suc (suc n) < 2 → ⊥

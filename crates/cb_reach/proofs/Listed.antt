@@ -1,10 +1,10 @@
 -- A row to which the first numbers of a list are added, where they are in range.
-use Rattle.std.proofs.Common.{◌≡◌, ◌↔◌, ◌⊎◌, inl, inr, ◌+◌, ◌<◌, ◌≤◌, ℕ, zero, suc, List, [], ◌∷◌, Bool, true, false, length, Option, Some, slice_get, slice_index_or, slice_set, refl, sym, ap, subst, ◌∙◌, arith}
+use Rattle.std.proofs.Common.{◌≡◌, ◌↔◌, ◌⊎◌, inl, inr, ◌+◌, ◌<◌, ◌≤◌, ℕ, List, Bool, true, false, length, Some, slice_get, slice_index_or, slice_set, refl, sym, ap, subst, ◌∙◌, arith}
 use Rattle.std.specs.declared.vec.Vec.{Vec}
 use Rattle.std.specs.Global.{Global}
 use Rattle.std.specs.List.{Contains}
 use Rattle.std.proofs.lemmas.Bool.{cases_eq, cases_lt}
-use Rattle.std.proofs.lemmas.List.{get_or_default, get_or_past, get_or-set_other, length-set}
+use Rattle.std.proofs.lemmas.List.{get_or_default, get_or-set_other, length-set}
 use Rattle.cb_reach.specs.Rows.{Has}
 use Rattle.cb_reach.proofs.Marks.{has_set, set_cases}
 
@@ -17,7 +17,7 @@ pub record IsMarked (row0 : List Bool) (items : List ℕ) (i : ℕ) (row : List 
   pub each : (k : ℕ) → Has row k ↔ (Has row0 k ⊎ ((k < length row0) × Listed items i k))
 
 pub none_marked : (row : List Bool) (items : List ℕ) → IsMarked row items 0 row
-none_marked row items = record { room = refl; each = λ k. (inl, λ h. elim h [ | inl has ↦ has | inr listed ↦ absurd (let lt = listed.1.1 in omega arith) ]) }
+none_marked row items = record { room = refl; each = λ k. (inl, λ h. elim h [ inl has ↦ has | inr listed ↦ absurd (let lt = listed.1.1 in omega arith) ]) }
 
 has_still : (row : List Bool) (n k : ℕ) → n < length row → Has row k → Has (slice_set row n true) k
 has_still row n k lt has = elim (cases_eq k n) [

@@ -15,7 +15,8 @@ pub trait Edges {
     // how many nodes there are
     ghost count: { Self → ℕ };
 
-    /// Adds the successors of a node to a row, and counts one step. The graph may use room of its own meanwhile.
+    /// Adds the successors of a node to a row, and counts one step. The graph may use room of its own for it, as long as
+    /// its edges stay.
     fn add_successors<L: Ledger>(&mut self, node: usize, row: &mut Row, steps: &mut Steps<L>)
         requires node { node < count self.old }
         requires row { length row.old ≡ count self.old }

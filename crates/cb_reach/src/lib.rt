@@ -11,7 +11,5 @@ pub use edges::Edges;
 pub use places::next_in_not;
 pub use search::{extend, reach};
 
-
-
 #[cfg(test)]
 mod tests;

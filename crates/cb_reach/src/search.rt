@@ -1,4 +1,4 @@
-//! The search along edges. It keeps no list of nodes to visit: those that are found and not done are still to be visited.
+//! The search along edges. It keeps no list of nodes to visit: those that are found and not done are left.
 ghost use Rattle.std.specs.Prelude.{◌≡◌, ◌<◌, ◌≤◌, ◌+◌, ◌↔◌, ℕ, length, replicate, false, slice_get, IfSome};
 ghost use Rattle.cb_reach.specs.Graphs.{HaveSameEdges, LeadsTo, IsLedTo, IsSettled, AreFinished};
 ghost use Rattle.cb_reach.specs.Rows.{Has, ones};
@@ -30,6 +30,7 @@ pub fn extend<L: Ledger, G: Edges>(
     ensures done { done.new ≡ found.new }
     ensures cost { steps.new + ones done.old ≤ steps.old + ones found.new }
 {
+    // The word of the node that was last done: there the look for the next one goes on.
     let mut last = 0;
     while let Some(node) = next_around(found, done, last) {
         match row_at(finished, node) {

@@ -4,7 +4,7 @@ ghost use Rattle.std.specs.List.{Contains};
 ghost use Rattle.std.specs.declared.vec.Vec.{Vec};
 ghost use Rattle.std.specs.Global.{Global};
 
-use crate::{reach, Edges};
+use crate::{Edges, reach};
 use cb_bits::Row;
 use cb_steps::Steps;
 use std::alloc::{AllocError, Global};

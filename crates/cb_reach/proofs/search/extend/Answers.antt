@@ -1,8 +1,8 @@
-use Rattle.std.proofs.Common.{sym, ◌∙◌, ◌+◌, true, slice_set, arith}
+use Rattle.std.proofs.Common.{sym, ◌∙◌, true, slice_set, arith}
 use Rattle.std.proofs.lemmas.List.{length-set}
 use Rattle.cb_reach.proofs.Chains.{edges_stay}
 use Rattle.cb_reach.proofs.Marks.{fewer_left, ones-set}
-use Rattle.cb_reach.proofs.Searching.{begun, visited, joined, more_done, left_below, all_done, all_led, all_counted}
+use Rattle.cb_reach.proofs.Searching.{visited, joined, more_done, left_below, all_done, all_led, all_counted}
 use Rattle.cb_reach.proofs.search.extend.Goals as goal
 use Rattle.cb_reach.proofs.search.extend.Goals.{in-Some-row_at, in-None}
 

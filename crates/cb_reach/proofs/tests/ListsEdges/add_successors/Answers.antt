@@ -1,6 +1,6 @@
-use Rattle.std.proofs.Common.{◌≡◌, length, refl, ◌∙◌, ap, subst, arith}
+use Rattle.std.proofs.Common.{◌≡◌, length, refl, subst, arith}
 use Rattle.std.proofs.lemmas.Option.{slice_get_read}
-use Rattle.cb_reach.proofs.Listed.{IsMarked, none_marked, marked_more, skipped_more, added}
+use Rattle.cb_reach.proofs.Listed.{IsMarked, added}
 use Rattle.cb_reach.proofs.tests.ListsEdges.add_successors.Goals as goal
 
 pub returns-clause-row : goal.returns-clause-row
