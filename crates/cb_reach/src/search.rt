@@ -1,5 +1,5 @@
 //! The search along edges. It keeps no list of nodes to visit: those that are found and not done are left.
-ghost use Rattle.std.specs.Prelude.{◌≡◌, ◌<◌, ◌≤◌, ◌+◌, ◌↔◌, ℕ, length, replicate, false, slice_get, IfSome};
+ghost use Rattle.std.specs.Prelude.{◌≡◌, ◌≢◌, ◌<◌, ◌≤◌, ◌+◌, ◌↔◌, ℕ, length, replicate, false, slice_get, List, Bool, IfSome, IfNone};
 ghost use Rattle.cb_reach.specs.Graphs.{HaveSameEdges, LeadsTo, IsLedTo, IsSettled, AreFinished};
 ghost use Rattle.cb_reach.specs.Rows.{Has, ones};
 
@@ -30,7 +30,7 @@ pub fn extend<L: Ledger, G: Edges>(
     ensures done { done.new ≡ found.new }
     ensures cost { steps.new + ones done.old ≤ steps.old + ones found.new }
 {
-    // The word of the node that was last done: there the look for the next one goes on.
+    // The start of the word in which a node was last found: the next one is looked for from there on.
     let mut last = 0;
     while let Some(node) = next_around(found, done, last) {
         match row_at(finished, node) {
@@ -49,7 +49,8 @@ pub fn extend<L: Ledger, G: Edges>(
 
 // The row at a node's place, if there is one.
 fn row_at(rows: &[Option<Row>], node: usize) -> Option<&Row>
-    ensures { IfSome result (λ row. slice_get rows.now node ≡ Some (Some row.now)) }
+    ensures some { IfSome result (λ row. slice_get rows.now node ≡ Some (Some row.now)) }
+    ensures none { IfNone result ((row : List Bool) → slice_get rows.now node ≢ Some (Some row)) }
 {
     rows.get(node)?.as_ref()
 }

@@ -20,7 +20,7 @@ loop-node-smaller g c =
     let kept = c.loop-node.invariant.2 in
     elim c.match-row_at.branch [
       | in-Some-row_at w ↦
-          let finished = c.requires.finished c.in-Some.node _ w.in-Some-row_at.ensures in
+          let finished = c.requires.finished c.in-Some.node _ w.in-Some-row_at.ensures.some in
           let next = joined _ _ _ _ _ _ _ _ kept c.in-Some.node _ c.in-Some.ensures.left finished in
           let more = more_done _ _ _ _ _ _ _ _ kept c.in-Some.node _ c.in-Some.ensures.left finished in
           rw (w.done-is, w.or_from-in-Some-row_at.ensures) (fewer_left c.loop-node.done _ (next.len_done ∙ sym kept.len_done) more)
@@ -34,7 +34,7 @@ loop-node-preserved g c =
     let kept = c.loop-node.invariant in
     elim c.match-row_at.branch [
       | in-Some-row_at w ↦
-          let finished = c.requires.finished c.in-Some.node _ w.in-Some-row_at.ensures in
+          let finished = c.requires.finished c.in-Some.node _ w.in-Some-row_at.ensures.some in
           let next = joined _ _ _ _ _ _ _ _ kept.2 c.in-Some.node _ c.in-Some.ensures.left finished in
           rw (w.graph-is, w.found-is, w.or_from.ensures, w.done-is, w.or_from-in-Some-row_at.ensures, w.steps-is) (kept.0, kept.1, next)
       | in-None w ↦
