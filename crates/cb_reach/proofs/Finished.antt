@@ -1,0 +1,31 @@
+-- Rows of all that a node leads to stay so while the edges stay.
+use Rattle.std.proofs.Common.{◌≡◌, ◌⊎◌, inl, inr, ℕ, zero, suc, List, [], ◌∷◌, ◌++◌, Bool, length, Option, Some, slice_get, refl, sym, subst, ◌∙◌, arith}
+use Rattle.cb_reach.specs.Graphs.{HaveSameEdges, IsFinished, AreFinished}
+use Rattle.cb_reach.proofs.Chains.{leads_alike}
+
+pub still_finished : (edge other : ℕ → ℕ → Type 0) → HaveSameEdges other edge → (count node : ℕ) (row : List Bool) → IsFinished edge count node row → IsFinished other count node row
+still_finished edge other same count node row finished = record {
+  room = finished.room;
+  each = λ k. let alike = leads_alike other edge same node k in (
+    λ has. alike.1 ((finished.each k).0 has),
+    λ led. (finished.each k).1 (alike.0 led),
+  );
+}
+
+pub all_still_finished : (edge other : ℕ → ℕ → Type 0) → HaveSameEdges other edge → (count : ℕ) (rows : List (Option (List Bool))) → AreFinished edge count rows → AreFinished other count rows
+all_still_finished edge other same count rows finished node row at = still_finished edge other same count node row (finished node row at)
+
+-- what is read of a list with one item more
+appended : {X : Type 0} (xs : List X) (x : X) (i : ℕ) (y : X) → slice_get (xs ++ (x ∷ [])) i ≡ Some y → (slice_get xs i ≡ Some y) ⊎ ((i ≡ length xs) × (x ≡ y))
+appended [] x zero y at = inr (refl, cc)
+appended [] x (suc i) y at = absurd (cc)
+appended (z ∷ xs) x zero y at = inl at
+appended (z ∷ xs) x (suc i) y at = elim (appended xs x i y at) [ inl before ↦ inl before | inr last ↦ inr (let e = last.0 in omega arith, last.1) ]
+
+-- a row more, at its node's place
+pub all_finished_more : (edge : ℕ → ℕ → Type 0) (count : ℕ) (rows : List (Option (List Bool))) (node : ℕ) (row : List Bool) → length rows ≡ node → AreFinished edge count rows → IsFinished edge count node row
+    → AreFinished edge count (rows ++ (Some row ∷ []))
+all_finished_more edge count rows node row here before finished k other at = elim (appended rows (Some row) k (Some other) at) [
+  | inl there ↦ before k other there
+  | inr last ↦ let same : row ≡ other = (let e = last.1 in cc) in subst (λ r. IsFinished edge count k r) same (subst (λ n. IsFinished edge count n row) (sym here ∙ sym last.0) finished)
+]

@@ -1,0 +1,7 @@
+pub mod Firsts
+pub mod Sought
+pub mod Chains
+pub mod Marks
+pub mod Searching
+pub mod Finished
+pub mod Listed

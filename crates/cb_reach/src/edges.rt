@@ -1,0 +1,28 @@
+//! Where a search learns of edges.
+ghost use Rattle.std.specs.Prelude.{◌≡◌, ◌<◌, ◌+◌, ◌↔◌, ◌⊎◌, ℕ, length};
+ghost use Rattle.cb_reach.specs.Graphs.{HaveSameEdges};
+ghost use Rattle.cb_reach.specs.Rows.{Has};
+
+use cb_bits::Row;
+use cb_steps::Steps;
+use std::sync::ledger::Ledger;
+
+/// A graph over the numbers below a count.
+pub trait Edges {
+    // an edge leads from the first node to the second
+    ghost edge: { Self → ℕ → ℕ → Type 0 };
+
+    // how many nodes there are
+    ghost count: { Self → ℕ };
+
+    /// Adds the successors of a node to a row, and counts one step. The graph may use room of its own for it, as long as
+    /// its edges stay.
+    fn add_successors<L: Ledger>(&mut self, node: usize, row: &mut Row, steps: &mut Steps<L>)
+        requires node { node < count self.old }
+        requires row { length row.old ≡ count self.old }
+        ensures edges { HaveSameEdges (edge self.new) (edge self.old) }
+        ensures count { count self.new ≡ count self.old }
+        ensures length { length row.new ≡ length row.old }
+        ensures row { (k : ℕ) → Has row.new k ↔ (Has row.old k ⊎ edge self.old node k) }
+        ensures step { steps.new ≡ steps.old + 1 };
+}
