@@ -11,6 +11,3 @@ mod net;
 
 pub use id::InstanceId;
 pub use net::Net;
-
-#[cfg(test)]
-mod tests;
