@@ -11,3 +11,6 @@ mod net;
 
 pub use id::InstanceId;
 pub use net::Net;
+
+#[cfg(test)]
+mod tests;
