@@ -19,7 +19,7 @@ pub enum Edit {
 }
 
 /// Why an edit is refused. Where several of these hold, the answer is the one that stands first here.
-#[derive(Debug, Drop)]
+#[derive(Clone, Copy, Debug, PartialEq, Eq)]
 pub enum EditRefusal {
     /// No class has that name.
     NoClass,

@@ -1,0 +1,8 @@
+//! Which edits of a topology are accepted, and why others are refused.
+#![tactic(auto)]
+
+mod counts;
+mod refusal;
+
+pub use counts::Counts;
+pub use refusal::allows;

@@ -1,0 +1,19 @@
+//! Why an edit is refused.
+ghost use Rattle.std.specs.Prelude.{OnOk, IfErr, Err};
+ghost use Rattle.cb_network.specs.declared.edit.EditRefusal.{EditRefusal as Refusal};
+ghost use Rattle.cb_network.specs.Edits.{Refuses, IsAfter};
+ghost use Rattle.cb_accept.specs.Counts.{AreCounts, AreWithin};
+
+use crate::counts::Counts;
+use cb_net::Net;
+use cb_network::{Edit, EditRefusal};
+
+/// Whether the edit is accepted, and else the refusal that stands first among those that hold.
+pub fn allows(net: &Net, counts: Counts, edit: &Edit) -> Result<(), EditRefusal>
+    requires counts { AreCounts net.now.topology counts }
+    requires few { AreWithin counts }
+    ensures allowed { OnOk result ((why : Refusal) → ¬ Refuses net.now.topology edit.now why) }
+    ensures refused { IfErr result (λ why. IsAfter net.now.topology edit.now (Err why)) }
+{
+    match counts.never {}
+}

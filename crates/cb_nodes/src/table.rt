@@ -1,0 +1,109 @@
+//! The table of nodes and numbers.
+ghost use Rattle.std.specs.Prelude.{◌≡◌, ◌≤◌, ◌<◌, ◌^◌, ◌↔◌, [], length, OnOk, OnErr, IfOk, IfSome, IfNone};
+ghost use Rattle.std.specs.List.{Contains};
+ghost use Rattle.cb_model.specs.declared.id.EventId.{EventId as Event};
+ghost use Rattle.cb_net.specs.Numbered.{Once};
+ghost use Rattle.cb_nodes.specs.declared.id.NodeId.{NodeId as Id};
+ghost use Rattle.cb_nodes.specs.Table.{IsNode, HasNumber, node_of, HasEvent, IsOne, Adds, Removes, count_of, room_with};
+
+use crate::id::NodeId;
+use crate::node::Node;
+use cb_model::EventId;
+use cb_net::InstanceId;
+use std::alloc::{AllocError, Global};
+
+#[derive(Drop)]
+pub enum Never {}
+
+/// For each number the node that has it, if one has.
+#[derive(Drop)]
+pub struct NodeTable {
+    slots: Vec<Option<Node>>,
+    never: Never,
+}
+
+impl std::marker::Model for NodeTable {
+    ghost use Rattle.cb_nodes.specs.Table.{Table};
+
+    ghost Value = { Table };
+
+    ghost view = { λ s. s.slots.items };
+}
+
+impl NodeTable {
+    /// No node. (Stub: the real one answers no error.)
+    pub fn new(alloc: Global) -> Result<NodeTable, AllocError>
+        ensures { IfOk result (λ t. t ≡ []) }
+    {
+        Err(AllocError)
+    }
+
+    /// Says that no node has two numbers. It does nothing.
+    pub fn is_one(&self)
+        ensures { IsOne self.now }
+    {
+        match self.never {}
+    }
+
+    /// Gives each of the events a number that was free.
+    pub fn add(
+        &mut self,
+        alloc: Global,
+        instance: InstanceId,
+        events: &[EventId],
+    ) -> Result<(), AllocError>
+        requires new { (e : Event) → ¬ HasEvent self.old instance e }
+        requires once { Once events.now }
+        requires few { room_with self.old (length events.now) ≤ 2 ^ 32 }
+        ensures ok { OnOk result (Adds self.old self.new instance events.now) }
+        ensures err { OnErr result (self.new ≡ self.old) }
+    {
+        match self.never {}
+    }
+
+    /// Takes the numbers of the instance's events away. It takes no memory.
+    pub fn remove(&mut self, instance: InstanceId)
+        ensures { Removes self.old self.new instance }
+    {
+        match self.never {}
+    }
+
+    /// The number of an instance's event.
+    pub fn node_at(&self, instance: InstanceId, event: EventId) -> Option<NodeId>
+        ensures found { IfSome result (λ id. IsNode self.now id (node_of instance event)) }
+        ensures absent { IfNone result (¬ HasEvent self.now instance event) }
+    {
+        match self.never {}
+    }
+
+    /// The node of a number.
+    pub fn node(&self, id: NodeId) -> Option<Node>
+        ensures found { IfSome result (IsNode self.now id) }
+        ensures absent { IfNone result (¬ HasNumber self.now id) }
+    {
+        match self.never {}
+    }
+
+    /// How many nodes there are.
+    pub fn count(&self) -> usize
+        ensures { result ≡ count_of self.now }
+    {
+        match self.never {}
+    }
+
+    /// Above each number in use.
+    pub fn room(&self) -> usize
+        ensures value { result ≡ length self.now }
+        ensures above { (id : Id) → HasNumber self.now id → id.0 < result }
+    {
+        match self.never {}
+    }
+
+    /// What `room` is once so many nodes more have their numbers.
+    pub fn room_with(&self, more: usize) -> usize
+        requires { room_with self.now more < 2 ^ 64 }
+        ensures { result ≡ room_with self.now more }
+    {
+        match self.never {}
+    }
+}
