@@ -1,0 +1,52 @@
+-- What an accepted edit does to the numbers.
+use Rattle.std.specs.Prelude.{◌≡◌, ℕ, List, length, Ok, Err}
+use Rattle.cb_model.specs.declared.id.ClassId.{ClassId}
+use Rattle.cb_model.specs.declared.id.EventId.{EventId}
+use Rattle.cb_model.specs.declared.node.NodeName.{NodeName}
+use Rattle.cb_model.specs.Classes.{NamesClass}
+use Rattle.cb_model.specs.Views.{AreEventsOf}
+use Rattle.cb_network.specs.declared.edit.Edit.{Edit}
+use Rattle.cb_network.specs.declared.edit.Edit.TheVariants.{Create, Link}
+use Rattle.cb_network.specs.declared.edit.EditRefusal.{EditRefusal}
+use Rattle.cb_network.specs.Topology.{IsLive}
+use Rattle.cb_network.specs.Nodes.{IsNodeOf}
+use Rattle.cb_network.specs.Edits.{IsAfter}
+use Rattle.cb_net.specs.declared.id.InstanceId.{InstanceId}
+use Rattle.cb_net.specs.Numbered.{IsNamed}
+use Rattle.cb_nodes.specs.declared.id.NodeId.{NodeId}
+use Rattle.cb_nodes.specs.Table.{room_with}
+use Rattle.cb_topo.specs.declared.fault.EditFault.{EditFault}
+use Rattle.cb_topo.specs.declared.fault.EditFault.TheVariants.{Refused, NoMemory}
+use Rattle.cb_topo.specs.Numbered.{Numbered, topology_of, IsNodeNamed}
+
+-- an instance that is live before and after keeps its number
+abbrev pub KeepsInstances : Numbered → Numbered → Type 0
+KeepsInstances old new = (id : InstanceId) (name : List ℕ) → IsNamed old.net id name → IsLive (topology_of new) name → IsNamed new.net id name
+
+-- so does a node
+abbrev pub KeepsNodes : Numbered → Numbered → Type 0
+KeepsNodes old new = (id : NodeId) (name : NodeName) → IsNodeNamed old id name → IsNodeOf (topology_of new) name → IsNodeNamed new id name
+
+-- numbers of nodes are below this once the edit is made: a further instance alone needs new ones, where the free ones are too few
+abbrev pub IsNodeRoomAfter : Numbered → Edit → ℕ → Type 0
+IsNodeRoomAfter n (Create name class) room = (c : ClassId) × (events : List EventId) × NamesClass (topology_of n).model class c
+    × AreEventsOf (topology_of n).model c events × (room ≡ room_with n.nodes (length events))
+IsNodeRoomAfter n edit room = room ≡ length n.nodes
+
+-- the accepted edit makes the new of the old
+pub record Applies (old : Numbered) (edit : Edit) (new : Numbered) : Type 0 where
+  pub after : IsAfter (topology_of old) edit (Ok (topology_of new))
+  pub instances : KeepsInstances old new
+  pub nodes : KeepsNodes old new
+  pub node_room : IsNodeRoomAfter old edit (length new.nodes)
+
+-- the edit is one that may need memory
+abbrev pub MayGrow : Edit → Type 0
+MayGrow (Create name class) = Unit {0}
+MayGrow (Link a rel b) = Unit {0}
+MayGrow edit = ⊥
+
+-- why the edit isn't made: it is refused for this, or it is one that needs memory
+abbrev pub Prevents : Numbered → Edit → EditFault → Type 0
+Prevents n edit (Refused why) = IsAfter (topology_of n) edit (Err why)
+Prevents n edit NoMemory = MayGrow edit

@@ -1,0 +1,3 @@
+pub mod Numbered
+pub mod Codes
+pub mod Applied

@@ -1,0 +1,8 @@
+//! A topology whose instances and nodes have numbers that stay, changed by edits.
+#![tactic(auto)]
+
+mod fault;
+mod topology;
+
+pub use fault::EditFault;
+pub use topology::Topology;
