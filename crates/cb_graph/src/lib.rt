@@ -1,0 +1,6 @@
+//! Edges between the nodes of a topology, found one node at a time.
+#![tactic(auto)]
+
+mod graph;
+
+pub use graph::Graph;
