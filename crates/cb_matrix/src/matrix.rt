@@ -1,0 +1,32 @@
+//! The matrix of a topology.
+ghost use Rattle.std.specs.Prelude.{◌≡◌, IfOk};
+ghost use Rattle.cb_topo.specs.Numbered.{topology_of};
+ghost use Rattle.cb_matrix.specs.Fits.{IsMatrixOf};
+
+use cb_coding::Problem;
+use cb_graph::Graph;
+use cb_model::{List, NodeName};
+use cb_steps::Steps;
+use std::alloc::{AllocError, Global};
+use std::sync::ledger::Ledger;
+
+/// The columns in order, and the problems in order, each with its code over the columns.
+#[derive(Debug, Drop)]
+pub struct Matrix {
+    pub columns: List<NodeName>,
+    pub problems: List<Problem>,
+}
+
+impl Matrix {
+    /// The matrix of the graph's topology. The successors of a node are asked for at most once for each problem that causes it.
+    pub fn of<L: Ledger>(
+        alloc: Global,
+        graph: &mut Graph,
+        steps: &mut Steps<L>,
+    ) -> Result<Matrix, AllocError>
+        ensures matrix { IfOk result (IsMatrixOf (topology_of graph.old)) }
+        ensures same { graph.new ≡ graph.old }
+    {
+        Err(AllocError)
+    }
+}
