@@ -16,7 +16,6 @@ use cb_coding::{Book, Group, Pair, Problem};
 use cb_model::{List, NamedGroup, NodeName};
 use cb_network::Finding;
 use std::alloc::{AllocError, Global};
-use std::cmp::Ordering;
 
 /// The problems nearest to what is raised, over all columns. The raised nodes are a set, given as its list in order.
 pub fn find(
@@ -26,6 +25,7 @@ pub fn find(
     raised: &List<NodeName>,
 ) -> Result<Finding, AllocError>
     requires problems { AreProblems (length columns.now) problems.now }
+    requires columns { Rises node_cmp columns.now }
     requires raised { Rises node_cmp raised.now }
     requires columns_fit { length columns.now < 2 ^ 32 }
     requires problems_fit { length problems.now + 1 < 2 ^ 32 }
@@ -59,14 +59,12 @@ fn distance_or_one(least: Option<Pair>) -> u32
     }
 }
 
-// Whether the node is one of these.
+// Whether the node is one of these, which are in order.
 fn is_among(nodes: &List<NodeName>, node: &NodeName) -> bool
+    requires { Rises node_cmp nodes.now }
     ensures { result ≡ is_among_of nodes.now node.now }
 {
-    nodes
-        .as_slice()
-        .iter()
-        .any(|other| node.cmp(other) == Ordering::Equal)
+    nodes.as_slice().binary_search(node).is_ok()
 }
 
 // For each column, whether it is raised.
@@ -75,6 +73,7 @@ fn word_of(
     columns: &List<NodeName>,
     raised: &List<NodeName>,
 ) -> Result<Row, AllocError>
+    requires { Rises node_cmp raised.now }
     ensures { IfOk result (λ word. word ≡ word_of_raised columns.now raised.now) }
 {
     let mut word = Row::zeroed(alloc, columns.len())?;
@@ -88,6 +87,7 @@ fn word_of(
 
 // How many of the raised nodes are no column.
 fn unknown_of(columns: &List<NodeName>, raised: &List<NodeName>) -> u64
+    requires { Rises node_cmp columns.now }
     ensures { result ≡ unknown_of_raised columns.now raised.now }
 {
     let mut unknown = 0;
