@@ -3,8 +3,8 @@
 
     bench/compare.py [--peer PROGRAM] [--program PROGRAM] [--seed N] [RUNS]
 
-Each run makes a model text (some of them with a fault in their spelling or in their types), a topology and a symptom
-file, hands them to both programs, and compares the status, the output and the line on standard error. A run that the
+Each run makes a model text (some of them with a fault in their spelling or in their types), a topology with edits of all
+six kinds, some of them refused, and a symptom file, hands them to both programs, and compares the status, the output and the line on standard error. A run that the
 program isn't built for (status 11) is counted apart. It ends with status 1 where two answers differ, and says nothing
 but a word where the other program isn't there. The program is built by `rt run` in crates/cb_cli, which leaves it in
 out/.
@@ -43,17 +43,17 @@ class Class:
 def random_classes(rng):
     """Some classes that keep the type rules, mostly."""
     classes = []
-    for i in range(rng.choice((0, 1, 1, 2, 3, 5))):
+    for i in range(rng.choice((0, 1, 2, 2, 3, 3, 4, 6))):
         parent = rng.choice(classes) if classes and rng.random() < 0.4 else None
         classes.append(Class(f"C{i}", parent))
     count = 0
     for one in classes:
-        for _ in range(rng.randrange(5)):
+        for _ in range(rng.randrange(1, 6)):
             kind = rng.choice(("problem", "symptom", "symptom", "problem symptom", "event"))
             one.members.append(("event", f"e{count}", kind))
             count += 1
     for one in classes:
-        for _ in range(rng.randrange(2)):
+        for _ in range(rng.randrange(3)):
             other = rng.choice(classes)
             there, back = f"r{count}", f"r{count + 1}"
             if other is one and rng.random() < 0.5:
@@ -64,7 +64,7 @@ def random_classes(rng):
             count += 2
     by_name = {one.name: one for one in classes}
     for one in classes:
-        for _ in range(rng.randrange(4)):
+        for _ in range(rng.randrange(7)):
             add_rule(rng, by_name, one, f"u{count}")
             count += 1
     for one in classes:
@@ -147,41 +147,110 @@ def lay_out(rng, tokens):
     return "".join(text)
 
 
-def model_text(rng):
-    tokens = tokens_of(random_classes(rng))
-    if rng.random() < 0.6:
+def model_text(rng, classes, spoiled):
+    tokens = tokens_of(classes)
+    if spoiled:
         spoil(rng, tokens)
     text = lay_out(rng, tokens)
-    if rng.random() < 0.1:
+    if spoiled and rng.random() < 0.2:
         text = text[: rng.randrange(len(text) + 1)]
     return text
 
 
-def topology_text(rng):
-    lines = []
-    for _ in range(rng.randrange(8)):
-        lines.append(
-            rng.choice(
-                (
-                    f"create i{rng.randrange(5)} C{rng.randrange(4)}",
-                    f"create i{rng.randrange(9)} C{rng.randrange(2)}",
-                    f"link i{rng.randrange(4)} r{rng.randrange(20)} i{rng.randrange(4)}",
-                    "# note",
-                    "",
-                    f"  create\ti{rng.randrange(99)} C0 \r",
-                )
-                if rng.random() < 0.95
-                else ("create", "delete i1", "create i1 C0 more", "mute e0@i0", "\xff")
-            )
-        )
-    return "\n".join(lines) + rng.choice(("", "\n"))
+class Network:
+    """The instances that a topology text made, as far as its writer knows."""
+
+    def __init__(self, rng, classes):
+        self.rng = rng
+        self.classes = classes
+        self.live = {}
+
+    def name(self):
+        """A live instance mostly, else any."""
+        if self.live and self.rng.random() < 0.9:
+            return self.rng.choice(list(self.live))
+        return f"i{self.rng.randrange(12)}"
+
+    def node(self):
+        """An event of an instance, mostly of its class."""
+        name = self.name()
+        events = self.live[name].named("event") if name in self.live else []
+        if events and self.rng.random() < 0.9:
+            return f"{self.rng.choice(events)}@{name}"
+        return f"e{self.rng.randrange(12)}@{name}"
+
+    def create(self):
+        one = self.rng.choice(self.classes) if self.classes else None
+        name = f"i{self.rng.randrange(12)}"
+        if one is None or self.rng.random() < 0.05:
+            return f"create {name} C{self.rng.randrange(9)}"
+        self.live.setdefault(name, one)
+        return f"create {name} {one.name}"
+
+    def join(self, verb):
+        """A link by a relation that the instance has, to one that fits it, mostly."""
+        name = self.name()
+        relations = [m for c in self.live[name].line() for m in c.members if m[0] == "relation"] if name in self.live else []
+        if not relations:
+            return f"{verb} {name} r{self.rng.randrange(20)} {self.name()}"
+        relation = self.rng.choice(relations)
+        fits = [other for other, one in self.live.items() if relation[2] in [above.name for above in one.line()]]
+        other = self.rng.choice(fits) if fits and self.rng.random() < 0.9 else self.name()
+        return f"{verb} {name} {relation[1]} {other}"
+
+    def line(self):
+        kind = self.rng.randrange(14)
+        if kind < 4:
+            return self.create()
+        if kind < 8:
+            return self.join("link")
+        if kind == 8:
+            return self.join("unlink")
+        if kind in (9, 10):
+            return f"mute {self.node()}"
+        if kind == 11:
+            return f"unmute {self.node()}"
+        if kind == 12 and self.rng.random() < 0.5:
+            name = self.name()
+            self.live.pop(name, None)
+            return f"delete {name}"
+        return self.rng.choice(("# note", "", " \t", "  #x"))
 
 
-def symptom_text(rng):
-    lines = [f"e{rng.randrange(12)}@i{rng.randrange(6)}" for _ in range(rng.randrange(6))]
-    if rng.random() < 0.1:
-        lines.append(rng.choice(("e0", "e0@", "@i0", "e0@i0@i1", "class@i0", "e0@i0 e1@i1", "# no", " \t")))
+def spoiled_line(rng):
+    return rng.choice(
+        ("create", "delete i1 i2", "create i1 C0 more", "mute e0", "mute e0@", "link i0 class i1", "\xff", "move i1 i2", "y" * 4097, "#" + "y" * 4096)
+    )
+
+
+def topology_text(rng, network, faulty):
+    """Lines of edits that are good, mostly; the first one that isn't would end the reading."""
+    lines = [network.create() for _ in range(rng.randrange(1, 8))]
+    lines += [network.line() for _ in range(rng.randrange(24))]
+    if faulty:
+        lines.insert(rng.randrange(len(lines) + 1), spoiled_line(rng))
+    return rng.choice(("\n", "\n", "\r\n", " \n\t")).join(lines) + rng.choice(("", "\n"))
+
+
+def symptom_text(rng, network, faulty):
+    lines = [network.node() for _ in range(rng.randrange(7))]
+    if faulty:
+        lines.append(rng.choice(("e0", "e0@", "@i0", "e0@i0@i1", "class@i0", "e0@i0 e1@i1", "# no", " \t", "e@" + "i" * 4096)))
+        rng.shuffle(lines)
     return "\n".join(lines) + rng.choice(("", "\n", "\r\n"))
+
+
+def accepted_only(rng, peer, folder, text):
+    """The text without the lines at which the other program stops, so that the rest of the work is compared too."""
+    lines = text.split("\n")
+    for _ in range(40):
+        (folder / "t").write_text("\n".join(lines), newline="")
+        status, _, err = answer(peer, ["burst", "m", "t", "s"], folder)
+        words = err.split()
+        if status != 4 or words[2] != b"topology":
+            break
+        del lines[int(words[4]) - 1]
+    return "\n".join(lines)
 
 
 def words_of(rng):
@@ -198,7 +267,7 @@ def words_of(rng):
                 ["model", "missing"],
             )
         )
-    return ["model", "m"] if rng.random() < 0.5 else ["burst", "m", "t", "s"]
+    return ["model", "m"] if rng.random() < 0.25 else ["burst", "m", "t", "s"]
 
 
 def answer(program, words, folder):
@@ -208,9 +277,14 @@ def answer(program, words, folder):
 
 def compare(program, peer, rng, folder):
     """The words, and the two answers."""
-    (folder / "m").write_text(model_text(rng), newline="")
-    (folder / "t").write_text(topology_text(rng), newline="")
-    (folder / "s").write_text(symptom_text(rng), newline="")
+    classes = random_classes(rng)
+    network = Network(rng, classes)
+    (folder / "m").write_text(model_text(rng, classes, rng.random() < 0.3), newline="")
+    topology = topology_text(rng, network, rng.random() < 0.1)
+    (folder / "s").write_text(symptom_text(rng, network, rng.random() < 0.15), newline="")
+    if rng.random() < 0.8:
+        topology = accepted_only(rng, peer, folder, topology)
+    (folder / "t").write_text(topology, newline="")
     words = words_of(rng)
     return words, answer(program, words, folder), answer(peer, words, folder)
 
