@@ -4,7 +4,7 @@ ghost use Rattle.std.specs.List.{All};
 ghost use Rattle.cb_model.specs.Order.{Rises};
 ghost use Rattle.cb_model.specs.NodeOrder.{node_cmp};
 ghost use Rattle.cb_coding.specs.Groups.{AreProblems};
-ghost use Rattle.cb_network.specs.Finding.{least_or_one, is_among as is_among_of, word_of as word_of_raised, unknown_of as unknown_of_raised, named_group as named_group_of, named_groups as named_groups_of};
+ghost use Rattle.cb_network.specs.Finding.{least_or_one, is_among as is_among_of, word_of as word_of_raised, named_group as named_group_of, named_groups as named_groups_of};
 ghost use Rattle.cb_plain.specs.Finds.{Finds};
 
 use crate::closest::least;
@@ -41,7 +41,7 @@ pub fn find(
     let answer = nearest(alloc, &codes, &book, &word)?;
     Ok(Finding {
         raised: raised.len() as u64,
-        unknown: unknown_of(columns, raised),
+        unknown: (raised.len() - word.ones()) as u64,
         distance: answer.distance,
         radius: book.distance.saturating_sub(1) / 2,
         sure: answer.sure,
@@ -83,20 +83,6 @@ fn word_of(
         }
     }
     Ok(word)
-}
-
-// How many of the raised nodes are no column.
-fn unknown_of(columns: &List<NodeName>, raised: &List<NodeName>) -> u64
-    requires { Rises node_cmp columns.now }
-    ensures { result ≡ unknown_of_raised columns.now raised.now }
-{
-    let mut unknown = 0;
-    for node in raised.as_slice() {
-        if !is_among(columns, node) {
-            unknown += 1;
-        }
-    }
-    unknown
 }
 
 // The groups at these places, by their members.
