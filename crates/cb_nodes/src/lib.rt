@@ -2,7 +2,10 @@
 #![tactic(auto)]
 
 mod id;
+mod listed;
+mod lists;
 mod node;
+mod numbers;
 mod table;
 
 pub use id::NodeId;
