@@ -1,7 +1,6 @@
 -- Numbers of an instance that are free again.
-use Rattle.std.proofs.Common.{◌≡◌, ◌≢◌, ◌⊎◌, ◌↔◌, ℕ, ◌+◌, ◌<◌, ◌≤◌, List, [], ◌∷◌, ◌++◌, length, get_or, take, Option, Some, None, refl, sym, ap, subst, ◌∙◌, inl, inr, arith}
-use Rattle.std.specs.Prelude.{slice_get}
-use Rattle.std.specs.List.{AllPairs, Contains}
+use Rattle.std.proofs.Common.{◌≡◌, ◌≢◌, ◌↔◌, ℕ, ◌<◌, ◌≤◌, List, [], ◌∷◌, ◌++◌, length, get_or, take, Option, Some, None, refl, sym, ap, subst, ◌∙◌, inl, inr, arith}
+use Rattle.std.specs.List.{Contains}
 use Rattle.std.proofs.lemmas.List.{get_or-take, get_or_default, length_push, length-take}
 use Rattle.std.proofs.lemmas.List.Elements.{Contains-push, Contains-append_left, Contains-push_cases, Contains-get_or}
 use Rattle.std.specs.Prelude.{IfSome, IfNone}
@@ -10,15 +9,15 @@ use Rattle.cb_model.specs.declared.id.EventId.{EventId}
 use Rattle.cb_model.proofs.Numbers.{contains_at, place_in}
 use Rattle.cb_model.proofs.Rising.{nothing_in_empty}
 use Rattle.cb_net.specs.declared.id.InstanceId.{InstanceId}
-use Rattle.cb_net.specs.Numbered.{slot, Once}
+use Rattle.cb_net.specs.Numbered.{slot}
 use Rattle.cb_nodes.specs.declared.id.NodeId.{NodeId}
 use Rattle.cb_nodes.specs.declared.listed.Listed.{Listed}
 use Rattle.cb_nodes.specs.declared.node.Node.{Node}
 use Rattle.cb_nodes.specs.declared.numbers.Numbers.{Numbers}
 use Rattle.cb_nodes.specs.Kept.{AreKept, GivesBack, Lists, list_at, IsListOf, HaveNumbers, AreApart, IsAmong, Frees, IsSound}
-use Rattle.cb_nodes.specs.Table.{Table, IsNode, HasNumber, node_of, HasEvent, AreEventsAt, IsOne, Removes, count_of}
+use Rattle.cb_nodes.specs.Table.{Table, IsNode, HasNumber, node_of, HasEvent, AreEventsAt, IsOne, Removes}
 use Rattle.cb_nodes.proofs.Apart.{no_more, pairs_at}
-use Rattle.cb_nodes.proofs.Listing.{same_listed, one_node, SetsList, sound_sets}
+use Rattle.cb_nodes.proofs.Listing.{one_node, SetsList, sound_sets}
 use Rattle.cb_nodes.proofs.Taking.{same_number}
 
 pub frees_none : (old : Numbers) → AreKept old → Frees old old []
@@ -85,20 +84,20 @@ module _ (t : Table) (i : InstanceId) (list : List Listed) (one : IsOne t) (is_l
   pub as_many : (events : List EventId) → AreEventsAt t i events → length events ≡ length list
   as_many events are =
       let less : length events ≤ length list = no_more (λ (e : EventId) (x : Listed). x.event ≡ e) events list
-          (λ j e at.
-          let has = (are.exactly e).0 (contains_at events j e at) in
-          let x : Listed = record { event = e; id = has.0 } in
-          let place = place_in list x (is_list.whole x has.1) in
-          (place.0, x, place.1, refl))
-          (λ j k e f x lt at_j at_k is_e is_f. pairs_at (λ a b. a ≢ b) events are.once j k e f lt at_j at_k (sym is_e ∙ is_f)) in
+      (λ j e at.
+      let has = (are.exactly e).0 (contains_at events j e at) in
+      let x : Listed = record { event = e; id = has.0 } in
+      let place = place_in list x (is_list.whole x has.1) in
+      (place.0, x, place.1, refl))
+      (λ j k e f x lt at_j at_k is_e is_f. pairs_at (λ a b. a ≢ b) events are.once j k e f lt at_j at_k (sym is_e ∙ is_f)) in
       let more : length list ≤ length events = no_more (λ (x : Listed) (e : EventId). x.event ≡ e) list events
-          (λ j x at.
-          let has = (are.exactly x.event).1 (x.id, is_list.listed x (contains_at list j x at)) in
-          let place = place_in events x.event has in
-          (place.0, x.event, place.1, refl))
-          (λ j k x y e lt at_j at_k is_x is_y.
-          let n : IsNode t y.id (node_of i x.event) = subst (λ f. IsNode t y.id (node_of i f)) (is_y ∙ sym is_x) (is_list.listed y (contains_at list k y at_k)) in
-          pairs_at (λ a b. a.id ≢ b.id) list is_list.apart j k x y lt at_j at_k (one x.id y.id (node_of i x.event) (is_list.listed x (contains_at list j x at_j)) n)) in
+      (λ j x at.
+      let has = (are.exactly x.event).1 (x.id, is_list.listed x (contains_at list j x at)) in
+      let place = place_in events x.event has in
+      (place.0, x.event, place.1, refl))
+      (λ j k x y e lt at_j at_k is_x is_y.
+      let n : IsNode t y.id (node_of i x.event) = subst (λ f. IsNode t y.id (node_of i f)) (is_y ∙ sym is_x) (is_list.listed y (contains_at list k y at_k)) in
+      pairs_at (λ a b. a.id ≢ b.id) list is_list.apart j k x y lt at_j at_k (one x.id y.id (node_of i x.event) (is_list.listed x (contains_at list j x at_j)) n)) in
       omega arith
 
 pub have_numbers : (t : Table) (i : InstanceId) (list : List Listed) → IsListOf t i list → HaveNumbers t list

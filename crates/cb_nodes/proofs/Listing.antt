@@ -1,13 +1,13 @@
 -- Events that get numbers.
-use Rattle.std.proofs.Common.{◌≡◌, ◌≢◌, ◌⊎◌, ◌↔◌, ℕ, ◌+◌, ◌<◌, ◌≤◌, max, List, [], ◌∷◌, ◌++◌, length, get_or, set, take, Option, Some, None, vec_capacity, refl, sym, ap, subst, ◌∙◌, inl, inr, arith}
+use Rattle.std.proofs.Common.{◌≡◌, ◌≢◌, ◌⊎◌, ◌↔◌, ℕ, ◌<◌, ◌≤◌, List, [], ◌∷◌, ◌++◌, length, get_or, take, Some, refl, sym, ap, subst, ◌∙◌, inl, inr, arith}
 use Rattle.std.specs.Prelude.{slice_get, slice_set}
 use Rattle.std.specs.Global.{Global}
-use Rattle.std.specs.List.{AllPairs, Contains}
+use Rattle.std.specs.List.{Contains}
 use Rattle.std.specs.declared.vec.Vec.{Vec}
 use Rattle.std.proofs.lemmas.Bool.{cases_eq, cases_lt}
-use Rattle.std.proofs.lemmas.List.{get_or-set_same, get_or-set_other, get_or-take, get_or_default, length_push, length-set, length-take, append-nil}
+use Rattle.std.proofs.lemmas.List.{get_or-set_same, get_or-set_other, get_or-take, get_or_default, length_push, length-set, length-take}
 use Rattle.std.proofs.lemmas.List.Elements.{Contains-push, Contains-append_left, Contains-push_cases}
-use Rattle.std.proofs.lemmas.Option.{slice_get-get_or, slice_get_past, slice_get_read, slice_get_within}
+use Rattle.std.proofs.lemmas.Option.{slice_get-get_or, slice_get_past, slice_get_read}
 use Rattle.cb_model.specs.declared.id.EventId.{EventId}
 use Rattle.cb_model.proofs.Rising.{nothing_in_empty}
 use Rattle.cb_net.specs.declared.id.InstanceId.{InstanceId}
@@ -16,8 +16,8 @@ use Rattle.cb_nodes.specs.declared.id.NodeId.{NodeId}
 use Rattle.cb_nodes.specs.declared.listed.Listed.{Listed}
 use Rattle.cb_nodes.specs.declared.node.Node.{Node}
 use Rattle.cb_nodes.specs.declared.numbers.Numbers.{Numbers}
-use Rattle.cb_nodes.specs.Kept.{AreKept, HasRoomFor, SameRoom, Takes, Lists, list_at, items_in, SameLists, IsListOf, NumbersAll, IsSound}
-use Rattle.cb_nodes.specs.Table.{Table, IsNode, HasNumber, node_of, HasEvent, IsOne, Adds, count_of, room_with}
+use Rattle.cb_nodes.specs.Kept.{AreKept, HasRoomFor, Takes, Lists, list_at, items_in, SameLists, IsListOf, NumbersAll, IsSound}
+use Rattle.cb_nodes.specs.Table.{Table, IsNode, node_of, HasEvent, IsOne, Adds, room_with}
 use Rattle.cb_nodes.proofs.Apart.{pairs_more}
 use Rattle.cb_nodes.proofs.Taking.{same_number}
 
@@ -200,7 +200,7 @@ pub numbered_sound : (old new : Numbers) (lists lists' : Lists) (i : InstanceId)
 numbered_sound old new lists lists' i list es all sets sound =
     sound_sets old new lists lists' i list all.kept all.one all.listed sets
     (λ j ne x e. (
-      λ is. elim (all.adds.each x (node_of j e) is) [ | inl was ↦ was | inr so ↦ absurd (ne so.0) ],
+      λ is. elim (all.adds.each x (node_of j e) is) [ inl was ↦ was | inr so ↦ absurd (ne so.0) ],
       λ was. all.adds.kept x (node_of j e) was,
     ))
     sound

@@ -1,16 +1,16 @@
 -- Numbers that are taken and given back.
-use Rattle.std.proofs.Common.{◌≡◌, ◌≢◌, ◌⊎◌, ℕ, ◌+◌, ◌<◌, ◌≤◌, max, List, [], ◌∷◌, ◌++◌, length, get_or, set, Option, Some, None, is_some, cond, vec_capacity, refl, sym, ap, subst, ◌∙◌, inl, inr, arith}
-use Rattle.std.specs.List.{AllPairs, Contains, count_by, slice_set}
+use Rattle.std.proofs.Common.{◌≡◌, ◌≢◌, ◌⊎◌, ℕ, ◌+◌, ◌<◌, ◌≤◌, List, [], ◌∷◌, ◌++◌, length, Option, Some, None, is_some, cond, vec_capacity, sym, ap, subst, ◌∙◌, inl, inr, arith}
+use Rattle.std.specs.List.{Contains, count_by, slice_set}
 use Rattle.std.proofs.lemmas.List.{get_or-set_same, get_or-set_other, get_or_past, get_or_push, get_or_append_left, length-set, length_push}
 use Rattle.std.proofs.lemmas.List.Elements.{Contains-push, Contains-append_left, Contains-push_cases}
-use Rattle.std.proofs.lemmas.List.Sums.{sum_by-set, sum_by_push, count_by-le-length}
+use Rattle.std.proofs.lemmas.List.Sums.{sum_by-set, sum_by_push}
 use Rattle.std.proofs.lemmas.Bool.{cases_lt}
 use Rattle.cb_net.specs.Numbered.{slot, Once}
 use Rattle.cb_nodes.specs.declared.id.NodeId.{NodeId}
 use Rattle.cb_nodes.specs.declared.node.Node.{Node}
 use Rattle.cb_nodes.specs.declared.numbers.Numbers.{Numbers}
 use Rattle.cb_nodes.specs.Kept.{AreKept, HasRoomFor, SameSlots, Takes, GivesBack}
-use Rattle.cb_nodes.specs.Table.{Table, HasNumber, count_of, room_with}
+use Rattle.cb_nodes.specs.Table.{Table, HasNumber, count_of}
 use Rattle.cb_nodes.proofs.Apart.{pairs_last, pairs_front, pairs_more}
 
 pub same_number : (i j : NodeId) → i.0 ≡ j.0 → i ≡ j

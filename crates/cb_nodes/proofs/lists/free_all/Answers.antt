@@ -2,7 +2,7 @@ use Rattle.std.proofs.Common.{get_or, sym, subst}
 use Rattle.std.proofs.lemmas.List.{take_more}
 use Rattle.cb_nodes.specs.declared.listed.Listed.{Listed}
 use Rattle.cb_nodes.specs.Kept.{Frees}
-use Rattle.cb_nodes.proofs.Freeing.{frees_none, frees_more, still_had}
+use Rattle.cb_nodes.proofs.Freeing.{frees_more, still_had}
 use Rattle.cb_nodes.proofs.lists.free_all.Goals as goal
 
 pub give_back-requires-clause-had : goal.give_back-requires-clause-had

@@ -1,8 +1,8 @@
-use Rattle.std.proofs.Common.{◌≡◌, ◌<◌, ◌+◌, get_or, length, take, sym, subst, arith, ◌∙◌, ◌++◌, ◌∷◌, []}
-use Rattle.std.proofs.lemmas.List.{take_more, length-take-le}
+use Rattle.std.proofs.Common.{get_or, take, sym, subst, arith, ◌∙◌, ◌++◌, ◌∷◌, []}
+use Rattle.std.proofs.lemmas.List.{take_more}
 use Rattle.cb_model.specs.declared.id.EventId.{EventId}
 use Rattle.cb_nodes.specs.Kept.{NumbersAll}
-use Rattle.cb_nodes.proofs.Listing.{numbers_none, numbers_more, not_before, room_left, few_left}
+use Rattle.cb_nodes.proofs.Listing.{numbers_more, not_before}
 use Rattle.cb_nodes.proofs.lists.number_events.Goals as goal
 
 pub loop-event-preserved : goal.loop-event-preserved

@@ -1,4 +1,4 @@
-use Rattle.std.proofs.Common.{◌≡◌, ◌+◌, ◌≤◌, length, vec_len, vec_capacity, take}
+use Rattle.std.proofs.Common.{◌≡◌, ◌+◌, vec_len, vec_capacity, take}
 use Rattle.cb_nodes.specs.Kept.{NumbersAll}
 use Rattle.cb_nodes.proofs.lists.number_events.Given as goal
 

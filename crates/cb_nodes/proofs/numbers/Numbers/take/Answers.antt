@@ -1,7 +1,7 @@
-use Rattle.std.proofs.Common.{sym, ap, subst, refl, arith}
+use Rattle.std.proofs.Common.{sym, subst, refl, arith}
 use Rattle.std.specs.List.{Contains}
 use Rattle.std.proofs.lemmas.List.Elements.{Contains-push}
-use Rattle.cb_nodes.proofs.Taking.{taken_free, taken_new}
+use Rattle.cb_nodes.proofs.Taking.{taken_free}
 use Rattle.cb_nodes.proofs.numbers.Numbers.take.Goals as goal
 
 pub index_mut-requires : goal.index_mut-requires

@@ -1,8 +1,6 @@
-use Rattle.std.proofs.Common.{◌≡◌, ◌<◌, ◌≤◌, ◌+◌, ◌∙◌, vec_len, vec_capacity, Some, length, refl, sym, ap, subst, arith}
-use Rattle.std.specs.Prelude.{slice_get}
+use Rattle.std.proofs.Common.{◌≡◌, ◌≤◌, ◌+◌, ◌∙◌, vec_len, vec_capacity, length, refl, sym, ap, subst, arith}
 use Rattle.std.proofs.lemmas.Option.{slice_get_within, same_Some}
-use Rattle.cb_nodes.specs.Kept.{IsListOf, items_in, list_at}
-use Rattle.cb_nodes.specs.Table.{Table, Adds}
+use Rattle.cb_nodes.specs.Kept.{IsListOf, items_in}
 use Rattle.cb_nodes.proofs.Listing.{same_sound, numbered_sound, list_set, list_read, none_there}
 use Rattle.cb_nodes.proofs.table.NodeTable.add.Goals as goal
 

@@ -1,9 +1,7 @@
-use Rattle.std.proofs.Common.{◌≡◌, ◌≢◌, ◌<◌, ◌≤◌, ◌∙◌, [], length, sym, ap, subst}
-use Rattle.std.specs.Prelude.{IfSome, IfNone}
-use Rattle.std.specs.List.{Contains}
+use Rattle.std.proofs.Common.{◌≡◌, ◌≤◌, ◌∙◌, [], length, sym, ap, subst}
+use Rattle.std.specs.Prelude.{IfSome}
 use Rattle.std.proofs.lemmas.Option.{slice_get_past}
 use Rattle.cb_model.proofs.Rising.{nothing_in_empty}
-use Rattle.cb_nodes.specs.declared.listed.Listed.{Listed}
 use Rattle.cb_nodes.specs.Kept.{Lists, items_in, list_at}
 use Rattle.cb_nodes.specs.Table.{Table, IsNode, node_of, HasEvent}
 use Rattle.cb_nodes.proofs.Freeing.{found_node, no_node, if_none, if_none_at_all}

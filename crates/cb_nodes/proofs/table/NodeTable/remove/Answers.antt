@@ -1,7 +1,7 @@
-use Rattle.std.proofs.Common.{◌≡◌, ◌<◌, ◌≤◌, ◌∙◌, Some, [], length, refl, sym, ap, subst, arith}
+use Rattle.std.proofs.Common.{◌≤◌, ◌∙◌, [], length, sym, ap, subst}
 use Rattle.std.specs.List.{slice_set}
 use Rattle.std.proofs.lemmas.Option.{slice_get_past}
-use Rattle.cb_nodes.specs.Kept.{IsListOf, items_in, list_at, HaveNumbers, AreApart, Frees}
+use Rattle.cb_nodes.specs.Kept.{items_in}
 use Rattle.cb_nodes.specs.Table.{Table, Removes}
 use Rattle.cb_nodes.proofs.Freeing.{removed, removed_none, removed_sound, have_numbers, listed_there}
 use Rattle.cb_nodes.proofs.Listing.{list_set, list_read, SetsList}
