@@ -1,35 +1,34 @@
 -- Events that get numbers.
-use Rattle.std.proofs.Common.{◌≡◌, ◌≢◌, ◌⊎◌, ◌↔◌, ℕ, ◌<◌, ◌≤◌, List, [], ◌∷◌, ◌++◌, length, get_or, take, Some, refl, sym, ap, subst, ◌∙◌, inl, inr, arith}
+use Rattle.std.proofs.Common.{◌≡◌, ◌≢◌, ◌⊎◌, ◌↔◌, ℕ, ◌<◌, List, [], ◌∷◌, ◌++◌, length, get_or, take, Some, refl, sym, ap, subst, ◌∙◌, inl, inr, arith}
 use Rattle.std.specs.Prelude.{slice_get, slice_set}
 use Rattle.std.specs.Global.{Global}
 use Rattle.std.specs.List.{Contains}
 use Rattle.std.specs.declared.vec.Vec.{Vec}
-use Rattle.std.proofs.lemmas.Bool.{cases_eq, cases_lt}
-use Rattle.std.proofs.lemmas.List.{get_or-set_same, get_or-set_other, get_or-take, get_or_default, length_push, length-set, length-take}
+use Rattle.std.proofs.lemmas.Bool.{cases_eq}
+use Rattle.std.proofs.lemmas.List.{get_or-set_same, get_or-take, get_or_default, length_push, length-set, length-take}
 use Rattle.std.proofs.lemmas.List.Elements.{Contains-push, Contains-append_left, Contains-push_cases}
-use Rattle.std.proofs.lemmas.Option.{slice_get-get_or, slice_get_past, slice_get_read}
+use Rattle.std.proofs.lemmas.Option.{slice_get-get_or, slice_get_read}
 use Rattle.cb_model.specs.declared.id.EventId.{EventId}
-use Rattle.cb_model.proofs.Rising.{nothing_in_empty}
+use Rattle.cb_model.proofs.Numbers.{slice_get-set_other}
 use Rattle.cb_net.specs.declared.id.InstanceId.{InstanceId}
+use Rattle.cb_net.proofs.Placing.{same_id, decide_id}
+use Rattle.cb_net.proofs.Showing.{same_inside}
 use Rattle.cb_net.specs.Numbered.{slot, Once}
 use Rattle.cb_nodes.specs.declared.id.NodeId.{NodeId}
 use Rattle.cb_nodes.specs.declared.listed.Listed.{Listed}
 use Rattle.cb_nodes.specs.declared.node.Node.{Node}
 use Rattle.cb_nodes.specs.declared.numbers.Numbers.{Numbers}
-use Rattle.cb_nodes.specs.Kept.{AreKept, HasRoomFor, Takes, Lists, list_at, items_in, SameLists, IsListOf, NumbersAll, IsSound}
-use Rattle.cb_nodes.specs.Table.{Table, IsNode, node_of, HasEvent, IsOne, Adds, room_with}
+use Rattle.cb_nodes.specs.Kept.{AreKept, Takes, Lists, list_at, items_in, SameLists, IsListOf, NumbersAll, IsSound}
+use Rattle.cb_nodes.specs.Table.{Table, IsNode, node_of, HasEvent, IsOne, Adds}
 use Rattle.cb_nodes.proofs.Apart.{pairs_more}
 use Rattle.cb_nodes.proofs.Taking.{same_number}
 
 pub same_listed : (x y : Listed) → x.event ≡ y.event → x.id ≡ y.id → x ≡ y
 same_listed x y e n = λ k. record { event = e k; id = n k }
 
-inside : {X : Type 0} (x y : X) → Some x ≡ Some y → x ≡ y
-inside x y e = cc
-
 -- one number has one node
 pub one_node : (t : Table) (id : NodeId) (a b : Node) → IsNode t id a → IsNode t id b → a ≡ b
-one_node t id a b is also = inside a b (sym is ∙ also)
+one_node t id a b is also = same_inside a b (sym is ∙ also)
 
 module _ (old new : Numbers) (i : InstanceId) (e : EventId) (id : NodeId) (takes : Takes old new id (node_of i e)) where
   other : (x : NodeId) (n : Node) → IsNode old.slots.items x n → x.0 ≢ id.0
@@ -43,7 +42,7 @@ module _ (old new : Numbers) (i : InstanceId) (e : EventId) (id : NodeId) (takes
 
   either : (x : NodeId) (n : Node) → IsNode new.slots.items x n → IsNode old.slots.items x n ⊎ ((x ≡ id) × (n ≡ node_of i e))
   either x n is = elim (cases_eq x.0 id.0) [
-    | inl same ↦ inr (same_number x id same, inside n (node_of i e) (sym is ∙ (ap (λ k. slot new.slots.items k) same ∙ takes.this)))
+    | inl same ↦ inr (same_number x id same, same_inside n (node_of i e) (sym is ∙ (ap (λ k. slot new.slots.items k) same ∙ takes.this)))
     | inr ne ↦ inl (sym (takes.others x.0 ne) ∙ is)
   ]
 
@@ -108,21 +107,6 @@ not_before xs k d once lt (j, within, is) =
     let at : get_or xs j x ≡ x = sym (get_or-take k xs j x below) ∙ is in
     once j k x below lt (at ∙ get_or_default xs k d x lt)
 
-pub numbers_none : (old : Numbers) (i : InstanceId) (list : List Listed) → AreKept old → IsOne old.slots.items → IsListOf old.slots.items i list → NumbersAll old old i list []
-numbers_none old i list kept one listed = record {
-  kept = kept;
-  same_room = record { slots = refl; free = refl };
-  one = one;
-  listed = listed;
-  adds = record {
-    kept = λ x n is. is;
-    each = λ x n is. inl is;
-    all = λ e has. absurd (nothing_in_empty e has);
-    count = omega arith;
-    room = omega (arith, kept.counted);
-  };
-}
-
 pub numbers_more : (first old new : Numbers) (i : InstanceId) (list : List Listed) (es : List EventId) (e : EventId) (id : NodeId) → NumbersAll first old i list es
     → ¬ HasEvent first.slots.items i e → ¬ Contains es e → Takes old new id (node_of i e) → NumbersAll first new i (list ++ record { event = e; id = id } ∷ []) (es ++ e ∷ [])
 numbers_more first old new i list es e id all none off takes = record {
@@ -132,24 +116,6 @@ numbers_more first old new i list es e id all none off takes = record {
   listed = listed_more old new i e id takes list all.listed;
   adds = adds_more old new i e id takes first.slots.items es all.adds;
 }
-
--- while some are left, one more fits
-pub room_left : (first old : Numbers) (i : InstanceId) (list : List Listed) (es : List EventId) (more : ℕ) → NumbersAll first old i list es → HasRoomFor first more → length es < more → HasRoomFor old 1
-room_left first old i list es more all room lt =
-    let a = all.adds.count in
-    let b = all.adds.room in
-    let c = all.same_room.slots in
-    let d = all.same_room.free in
-    let e = room.slots in
-    let f = room.free in
-    record { slots = omega arith; free = omega arith }
-
-pub few_left : (first old : Numbers) (i : InstanceId) (list : List Listed) (es : List EventId) (more limit : ℕ) → NumbersAll first old i list es → room_with first.slots.items more ≤ limit → length es < more
-    → room_with old.slots.items 1 ≤ limit
-few_left first old i list es more limit all few lt =
-    let a = all.adds.count in
-    let b = all.adds.room in
-    omega arith
 
 -- an instance whose nodes are the same has the same list
 pub same_list : (old new : Table) (j : InstanceId) (list : List Listed) → ((x : NodeId) (e : EventId) → IsNode new x (node_of j e) ↔ IsNode old x (node_of j e)) → IsListOf old j list → IsListOf new j list
@@ -164,25 +130,10 @@ pub record SetsList (old new : Lists) (i : InstanceId) (list : List Listed) : Ty
   pub this : list_at new i ≡ list
   pub others : (j : InstanceId) → j ≢ i → list_at new j ≡ list_at old j
 
-same_instance : (i j : InstanceId) → i.0 ≡ j.0 → i ≡ j
-same_instance i j e = λ k. record { 0 = e k }
-
-pub decide_instance : (i j : InstanceId) → (i ≡ j) ⊎ (i ≢ j)
-decide_instance i j = elim (cases_eq i.0 j.0) [
-  | inl e ↦ inl (same_instance i j e)
-  | inr ne ↦ inr (λ e. ne (ap (λ (k : InstanceId). k.0) e))
-]
-
-get_set_other : {X : Type 0} (xs : List X) (i j : ℕ) (y : X) → j ≢ i → slice_get (slice_set xs i y) j ≡ slice_get xs j
-get_set_other xs i j y ne = elim (cases_lt j (length xs)) [
-  | inl lt ↦ slice_get-get_or (slice_set xs i y) j y (omega (arith, length-set xs i y)) ∙ (ap Some (get_or-set_other xs i j y y ne) ∙ sym (slice_get-get_or xs j y lt))
-  | inr past ↦ slice_get_past (slice_set xs i y) j (omega (arith, length-set xs i y)) ∙ sym (slice_get_past xs j past)
-]
-
 pub list_set : (lists : Lists) (i : InstanceId) (v : Vec Listed Global) → i.0 < length lists → SetsList lists (slice_set lists i.0 v) i v.items
 list_set lists i v lt = record {
   this = ap items_in (slice_get-get_or (slice_set lists i.0 v) i.0 v (omega (arith, length-set lists i.0 v)) ∙ ap Some (get_or-set_same lists i.0 v v lt));
-  others = λ j ne. ap items_in (get_set_other lists i.0 j.0 v (λ e. ne (same_instance j i e)));
+  others = λ j ne. ap items_in (slice_get-set_other lists i.0 j.0 v (λ e. ne (same_id j i (sym e))));
 }
 
 pub sound_sets : (old new : Numbers) (lists lists' : Lists) (i : InstanceId) (list : List Listed) → AreKept new → IsOne new.slots.items → IsListOf new.slots.items i list → SetsList lists lists' i list
@@ -190,7 +141,7 @@ pub sound_sets : (old new : Numbers) (lists lists' : Lists) (i : InstanceId) (li
 sound_sets old new lists lists' i list kept one listed sets same sound = record {
   kept = kept;
   one = one;
-  listed = λ j. elim (decide_instance j i) [
+  listed = λ j. elim (decide_id j i) [
     | inl e ↦ subst (λ k. IsListOf new.slots.items k (list_at lists' k)) (sym e) (subst (IsListOf new.slots.items i) (sym sets.this) listed)
     | inr ne ↦ subst (IsListOf new.slots.items j) (sym (sets.others j ne)) (same_list old.slots.items new.slots.items j (list_at lists j) (same j ne) (sound.listed j))
   ];
