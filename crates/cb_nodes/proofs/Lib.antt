@@ -1,0 +1,4 @@
+pub mod Apart
+pub mod Taking
+pub mod Listing
+pub mod Freeing

@@ -1,25 +1,25 @@
 //! The table of nodes and numbers.
-ghost use Rattle.std.specs.Prelude.{◌≡◌, ◌≤◌, ◌<◌, ◌^◌, ◌↔◌, [], length, OnOk, OnErr, IfOk, IfSome, IfNone};
-ghost use Rattle.std.specs.List.{Contains};
+ghost use Rattle.std.specs.Prelude.{◌≡◌, ◌≤◌, ◌<◌, ◌^◌, ◌↔◌, [], length, OnOk, OnErr, IfSome, IfNone};
 ghost use Rattle.cb_model.specs.declared.id.EventId.{EventId as Event};
 ghost use Rattle.cb_net.specs.Numbered.{Once};
 ghost use Rattle.cb_nodes.specs.declared.id.NodeId.{NodeId as Id};
 ghost use Rattle.cb_nodes.specs.Table.{IsNode, HasNumber, node_of, HasEvent, IsOne, Adds, Removes, count_of, room_with};
 
 use crate::id::NodeId;
+use crate::listed::Listed;
+use crate::lists::{free_all, number_events, number_of, reserve};
 use crate::node::Node;
+use crate::numbers::Numbers;
 use cb_model::EventId;
 use cb_net::InstanceId;
 use std::alloc::{AllocError, Global};
 
-#[derive(Drop)]
-pub enum Never {}
-
-/// For each number the node that has it, if one has.
+/// The nodes of all numbers, and for each instance the numbers of its events.
 #[derive(Drop)]
 pub struct NodeTable {
-    slots: Vec<Option<Node>>,
-    never: Never,
+    numbers: Numbers,
+    // By the number of the instance.
+    lists: Vec<Vec<Listed>>,
 }
 
 impl std::marker::Model for NodeTable {
@@ -27,22 +27,29 @@ impl std::marker::Model for NodeTable {
 
     ghost Value = { Table };
 
-    ghost view = { λ s. s.slots.items };
+    ghost use Rattle.cb_nodes.specs.Kept.{IsSound};
+
+    ghost view = { λ s. s.numbers.slots.items };
+
+    ghost invariant = { λ s. IsSound s.numbers s.lists.items };
 }
 
 impl NodeTable {
-    /// No node. (Stub: the real one answers no error.)
-    pub fn new(alloc: Global) -> Result<NodeTable, AllocError>
-        ensures { IfOk result (λ t. t ≡ []) }
+    /// No node.
+    pub fn new(alloc: Global) -> NodeTable
+        ensures { result ≡ [] }
     {
-        Err(AllocError)
+        NodeTable {
+            numbers: Numbers::new(alloc),
+            lists: Vec::new(alloc),
+        }
     }
 
     /// Says that no node has two numbers. It does nothing.
     pub fn is_one(&self)
         ensures { IsOne self.now }
     {
-        match self.never {}
+        let _ = &self.numbers;
     }
 
     /// Gives each of the events a number that was free.
@@ -58,14 +65,25 @@ impl NodeTable {
         ensures ok { OnOk result (Adds self.old self.new instance events.now) }
         ensures err { OnErr result (self.new ≡ self.old) }
     {
-        match self.never {}
+        self.numbers.reserve(events.len())?;
+        reserve(alloc, &mut self.lists, instance, events.len())?;
+        number_events(
+            &mut self.numbers,
+            &mut self.lists[instance.0],
+            instance,
+            events,
+        );
+        Ok(())
     }
 
     /// Takes the numbers of the instance's events away. It takes no memory.
     pub fn remove(&mut self, instance: InstanceId)
         ensures { Removes self.old self.new instance }
     {
-        match self.never {}
+        if let Some(list) = self.lists.get_mut(instance.0) {
+            free_all(&mut self.numbers, list);
+            list.clear();
+        }
     }
 
     /// The number of an instance's event.
@@ -73,7 +91,8 @@ impl NodeTable {
         ensures found { IfSome result (λ id. IsNode self.now id (node_of instance event)) }
         ensures absent { IfNone result (¬ HasEvent self.now instance event) }
     {
-        match self.never {}
+        let list = self.lists.get(instance.0)?;
+        number_of(list, event)
     }
 
     /// The node of a number.
@@ -81,14 +100,17 @@ impl NodeTable {
         ensures found { IfSome result (IsNode self.now id) }
         ensures absent { IfNone result (¬ HasNumber self.now id) }
     {
-        match self.never {}
+        match self.numbers.slots.get(id.0 as usize) {
+            Some(slot) => *slot,
+            None => None,
+        }
     }
 
     /// How many nodes there are.
     pub fn count(&self) -> usize
         ensures { result ≡ count_of self.now }
     {
-        match self.never {}
+        self.numbers.count()
     }
 
     /// Above each number in use.
@@ -96,7 +118,7 @@ impl NodeTable {
         ensures value { result ≡ length self.now }
         ensures above { (id : Id) → HasNumber self.now id → id.0 < result }
     {
-        match self.never {}
+        self.numbers.slots.len()
     }
 
     /// What `room` is once so many nodes more have their numbers.
@@ -104,6 +126,6 @@ impl NodeTable {
         requires { room_with self.now more < 2 ^ 64 }
         ensures { result ≡ room_with self.now more }
     {
-        match self.never {}
+        self.numbers.room_with(more)
     }
 }
