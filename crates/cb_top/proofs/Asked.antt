@@ -4,8 +4,7 @@ use Rattle.std.proofs.lemmas.Slice.Eq.{bytes_eq-Decides}
 use Rattle.std.specs.Prelude.{codes, MatchBool, if◌then◌else◌}
 use Rattle.std.specs.Str.{bytes_eq}
 use Rattle.cb_top.specs.Commands.{IsUnbuilt, IsInTable}
-use Rattle.cb_top.specs.Outcome.{IsOutcome, ModelGives, BurstGives, UnreadGives, file_words, usage, not_built}
-use Rattle.cb_io.specs.Outside.{contents}
+use Rattle.cb_top.specs.Outcome.{IsOutcome, ModelAnswers, BurstAnswers, UnreadGives, file_words, usage, not_built}
 
 -- the outcome of a command that isn't built
 pub unbuilt_outcome : (words : List (List ℕ)) (left : List (List ℕ × List ℕ)) → IsUnbuilt words → IsOutcome words left not_built
@@ -25,14 +24,14 @@ usage_outcome [] left none = inr (λ u. none (inr u), refl)
 usage_outcome (c ∷ []) left none = inr (λ u. none (inr u), refl)
 usage_outcome (c ∷ m ∷ []) left none = by_test (bytes_eq c (codes "model")) refl
   where
-    by_test : (b : Bool) → bytes_eq c (codes "model") ≡ b → MatchBool b (ModelGives m (contents left [] m) usage) (UnreadGives (c ∷ m ∷ []) usage)
+    by_test : (b : Bool) → bytes_eq c (codes "model") ≡ b → MatchBool b (ModelAnswers left m usage) (UnreadGives (c ∷ m ∷ []) usage)
     by_test true e = absurd (none (inl ((bytes_eq-Decides c (codes "model")).0 e)))
     by_test false e = inr (λ u. none (inr u), refl)
 usage_outcome (c ∷ m ∷ t ∷ []) left none = inr (λ u. none (inr u), refl)
 usage_outcome (c ∷ m ∷ t ∷ s ∷ []) left none = by_test (bytes_eq c (codes "burst")) refl
   where
     by_test : (b : Bool) → bytes_eq c (codes "burst") ≡ b
-        → MatchBool b (BurstGives m (contents left [] m) (contents left (m ∷ []) t) (contents left (m ∷ t ∷ []) s) usage) (UnreadGives (c ∷ m ∷ t ∷ s ∷ []) usage)
+        → MatchBool b (BurstAnswers left m t s usage) (UnreadGives (c ∷ m ∷ t ∷ s ∷ []) usage)
     by_test true e = absurd (none (inl ((bytes_eq-Decides c (codes "burst")).0 e)))
     by_test false e = inr (λ u. none (inr u), refl)
 usage_outcome (c ∷ m ∷ t ∷ s ∷ x ∷ xs) left none = inr (λ u. none (inr u), refl)

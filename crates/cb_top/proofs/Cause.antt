@@ -6,6 +6,7 @@ use Rattle.std.specs.Str.{bytes_eq}
 use Rattle.std.specs.declared.alloc.Global.{Global}
 use Rattle.cb_coding.specs.declared.group.Group.{Group}
 use Rattle.cb_model.specs.declared.node.NodeName.{NodeName}
+use Rattle.cb_model.specs.declared.tables.Tables.{Tables}
 use Rattle.cb_io.specs.Outside.{SinkTold, WritesAll}
 use Rattle.cb_network.specs.declared.finding.Finding.{Finding}
 use Rattle.cb_network.specs.Topology.{Topology}
@@ -15,9 +16,9 @@ use Rattle.cb_report.specs.Lines.{burst_text}
 use Rattle.cb_top.specs.declared.halt.Halt.{Halt}
 use Rattle.cb_top.specs.declared.halt.Halt.TheVariants as halts
 use Rattle.cb_top.specs.declared.status.Status.{Status}
-use Rattle.cb_top.specs.declared.status.Status.TheVariants.{Done, Model, Limit, WriteFault, NotBuilt}
+use Rattle.cb_top.specs.declared.status.Status.TheVariants.{Done, Model, Topology as TopologyStatus, Limit, WriteFault}
 use Rattle.cb_top.specs.Status.{OnDone}
-use Rattle.cb_top.specs.Outcome.{Outcome, IsOutcome, BurstGives, UnreadGives, file_words, done, nothing}
+use Rattle.cb_top.specs.Outcome.{Outcome, File, IsOutcome, RefusesModel, RefusesTopology, RefusesSymptoms, BurstGives, BurstAnswers, UnreadGives, file_after, done, nothing}
 use Rattle.cb_io.specs.Outside.{contents}
 use Rattle.cb_top.specs.Cause.{ListsTheNearest, PrintsTheCause, FindsTheCause}
 use Rattle.cb_top.specs.Halts.{status_of}
@@ -45,20 +46,36 @@ lists_the_nearest t raised finding burst =
 not_done : (bytes : List ℕ) (status : Status) (line : List ℕ) → status ≢ Done → done bytes ≡ nothing status line → ⊥
 not_done bytes status line other e = other (sym (ap (λ (o : Outcome). o.status) e))
 
-module _ (name model topology symptoms : List ℕ) (old new : SinkTold) (bytes : List ℕ) (written : WritesAll old new bytes) where
-  prints : BurstGives name model topology symptoms (done bytes) → PrintsTheCause model topology symptoms old new
-  prints (inl (inl (long, e))) = absurd (not_done bytes Limit _ (λ e. cc) e)
-  prints (inl (inr (fault, f, e))) = absurd (not_done bytes Model _ (λ e. cc) e)
-  prints (inr (inl (finding, of, e))) =
+-- where a file is refused the output isn't whole
+module _ (file : File) (bytes : List ℕ) where
+  model_not_done : ¬ RefusesModel file (done bytes)
+  model_not_done (inl (long, e)) = not_done bytes Limit _ (λ e. cc) e
+  model_not_done (inr (fault, f, e)) = not_done bytes Model _ (λ e. cc) e
+
+  topology_not_done : (tables : Tables) → ¬ RefusesTopology tables file (done bytes)
+  topology_not_done tables (inl (long, e)) = not_done bytes Limit _ (λ e. cc) e
+  topology_not_done tables (inr (inl (line, long, e))) = not_done bytes Limit _ (λ e. cc) e
+  topology_not_done tables (inr (inr (line, fault, wrong, e))) = not_done bytes TopologyStatus _ (λ e. cc) e
+
+  symptoms_not_done : ¬ RefusesSymptoms file (done bytes)
+  symptoms_not_done (inl (long, e)) = not_done bytes Limit _ (λ e. cc) e
+  symptoms_not_done (inr (inl (line, long, e))) = not_done bytes Limit _ (λ e. cc) e
+  symptoms_not_done (inr (inr (line, bad, e))) = not_done bytes TopologyStatus _ (λ e. cc) e
+
+module _ (model topology symptoms : File) (old new : SinkTold) (bytes : List ℕ) (written : WritesAll old new bytes) where
+  prints : BurstGives model topology symptoms (done bytes) → PrintsTheCause model.text topology.text symptoms.text old new
+  prints (inl refused) = absurd (model_not_done model bytes refused)
+  prints (inr (tables, m, inl refused)) = absurd (topology_not_done topology bytes tables refused)
+  prints (inr (tables, m, inr (network, t, inl refused))) = absurd (symptoms_not_done symptoms bytes refused)
+  prints (inr (tables, m, inr (network, t, inr (raised, s, (finding, found, e))))) =
       let same : bytes ≡ burst_text finding = ap (λ (o : Outcome). o.out) e in
       record {
         finding = finding;
-        of = of;
+        of = record { tables = tables; model_is = m; network = network; topology_is = t; raised = raised; raised_are = s; found = found };
         printed = subst (λ l. WritesAll old new l) same written;
-        nearest = lists_the_nearest of.network of.raised finding of.found;
-        alone = λ i lt near. burst_finds_the_cause of.network of.raised finding of.found i lt near;
+        nearest = lists_the_nearest network raised finding found;
+        alone = λ i lt near. burst_finds_the_cause network raised finding found i lt near;
       }
-  prints (inr (inr (none, e))) = absurd (not_done bytes NotBuilt _ (λ e. cc) e)
 
 module _ (left : List (List ℕ × List ℕ)) (old new : SinkTold) (bytes : List ℕ) (written : WritesAll old new bytes) where
   finds : (words : List (List ℕ)) → IsOutcome words left (done bytes) → FindsTheCause words left old new
@@ -69,16 +86,19 @@ module _ (left : List (List ℕ × List ℕ)) (old new : SinkTold) (bytes : List
   finds (c ∷ m ∷ t ∷ s ∷ []) is = by_test (bytes_eq c (codes "burst")) is
     where
       by_test : (is_burst : Bool)
-          → MatchBool is_burst (BurstGives m (contents left [] m) (contents left (m ∷ []) t) (contents left (m ∷ t ∷ []) s) (done bytes)) (UnreadGives (c ∷ m ∷ t ∷ s ∷ []) (done bytes))
+          → MatchBool is_burst (BurstAnswers left m t s (done bytes)) (UnreadGives (c ∷ m ∷ t ∷ s ∷ []) (done bytes))
           → MatchBool is_burst (PrintsTheCause (contents left [] m) (contents left (m ∷ []) t) (contents left (m ∷ t ∷ []) s) old new) (Unit {0})
-      by_test true gives = prints m (contents left [] m) (contents left (m ∷ []) t) (contents left (m ∷ t ∷ []) s) old new bytes written gives
+      by_test true gives = prints (file_after left [] m) (file_after left (m ∷ []) t) (file_after left (m ∷ t ∷ []) s) old new bytes written gives
       by_test false other = tt
   finds (c ∷ m ∷ t ∷ s ∷ x ∷ xs) is = tt
 
 not_at_a_halt : (halt : Halt) (P : Type 0) → OnDone (status_of halt) P
 not_at_a_halt halts.Usage P = tt
 not_at_a_halt (halts.Model fault) P = tt
+not_at_a_halt (halts.Topology line fault) P = tt
+not_at_a_halt (halts.Symptoms line) P = tt
 not_at_a_halt (halts.TooLong place) P = tt
+not_at_a_halt (halts.LongLine place line) P = tt
 not_at_a_halt (halts.ReadFault place) P = tt
 not_at_a_halt halts.Memory P = tt
 not_at_a_halt halts.NotBuilt P = tt

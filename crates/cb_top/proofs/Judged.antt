@@ -12,13 +12,18 @@ use Rattle.cb_rules.specs.Fault.{IsFault as IsTypeFault}
 use Rattle.cb_check.specs.Fault.{OnBroken}
 use Rattle.cb_check.specs.declared.fault.TypeFault.{TypeFault}
 use Rattle.cb_check.specs.declared.fault.TypeFault.TheVariants as types
-use Rattle.cb_flat.specs.declared.stop.FlatStop.{FlatStop}
-use Rattle.cb_flat.specs.declared.stop.FlatStop.TheVariants as flat
+use Rattle.cb_model.specs.declared.tables.Tables.{Tables}
+use Rattle.cb_lines.specs.declared.topology.TopologyStop.{TopologyStop}
+use Rattle.cb_lines.specs.declared.topology.TopologyStop.TheVariants as topology
+use Rattle.cb_lines.specs.declared.symptoms.SymptomStop.{SymptomStop}
+use Rattle.cb_lines.specs.declared.symptoms.SymptomStop.TheVariants as symptoms
+use Rattle.cb_lines.specs.Topologies.{Stops as StopsTopology}
+use Rattle.cb_lines.specs.Symptoms.{Stops as StopsSymptoms}
 use Rattle.cb_top.specs.declared.halt.Halt.{Halt}
 use Rattle.cb_top.specs.declared.halt.Halt.TheVariants as halts
 use Rattle.cb_top.specs.Model.{file_limit, HasShortText}
-use Rattle.cb_top.specs.Halts.{StopsFile, JudgesLength, JudgesModel, JudgesUnbuilt, unbuilt_where_long}
-use Rattle.cb_top.specs.Judged.{halt_of_syntax, halt_of_type, halt_of_lines}
+use Rattle.cb_top.specs.Halts.{StopsFile, JudgesLength, JudgesModel, JudgesTopology, JudgesSymptoms}
+use Rattle.cb_top.specs.Judged.{halt_of_syntax, halt_of_type, halt_of_topology, halt_of_symptoms}
 use Rattle.cb_top.proofs.Reading.{if_some}
 
 pub if_ok_more : {T E : Type 0} (result : Result T E) (P Q : T → Type 0) → ((x : T) → P x → Q x) → IfOk result P → IfOk result Q
@@ -45,11 +50,17 @@ pub type_judged : {T : Type 0} (text : List ℕ) (tree : Tree) (result : Result 
 type_judged text tree result (types.Broken broken) short spelled is breaks = record { short = short; first = (tree, spelled, rw is at breaks) }
 type_judged text tree result types.NoMemory short spelled is breaks = tt
 
--- lines that aren't built for
-pub lines_judged : {T V : Type 0} (Says : List ℕ → V → Type 0) (text : List ℕ) (stop : FlatStop)
-    → (IsErrOf {T = T} {E = FlatStop} (Err stop) flat.NotBuilt → (value : V) → ¬ Says text value) → JudgesUnbuilt Says text (halt_of_lines stop)
-lines_judged Says text flat.NotBuilt refused = refused refl
-lines_judged Says text flat.NoMemory refused = tt
+-- the first line of a topology that is too long or wrong
+pub topology_judged : (tables : Tables) (text : List ℕ) (stop : TopologyStop) → HasShortText text → StopsTopology tables text stop → JudgesTopology tables text (halt_of_topology stop)
+topology_judged tables text (topology.LongLine line) short first = (refl, record { short = short; first = first })
+topology_judged tables text (topology.BadLine line fault) short first = record { short = short; first = first }
+topology_judged tables text topology.NoMemory short stops = tt
+
+-- the first line of a symptom file that is too long or no node
+pub symptoms_judged : (text : List ℕ) (stop : SymptomStop) → HasShortText text → StopsSymptoms text stop → JudgesSymptoms text (halt_of_symptoms stop)
+symptoms_judged text (symptoms.LongLine line) short first = (refl, record { short = short; first = first })
+symptoms_judged text (symptoms.BadName line) short first = record { short = short; first = first }
+symptoms_judged text symptoms.NoMemory short stops = tt
 
 of_read : (old new : Option (List ℕ)) (text : List ℕ) (P : List ℕ → Type 0) → TakesAll old new text → P text → IfSome old P
 of_read None new text P read h = tt
@@ -58,32 +69,31 @@ of_read (Some left) new text P read h = subst P read.0 h
 module _ (place : ℕ) (name : List ℕ) (Judges : List ℕ → Halt → Type 0) (old new : FilesTold) where
   -- a file that was read stops the run as its text is judged
   pub stops_by_text : {T : Type 0} (result : Result T Halt) (text : List ℕ) → ReadsAll old new name text
-      → ((at : ℕ) → ¬ Judges text (halts.TooLong at)) → ((at : ℕ) → ¬ Judges text (halts.ReadFault at))
-      → IfErr result (Judges text) → IfErr result (StopsFile place name Judges old new)
-  stops_by_text (Ok value) text read short whole judged = tt
-  stops_by_text (Err halts.Usage) text read short whole judged = of_read (left_of old name) (left_of new name) text (λ t. Judges t halts.Usage) read judged
-  stops_by_text (Err (halts.Model fault)) text read short whole judged = of_read (left_of old name) (left_of new name) text (λ t. Judges t (halts.Model fault)) read judged
-  stops_by_text (Err (halts.TooLong at)) text read short whole judged = absurd (short at judged)
-  stops_by_text (Err (halts.ReadFault at)) text read short whole judged = absurd (whole at judged)
-  stops_by_text (Err halts.Memory) text read short whole judged = of_read (left_of old name) (left_of new name) text (λ t. Judges t halts.Memory) read judged
-  stops_by_text (Err halts.NotBuilt) text read short whole judged = of_read (left_of old name) (left_of new name) text (λ t. Judges t halts.NotBuilt) read judged
+      → ((at : ℕ) → Judges text (halts.TooLong at) → at ≡ place) → ((at line : ℕ) → Judges text (halts.LongLine at line) → at ≡ place)
+      → ((at : ℕ) → ¬ Judges text (halts.ReadFault at)) → IfErr result (Judges text) → IfErr result (StopsFile place name Judges old new)
+  stops_by_text (Ok value) text read short lines whole judged = tt
+  stops_by_text (Err (halts.TooLong at)) text read short lines whole judged =
+      (short at judged, of_read (left_of old name) (left_of new name) text (λ t. Judges t (halts.TooLong at)) read judged)
+  stops_by_text (Err (halts.LongLine at line)) text read short lines whole judged =
+      (lines at line judged, of_read (left_of old name) (left_of new name) text (λ t. Judges t (halts.LongLine at line)) read judged)
+  stops_by_text (Err (halts.ReadFault at)) text read short lines whole judged = absurd (whole at judged)
+  stops_by_text (Err halts.Usage) text read short lines whole judged = of_read (left_of old name) (left_of new name) text (λ t. Judges t halts.Usage) read judged
+  stops_by_text (Err (halts.Model fault)) text read short lines whole judged = of_read (left_of old name) (left_of new name) text (λ t. Judges t (halts.Model fault)) read judged
+  stops_by_text (Err (halts.Topology line fault)) text read short lines whole judged =
+      of_read (left_of old name) (left_of new name) text (λ t. Judges t (halts.Topology line fault)) read judged
+  stops_by_text (Err (halts.Symptoms line)) text read short lines whole judged = of_read (left_of old name) (left_of new name) text (λ t. Judges t (halts.Symptoms line)) read judged
+  stops_by_text (Err halts.Memory) text read short lines whole judged = of_read (left_of old name) (left_of new name) text (λ t. Judges t halts.Memory) read judged
+  stops_by_text (Err halts.NotBuilt) text read short lines whole judged = of_read (left_of old name) (left_of new name) text (λ t. Judges t halts.NotBuilt) read judged
 
--- a model file that wasn't read
-pub model_unread : (place : ℕ) (name : List ℕ) (old new : FilesTold) (halt : Halt) → StopsFile place name JudgesLength old new halt → StopsFile place name JudgesModel old new halt
-model_unread place name old new halts.Usage stops = if_some (left_of old name) _ _ (λ text j. absurd j) stops
-model_unread place name old new (halts.Model fault) stops = if_some (left_of old name) _ _ (λ text j. absurd j) stops
-model_unread place name old new (halts.TooLong at) stops = stops
-model_unread place name old new (halts.ReadFault at) stops = stops
-model_unread place name old new halts.Memory stops = stops
-model_unread place name old new halts.NotBuilt stops = if_some (left_of old name) _ _ (λ text j. absurd j) stops
-
--- a later file that wasn't read
-pub lines_unread : {V : Type 0} (Says : List ℕ → V → Type 0) (place : ℕ) (name : List ℕ) (old new : FilesTold) (halt : Halt)
-    → ((text : List ℕ) → file_limit < length text → (value : V) → ¬ Says text value)
-    → StopsFile place name JudgesLength old new halt → StopsFile place name (JudgesUnbuilt Says) old new (unbuilt_where_long halt)
-lines_unread Says place name old new halts.Usage long stops = if_some (left_of old name) _ _ (λ text j. absurd j) stops
-lines_unread Says place name old new (halts.Model fault) long stops = if_some (left_of old name) _ _ (λ text j. absurd j) stops
-lines_unread Says place name old new (halts.TooLong at) long stops = if_some (left_of old name) _ _ (λ text j. long text j) stops.1
-lines_unread Says place name old new (halts.ReadFault at) long stops = stops
-lines_unread Says place name old new halts.Memory long stops = stops
-lines_unread Says place name old new halts.NotBuilt long stops = if_some (left_of old name) _ _ (λ text j. absurd j) stops
+  -- a file that wasn't read stops it too
+  pub unread : (halt : Halt) → ((text : List ℕ) (at : ℕ) → file_limit < length text → Judges text (halts.TooLong at)) → ((text : List ℕ) → Judges text halts.Memory)
+      → StopsFile place name JudgesLength old new halt → StopsFile place name Judges old new halt
+  unread (halts.TooLong at) long memory stops = (stops.0, if_some (left_of old name) _ _ (λ text j. long text at j) stops.1)
+  unread (halts.LongLine at line) long memory stops = (stops.0, if_some (left_of old name) _ _ (λ text j. absurd j) stops.1)
+  unread (halts.ReadFault at) long memory stops = stops
+  unread halts.Memory long memory stops = if_some (left_of old name) _ _ (λ text j. memory text) stops
+  unread halts.Usage long memory stops = if_some (left_of old name) _ _ (λ text j. absurd j) stops
+  unread (halts.Model fault) long memory stops = if_some (left_of old name) _ _ (λ text j. absurd j) stops
+  unread (halts.Topology line fault) long memory stops = if_some (left_of old name) _ _ (λ text j. absurd j) stops
+  unread (halts.Symptoms line) long memory stops = if_some (left_of old name) _ _ (λ text j. absurd j) stops
+  unread halts.NotBuilt long memory stops = if_some (left_of old name) _ _ (λ text j. absurd j) stops

@@ -3,6 +3,8 @@ pub mod Words
 pub mod Writing
 pub mod Judged
 pub mod Asked
+pub mod Regular
+pub mod FirstLines
 pub mod Texts
 pub mod Bursts
 pub mod Shown

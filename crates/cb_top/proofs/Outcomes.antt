@@ -9,10 +9,9 @@ use Rattle.cb_top.specs.declared.halt.Halt.TheVariants as halts
 use Rattle.cb_top.specs.declared.status.Status.{Status}
 use Rattle.cb_top.specs.declared.status.Status.TheVariants.{Done, WriteFault}
 use Rattle.cb_top.specs.Status.{OnAnswer, OnDone, OnNoOutput, OnReadFault, OnWriteFault}
-use Rattle.cb_top.specs.Faults.{limit_line, read_line}
+use Rattle.cb_top.specs.Faults.{limit_line, long_line, read_line}
 use Rattle.cb_top.specs.Halts.{status_of}
-use Rattle.cb_top.specs.Outcome.{Outcome, IsOutcome, ModelGives, BurstGives, UnreadGives, file_words, done, usage, faulty, too_long, not_built}
-use Rattle.cb_io.specs.Outside.{contents}
+use Rattle.cb_top.specs.Outcome.{Outcome, IsOutcome, ModelAnswers, BurstAnswers, UnreadGives, file_after, file_words, done, usage, faulty, wrong_lined, bad_named, too_long, long_lined, not_built}
 use Rattle.cb_top.specs.Run.{Shows, HaltShows, Explains, Concludes, OnFileFault, OnStop, StopsAt, Answers, BlamesFile, TakesFront, TakesNothing, Says}
 use Rattle.cb_top.proofs.Texts.{model_gives_one}
 use Rattle.cb_top.proofs.Bursts.{burst_gives_one}
@@ -33,12 +32,12 @@ pub outcome_is_one : (words : List (List ℕ)) (left : List (List ℕ × List �
 outcome_is_one [] left a b p q = unread_one [] a b p q
 outcome_is_one (c ∷ []) left a b p q = unread_one (c ∷ []) a b p q
 outcome_is_one (c ∷ m ∷ []) left a b p q =
-    by_test (bytes_eq c (codes "model")) (ModelGives m (contents left [] m)) (UnreadGives (c ∷ m ∷ [])) a b
-    (model_gives_one m (contents left [] m) a b) (unread_one (c ∷ m ∷ []) a b) p q
+    by_test (bytes_eq c (codes "model")) (ModelAnswers left m) (UnreadGives (c ∷ m ∷ [])) a b
+    (model_gives_one (file_after left [] m) a b) (unread_one (c ∷ m ∷ []) a b) p q
 outcome_is_one (c ∷ m ∷ t ∷ []) left a b p q = unread_one (c ∷ m ∷ t ∷ []) a b p q
 outcome_is_one (c ∷ m ∷ t ∷ s ∷ []) left a b p q =
-    by_test (bytes_eq c (codes "burst")) (BurstGives m (contents left [] m) (contents left (m ∷ []) t) (contents left (m ∷ t ∷ []) s)) (UnreadGives (c ∷ m ∷ t ∷ s ∷ [])) a b
-    (burst_gives_one (contents left [] m) (contents left (m ∷ []) t) (contents left (m ∷ t ∷ []) s) m a b) (unread_one (c ∷ m ∷ t ∷ s ∷ []) a b) p q
+    by_test (bytes_eq c (codes "burst")) (BurstAnswers left m t s) (UnreadGives (c ∷ m ∷ t ∷ s ∷ [])) a b
+    (burst_gives_one (file_after left [] m) (file_after left (m ∷ []) t) (file_after left (m ∷ t ∷ []) s) a b) (unread_one (c ∷ m ∷ t ∷ s ∷ []) a b) p q
 outcome_is_one (c ∷ m ∷ t ∷ s ∷ x ∷ xs) left a b p q = unread_one (c ∷ m ∷ t ∷ s ∷ x ∷ xs) a b p q
 
 -- where a write failed, the output is a front of the outcome's
@@ -54,7 +53,10 @@ takes_front words o names (Err halt) status out out' err err' shown ends =
     not_at_a_halt : (h : Halt) → OnWriteFault (status_of h) (IfSome o (λ left. TakesFront words left out out'))
     not_at_a_halt halts.Usage = tt
     not_at_a_halt (halts.Model fault) = tt
+    not_at_a_halt (halts.Topology line fault) = tt
+    not_at_a_halt (halts.Symptoms line) = tt
     not_at_a_halt (halts.TooLong place) = tt
+    not_at_a_halt (halts.LongLine place line) = tt
     not_at_a_halt (halts.ReadFault place) = tt
     not_at_a_halt halts.Memory = tt
     not_at_a_halt halts.NotBuilt = tt
@@ -71,7 +73,10 @@ no_output words (Err halt) status out out' err err' ends =
     at_a_halt : (h : Halt) → OnNoOutput (status_of h) (TakesNothing out out')
     at_a_halt halts.Usage = ends.0
     at_a_halt (halts.Model fault) = ends.0
+    at_a_halt (halts.Topology line fault) = ends.0
+    at_a_halt (halts.Symptoms line) = ends.0
     at_a_halt (halts.TooLong place) = ends.0
+    at_a_halt (halts.LongLine place line) = ends.0
     at_a_halt (halts.ReadFault place) = ends.0
     at_a_halt halts.Memory = ends.0
     at_a_halt halts.NotBuilt = ends.0
@@ -88,7 +93,10 @@ no_line words (Err halt) status out out' err err' ends =
     not_at_a_halt : (h : Halt) → OnDone (status_of h) (TakesNothing err err')
     not_at_a_halt halts.Usage = tt
     not_at_a_halt (halts.Model fault) = tt
+    not_at_a_halt (halts.Topology line fault) = tt
+    not_at_a_halt (halts.Symptoms line) = tt
     not_at_a_halt (halts.TooLong place) = tt
+    not_at_a_halt (halts.LongLine place line) = tt
     not_at_a_halt (halts.ReadFault place) = tt
     not_at_a_halt halts.Memory = tt
     not_at_a_halt halts.NotBuilt = tt
@@ -125,6 +133,18 @@ module _ (words : List (List ℕ)) (o : Option (List (List ℕ × List ℕ))) (o
       if_some o _ _ (λ left it. record { outcome = usage; is = it; status_is = refl; output = none; says = subst (λ l. Says err err' l) is says }) shown
   answers_halt (halts.Model fault) shown none (line, is, says) =
       if_some o _ _ (λ left it. record { outcome = faulty fault; is = it; status_is = refl; output = none; says = subst (λ l. Says err err' l) is says }) shown
+  answers_halt (halts.Topology number fault) shown none (line, is, says) =
+      if_some o _ _ (λ left it. record { outcome = wrong_lined number fault; is = it; status_is = refl; output = none; says = subst (λ l. Says err err' l) is says }) shown
+  answers_halt (halts.Symptoms number) shown none (line, is, says) =
+      if_some o _ _ (λ left it. record { outcome = bad_named number; is = it; status_is = refl; output = none; says = subst (λ l. Says err err' l) is says }) shown
+  answers_halt (halts.LongLine place number) shown none (line, (other, at, is), says) =
+      if_some o _ _ (λ left (name, named, it). record {
+        outcome = long_lined name number;
+        is = it;
+        status_is = refl;
+        output = none;
+        says = subst (λ n. Says err err' (long_line n number)) (same_name words place name other named at) (subst (λ l. Says err err' l) is says);
+      }) shown
   answers_halt (halts.TooLong place) shown none (line, (other, at, is), says) =
       if_some o _ _ (λ left (name, named, it). record {
         outcome = too_long name;
@@ -158,7 +178,10 @@ module _ (words : List (List ℕ)) (old new : FilesTold) (err err' : SinkTold) w
   }
   blames_halt halts.Usage stops explains = tt
   blames_halt (halts.Model fault) stops explains = tt
+  blames_halt (halts.Topology line fault) stops explains = tt
+  blames_halt (halts.Symptoms line) stops explains = tt
   blames_halt (halts.TooLong place) stops explains = tt
+  blames_halt (halts.LongLine place line) stops explains = tt
   blames_halt halts.Memory stops explains = tt
   blames_halt halts.NotBuilt stops explains = tt
 

@@ -11,7 +11,7 @@ use Rattle.cb_io.specs.Pairs.{look_up}
 use Rattle.std.specs.Str.{bytes_eq}
 use Rattle.std.specs.Io.KnownBytes.{Keeps}
 use Rattle.cb_io.specs.Outside.{FilesTold, left_of, KeepsOthers, ReadsAll, TakesAll}
-use Rattle.cb_top.specs.Outcome.{Outcome, usage, faulty, too_long, not_built}
+use Rattle.cb_top.specs.Outcome.{Outcome, usage, faulty, wrong_lined, bad_named, too_long, long_lined, not_built}
 use Rattle.cb_io.specs.Outside.{contents}
 use Rattle.std.specs.Result.{IsErrAnd}
 use Rattle.cb_io.specs.Outside.{ReadFailed, NoCountFalls}
@@ -54,14 +54,20 @@ of_all (Some x) P f = f x
 abbrev pub Gives : List ℕ → Halt → (Outcome → Type 0) → Type 0
 Gives name halts.Usage IsIt = IsIt usage
 Gives name (halts.Model fault) IsIt = IsIt (faulty fault)
+Gives name (halts.Topology line fault) IsIt = IsIt (wrong_lined line fault)
+Gives name (halts.Symptoms line) IsIt = IsIt (bad_named line)
 Gives name (halts.TooLong place) IsIt = IsIt (too_long name)
+Gives name (halts.LongLine place line) IsIt = IsIt (long_lined name line)
 Gives name halts.NotBuilt IsIt = IsIt not_built
 Gives name halt IsIt = Unit {0}
 
 pub gives_more : (name : List ℕ) (halt : Halt) (P Q : Outcome → Type 0) → ((outcome : Outcome) → P outcome → Q outcome) → Gives name halt P → Gives name halt Q
 gives_more name halts.Usage P Q f h = f _ h
 gives_more name (halts.Model fault) P Q f h = f _ h
+gives_more name (halts.Topology line fault) P Q f h = f _ h
+gives_more name (halts.Symptoms line) P Q f h = f _ h
 gives_more name (halts.TooLong place) P Q f h = f _ h
+gives_more name (halts.LongLine place line) P Q f h = f _ h
 gives_more name (halts.ReadFault place) P Q f h = tt
 gives_more name halts.Memory P Q f h = tt
 gives_more name halts.NotBuilt P Q f h = f _ h
@@ -72,7 +78,10 @@ module _ (names earlier : List (List ℕ)) (name : List ℕ) (place : ℕ) (Judg
   pub placed : (now new : FilesTold) (halt : Halt) → place < length names → StopsFile place name Judges now new halt → IsPlaced names halt
   placed now new halts.Usage lt stops = tt
   placed now new (halts.Model fault) lt stops = tt
+  placed now new (halts.Topology line fault) lt stops = tt
+  placed now new (halts.Symptoms line) lt stops = tt
   placed now new (halts.TooLong at) lt stops = let e = stops.0 in omega (arith, lt)
+  placed now new (halts.LongLine at line) lt stops = let e = stops.0 in omega (arith, lt)
   placed now new (halts.ReadFault at) lt stops = let e = stops.0 in omega (arith, lt)
   placed now new halts.Memory lt stops = tt
   placed now new halts.NotBuilt lt stops = tt
@@ -92,7 +101,10 @@ module _ (names earlier : List (List ℕ)) (name : List ℕ) (place : ℕ) (Judg
         }
     stops_at halts.Usage first counts others fault = tt
     stops_at (halts.Model f) first counts others fault = tt
+    stops_at (halts.Topology line why) first counts others fault = tt
+    stops_at (halts.Symptoms line) first counts others fault = tt
     stops_at (halts.TooLong at) first counts others fault = tt
+    stops_at (halts.LongLine at line) first counts others fault = tt
     stops_at halts.Memory first counts others fault = tt
     stops_at halts.NotBuilt first counts others fault = tt
 
@@ -107,6 +119,13 @@ module _ (names earlier : List (List ℕ)) (name : List ℕ) (place : ℕ) (Judg
     halt_shows IsIt (halts.TooLong at) each stops =
         let named : slice_get names at ≡ Some name = subst (λ i. slice_get names i ≡ Some name) (sym stops.0) is in
         if_some2 old.left _ _ _ (λ left each_of j. (name, named, each_of (halts.TooLong at) j)) each (judged old now earlier name (λ text. Judges text (halts.TooLong at)) before stops.1)
+    halt_shows IsIt (halts.LongLine at line) each stops =
+        let named : slice_get names at ≡ Some name = subst (λ i. slice_get names i ≡ Some name) (sym stops.0) is in
+        if_some2 old.left _ _ _ (λ left each_of j. (name, named, each_of (halts.LongLine at line) j)) each (judged old now earlier name (λ text. Judges text (halts.LongLine at line)) before stops.1)
+    halt_shows IsIt (halts.Topology line fault) each stops =
+        if_some2 old.left _ _ _ (λ left each_of j. each_of (halts.Topology line fault) j) each (judged old now earlier name (λ text. Judges text (halts.Topology line fault)) before stops)
+    halt_shows IsIt (halts.Symptoms line) each stops =
+        if_some2 old.left _ _ _ (λ left each_of j. each_of (halts.Symptoms line) j) each (judged old now earlier name (λ text. Judges text (halts.Symptoms line)) before stops)
     halt_shows IsIt (halts.ReadFault at) each stops = of_any old.left
     halt_shows IsIt halts.Memory each stops = of_any old.left
     halt_shows IsIt halts.NotBuilt each stops =

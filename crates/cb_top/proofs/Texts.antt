@@ -6,16 +6,18 @@ use Rattle.cb_syntax.specs.declared.fault.SyntaxFault.{SyntaxFault}
 use Rattle.cb_syntax.specs.declared.fault.SyntaxFault.TheVariants as syntax
 use Rattle.cb_syntax.specs.Spells.{Spells}
 use Rattle.cb_syntax.specs.Laws.{IsAnswer}
-use Rattle.cb_syntax.proofs.One.{one_answer}
+use Rattle.cb_syntax.proofs.One.{one_answer, names_fit}
 use Rattle.cb_rules.specs.declared.rule.BrokenRule.{BrokenRule}
 use Rattle.cb_rules.specs.Fault.{IsFault as IsTypeFault}
 use Rattle.cb_check.specs.Stands.{Stands}
 use Rattle.cb_top.specs.declared.fault.ModelFault.{ModelFault}
 use Rattle.cb_top.specs.declared.fault.ModelFault.TheVariants.{BadByte, Unexpected, LongName, Unfinished, Broken}
 use Rattle.cb_top.specs.Model.{file_limit, IsTreeText, IsModelText, IsFirst, IsFaultOf}
-use Rattle.cb_top.specs.Outcome.{Outcome, RefusesModel, ModelGives, done, faulty}
+use Rattle.cb_top.specs.Outcome.{Outcome, File, RefusesModel, ModelGives, done, faulty}
 use Rattle.cb_syntax.specs.Canonical.{canonical_text}
 use Rattle.cb_check.proofs.One.{one_model}
+use Rattle.cb_check.proofs.Typed.{stands_is_typed}
+use Rattle.cb_model.specs.WellTyped.{WellTyped}
 use Rattle.cb_rules.proofs.Order.{one_fault_is}
 
 -- a text spells one tree
@@ -31,6 +33,11 @@ pub model_is_one : (text : List ℕ) (a b : Tables) → IsModelText text a → I
 model_is_one text a b m n =
     let trees = same_tree text m.tree n.tree m.is_tree.spelled n.is_tree.spelled in
     one_model n.tree a b n.is_tree.keeps (subst (λ (t : Tree). Stands t a) trees m.stands) n.stands
+
+-- and it is well typed
+pub model_is_typed : (text : List ℕ) (tables : Tables) → IsModelText text tables → WellTyped tables
+model_is_typed text tables m =
+    stands_is_typed m.tree tables m.is_tree.keeps m.stands (names_fit text (Ok m.tree) m.is_tree.spelled)
 
 -- the fault of tokens that a fault is, if it is one, and back
 abbrev syntax_of : ModelFault → SyntaxFault
@@ -91,23 +98,31 @@ kept_or_broken text fault tree (inr a) t =
     let breaks : IsTypeFault tree a.broken = subst (λ (x : Tree). IsTypeFault x a.broken) trees a.breaks in
     t.keeps a.broken.rule a.broken.line breaks.broken
 
-module _ (name text : List ℕ) where
-  -- a model that checks isn't refused
-  pub not_refused : (a : Outcome) (tree : Tree) → RefusesModel name text a → IsTreeText text tree → ⊥
-  not_refused a tree (inl (long, e)) t = let short = t.short in omega arith
-  not_refused a tree (inr (fault, f, e)) t = kept_or_broken text fault tree (kind_of text fault f.first) t
+-- a file that is refused, or else says one value after which there is one outcome, gives one outcome
+pub gives_one : {V : Type 0} (Refuses : Outcome → Type 0) (Says : V → Type 0) (Next : V → Outcome → Type 0)
+    → ((a b : Outcome) → Refuses a → Refuses b → a ≡ b) → ((a : Outcome) (v : V) → Refuses a → Says v → ⊥) → ((v w : V) → Says v → Says w → v ≡ w)
+    → ((v : V) → Says v → (a b : Outcome) → Next v a → Next v b → a ≡ b)
+    → (a b : Outcome) → Refuses a ⊎ ((v : V) × Says v × Next v a) → Refuses b ⊎ ((v : V) × Says v × Next v b) → a ≡ b
+gives_one Refuses Says Next one not_both same next a b (inl r) (inl r') = one a b r r'
+gives_one Refuses Says Next one not_both same next a b (inl r) (inr (w, says, n)) = absurd (not_both a w r says)
+gives_one Refuses Says Next one not_both same next a b (inr (v, says, n)) (inl r) = absurd (not_both b v r says)
+gives_one {V} Refuses Says Next one not_both same next a b (inr (v, says, n)) (inr (w, says', n')) =
+    next w says' a b (subst (λ (x : V). Next x a) (same v w says says') n) n'
 
-  pub refuses_one : (a b : Outcome) → RefusesModel name text a → RefusesModel name text b → a ≡ b
+module _ (file : File) where
+  -- a model that checks isn't refused
+  pub not_refused : (a : Outcome) (tree : Tree) → RefusesModel file a → IsTreeText file.text tree → ⊥
+  not_refused a tree (inl (long, e)) t = let short = t.short in omega arith
+  not_refused a tree (inr (fault, f, e)) t = kept_or_broken file.text fault tree (kind_of file.text fault f.first) t
+
+  pub refuses_one : (a b : Outcome) → RefusesModel file a → RefusesModel file b → a ≡ b
   refuses_one a b (inl (long, e)) (inl (long', e')) = e ∙ sym e'
   refuses_one a b (inl (long, e)) (inr (fault, f, e')) = let short = f.short in absurd (omega arith)
   refuses_one a b (inr (fault, f, e)) (inl (long, e')) = let short = f.short in absurd (omega arith)
   refuses_one a b (inr (fault, f, e)) (inr (fault', f', e')) =
-      e ∙ (ap (λ (x : ModelFault). faulty x) (fault_is_one text fault fault' f f') ∙ sym e')
+      e ∙ (ap (λ (x : ModelFault). faulty x) (fault_is_one file.text fault fault' f f') ∙ sym e')
 
   -- what `model` gives is one outcome
-  pub model_gives_one : (a b : Outcome) → ModelGives name text a → ModelGives name text b → a ≡ b
-  model_gives_one a b (inl r) (inl r') = refuses_one a b r r'
-  model_gives_one a b (inl r) (inr (tree, t, e)) = absurd (not_refused a tree r t)
-  model_gives_one a b (inr (tree, t, e)) (inl r) = absurd (not_refused b tree r t)
-  model_gives_one a b (inr (tree, t, e)) (inr (tree', t', e')) =
-      e ∙ (ap (λ (x : Tree). done (canonical_text x)) (same_tree text tree tree' t.spelled t'.spelled) ∙ sym e')
+  pub model_gives_one : (a b : Outcome) → ModelGives file a → ModelGives file b → a ≡ b
+  model_gives_one = gives_one (RefusesModel file) (IsTreeText file.text) (λ (tree : Tree) (outcome : Outcome). outcome ≡ done (canonical_text tree))
+      refuses_one not_refused (λ t u s s'. same_tree file.text t u s.spelled s'.spelled) (λ t s a b e e'. e ∙ sym e')

@@ -1,13 +1,15 @@
--- What `burst` answers, by the bytes of its three files.
+-- What `burst` finds, by the bytes of its three files.
 use Rattle.std.specs.Prelude.{List, ℕ}
 use Rattle.cb_model.specs.declared.node.NodeName.{NodeName}
 use Rattle.cb_model.specs.declared.tables.Tables.{Tables}
 use Rattle.cb_network.specs.declared.finding.Finding.{Finding}
 use Rattle.cb_network.specs.Topology.{Topology}
 use Rattle.cb_network.specs.Finding.{IsBurst}
-use Rattle.cb_flat.specs.FlatTopology.{MakesTopology}
-use Rattle.cb_flat.specs.Lines.{ListsNodes}
-use Rattle.cb_top.specs.Model.{HasShortText, IsFlatText}
+use Rattle.cb_lines.specs.declared.topology.LineFault.{LineFault}
+use Rattle.cb_lines.specs.Lines.{IsFirstLong}
+use Rattle.cb_lines.specs.Topologies.{MakesTopology, IsFirstWrong}
+use Rattle.cb_lines.specs.Symptoms.{ListsNodes, IsFirstBad}
+use Rattle.cb_top.specs.Model.{HasShortText, IsModelText}
 
 -- the lines of the text make this topology
 pub record IsTopologyText (tables : Tables) (text : List ℕ) (topology : Topology) : Type 0 where
@@ -19,11 +21,26 @@ pub record IsSymptomText (text : List ℕ) (raised : List NodeName) : Type 0 whe
   pub short : HasShortText text
   pub lists : ListsNodes text raised
 
+-- the text isn't too long, but its line of this number is, and none before it
+pub record HasLongLine (text : List ℕ) (line : ℕ) : Type 0 where
+  pub short : HasShortText text
+  pub first : IsFirstLong text line
+
+-- no line is too long, and the line of this number is the first that makes nothing of the topology before it
+pub record HasWrongLine (tables : Tables) (text : List ℕ) (line : ℕ) (fault : LineFault) : Type 0 where
+  pub short : HasShortText text
+  pub first : IsFirstWrong tables text line fault
+
+-- no line is too long, and the line of this number is the first that is no node
+pub record HasBadName (text : List ℕ) (line : ℕ) : Type 0 where
+  pub short : HasShortText text
+  pub first : IsFirstBad text line
+
 -- Model, topology and raised nodes are what the three texts say, and the finding is that of the raised nodes over all
 -- columns, codes being told by what causes what.
 pub record IsBurstOf (model topology symptoms : List ℕ) (finding : Finding) : Type 0 where
   pub tables : Tables
-  pub model_is : IsFlatText model tables
+  pub model_is : IsModelText model tables
   pub network : Topology
   pub topology_is : IsTopologyText tables topology network
   pub raised : List NodeName

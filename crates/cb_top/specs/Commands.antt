@@ -27,6 +27,11 @@ IsBuilt (command ∷ model ∷ []) = command ≡ codes "model"
 IsBuilt (command ∷ model ∷ topology ∷ symptoms ∷ []) = command ≡ codes "burst"
 IsBuilt words = ⊥
 
+-- the words of `burst`
+abbrev pub AskForBurst : List (List ℕ) → Type 0
+AskForBurst (command ∷ model ∷ topology ∷ symptoms ∷ []) = command ≡ codes "burst"
+AskForBurst words = ⊥
+
 -- the words of the other commands: which name them, and which of the others are numbers
 abbrev pub IsUnbuilt : List (List ℕ) → Type 0
 IsUnbuilt (command ∷ one ∷ two ∷ []) = (command ≡ codes "matrix") ⊎ ((command ≡ codes "grow") × IsSites one × IsStart two)

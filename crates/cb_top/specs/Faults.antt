@@ -2,6 +2,10 @@
 use Rattle.std.specs.Prelude.{ℕ, List, ◌++◌, codes, decimal}
 use Rattle.cb_rules.specs.declared.rule.TypeRule.{TypeRule}
 use Rattle.cb_rules.specs.declared.rule.TypeRule.TheVariants.{TwoClasses, NoParent, Loop, Depth, TwoNames, NoTarget, BadInverse, NoCause, NoRelation, NoEffect, NoBlocked, NoHidden, TooManyClasses, TooManyMembers}
+use Rattle.cb_network.specs.declared.edit.EditRefusal.{EditRefusal}
+use Rattle.cb_network.specs.declared.edit.EditRefusal.TheVariants as refusals
+use Rattle.cb_lines.specs.declared.topology.LineFault.{LineFault}
+use Rattle.cb_lines.specs.declared.topology.LineFault.TheVariants.{BadWords, Refused}
 use Rattle.cb_top.specs.declared.fault.ModelFault.{ModelFault}
 use Rattle.cb_top.specs.declared.fault.ModelFault.TheVariants.{BadByte, Unexpected, LongName, Unfinished, Broken}
 
@@ -25,9 +29,12 @@ rule_word NoHidden = codes "no-hidden"
 rule_word TooManyClasses = codes "too-many-classes"
 rule_word TooManyMembers = codes "too-many-members"
 
--- a line of a model, and what is wrong there
+-- the number of a line, and what is wrong there
+abbrev pub at_line : ℕ → List ℕ → List ℕ
+at_line line what = decimal line ++ (codes " " ++ (what ++ codes "\n"))
+
 abbrev pub line_of_model : ℕ → List ℕ → List ℕ
-line_of_model line what = codes "error 3 model line " ++ (decimal line ++ (codes " " ++ (what ++ codes "\n")))
+line_of_model line what = codes "error 3 model line " ++ at_line line what
 
 -- a token that no model has there
 abbrev pub unexpected_line : ℕ → ℕ → List ℕ
@@ -40,9 +47,44 @@ model_line (LongName line) = line_of_model line (codes "long-name")
 model_line Unfinished = codes "error 3 model unfinished\n"
 model_line (Broken broken) = line_of_model broken.line (rule_word broken.rule)
 
+-- the word of a refusal
+abbrev pub refusal_word : EditRefusal → List ℕ
+refusal_word refusals.NoClass = codes "no-class"
+refusal_word refusals.Exists = codes "exists"
+refusal_word refusals.NoInstance = codes "no-instance"
+refusal_word refusals.NoRelation = codes "no-relation"
+refusal_word refusals.WrongKind = codes "wrong-kind"
+refusal_word refusals.Linked = codes "linked"
+refusal_word refusals.Occupied = codes "occupied"
+refusal_word refusals.NotLinked = codes "not-linked"
+refusal_word refusals.NoSymptom = codes "no-symptom"
+refusal_word refusals.AlreadyMuted = codes "already-muted"
+refusal_word refusals.NotMuted = codes "not-muted"
+refusal_word refusals.InstanceLimit = codes "instance-limit"
+refusal_word refusals.NodeLimit = codes "node-limit"
+refusal_word refusals.ProblemLimit = codes "problem-limit"
+refusal_word refusals.SymptomLimit = codes "symptom-limit"
+
+-- the word for what is wrong with a line of a topology
+abbrev pub fault_word : LineFault → List ℕ
+fault_word BadWords = codes "bad-words"
+fault_word (Refused why) = refusal_word why
+
+-- a line of a topology, and what is wrong there
+abbrev pub topology_line : ℕ → LineFault → List ℕ
+topology_line line fault = codes "error 4 topology line " ++ at_line line (fault_word fault)
+
+-- a line of a symptom file that is no node
+abbrev pub symptom_line : ℕ → List ℕ
+symptom_line line = codes "error 4 symptoms line " ++ at_line line (codes "bad-name")
+
 -- the file of this name is too long
 abbrev pub limit_line : List ℕ → List ℕ
 limit_line name = codes "error 7 limit bytes " ++ name ++ codes "\n"
+
+-- in the file of this name a line is too long
+abbrev pub long_line : List ℕ → ℕ → List ℕ
+long_line name line = codes "error 7 limit line " ++ (name ++ (codes " " ++ (decimal line ++ codes "\n")))
 
 -- the file of this name couldn't be read
 abbrev pub read_line : List ℕ → List ℕ

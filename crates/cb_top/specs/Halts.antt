@@ -1,29 +1,31 @@
 -- What keeps a command from its output, and what that shows of the files. `old` is told before a file is read, `new` after it.
 use Rattle.std.specs.Prelude.{◌≡◌, ℕ, ◌<◌, List, length, IfSome}
 use Rattle.cb_io.specs.Outside.{FilesTold, left_of, ReadsAll, ReadFailed}
+use Rattle.cb_model.specs.declared.tables.Tables.{Tables}
+use Rattle.cb_top.specs.declared.files.TheConstants.{TOPOLOGY, SYMPTOMS}
 use Rattle.cb_top.specs.declared.halt.Halt.{Halt}
 use Rattle.cb_top.specs.declared.halt.Halt.TheVariants as halts
 use Rattle.cb_top.specs.declared.status.Status.{Status}
 use Rattle.cb_top.specs.declared.status.Status.TheVariants as statuses
 use Rattle.cb_top.specs.Model.{file_limit, IsFaultOf}
+use Rattle.cb_top.specs.Burst.{HasLongLine, HasWrongLine, HasBadName}
 
 -- how a run ends that halts so
 abbrev pub status_of : Halt → Status
 status_of halts.Usage = statuses.Usage
 status_of (halts.Model fault) = statuses.Model
+status_of (halts.Topology line fault) = statuses.Topology
+status_of (halts.Symptoms line) = statuses.Topology
 status_of (halts.TooLong place) = statuses.Limit
+status_of (halts.LongLine place line) = statuses.Limit
 status_of (halts.ReadFault place) = statuses.ReadFault
 status_of halts.Memory = statuses.Memory
 status_of halts.NotBuilt = statuses.NotBuilt
 
--- the same halt, but that a file that is too long isn't built for
-abbrev pub unbuilt_where_long : Halt → Halt
-unbuilt_where_long (halts.TooLong place) = halts.NotBuilt
-unbuilt_where_long halt = halt
-
 -- a file that a halt tells has a place among these
 abbrev pub IsPlaced : List (List ℕ) → Halt → Type 0
 IsPlaced names (halts.TooLong place) = place < length names
+IsPlaced names (halts.LongLine place line) = place < length names
 IsPlaced names (halts.ReadFault place) = place < length names
 IsPlaced names halt = Unit {0}
 
@@ -35,6 +37,7 @@ ReadsSuch old new name P = (text : List ℕ) × ReadsAll old new name text × P 
 abbrev pub StopsFile : ℕ → List ℕ → (List ℕ → Halt → Type 0) → FilesTold → FilesTold → Halt → Type 0
 StopsFile place name Judges old new (halts.ReadFault at) = (at ≡ place) × ReadFailed old new name
 StopsFile place name Judges old new (halts.TooLong at) = (at ≡ place) × IfSome (left_of old name) (λ text. Judges text (halts.TooLong at))
+StopsFile place name Judges old new (halts.LongLine at line) = (at ≡ place) × IfSome (left_of old name) (λ text. Judges text (halts.LongLine at line))
 StopsFile place name Judges old new halt = IfSome (left_of old name) (λ text. Judges text halt)
 
 -- of a file: it is too long, or memory ran out
@@ -50,8 +53,18 @@ JudgesModel text (halts.Model fault) = IsFaultOf text fault
 JudgesModel text halts.Memory = Unit {0}
 JudgesModel text halt = ⊥
 
--- of a text that says no such value: it isn't built for, or memory ran out
-abbrev pub JudgesUnbuilt : {T : Type 0} → (List ℕ → T → Type 0) → List ℕ → Halt → Type 0
-JudgesUnbuilt Says text halts.NotBuilt = (value : _) → ¬ Says text value
-JudgesUnbuilt Says text halts.Memory = Unit {0}
-JudgesUnbuilt Says text halt = ⊥
+-- of the text of a topology, after this model: it or a line is too long, a line is wrong, or memory ran out
+abbrev pub JudgesTopology : Tables → List ℕ → Halt → Type 0
+JudgesTopology tables text (halts.TooLong place) = file_limit < length text
+JudgesTopology tables text (halts.LongLine place line) = (place ≡ TOPOLOGY) × HasLongLine text line
+JudgesTopology tables text (halts.Topology line fault) = HasWrongLine tables text line fault
+JudgesTopology tables text halts.Memory = Unit {0}
+JudgesTopology tables text halt = ⊥
+
+-- of the text of a symptom file: it or a line is too long, a line is no node, or memory ran out
+abbrev pub JudgesSymptoms : List ℕ → Halt → Type 0
+JudgesSymptoms text (halts.TooLong place) = file_limit < length text
+JudgesSymptoms text (halts.LongLine place line) = (place ≡ SYMPTOMS) × HasLongLine text line
+JudgesSymptoms text (halts.Symptoms line) = HasBadName text line
+JudgesSymptoms text halts.Memory = Unit {0}
+JudgesSymptoms text halt = ⊥

@@ -1,7 +1,6 @@
 -- What the text of a model says, and its first fault.
 use Rattle.std.specs.Prelude.{◌≡◌, ℕ, ◌≤◌, List, length}
 use Rattle.cb_model.specs.declared.tables.Tables.{Tables}
-use Rattle.cb_flat.specs.Flat.{IsFlat}
 use Rattle.cb_grammar.specs.declared.tree.Tree.{Tree}
 use Rattle.cb_syntax.specs.declared.fault.SyntaxFault.TheVariants as syntax
 use Rattle.cb_syntax.specs.Spells.{Spells, IsFault as IsSyntaxFault}
@@ -28,11 +27,6 @@ pub record IsModelText (text : List ℕ) (tables : Tables) : Type 0 where
   pub tree : Tree
   pub is_tree : IsTreeText text tree
   pub stands : Stands tree tables
-
--- the same, where its classes stand alone
-pub record IsFlatText (text : List ℕ) (tables : Tables) : Type 0 where
-  pub model : IsModelText text tables
-  pub flat : IsFlat tables
 
 -- the text's first fault: that of its tokens, or else the first type rule that its tree breaks
 abbrev pub IsFirst : List ℕ → ModelFault → Type 0

@@ -6,9 +6,9 @@ use Rattle.cb_top.specs.declared.status.Status.{Status}
 use Rattle.cb_top.specs.declared.status.Status.TheVariants.{Done, WriteFault}
 use Rattle.cb_top.specs.declared.halt.Halt.{Halt}
 use Rattle.cb_top.specs.declared.halt.Halt.TheVariants as halts
-use Rattle.cb_top.specs.Faults.{usage_line, model_line, limit_line, read_line, write_line, memory_line, not_built_line}
+use Rattle.cb_top.specs.Faults.{usage_line, model_line, topology_line, symptom_line, limit_line, long_line, read_line, write_line, memory_line, not_built_line}
 use Rattle.cb_top.specs.Halts.{status_of}
-use Rattle.cb_top.specs.Outcome.{Outcome, IsOutcome, file_words, done, usage, faulty, too_long, not_built}
+use Rattle.cb_top.specs.Outcome.{Outcome, IsOutcome, file_words, done, usage, faulty, wrong_lined, bad_named, too_long, long_lined, not_built}
 use Rattle.cb_io.specs.Outside.{contents}
 
 -- the sink took the line, or a front of it where a write failed
@@ -64,7 +64,10 @@ OnStop (Err halt) P = OnFileFault halt P
 abbrev pub HaltShows : List (List ℕ) → Halt → (Outcome → Type 0) → Type 0
 HaltShows names halts.Usage IsIt = IsIt usage
 HaltShows names (halts.Model fault) IsIt = IsIt (faulty fault)
+HaltShows names (halts.Topology line fault) IsIt = IsIt (wrong_lined line fault)
+HaltShows names (halts.Symptoms line) IsIt = IsIt (bad_named line)
 HaltShows names (halts.TooLong place) IsIt = (name : List ℕ) × (slice_get names place ≡ Some name) × IsIt (too_long name)
+HaltShows names (halts.LongLine place line) IsIt = (name : List ℕ) × (slice_get names place ≡ Some name) × IsIt (long_lined name line)
 HaltShows names halts.NotBuilt IsIt = IsIt not_built
 HaltShows names halt IsIt = Unit {0}
 
@@ -77,7 +80,10 @@ Shows names (Err halt) IsIt = HaltShows names halt IsIt
 abbrev pub IsLine : List (List ℕ) → Halt → List ℕ → Type 0
 IsLine words halts.Usage line = line ≡ usage_line
 IsLine words (halts.Model fault) line = line ≡ model_line fault
+IsLine words (halts.Topology number fault) line = line ≡ topology_line number fault
+IsLine words (halts.Symptoms number) line = line ≡ symptom_line number
 IsLine words (halts.TooLong place) line = (name : List ℕ) × (slice_get words (place + 1) ≡ Some name) × (line ≡ limit_line name)
+IsLine words (halts.LongLine place number) line = (name : List ℕ) × (slice_get words (place + 1) ≡ Some name) × (line ≡ long_line name number)
 IsLine words (halts.ReadFault place) line = (name : List ℕ) × (slice_get words (place + 1) ≡ Some name) × (line ≡ read_line name)
 IsLine words halts.Memory line = line ≡ memory_line
 IsLine words halts.NotBuilt line = line ≡ not_built_line

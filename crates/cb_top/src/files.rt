@@ -11,6 +11,15 @@ use std::alloc::Global;
 /// A model, topology or symptom file has at most so many bytes.
 pub const MOST_BYTES: usize = 16 << 20;
 
+/// The place of the model among the file words, in each command that reads one.
+pub const MODEL: usize = 0;
+
+/// The place of the topology.
+pub const TOPOLOGY: usize = 1;
+
+/// The place of the symptom file.
+pub const SYMPTOMS: usize = 2;
+
 /// All bytes left of the file word at a place, unless there are too many.
 pub fn read_file<F: Files>(
     alloc: Global,

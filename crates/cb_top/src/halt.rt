@@ -1,13 +1,14 @@
 //! Why a command gives no output.
 ghost use Rattle.std.specs.Prelude.{◌≡◌};
-ghost use Rattle.cb_top.specs.Judged.{halt_of_syntax, halt_of_type, halt_of_lines};
-ghost use Rattle.cb_top.specs.Halts.{status_of, unbuilt_where_long};
+ghost use Rattle.cb_top.specs.Judged.{halt_of_syntax, halt_of_type, halt_of_topology, halt_of_symptoms};
+ghost use Rattle.cb_top.specs.Halts.{status_of};
 ghost use Rattle.cb_top.specs.declared.halt.Halt.TheVariants.{Memory};
 
 use crate::fault::ModelFault;
+use crate::files::{SYMPTOMS, TOPOLOGY};
 use crate::status::Status;
 use cb_check::TypeFault;
-use cb_flat::FlatStop;
+use cb_lines::{LineFault, SymptomStop, TopologyStop};
 use cb_syntax::SyntaxFault;
 use std::alloc::AllocError;
 
@@ -18,8 +19,14 @@ pub enum Halt {
     Usage,
     /// The model has this fault.
     Model(ModelFault),
+    /// The line of the topology is the first that is wrong, and this is wrong with it.
+    Topology { line: u64, fault: LineFault },
+    /// The line of the symptom file is the first that is no node.
+    Symptoms { line: u64 },
     /// The file has too many bytes.
     TooLong(usize),
+    /// The line of the file is the first that has too many bytes.
+    LongLine { place: usize, line: u64 },
     /// The file couldn't be read.
     ReadFault(usize),
     Memory,
@@ -34,20 +41,11 @@ impl Halt {
         match self {
             Halt::Usage => Status::Usage,
             Halt::Model(_) => Status::Model,
-            Halt::TooLong(_) => Status::Limit,
+            Halt::Topology { .. } | Halt::Symptoms { .. } => Status::Topology,
+            Halt::TooLong(_) | Halt::LongLine { .. } => Status::Limit,
             Halt::ReadFault(_) => Status::ReadFault,
             Halt::Memory => Status::Memory,
             Halt::NotBuilt => Status::NotBuilt,
-        }
-    }
-
-    /// The same, but that a file that is too long isn't built for.
-    pub fn unbuilt_where_long(self) -> Halt
-        ensures { result ≡ unbuilt_where_long self }
-    {
-        match self {
-            Halt::TooLong(_) => Halt::NotBuilt,
-            halt => halt,
         }
     }
 }
@@ -87,13 +85,32 @@ impl From<TypeFault> for Halt {
     }
 }
 
-impl From<FlatStop> for Halt {
-    ghost from_gives = { λ stop halt. halt ≡ halt_of_lines stop };
+impl From<TopologyStop> for Halt {
+    ghost from_gives = { λ stop halt. halt ≡ halt_of_topology stop };
 
-    fn from(stop: FlatStop) -> Halt {
+    fn from(stop: TopologyStop) -> Halt {
         match stop {
-            FlatStop::NotBuilt => Halt::NotBuilt,
-            FlatStop::NoMemory => Halt::Memory,
+            TopologyStop::LongLine { line } => Halt::LongLine {
+                place: TOPOLOGY,
+                line,
+            },
+            TopologyStop::BadLine { line, fault } => Halt::Topology { line, fault },
+            TopologyStop::NoMemory => Halt::Memory,
+        }
+    }
+}
+
+impl From<SymptomStop> for Halt {
+    ghost from_gives = { λ stop halt. halt ≡ halt_of_symptoms stop };
+
+    fn from(stop: SymptomStop) -> Halt {
+        match stop {
+            SymptomStop::LongLine { line } => Halt::LongLine {
+                place: SYMPTOMS,
+                line,
+            },
+            SymptomStop::BadName { line } => Halt::Symptoms { line },
+            SymptomStop::NoMemory => Halt::Memory,
         }
     }
 }

@@ -1,28 +1,32 @@
 //! What the texts of a command's files say.
 ghost use Rattle.std.specs.Prelude.{◌≡◌, IfOk, IfErr};
-ghost use Rattle.cb_flat.specs.Flat.{IsFlat};
 ghost use Rattle.cb_model.specs.Order.{Rises};
 ghost use Rattle.cb_model.specs.NodeOrder.{node_cmp};
 ghost use Rattle.cb_grammar.specs.declared.tree.Tree.{Tree};
 ghost use Rattle.cb_syntax.specs.Canonical.{canonical_text};
 ghost use Rattle.cb_network.specs.declared.finding.Finding.{Finding};
 ghost use Rattle.cb_network.specs.Finding.{IsBurst};
-ghost use Rattle.cb_flat.specs.FlatTopology.{topology_of, HasNodes};
+ghost use Rattle.cb_topo.specs.Numbered.{topology_of};
 ghost use Rattle.cb_report.specs.Lines.{burst_text as text_of_burst};
 ghost use Rattle.cb_top.specs.Model.{HasShortText, IsModelText, IsTreeText};
 ghost use Rattle.cb_top.specs.Burst.{IsTopologyText, IsSymptomText};
-ghost use Rattle.cb_top.specs.Halts.{JudgesModel, JudgesUnbuilt};
+ghost use Rattle.cb_top.specs.Halts.{JudgesModel, JudgesTopology, JudgesSymptoms};
 
 use crate::fault::ModelFault;
 use crate::halt::Halt;
 use cb_check::check;
-use cb_flat::{FlatTopology, read_symptoms, read_topology};
+use cb_graph::Graph;
+use cb_lines::{read_symptoms, read_topology};
+use cb_matrix::Matrix;
 use cb_model::{List, Model, NodeName};
 use cb_plain::find;
 use cb_report::burst_text;
 use cb_rules::{Directory, first_fault};
+use cb_steps::Steps;
 use cb_syntax::{parse, print};
+use cb_topo::Topology;
 use std::alloc::{AllocError, Global};
+use std::sync::ledger::Ledger;
 
 /// The model that the text declares.
 pub fn model_of(alloc: Global, text: &[u8]) -> Result<Model, Halt>
@@ -49,12 +53,10 @@ pub fn canonical_of(alloc: Global, text: &[u8]) -> Result<Vec<u8>, Halt>
 }
 
 /// The topology that the text's lines make.
-pub fn topology_of_text(alloc: Global, model: &Model, text: &[u8]) -> Result<FlatTopology, Halt>
-    requires text { HasShortText text.now }
-    requires flat { IsFlat model.now }
-    ensures topology { IfOk result (λ flat. IsTopologyText model.now text.now (topology_of model.now flat)) }
-    ensures nodes { IfOk result (HasNodes model.now) }
-    ensures halt { IfErr result (JudgesUnbuilt (IsTopologyText model.now) text.now) }
+pub fn topology_of_text(alloc: Global, model: Model, text: &[u8]) -> Result<Topology, Halt>
+    requires { HasShortText text.now }
+    ensures topology { IfOk result (λ topology. IsTopologyText model text.now (topology_of topology)) }
+    ensures halt { IfErr result (JudgesTopology model text.now) }
 {
     Ok(read_topology(alloc, model, text)?)
 }
@@ -63,24 +65,23 @@ pub fn topology_of_text(alloc: Global, model: &Model, text: &[u8]) -> Result<Fla
 pub fn raised_in(alloc: Global, text: &[u8]) -> Result<List<NodeName>, Halt>
     requires { HasShortText text.now }
     ensures raised { IfOk result (IsSymptomText text.now) }
-    ensures halt { IfErr result (JudgesUnbuilt IsSymptomText text.now) }
+    ensures halt { IfErr result (JudgesSymptoms text.now) }
 {
     Ok(read_symptoms(alloc, text)?)
 }
 
 /// The lines of what is found for the raised nodes.
-pub fn lines_of_burst(
+pub fn lines_of_burst<L: Ledger>(
     alloc: Global,
-    model: &Model,
-    topology: &FlatTopology,
+    topology: Topology,
     raised: &List<NodeName>,
+    steps: &mut Steps<L>,
 ) -> Result<Vec<u8>, AllocError>
-    requires nodes { HasNodes model.now topology.now }
-    requires raised { Rises node_cmp raised.now }
-    ensures { IfOk result (λ bytes. (finding : Finding) × IsBurst (topology_of model.now topology.now) raised.now finding × (bytes.items ≡ text_of_burst finding)) }
+    requires { Rises node_cmp raised.now }
+    ensures { IfOk result (λ bytes. (finding : Finding) × IsBurst (topology_of topology) raised.now finding × (bytes.items ≡ text_of_burst finding)) }
 {
-    let columns = topology.columns(alloc)?;
-    let problems = topology.problems(alloc, model, &columns)?;
-    let finding = find(alloc, &columns, &problems, raised)?;
+    let mut graph = Graph::new(alloc, topology)?;
+    let matrix = Matrix::of(alloc, &mut graph, steps)?;
+    let finding = find(alloc, &matrix.columns, &matrix.problems, raised)?;
     burst_text(alloc, &finding)
 }

@@ -6,6 +6,7 @@ mod command;
 mod conclude;
 mod fault;
 mod fault_line;
+mod fault_words;
 mod files;
 mod halt;
 mod judge;

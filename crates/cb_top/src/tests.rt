@@ -26,6 +26,19 @@ const PUMP_IN_A_LINE: &str =
 const LINK: &str =
     "class Link {\n  problem Cut;\n  symptom Loss;\n  relation ends to Port many inverse on;\n  rule here: Cut => Loss;\n  rule far: Cut => ends.NoSignal;\n}\nclass Port {\n  problem Fail;\n  symptom NoSignal;\n  relation on to Link one inverse ends;\n  rule down: Fail => NoSignal;\n}\n";
 
+// A link with its two ports; and the same with a comment, an empty line and a mute.
+const LINKED: &str = "create L1 Link\ncreate a Port\ncreate b Port\nlink L1 ends a\nlink b on L1\n";
+
+const LINKED_AND_MUTED: &str =
+    "# core site\r\n\r\ncreate L1 Link\r\ncreate a Port\r\ncreate b Port\r\nlink L1 ends a\r\nlink b on L1\r\nmute NoSignal@b";
+
+// What is sick makes its neighbours sick.
+const NODE: &str =
+    "class Node {\n  problem symptom Sick;\n  relation near to Node many inverse near;\n  rule spread: Sick => near.Sick;\n}\n";
+
+const CHAIN: &str =
+    "create n1 Node\ncreate n2 Node\ncreate n3 Node\nlink n1 near n2\nlink n2 near n3\n";
+
 // An instance whose name has 63 bytes, the most, and one whose name has 64.
 const CREATE_63: &str =
     "create p23456789012345678901234567890123456789012345678901234567890123 Pump\n";
@@ -280,24 +293,75 @@ fn spaces(alloc: Global, count: usize) -> Result<Vec<u8>, AllocError> {
 }
 
 #[test]
-fn a_model_of_too_many_bytes_is_refused(rt: HostRuntime) -> Result<(), Fail> {
+fn a_file_of_too_many_bytes_is_refused(rt: HostRuntime) -> Result<(), Fail> {
     let bytes = spaces(rt.alloc(), MOST_BYTES + 1)?;
     let Ok(text) = from_utf8(&bytes) else {
         return Err(Fail::new("spaces are text"));
     };
-    let case = Case {
-        words: &["model", "m"],
-        files: &[("m", text)],
-        piece: 0,
-        failing_read: 0,
-        failing_write: 0,
+    let cases: [(&[&str], &[(&str, &str)], &str); 3] = [
+        (&["model", "m"], &[("m", text)], "error 7 limit bytes m\n"),
+        (
+            &["burst", "m", "t", "s"],
+            &[("m", ""), ("t", text)],
+            "error 7 limit bytes t\n",
+        ),
+        (
+            &["burst", "m", "t", "s"],
+            &[("m", ""), ("t", ""), ("s", text)],
+            "error 7 limit bytes s\n",
+        ),
+    ];
+    for (words, files, err) in cases {
+        let case = Case {
+            words,
+            files,
+            piece: 0,
+            failing_read: 0,
+            failing_write: 0,
+        };
+        let wanted = Wanted {
+            code: 7,
+            out: "",
+            err,
+        };
+        check(&rt, rt.alloc(), &case, &wanted)?;
+    }
+    Ok(())
+}
+
+// An empty line, and one of so many spaces less one.
+fn two_lines(alloc: Global, count: usize) -> Result<Vec<u8>, AllocError> {
+    let mut bytes = spaces(alloc, count)?;
+    if let Some(first) = bytes.first_mut() {
+        *first = b'\n';
+    }
+    Ok(bytes)
+}
+
+#[test]
+fn a_line_of_too_many_bytes_is_refused(rt: HostRuntime) -> Result<(), Fail> {
+    let just_short = two_lines(rt.alloc(), 4_097)?;
+    let too_long = two_lines(rt.alloc(), 4_098)?;
+    let (Ok(short), Ok(long)) = (from_utf8(&just_short), from_utf8(&too_long)) else {
+        return Err(Fail::new("spaces are text"));
     };
-    let wanted = Wanted {
-        code: 7,
-        out: "",
-        err: "error 7 limit bytes m\n",
-    };
-    check(&rt, rt.alloc(), &case, &wanted)?;
+    // The topology, the symptoms, the status, the output and the line.
+    let cases: [(&str, &str, u8, &str, &str); 3] = [
+        (short, short, 0, QUIET, ""),
+        (long, short, 7, "", "error 7 limit line t 2\n"),
+        (short, long, 7, "", "error 7 limit line s 2\n"),
+    ];
+    for (topology, symptoms, code, out, err) in cases {
+        let case = Case {
+            words: &["burst", "m", "t", "s"],
+            files: &[("m", ""), ("t", topology), ("s", symptoms)],
+            piece: 0,
+            failing_read: 0,
+            failing_write: 0,
+        };
+        let wanted = Wanted { code, out, err };
+        check(&rt, rt.alloc(), &case, &wanted)?;
+    }
     Ok(())
 }
 
@@ -362,21 +426,128 @@ fn a_pump_is_told_by_its_symptoms(rt: HostRuntime) -> Result<(), Fail> {
 }
 
 #[test]
-fn other_files_are_not_built(rt: HostRuntime) -> Result<(), Fail> {
-    let cases: [(&str, &str, &str); 11] = [
-        (PUMP, CREATE_64, ""),
-        (PUMP, "create p1\n", ""),
-        (PUMP, "create p1 Pump now\n", ""),
-        (PUMP, "create p1 pump\n", ""),
-        (PUMP, "create p@1 Pump\n", ""),
-        (PUMP, "create p1 Pump\n", "Heat\n"),
-        (LINK, "create L1 Link\n", "Loss@L1\n"),
-        ("class A { problem symptom P; }", "", ""),
-        (PUMP, "create p1 Pump\ncreate p1 Pump\n", ""),
-        (PUMP, "create p1 Pump\nlink p1 feeds p1\n", ""),
-        (PUMP, "create p1 Pump\n", "Heat@p1 Noise@p1\n"),
+fn links_are_told_by_their_symptoms(rt: HostRuntime) -> Result<(), Fail> {
+    // The model, the topology, the symptoms, and the answer.
+    let cases: [(&str, &str, &str, &str); 4] = [
+        (
+            LINK,
+            LINKED,
+            "NoSignal@a\nNoSignal@b\n",
+            "burst raised 2 unknown 0 distance 1 radius 0 unsure groups 3\n  group Cut@L1\n  group Fail@a\n  group Fail@b\n",
+        ),
+        (
+            LINK,
+            LINKED,
+            "Loss@L1\n",
+            "burst raised 1 unknown 0 distance 1 radius 0 unsure groups 1\n  group quiet\n",
+        ),
+        (
+            NODE,
+            CHAIN,
+            "Sick@n1\nSick@n3\n",
+            "burst raised 2 unknown 0 distance 1 radius 1 sure groups 1\n  group Sick@n1 Sick@n2 Sick@n3\n",
+        ),
+        (
+            LINK,
+            LINKED_AND_MUTED,
+            "NoSignal@b\n",
+            "burst raised 1 unknown 1 distance 0 radius 0 sure groups 1\n  group quiet Fail@b\n",
+        ),
     ];
-    for (model, topology, symptoms) in cases {
+    for (model, topology, symptoms, out) in cases {
+        let case = Case {
+            words: &["burst", "m", "t", "s"],
+            files: &[("m", model), ("t", topology), ("s", symptoms)],
+            piece: 7,
+            failing_read: 0,
+            failing_write: 0,
+        };
+        let wanted = Wanted {
+            code: 0,
+            out,
+            err: "",
+        };
+        check(&rt, rt.alloc(), &case, &wanted)?;
+    }
+    Ok(())
+}
+
+#[test]
+fn a_wrong_line_is_told(rt: HostRuntime) -> Result<(), Fail> {
+    // The model, the topology, the symptoms, and the line.
+    let cases: [(&str, &str, &str, &str); 14] = [
+        (PUMP, CREATE_64, "", "error 4 topology line 1 bad-words\n"),
+        (
+            PUMP,
+            "create p1\n",
+            "",
+            "error 4 topology line 1 bad-words\n",
+        ),
+        (
+            PUMP,
+            "create p1 Pump now\n",
+            "",
+            "error 4 topology line 1 bad-words\n",
+        ),
+        (
+            PUMP,
+            "create p@1 Pump\n",
+            "",
+            "error 4 topology line 1 bad-words\n",
+        ),
+        (
+            PUMP,
+            "create p1 pump\n",
+            "",
+            "error 4 topology line 1 no-class\n",
+        ),
+        (
+            PUMP,
+            "# one\n\ncreate p1 Pump\nlink p1 feeds p1\n",
+            "",
+            "error 4 topology line 4 no-relation\n",
+        ),
+        (
+            PUMP,
+            "create p1 Pump\nmute Worn@p1\n",
+            "",
+            "error 4 topology line 2 no-symptom\n",
+        ),
+        (
+            LINK,
+            "create a Port\ncreate a Port\n",
+            "",
+            "error 4 topology line 2 exists\n",
+        ),
+        (
+            LINK,
+            "create L1 Link\ncreate a Port\nlink a on L1\nlink L1 ends a\n",
+            "",
+            "error 4 topology line 4 linked\n",
+        ),
+        (
+            LINK,
+            "create L1 Link\ncreate a Port\nlink a on L1\nunlink L1 ends a\nunlink a on L1\n",
+            "",
+            "error 4 topology line 5 not-linked\n",
+        ),
+        (PUMP, "", "x\n", "error 4 symptoms line 1 bad-name\n"),
+        (
+            PUMP,
+            "create p1 Pump\n",
+            "Heat@p1\n\nHeat\n",
+            "error 4 symptoms line 3 bad-name\n",
+        ),
+        (
+            PUMP,
+            "create p1 Pump\n",
+            "Heat@p1 Noise@p1\n",
+            "error 4 symptoms line 1 bad-name\n",
+        ),
+        // The topology is judged before the symptoms.
+        (PUMP, "x\n", "x\n", "error 4 topology line 1 bad-words\n"),
+    ];
+    for (model, topology, symptoms, err) in cases {
         let case = Case {
             words: &["burst", "m", "t", "s"],
             files: &[("m", model), ("t", topology), ("s", symptoms)],
@@ -385,9 +556,9 @@ fn other_files_are_not_built(rt: HostRuntime) -> Result<(), Fail> {
             failing_write: 0,
         };
         let wanted = Wanted {
-            code: 11,
+            code: 4,
             out: "",
-            err: "error 11 not-built\n",
+            err,
         };
         check(&rt, rt.alloc(), &case, &wanted)?;
     }

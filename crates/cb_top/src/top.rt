@@ -1,7 +1,7 @@
 //! The top call.
 ghost use Rattle.std.specs.Prelude.{◌≡◌, OnOk, IfErr, IfSome};
 ghost use Rattle.cb_top.specs.Status.{OnAnswer, OnDone, OnNoOutput, OnReadFault, OnWriteFault, OnMemory};
-ghost use Rattle.cb_top.specs.Commands.{IsInTable, IsUnbuilt};
+ghost use Rattle.cb_top.specs.Commands.{IsInTable, IsUnbuilt, AskForBurst};
 ghost use Rattle.cb_top.specs.Faults.{memory_line};
 ghost use Rattle.cb_top.specs.Halts.{IsPlaced};
 ghost use Rattle.cb_top.specs.Outcome.{texts, file_words, IsOutcome};
@@ -48,20 +48,26 @@ pub fn run<F: Files, O: Sink, E: Sink, L: Ledger>(
     ensures read_fault { OnReadFault result (BlamesFile (texts words.now) (F.tells files.old) (F.tells files.new) (E.tells err.old) (E.tells err.new)) }
     ensures write_fault { OnWriteFault result (BlamesOut (O.tells out.old) (O.tells out.new) (E.tells err.old) (E.tells err.new)) }
     ensures memory { OnMemory result (Says (E.tells err.old) (E.tells err.new) memory_line) }
-    ensures steps { steps.new ≡ steps.old }
+    ensures steps { (¬ AskForBurst (texts words.now)) → steps.new ≡ steps.old }
 {
-    let answer = answer(alloc, words, files);
+    let answer = answer(alloc, words, files, steps);
     conclude(words, answer, out, err)
 }
 
 // Reads and judges the files of a command, and gives its output.
-fn answer<F: Files>(alloc: Global, words: &[String], files: &mut F) -> Result<Vec<u8>, Halt>
+fn answer<F: Files, L: Ledger>(
+    alloc: Global,
+    words: &[String],
+    files: &mut F,
+    steps: &mut Steps<L>,
+) -> Result<Vec<u8>, Halt>
     ensures answer { IfSome (F.tells files.old).left (λ left. Shows (file_words (texts words.now)) result (IsOutcome (texts words.now) left)) }
     ensures read { OnOk result (ReadsEach (F.tells files.old) (F.tells files.new) (file_words (texts words.now))) }
     ensures stop { OnStop result (λ place. StopsAt (file_words (texts words.now)) place (F.tells files.old) (F.tells files.new)) }
     ensures placed { IfErr result (IsPlaced (file_words (texts words.now))) }
     ensures usage { (¬ IsInTable (texts words.now)) → result ≡ Err Halt.Usage }
     ensures unbuilt { IsUnbuilt (texts words.now) → result ≡ Err Halt.NotBuilt }
+    ensures steps { (¬ AskForBurst (texts words.now)) → steps.new ≡ steps.old }
 {
     match Command::of(words) {
         Some(
@@ -70,7 +76,7 @@ fn answer<F: Files>(alloc: Global, words: &[String], files: &mut F) -> Result<Ve
                 topology,
                 symptoms,
             },
-        ) => burst(alloc, files, model, topology, symptoms),
+        ) => burst(alloc, files, model, topology, symptoms, steps),
         Some(Command::Model { model: name }) => model(alloc, files, name),
         Some(Command::NotBuilt) => Err(Halt::NotBuilt),
         None => Err(Halt::Usage),

@@ -1,19 +1,17 @@
-use Rattle.std.proofs.Common.{List, ℕ, [], ◌∷◌, refl, sym, ap, subst, ◌∙◌, inl, inr, arith}
-use Rattle.std.proofs.lemmas.Bool.{false≢true}
+-- What each part of `burst` shows.
+use Rattle.std.proofs.Common.{List, ℕ, [], ◌∷◌, refl, ap, subst, inl, inr, arith}
 use Rattle.cb_model.specs.declared.tables.Tables.{Tables}
 use Rattle.cb_network.specs.Topology.{Topology}
-use Rattle.cb_flat.specs.FlatTopology.{topology_of}
-use Rattle.cb_io.proofs.Told.{NoCountFalls-trans}
+use Rattle.cb_topo.specs.Numbered.{topology_of}
+use Rattle.cb_io.proofs.Told.{NoCountFalls-trans, ReadsEach-nil, ReadsEach-next, ReadsEach-gives}
+use Rattle.cb_top.specs.declared.files.TheConstants.{MODEL, TOPOLOGY, SYMPTOMS}
 use Rattle.cb_top.specs.declared.halt.Halt.TheVariants.{Memory}
 use Rattle.cb_top.specs.Model.{IsModelText}
 use Rattle.cb_top.specs.Burst.{IsTopologyText, IsSymptomText}
-use Rattle.cb_top.specs.Halts.{JudgesModel, JudgesUnbuilt}
-use Rattle.cb_top.specs.Outcome.{BurstGives, done}
-use Rattle.cb_io.specs.Outside.{contents}
-use Rattle.cb_top.proofs.Bursts.{not_flat}
-use Rattle.cb_top.proofs.Reading.{if_some, if_some3, of_any, of_all, halt_shows, placed, stops_at, err_is}
-use Rattle.cb_io.proofs.Told.{ReadsEach-nil, ReadsEach-next, ReadsEach-gives}
-use Rattle.cb_top.proofs.Shown.{refused_for_burst, topology_unbuilt, symptoms_unbuilt}
+use Rattle.cb_top.specs.Halts.{JudgesModel, JudgesTopology, JudgesSymptoms}
+use Rattle.cb_top.specs.Outcome.{BurstAnswers, file_after, done}
+use Rattle.cb_top.proofs.Reading.{if_some, if_some2, if_some3, of_any, of_all, halt_shows, placed, stops_at, err_is}
+use Rattle.cb_top.proofs.Shown.{refused_for_burst, topology_refused_for_burst, symptoms_refused_for_burst}
 use Rattle.cb_top.proofs.burst.burst.Goals as goal
 
 pub returns-in_err-model-clause-answer : goal.returns-in_err-model-clause-answer
@@ -23,25 +21,8 @@ returns-in_err-model-clause-answer g c =
     let t = c.args.topology.now in
     let s = c.args.symptoms.now in
     rw (err_is _ _ c.from_residual.ensures.1)
-    (halt_shows (m ∷ t ∷ s ∷ []) [] m 0 JudgesModel refl old old (g.F.Files.tells c.read_model.new.files) (ReadsEach-nil old) (λ left. BurstGives m (contents left [] m) (contents left (m ∷ []) t) (contents left (m ∷ t ∷ []) s)) c.in_err-model.field-0.0
-    (of_all old.left _ (λ left halt j. refused_for_burst m (contents left [] m) (contents left (m ∷ []) t) (contents left (m ∷ t ∷ []) s) halt j)) c.in_err-model.ensures.halt)
-
-pub returns-then-not-is_flat-clause-answer : goal.returns-then-not-is_flat-clause-answer
-returns-then-not-is_flat-clause-answer g c =
-    let old = g.F.Files.tells c.args.files.now in
-    let m = c.args.model.now in
-    let t = c.args.topology.now in
-    let s = c.args.symptoms.now in
-    let one = g.F.Files.tells c.read_model.new.files in
-    let model_text = c.in_ok-model.ensures.model in
-    let model_is = ReadsEach-gives old old one [] m model_text.0 (ReadsEach-nil old) model_text.1 in
-    let first = ReadsEach-next old old one [] m model_text.0 (ReadsEach-nil old) c.in_ok-model.ensures.others model_text.1 in
-    let tables : Tables = c.in_ok-model.model in
-    if_some old.left _ _ (λ left is. inr (inr (
-      not_flat (contents left [] m) (contents left (m ∷ []) t) (contents left (m ∷ t ∷ []) s) tables (subst (λ (x : List ℕ). IsModelText x tables) is model_text.2)
-          (λ flat. false≢true (sym c.if-not-is_flat.true ∙ c.is_flat.ensures.1 flat)),
-      refl,
-    ))) model_is
+    (halt_shows (m ∷ t ∷ s ∷ []) [] m MODEL JudgesModel refl old old (g.F.Files.tells c.read_model.new.files) (ReadsEach-nil old) (λ left. BurstAnswers left m t s) c.in_err-model.field-0.0
+    (of_all old.left _ (λ left halt j. refused_for_burst (file_after left [] m) (file_after left (m ∷ []) t) (file_after left (m ∷ t ∷ []) s) halt j)) c.in_err-model.ensures.halt)
 
 pub returns-in_err-topology-clause-answer : goal.returns-in_err-topology-clause-answer
 returns-in_err-topology-clause-answer g c =
@@ -55,8 +36,8 @@ returns-in_err-topology-clause-answer g c =
     let first = ReadsEach-next old old one [] m model_text.0 (ReadsEach-nil old) c.in_ok-model.ensures.others model_text.1 in
     let tables : Tables = c.in_ok-model.model in
     rw (err_is _ _ c.from_residual-in_err-topology.ensures.1)
-    (halt_shows (m ∷ t ∷ s ∷ []) (m ∷ []) t 1 (JudgesUnbuilt (IsTopologyText c.in_ok-model.model)) refl old one (g.F.Files.tells c.read_topology_file.new.files) first (λ left. BurstGives m (contents left [] m) (contents left (m ∷ []) t) (contents left (m ∷ t ∷ []) s)) c.in_err-topology.field-0.0
-    (if_some old.left _ _ (λ left is halt j. topology_unbuilt m t (contents left [] m) (contents left (m ∷ []) t) (contents left (m ∷ t ∷ []) s) tables
+    (halt_shows (m ∷ t ∷ s ∷ []) (m ∷ []) t TOPOLOGY (JudgesTopology tables) refl old one (g.F.Files.tells c.read_topology_file.new.files) first (λ left. BurstAnswers left m t s) c.in_err-topology.field-0.0
+    (if_some old.left _ _ (λ left is halt j. topology_refused_for_burst (file_after left [] m) (file_after left (m ∷ []) t) (file_after left (m ∷ t ∷ []) s) tables
     (subst (λ (x : List ℕ). IsModelText x tables) is model_text.2) halt j) model_is) c.in_err-topology.ensures.halt)
 
 pub returns-in_err-topology-clause-stop : goal.returns-in_err-topology-clause-stop
@@ -69,8 +50,9 @@ returns-in_err-topology-clause-stop g c =
     let model_text = c.in_ok-model.ensures.model in
     let model_is = ReadsEach-gives old old one [] m model_text.0 (ReadsEach-nil old) model_text.1 in
     let first = ReadsEach-next old old one [] m model_text.0 (ReadsEach-nil old) c.in_ok-model.ensures.others model_text.1 in
+    let tables : Tables = c.in_ok-model.model in
     rw (err_is _ _ c.from_residual-in_err-topology.ensures.1)
-    (stops_at (m ∷ t ∷ s ∷ []) (m ∷ []) t 1 (JudgesUnbuilt (IsTopologyText c.in_ok-model.model)) refl old one (g.F.Files.tells c.read_topology_file.new.files) first c.in_err-topology.field-0.0 refl
+    (stops_at (m ∷ t ∷ s ∷ []) (m ∷ []) t TOPOLOGY (JudgesTopology tables) refl old one (g.F.Files.tells c.read_topology_file.new.files) first c.in_err-topology.field-0.0 refl
     c.in_ok-model.ensures.counts c.in_err-topology.ensures.others c.in_err-topology.ensures.halt)
 
 pub returns-in_err-raised-clause-answer : goal.returns-in_err-raised-clause-answer
@@ -83,14 +65,17 @@ returns-in_err-raised-clause-answer g c =
     let model_text = c.in_ok-model.ensures.model in
     let model_is = ReadsEach-gives old old one [] m model_text.0 (ReadsEach-nil old) model_text.1 in
     let first = ReadsEach-next old old one [] m model_text.0 (ReadsEach-nil old) c.in_ok-model.ensures.others model_text.1 in
+    let tables : Tables = c.in_ok-model.model in
     let two = g.F.Files.tells c.read_topology_file.new.files in
     let topology_text = c.in_ok-topology.ensures.topology in
+    let topology_is = ReadsEach-gives old one two (m ∷ []) t topology_text.0 first topology_text.1 in
     let second = ReadsEach-next old one two (m ∷ []) t topology_text.0 first c.in_ok-topology.ensures.others topology_text.1 in
-    let tables : Tables = c.in_ok-model.model in
+    let network : Topology = topology_of c.in_ok-topology.topology in
     rw (err_is _ _ c.from_residual-in_err-raised.ensures.1)
-    (halt_shows (m ∷ t ∷ s ∷ []) (m ∷ t ∷ []) s 2 (JudgesUnbuilt IsSymptomText) refl old two (g.F.Files.tells c.read_symptom_file.new.files) second (λ left. BurstGives m (contents left [] m) (contents left (m ∷ []) t) (contents left (m ∷ t ∷ []) s)) c.in_err-raised.field-0.0
-    (if_some old.left _ _ (λ left is halt j. symptoms_unbuilt m s (contents left [] m) (contents left (m ∷ []) t) (contents left (m ∷ t ∷ []) s) tables
-    (subst (λ (x : List ℕ). IsModelText x tables) is model_text.2) halt j) model_is) c.in_err-raised.ensures.halt)
+    (halt_shows (m ∷ t ∷ s ∷ []) (m ∷ t ∷ []) s SYMPTOMS JudgesSymptoms refl old two (g.F.Files.tells c.read_symptom_file.new.files) second (λ left. BurstAnswers left m t s) c.in_err-raised.field-0.0
+    (if_some2 old.left _ _ _ (λ left is_m is_t halt j. symptoms_refused_for_burst (file_after left [] m) (file_after left (m ∷ []) t) (file_after left (m ∷ t ∷ []) s) tables
+    (subst (λ (x : List ℕ). IsModelText x tables) is_m model_text.2) network (subst (λ (x : List ℕ). IsTopologyText tables x network) is_t topology_text.2) halt j)
+    model_is topology_is) c.in_err-raised.ensures.halt)
 
 pub returns-in_err-raised-clause-stop : goal.returns-in_err-raised-clause-stop
 returns-in_err-raised-clause-stop g c =
@@ -102,12 +87,15 @@ returns-in_err-raised-clause-stop g c =
     let model_text = c.in_ok-model.ensures.model in
     let model_is = ReadsEach-gives old old one [] m model_text.0 (ReadsEach-nil old) model_text.1 in
     let first = ReadsEach-next old old one [] m model_text.0 (ReadsEach-nil old) c.in_ok-model.ensures.others model_text.1 in
+    let tables : Tables = c.in_ok-model.model in
     let two = g.F.Files.tells c.read_topology_file.new.files in
     let topology_text = c.in_ok-topology.ensures.topology in
+    let topology_is = ReadsEach-gives old one two (m ∷ []) t topology_text.0 first topology_text.1 in
     let second = ReadsEach-next old one two (m ∷ []) t topology_text.0 first c.in_ok-topology.ensures.others topology_text.1 in
+    let network : Topology = topology_of c.in_ok-topology.topology in
     let counts = NoCountFalls-trans old one two c.in_ok-model.ensures.counts c.in_ok-topology.ensures.counts in
     rw (err_is _ _ c.from_residual-in_err-raised.ensures.1)
-    (stops_at (m ∷ t ∷ s ∷ []) (m ∷ t ∷ []) s 2 (JudgesUnbuilt IsSymptomText) refl old two (g.F.Files.tells c.read_symptom_file.new.files) second c.in_err-raised.field-0.0 refl
+    (stops_at (m ∷ t ∷ s ∷ []) (m ∷ t ∷ []) s SYMPTOMS JudgesSymptoms refl old two (g.F.Files.tells c.read_symptom_file.new.files) second c.in_err-raised.field-0.0 refl
     counts c.in_err-raised.ensures.others c.in_err-raised.ensures.halt)
 
 pub returns-in_err-raised-clause-placed : goal.returns-in_err-raised-clause-placed
@@ -117,7 +105,7 @@ returns-in_err-raised-clause-placed g c =
     let t = c.args.topology.now in
     let s = c.args.symptoms.now in
     rw (err_is _ _ c.from_residual-in_err-raised.ensures.1)
-    (placed (m ∷ t ∷ s ∷ []) (m ∷ t ∷ []) s 2 (JudgesUnbuilt IsSymptomText) refl (g.F.Files.tells c.read_topology_file.new.files) (g.F.Files.tells c.read_symptom_file.new.files)
+    (placed (m ∷ t ∷ s ∷ []) (m ∷ t ∷ []) s SYMPTOMS JudgesSymptoms refl (g.F.Files.tells c.read_topology_file.new.files) (g.F.Files.tells c.read_symptom_file.new.files)
     c.in_err-raised.field-0.0 (omega arith) c.in_err-raised.ensures.halt)
 
 pub returns-clause-read : goal.returns-clause-read
@@ -130,9 +118,12 @@ returns-clause-read g c =
     let model_text = c.in_ok-model.ensures.model in
     let model_is = ReadsEach-gives old old one [] m model_text.0 (ReadsEach-nil old) model_text.1 in
     let first = ReadsEach-next old old one [] m model_text.0 (ReadsEach-nil old) c.in_ok-model.ensures.others model_text.1 in
+    let tables : Tables = c.in_ok-model.model in
     let two = g.F.Files.tells c.read_topology_file.new.files in
     let topology_text = c.in_ok-topology.ensures.topology in
+    let topology_is = ReadsEach-gives old one two (m ∷ []) t topology_text.0 first topology_text.1 in
     let second = ReadsEach-next old one two (m ∷ []) t topology_text.0 first c.in_ok-topology.ensures.others topology_text.1 in
+    let network : Topology = topology_of c.in_ok-topology.topology in
     let raised_text = c.in_ok-raised.ensures.raised in
     ReadsEach-next old two (g.F.Files.tells c.read_symptom_file.new.files) (m ∷ t ∷ []) s raised_text.0 second c.in_ok-raised.ensures.others raised_text.1
 
@@ -146,32 +137,29 @@ returns-clause-answer g c =
     let model_text = c.in_ok-model.ensures.model in
     let model_is = ReadsEach-gives old old one [] m model_text.0 (ReadsEach-nil old) model_text.1 in
     let first = ReadsEach-next old old one [] m model_text.0 (ReadsEach-nil old) c.in_ok-model.ensures.others model_text.1 in
+    let tables : Tables = c.in_ok-model.model in
     let two = g.F.Files.tells c.read_topology_file.new.files in
     let topology_text = c.in_ok-topology.ensures.topology in
+    let topology_is = ReadsEach-gives old one two (m ∷ []) t topology_text.0 first topology_text.1 in
     let second = ReadsEach-next old one two (m ∷ []) t topology_text.0 first c.in_ok-topology.ensures.others topology_text.1 in
+    let network : Topology = topology_of c.in_ok-topology.topology in
     let three = g.F.Files.tells c.read_symptom_file.new.files in
     let raised_text = c.in_ok-raised.ensures.raised in
-    let topology_is = ReadsEach-gives old one two (m ∷ []) t topology_text.0 first topology_text.1 in
     let raised_are = ReadsEach-gives old two three (m ∷ t ∷ []) s raised_text.0 second raised_text.1 in
     let found = c.in_ok-lines_of_burst.ensures in
-    let tables : Tables = c.in_ok-model.model in
-    let network : Topology = topology_of tables c.in_ok-topology.topology in
-    if_some3 old.left _ _ _ _ (λ left is_m is_t is_s. inr (inl (
-      found.0,
-      record {
-        tables = tables;
-        model_is = record {
-          model = subst (λ (x : List ℕ). IsModelText x tables) is_m model_text.2;
-          flat = c.is_flat.ensures.0 c.if-not-is_flat.false;
-        };
-        network = network;
-        topology_is = subst (λ (x : List ℕ). IsTopologyText tables x network) is_t topology_text.2;
-        raised = c.in_ok-raised.raised;
-        raised_are = subst (λ (x : List ℕ). IsSymptomText x c.in_ok-raised.raised) is_s raised_text.2;
-        found = found.1;
-      },
-      ap done found.2,
-    ))) model_is topology_is raised_are
+    if_some3 old.left _ _ _ _ (λ left is_m is_t is_s. inr (
+      tables,
+      subst (λ (x : List ℕ). IsModelText x tables) is_m model_text.2,
+      inr (
+        network,
+        subst (λ (x : List ℕ). IsTopologyText tables x network) is_t topology_text.2,
+        inr (
+          c.in_ok-raised.raised,
+          subst (λ (x : List ℕ). IsSymptomText x c.in_ok-raised.raised) is_s raised_text.2,
+          (found.0, found.1, ap done found.2),
+        ),
+      ),
+    )) model_is topology_is raised_are
 
 pub returns-in_err-lines_of_burst-clause-answer : goal.returns-in_err-lines_of_burst-clause-answer
 returns-in_err-lines_of_burst-clause-answer g c =
