@@ -1,6 +1,7 @@
 //! Topology files and symptom files, line by line.
 #![tactic(auto)]
 
+mod line;
 mod symptoms;
 mod topology;
 
