@@ -2,6 +2,7 @@
 #![tactic(auto)]
 
 mod line;
+mod nodes;
 mod symptoms;
 mod topology;
 
