@@ -3,6 +3,7 @@
 
 mod line;
 mod nodes;
+mod stop;
 mod symptoms;
 mod topology;
 
