@@ -9,3 +9,6 @@ mod topology;
 
 pub use symptoms::{SymptomStop, read_symptoms};
 pub use topology::{LineFault, TopologyStop, read_topology};
+
+#[cfg(test)]
+mod tests;
