@@ -13,10 +13,51 @@ use std::alloc::{AllocError, Global};
 use std::process::Abort;
 use std::test::Fail;
 
+// A front, spaces and a back, with what is wanted of them.
+type Spaced<T> = ((&'static [u8], usize, &'static [u8]), T);
+
 // An instance's name of 63 bytes, the longest one, and one byte more.
 const LONGEST: &[u8] = b"a@x23456789012345678901234567890123456789012345678901234567890123";
 
 const TOO_LONG: &[u8] = b"a@x234567890123456789012345678901234567890123456789012345678901234";
+
+// Texts with so many spaces in the middle, whose longest line has 4,096 bytes.
+const SHORT_SYMPTOMS: [Spaced<Result<(usize, &[u8], &[u8]), SymptomStop>>; 4] = [
+    ((b"Heat@p1", 4_089, b""), Ok((1, b"Heat", b"Heat"))),
+    ((b"Heat@p1", 4_089, b"\nA@q\n"), Ok((2, b"Heat", b"A"))),
+    ((b"Heat@p1", 4_088, b"\r\n"), Ok((1, b"Heat", b"Heat"))),
+    (
+        (b"\nHeat\n", 4_096, b"\nNoise\n"),
+        Err(SymptomStop::BadName { line: 2 }),
+    ),
+];
+
+// The same, where the line of that number has 4,097 bytes.
+const LONG_SYMPTOMS: [Spaced<u64>; 5] = [
+    ((b"Heat@p1", 4_090, b""), 1),
+    ((b"Heat@p1", 4_090, b"\n"), 1),
+    ((b"Heat@p1", 4_089, b"\r\n"), 1),
+    ((b"Heat\n\n#", 4_096, b"\nNoise\n"), 3),
+    ((b"\nHeat@p1\n", 4_097, b"\nNoise"), 3),
+];
+
+const SHORT_LINES: [Spaced<Result<(usize, usize, usize), TopologyStop>>; 2] = [
+    ((b"create b Base", 4_083, b"\n"), Ok((1, 2, 0))),
+    (
+        (b"\ncreate b\n", 4_096, b"\n"),
+        Err(TopologyStop::BadLine {
+            line: 2,
+            fault: LineFault::BadWords,
+        }),
+    ),
+];
+
+const LONG_LINES: [Spaced<u64>; 4] = [
+    ((b"create b Base", 4_084, b"\n"), 1),
+    ((b"create b Base\n#", 4_096, b""), 2),
+    ((b"create b\n\n", 4_097, b"\ndelete b\n"), 3),
+    ((b"create b Base\ncreate b Base\n", 4_097, b"\n"), 3),
+];
 
 // A text with so many spaces in the middle.
 fn spaced(alloc: Global, front: &[u8], spaces: usize, back: &[u8]) -> Result<Vec<u8>, AllocError> {
@@ -95,29 +136,26 @@ fn bad_symptom_lines(rt: HostRuntime) {
     }
 }
 
+// The same of a text with spaces in the middle.
+fn check_spaced_symptoms(
+    rt: &impl Abort,
+    alloc: Global,
+    (front, spaces, back): (&[u8], usize, &[u8]),
+    wanted: Result<(usize, &[u8], &[u8]), SymptomStop>,
+) -> Result<(), AllocError> {
+    let text = spaced(alloc, front, spaces, back)?;
+    check_symptoms(rt, alloc, &text, wanted);
+    Ok(())
+}
+
 #[test]
 fn long_symptom_lines(rt: HostRuntime) -> Result<(), Fail> {
-    let long = |line| Err(SymptomStop::LongLine { line });
-    let bad = |line| Err(SymptomStop::BadName { line });
-    let table: [(
-        &[u8],
-        usize,
-        &[u8],
-        Result<(usize, &[u8], &[u8]), SymptomStop>,
-    ); 9] = [
-        (b"Heat@p1", 4_089, b"", Ok((1, b"Heat", b"Heat"))),
-        (b"Heat@p1", 4_089, b"\nA@q\n", Ok((2, b"Heat", b"A"))),
-        (b"Heat@p1", 4_088, b"\r\n", Ok((1, b"Heat", b"Heat"))),
-        (b"Heat@p1", 4_090, b"", long(1)),
-        (b"Heat@p1", 4_090, b"\n", long(1)),
-        (b"Heat@p1", 4_089, b"\r\n", long(1)),
-        (b"Heat\n\n#", 4_096, b"\nNoise\n", long(3)),
-        (b"\nHeat@p1\n", 4_097, b"\nNoise", long(3)),
-        (b"\nHeat\n", 4_096, b"\nNoise\n", bad(2)),
-    ];
-    for (front, spaces, back, wanted) in table {
-        let text = spaced(rt.alloc(), front, spaces, back)?;
-        check_symptoms(&rt, rt.alloc(), &text, wanted);
+    for (parts, wanted) in SHORT_SYMPTOMS {
+        check_spaced_symptoms(&rt, rt.alloc(), parts, wanted)?;
+    }
+    for (parts, line) in LONG_SYMPTOMS {
+        let stop = SymptomStop::LongLine { line };
+        check_spaced_symptoms(&rt, rt.alloc(), parts, Err(stop))?;
     }
     Ok(())
 }
@@ -247,27 +285,24 @@ fn ports_of_b(topology: &Topology) -> usize {
 }
 
 // How many instances and columns the text makes, and how many ports of `b`; or why it makes no topology.
+fn made(alloc: Global, text: &[u8]) -> Result<(usize, usize, usize), TopologyStop> {
+    let model = sample_model(alloc)?;
+    let topology = read_topology(alloc, model, text)?;
+    let columns = topology.columns(alloc)?.len();
+    Ok((topology.instance_count(), columns, ports_of_b(&topology)))
+}
+
 fn check_topology(
     rt: &impl Abort,
     alloc: Global,
     text: &[u8],
     wanted: Result<(usize, usize, usize), TopologyStop>,
-) -> Result<(), AllocError> {
-    let model = sample_model(alloc)?;
-    match (read_topology(alloc, model, text), wanted) {
-        (Ok(topology), Ok((instances, columns, ports))) => {
-            assert_eq!(rt; topology.instance_count(), instances, "{text:?}");
-            assert_eq!(rt; topology.columns(alloc)?.len(), columns, "{text:?}");
-            assert_eq!(rt; ports_of_b(&topology), ports, "{text:?}");
-        }
-        (Err(stop), Err(expected)) => assert_eq!(rt; stop, expected, "{text:?}"),
-        _ => assert!(rt; false, "{text:?}"),
-    }
-    Ok(())
+) {
+    assert_eq!(rt; made(alloc, text), wanted, "{text:?}");
 }
 
 #[test]
-fn topology_lines(rt: HostRuntime) -> Result<(), Fail> {
+fn topology_lines(rt: HostRuntime) {
     let table: [(&[u8], (usize, usize, usize)); 13] = [
         (b"", (0, 0, 0)),
         (b"\r\n# create b Base\n \t#\n", (0, 0, 0)),
@@ -293,13 +328,12 @@ fn topology_lines(rt: HostRuntime) -> Result<(), Fail> {
         ),
     ];
     for (text, wanted) in table {
-        check_topology(&rt, rt.alloc(), text, Ok(wanted))?;
+        check_topology(&rt, rt.alloc(), text, Ok(wanted));
     }
-    Ok(())
 }
 
 #[test]
-fn bad_words(rt: HostRuntime) -> Result<(), Fail> {
+fn bad_words(rt: HostRuntime) {
     let table: [(&[u8], u64); 9] = [
         (b"create", 1),
         (b"create b", 1),
@@ -318,13 +352,12 @@ fn bad_words(rt: HostRuntime) -> Result<(), Fail> {
             rt.alloc(),
             text,
             Err(TopologyStop::BadLine { line, fault }),
-        )?;
+        );
     }
-    Ok(())
 }
 
 #[test]
-fn refused_lines(rt: HostRuntime) -> Result<(), Fail> {
+fn refused_lines(rt: HostRuntime) {
     let table: [(&[u8], u64, EditRefusal); 14] = [
         (b"create b Foo\n", 1, EditRefusal::NoClass),
         (b"create b Base\n\ncreate b Port\n", 3, EditRefusal::Exists),
@@ -376,36 +409,30 @@ fn refused_lines(rt: HostRuntime) -> Result<(), Fail> {
             rt.alloc(),
             text,
             Err(TopologyStop::BadLine { line, fault }),
-        )?;
+        );
     }
+}
+
+// The same of a text with spaces in the middle.
+fn check_spaced_topology(
+    rt: &impl Abort,
+    alloc: Global,
+    (front, spaces, back): (&[u8], usize, &[u8]),
+    wanted: Result<(usize, usize, usize), TopologyStop>,
+) -> Result<(), AllocError> {
+    let text = spaced(alloc, front, spaces, back)?;
+    check_topology(rt, alloc, &text, wanted);
     Ok(())
 }
 
 #[test]
 fn long_lines(rt: HostRuntime) -> Result<(), Fail> {
-    let long = |line| Err(TopologyStop::LongLine { line });
-    let fault = LineFault::BadWords;
-    let table: [(
-        &[u8],
-        usize,
-        &[u8],
-        Result<(usize, usize, usize), TopologyStop>,
-    ); 6] = [
-        (b"create b Base", 4_083, b"\n", Ok((1, 2, 0))),
-        (b"create b Base", 4_084, b"\n", long(1)),
-        (b"create b Base\n#", 4_096, b"", long(2)),
-        (b"create b\n\n", 4_097, b"\ndelete b\n", long(3)),
-        (b"create b Base\ncreate b Base\n", 4_097, b"\n", long(3)),
-        (
-            b"\ncreate b\n",
-            4_096,
-            b"\n",
-            Err(TopologyStop::BadLine { line: 2, fault }),
-        ),
-    ];
-    for (front, spaces, back, wanted) in table {
-        let text = spaced(rt.alloc(), front, spaces, back)?;
-        check_topology(&rt, rt.alloc(), &text, wanted)?;
+    for (parts, wanted) in SHORT_LINES {
+        check_spaced_topology(&rt, rt.alloc(), parts, wanted)?;
+    }
+    for (parts, line) in LONG_LINES {
+        let stop = TopologyStop::LongLine { line };
+        check_spaced_topology(&rt, rt.alloc(), parts, Err(stop))?;
     }
     Ok(())
 }
