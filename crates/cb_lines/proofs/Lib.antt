@@ -1,0 +1,5 @@
+pub mod Walk
+pub mod Trees
+pub mod Listed
+pub mod Made
+pub mod Stops

@@ -1,8 +1,14 @@
 //! Topology files and symptom files, line by line.
 #![tactic(auto)]
 
+mod line;
+mod nodes;
+mod stop;
 mod symptoms;
 mod topology;
 
 pub use symptoms::{SymptomStop, read_symptoms};
 pub use topology::{LineFault, TopologyStop, read_topology};
+
+#[cfg(test)]
+mod tests;

@@ -1,12 +1,18 @@
 //! Topology files.
-ghost use Rattle.std.specs.Prelude.{IfOk, IfErr};
+ghost use Rattle.std.specs.Prelude.{◌≡◌, OnOk, IfOk, IfErr};
 ghost use Rattle.cb_topo.specs.Numbered.{topology_of};
-ghost use Rattle.cb_lines.specs.Topologies.{MakesTopology, Stops};
+ghost use Rattle.cb_lines.specs.declared.topology.TopologyStop.TheVariants.{NoMemory};
+ghost use Rattle.cb_lines.specs.Topologies.{LineMakes, MakesTopology, Stops};
+ghost use Rattle.cb_lines.specs.Steps.{StopsLine};
 
+use crate::line::{first_long, lines};
+use crate::stop::LineStop;
+use cb_edits::read_edit;
 use cb_model::Model;
 use cb_network::EditRefusal;
+use cb_text::is_passed_over;
 use cb_topo::Topology;
-use std::alloc::Global;
+use std::alloc::{AllocError, Global};
 
 /// What is wrong with a line of a topology file.
 #[derive(Clone, Copy, Debug, PartialEq, Eq)]
@@ -28,10 +34,42 @@ pub enum TopologyStop {
     NoMemory,
 }
 
+impl From<AllocError> for TopologyStop {
+    ghost from_gives = { λ _ stop. stop ≡ NoMemory };
+
+    fn from(_error: AllocError) -> TopologyStop {
+        TopologyStop::NoMemory
+    }
+}
+
 /// The topology that the lines of a text make.
 pub fn read_topology(alloc: Global, model: Model, text: &[u8]) -> Result<Topology, TopologyStop>
     ensures made { IfOk result (λ topology. MakesTopology model text.now (topology_of topology)) }
     ensures stop { IfErr result (Stops model text.now) }
 {
-    Err(TopologyStop::NoMemory)
+    if let Some(line) = first_long(text) {
+        return Err(TopologyStop::LongLine { line });
+    }
+    let mut topology = Topology::new(alloc, model)?;
+    let mut number = 0;
+    for line in lines(text) {
+        number += 1;
+        if let Err(stop) = read_line(alloc, &mut topology, line) {
+            return Err(stop.at(number));
+        }
+    }
+    Ok(topology)
+}
+
+// Makes the edit of a line, unless the line is passed over.
+fn read_line(alloc: Global, topology: &mut Topology, line: &[u8]) -> Result<(), LineStop>
+    ensures makes { OnOk result (LineMakes (topology_of topology.old) line.now (topology_of topology.new)) }
+    ensures stop { IfErr result (StopsLine (topology_of topology.old) line.now) }
+{
+    if is_passed_over(line) {
+        return Ok(());
+    }
+    let edit = read_edit(alloc, line)?;
+    topology.apply(alloc, &edit)?;
+    Ok(())
 }

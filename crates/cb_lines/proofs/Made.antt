@@ -1,0 +1,23 @@
+-- The topology that the lines of a file make, as far as it is read.
+use Rattle.std.proofs.Common.{◌≡◌, ℕ, List, [], ◌∷◌, ◌++◌, refl, sym, subst}
+use Rattle.cb_network.specs.declared.edit.Edit.{Edit}
+use Rattle.cb_network.specs.declared.edit.Edit.TheVariants.{Create, Delete, Link, Unlink, Mute, Unmute}
+use Rattle.cb_network.specs.Laws.{HasGoodName}
+use Rattle.cb_network.specs.Topology.{Topology}
+use Rattle.cb_edits.specs.Spelled.{HasNames}
+use Rattle.cb_lines.specs.Topologies.{LineMakes, LinesMake}
+
+-- a new instance of a spelled edit has a good name
+pub good_name : (edit : Edit) → HasNames edit → HasGoodName edit
+good_name (Create name class) names = names.0
+good_name (Delete name) names = tt
+good_name (Link a rel b) names = tt
+good_name (Unlink a rel b) names = tt
+good_name (Mute event name) names = tt
+good_name (Unmute event name) names = tt
+
+-- one line more
+pub made_more : (t : Topology) (before : List (List ℕ)) (line : List ℕ) (mid u : Topology) → LineMakes mid line u → LinesMake t before mid
+    → LinesMake t (before ++ line ∷ []) u
+made_more t [] line mid u makes same = (u, subst (λ x. LineMakes x line u) (sym same) makes, refl)
+made_more t (first ∷ before) line mid u makes (next, here, later) = (next, here, made_more next before line mid u makes later)
