@@ -1,0 +1,4 @@
+pub mod Gaining
+pub mod Listing
+pub mod Walking
+pub mod Bridge
