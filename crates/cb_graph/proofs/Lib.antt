@@ -2,3 +2,4 @@ pub mod Gaining
 pub mod Listing
 pub mod Walking
 pub mod Bridge
+pub mod Places
