@@ -1,6 +1,6 @@
 -- Edges between numbers are what the rules of a class bring about.
-use Rattle.std.proofs.Common.{◌≡◌, ◌↔◌, ◌⊎◌, inl, inr, ℕ, zero, suc, ◌<◌, ◌≤◌, Bool, true, List, [], ◌∷◌, length, Some, None, slice_set, refl, sym, ap, subst, ◌∙◌, arith}
-use Rattle.std.specs.List.{AllZip, Contains, slice_get}
+use Rattle.std.proofs.Common.{◌≡◌, ◌↔◌, ◌⊎◌, inl, inr, ℕ, zero, suc, ◌<◌, ◌≤◌, Bool, true, List, [], ◌∷◌, length, Some, None, slice_set, sym, ap, subst, ◌∙◌, arith}
+use Rattle.std.specs.List.{AllZip, Contains}
 use Rattle.std.proofs.lemmas.Bool.{cases_lt}
 use Rattle.std.proofs.lemmas.Option.{slice_get_within, slice_get_past, get_or_from_slice_get}
 use Rattle.cb_model.specs.declared.id.ClassId.{ClassId}
@@ -9,7 +9,6 @@ use Rattle.cb_model.specs.declared.id.RelId.{RelId}
 use Rattle.cb_model.specs.declared.node.NodeName.{NodeName}
 use Rattle.cb_model.specs.declared.rule.Rule.{Rule}
 use Rattle.cb_model.specs.declared.tables.EventRow.{EventRow}
-use Rattle.cb_model.specs.declared.tables.RuleRow.{RuleRow}
 use Rattle.cb_model.specs.declared.tables.Tables.{Tables}
 use Rattle.cb_model.specs.Classes.{ancestor, parent_in_row, HasEvent, HasRule, NamesEvent}
 use Rattle.cb_model.specs.Views.{AreRulesOf, IsRuleAt, rule_of}
@@ -29,7 +28,7 @@ use Rattle.cb_reach.specs.Rows.{Has}
 use Rattle.cb_topo.specs.Numbered.{Numbered, topology_of, IsNodeNamed, IsWhole}
 use Rattle.cb_graph.specs.Edges.{EdgeAt, number}
 use Rattle.cb_graph.specs.Instances.{Gains}
-use Rattle.cb_graph.specs.Walks.{LeadsAt, IsWhereLeads, IsEventNumber, BringsAbout, instance}
+use Rattle.cb_graph.specs.Walks.{LeadsAt, IsWhereLeads, IsEventNumber, BringsAbout}
 use Rattle.cb_graph.proofs.Listing.{set_gains}
 use Rattle.cb_graph.proofs.Walking.{one_name, leads_are_leads}
 

@@ -2,12 +2,12 @@
 use Rattle.std.proofs.Common.{◌≡◌, ◌≢◌, ◌↔◌, ◌⊎◌, inl, inr, ℕ, ◌+◌, ◌-◌, ◌<◌, ◌≤◌, Bool, true, false, cond, List, [], ◌∷◌, ◌++◌, length, get_or, drop, replicate, slice_set, refl, sym, ap, subst, ◌∙◌, arith}
 use Rattle.std.specs.List.{Contains}
 use Rattle.std.proofs.lemmas.Bool.{cases_lt, cases_eq}
-use Rattle.std.proofs.lemmas.List.{get_or_past, get_or_append_left, get_or-append_right, length-append, length-replicate, get_or-set_same, get_or-set_other, length-set, length_push, length-drop, drop_more}
+use Rattle.std.proofs.lemmas.List.{get_or_past, get_or_append_left, get_or-append_right, length-replicate, get_or-set_same, get_or-set_other, length-set, length_push, length-drop, drop_more}
 use Rattle.std.proofs.lemmas.List.Elements.{Contains-append_left, Contains-push, Contains-push_cases}
 use Rattle.std.proofs.lemmas.List.Sums.{count_by-le-length, sum_by-append}
 use Rattle.cb_model.proofs.Rising.{contains_cases, nothing_in_empty}
 use Rattle.cb_net.specs.declared.id.InstanceId.{InstanceId}
-use Rattle.cb_reach.specs.Rows.{Has, ones}
+use Rattle.cb_reach.specs.Rows.{Has}
 use Rattle.cb_reach.proofs.Marks.{ones-set, has_set, set_cases, nothing, no_ones, ones_within}
 use Rattle.cb_graph.specs.Instances.{IsListed}
 
@@ -125,3 +125,10 @@ module _ (list : List InstanceId) (i : ℕ) (old row : List Bool) (left : IsLeft
       let c = left.rest id h in
       let e = length-drop i list in
       omega (arith, c.1)
+
+-- what a row gains that had nothing is all that it has
+pub nothing_had : (n : ℕ) (old new : List Bool) (P : ℕ → Type 0) → old ≡ replicate n false → ((k : ℕ) → Has new k ↔ (Has old k ⊎ P k)) → (k : ℕ) → Has new k ↔ P k
+nothing_had n old new P wiped gained k = (
+  λ h. elim ((gained k).0 h) [ inl had ↦ absurd (nothing n k (subst (λ row. Has row k) wiped had)) | inr p ↦ p ],
+  λ p. (gained k).1 (inr p),
+)

@@ -1,7 +1,6 @@
 -- Walks by numbers, one link more at a time, and walks by names.
-use Rattle.std.proofs.Common.{◌≡◌, ◌↔◌, ◌⊎◌, inl, inr, ℕ, ◌+◌, ◌-◌, ◌<◌, ◌≤◌, Bool, false, replicate, Ok, Err, OnOk, OnErr, Result, List, [], ◌∷◌, ◌++◌, length, get_or, take, Some, refl, sym, ap, subst, ◌∙◌, arith}
+use Rattle.std.proofs.Common.{◌≡◌, ◌↔◌, ◌⊎◌, inl, inr, ℕ, Bool, List, [], ◌∷◌, ◌++◌, length, Some, refl, sym, ap, subst, ◌∙◌, arith}
 use Rattle.std.specs.List.{Contains}
-use Rattle.std.proofs.lemmas.List.{take_more}
 use Rattle.cb_model.specs.declared.id.RelId.{RelId}
 use Rattle.cb_network.specs.Topology.{HasLink}
 use Rattle.cb_network.specs.Causes.{Leads}

@@ -11,6 +11,7 @@ use crate::rules::add_edges;
 use cb_bits::Row;
 use cb_network::Edit;
 use cb_nodes::NodeId;
+use cb_reach::Edges;
 use cb_steps::Steps;
 use cb_topo::{EditFault, Topology};
 use std::alloc::{AllocError, Global};
@@ -87,6 +88,7 @@ impl Graph {
         ensures step { steps.new ≡ steps.old + 1 }
     {
         steps.tick();
+        out.wipe();
         add_edges(
             &self.topology,
             node,
@@ -94,5 +96,26 @@ impl Graph {
             &mut self.spare,
             out,
         );
+    }
+}
+
+impl Edges for Graph {
+    ghost edge = { λ g from to. EdgeAt g from to };
+
+    ghost count = { λ g. length g.nodes };
+
+    fn add_successors<L: Ledger>(&mut self, node: usize, row: &mut Row, steps: &mut Steps<L>) {
+        steps.tick();
+        self.topology.facts();
+        let node = NodeId(node as u32);
+        if self.topology.is_live(node) {
+            add_edges(
+                &self.topology,
+                node,
+                &mut self.here,
+                &mut self.spare,
+                row,
+            );
+        }
     }
 }

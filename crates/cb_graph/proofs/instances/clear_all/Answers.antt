@@ -1,6 +1,5 @@
-use Rattle.std.proofs.Common.{get_or, arith, refl}
+use Rattle.std.proofs.Common.{get_or, refl}
 use Rattle.std.proofs.lemmas.List.Elements.{Contains-get_or}
-use Rattle.cb_net.specs.declared.id.InstanceId.{InstanceId}
 use Rattle.cb_graph.proofs.Gaining.{read_at}
 use Rattle.cb_graph.proofs.Listing.{left_within, left_less, left_none}
 use Rattle.cb_graph.proofs.instances.clear_all.Goals as goal

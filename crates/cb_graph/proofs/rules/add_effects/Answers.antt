@@ -1,6 +1,6 @@
-use Rattle.std.proofs.Common.{◌≡◌, sym, subst, ◌∙◌}
+use Rattle.std.proofs.Common.{sym, ◌∙◌}
 use Rattle.cb_net.proofs.Losing.{event_of, other_event}
-use Rattle.cb_graph.specs.Walks.{BringsAbout, HasPlaces}
+use Rattle.cb_graph.specs.Walks.{BringsAbout}
 use Rattle.cb_graph.proofs.Bridge.{effects_gained}
 use Rattle.cb_graph.proofs.Gaining.{gained_next, gained_skip}
 use Rattle.cb_graph.proofs.Walking.{leads_live}

@@ -1,4 +1,4 @@
-use Rattle.std.proofs.Common.{◌++◌, [], ◌∷◌, List, Bool, ◌+◌, get_or, take, sym, subst}
+use Rattle.std.proofs.Common.{List, get_or, take, sym, subst}
 use Rattle.std.proofs.lemmas.List.{take_more}
 use Rattle.cb_model.specs.declared.id.RelId.{RelId}
 use Rattle.cb_graph.proofs.Walking.{IsWalk, still_places, walk_begun, members_live, walk_more}
