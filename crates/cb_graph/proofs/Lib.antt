@@ -1,0 +1,5 @@
+pub mod Gaining
+pub mod Listing
+pub mod Walking
+pub mod Bridge
+pub mod Places

@@ -2,5 +2,8 @@
 #![tactic(auto)]
 
 mod graph;
+mod instances;
+mod rules;
+mod walk;
 
 pub use graph::Graph;
