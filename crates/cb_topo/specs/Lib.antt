@@ -1,3 +1,4 @@
 pub mod Numbered
 pub mod Codes
 pub mod Applied
+pub mod Kept

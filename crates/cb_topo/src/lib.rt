@@ -1,7 +1,10 @@
 //! A topology whose instances and nodes have numbers that stay, changed by edits.
 #![tactic(auto)]
 
+mod edits;
 mod fault;
+mod order;
+mod readers;
 mod topology;
 
 pub use fault::EditFault;
