@@ -5,11 +5,16 @@ ghost use Rattle.cb_model.specs.declared.id.EventId.{EventId as Event};
 ghost use Rattle.cb_net.specs.Numbered.{Once};
 ghost use Rattle.cb_nodes.specs.declared.id.NodeId.{NodeId as Id};
 ghost use Rattle.cb_nodes.specs.Table.{IsNode, HasNumber, node_of, HasEvent, IsOne, Adds, Removes, count_of, room_with};
+ghost use Rattle.std.specs.Prelude.{List as Items};
+ghost use Rattle.cb_model.specs.Views.{AreEventsOf};
+ghost use Rattle.cb_model.specs.WellTyped.{IsClass};
+ghost use Rattle.cb_network.specs.Topology.{IsLive as IsLiveName};
+ghost use Rattle.cb_nodes.specs.Created.{Creates, AddsAll, IsFreed};
 
 use crate::id::NodeId;
 use crate::node::Node;
-use cb_model::EventId;
-use cb_net::InstanceId;
+use cb_model::{ClassId, EventId};
+use cb_net::{InstanceId, Net};
 use std::alloc::{AllocError, Global};
 
 #[derive(Drop)]
@@ -57,6 +62,26 @@ impl NodeTable {
         requires few { room_with self.old (length events.now) ≤ 2 ^ 32 }
         ensures ok { OnOk result (Adds self.old self.new instance events.now) }
         ensures err { OnErr result (self.new ≡ self.old) }
+    {
+        match self.never {}
+    }
+
+    /// A new instance of the net, each of whose events gets a number that was free.
+    pub fn create(
+        &mut self,
+        alloc: Global,
+        net: &mut Net,
+        name: &[u8],
+        class: ClassId,
+    ) -> Result<InstanceId, AllocError>
+        requires class { IsClass net.old.topology.model class }
+        requires absent { ¬ IsLiveName net.old.topology name.now }
+        requires freed { IsFreed net.old self.old }
+        requires few { (events : Items Event) → AreEventsOf net.old.topology.model class events → room_with self.old (length events) ≤ 2 ^ 32 }
+        ensures created { IfOk result (λ id. Creates net.old net.new id name.now class) }
+        ensures added { IfOk result (AddsAll net.old class self.old self.new) }
+        ensures net { OnErr result (net.new ≡ net.old) }
+        ensures nodes { OnErr result (self.new ≡ self.old) }
     {
         match self.never {}
     }
