@@ -3,6 +3,7 @@
 
 mod edits;
 mod fault;
+pub mod laws;
 mod order;
 mod readers;
 mod topology;
