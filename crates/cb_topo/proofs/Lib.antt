@@ -1,3 +1,4 @@
 pub mod Regular
 pub mod Named
 pub mod Counted
+pub mod Creating
