@@ -2,3 +2,5 @@ pub mod Regular
 pub mod Named
 pub mod Counted
 pub mod Creating
+pub mod Deleting
+pub mod Rewiring
