@@ -4,3 +4,5 @@ pub mod Counted
 pub mod Creating
 pub mod Deleting
 pub mod Rewiring
+pub mod Whole
+pub mod Asking

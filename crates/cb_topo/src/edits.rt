@@ -1,30 +1,22 @@
 //! The topology under edits.
-ghost use Rattle.std.specs.Prelude.{◌≡◌, ◌<◌, ◌≤◌, ◌+◌, ◌↔◌, List as Items, ℕ, [], max, length, OnOk, OnErr, IfOk, IfErr, IfSome, IfNone, IsTrue, Err};
-ghost use Rattle.std.specs.List.{Contains};
-ghost use Rattle.std.specs.FinMap as fin_map;
-ghost use Rattle.cb_model.specs.declared.node.NodeName.{NodeName as Name};
+ghost use Rattle.std.specs.Prelude.{◌≡◌, ◌≤◌, [], length, OnOk, OnErr, IfOk, IfErr, Err};
 ghost use Rattle.cb_model.specs.WellTyped.{WellTyped};
 ghost use Rattle.cb_network.specs.declared.edit.EditRefusal.{EditRefusal as Refusal};
-ghost use Rattle.cb_network.specs.Topology.{empty_topology, IsLive as IsLiveName, IsOf};
-ghost use Rattle.cb_network.specs.Nodes.{IsNodeOf, IsColumn, IsProblem, IsCount};
 ghost use Rattle.cb_network.specs.Sound.{Sound, node_limit};
-ghost use Rattle.cb_network.specs.Matrix.{AreColumns, AreProblems};
-ghost use Rattle.cb_network.specs.Edits.{Refuses, IsAfter, node_of as name_of};
+ghost use Rattle.cb_network.specs.Edits.{Refuses, IsAfter};
 ghost use Rattle.cb_network.specs.Laws.{HasGoodName};
-ghost use Rattle.cb_net.specs.declared.id.InstanceId.{InstanceId as Id};
-ghost use Rattle.cb_net.specs.Numbered.{empty_net, IsNamed, IsLive, LinkAt, Once, HasEventAt};
-ghost use Rattle.cb_nodes.specs.declared.id.NodeId.{NodeId as NodeNumber};
-ghost use Rattle.cb_nodes.specs.declared.node.Node.{Node as NodeAt};
-ghost use Rattle.cb_nodes.specs.Table.{IsNode, node_of};
-ghost use Rattle.cb_topo.specs.Numbered.{topology_of, IsNodeNamed, IsLiveNode, AreNamed, IsWhole};
+ghost use Rattle.cb_net.specs.Numbered.{empty_net};
+ghost use Rattle.cb_topo.specs.Numbered.{topology_of, IsWhole};
 ghost use Rattle.cb_topo.specs.Applied.{Applies, Prevents, IsNodeRoomAfter};
 
 use crate::fault::EditFault;
+use crate::instances::{create, delete};
+use crate::links::{link, unlink};
+use crate::mutes::{mute, unmute};
 use crate::topology::Topology;
-use cb_model::{ClassId, EventId, List, Model, RelId};
-use cb_net::{InstanceId, Net};
+use cb_accept::allows;
+use cb_model::Model;
 use cb_network::{Edit, EditRefusal};
-use cb_nodes::{NodeId, NodeTable};
 use std::alloc::{AllocError, Global};
 
 impl Topology {
@@ -43,7 +35,7 @@ impl Topology {
         ensures typed { WellTyped (topology_of self.now).model }
         ensures few { length self.now.nodes ≤ node_limit }
     {
-        match self.counts.never {}
+        let _ = &self.counts;
     }
 
     /// What `node_room` is once an accepted edit is made.
@@ -51,7 +43,14 @@ impl Topology {
         requires { (why : Refusal) → ¬ Refuses (topology_of self.now) edit.now why }
         ensures { IsNodeRoomAfter self.now edit.now result }
     {
-        match self.counts.never {}
+        match edit {
+            Edit::Create { class, .. } => {
+                let model = self.net.model();
+                let class = model.class_named(class.bytes()).unwrap();
+                self.nodes.room_with(model.events_of(class).len())
+            }
+            _ => self.nodes.room(),
+        }
     }
 
     /// Whether the edit is accepted, and else the refusal that stands first among those that hold.
@@ -59,7 +58,7 @@ impl Topology {
         ensures allowed { OnOk result ((why : Refusal) → ¬ Refuses (topology_of self.now) edit.now why) }
         ensures refused { IfErr result (λ why. IsAfter (topology_of self.now) edit.now (Err why)) }
     {
-        match self.counts.never {}
+        allows(&self.net, self.counts, edit)
     }
 
     /// Makes the edit. Where it is refused, or memory is wanting, nothing is changed.
@@ -69,6 +68,20 @@ impl Topology {
         ensures fault { IfErr result (Prevents self.old edit.now) }
         ensures kept { OnErr result (self.new ≡ self.old) }
     {
-        match self.counts.never {}
+        allows(&self.net, self.counts, edit)?;
+        let (net, nodes) = (&mut self.net, &mut self.nodes);
+        match edit {
+            Edit::Create { name, class } => {
+                self.counts = create(alloc, net, nodes, self.counts, name.bytes(), class.bytes())?;
+            }
+            Edit::Delete { name } => {
+                self.counts = delete(net, nodes, self.counts, name.bytes());
+            }
+            Edit::Link { a, rel, b } => link(alloc, net, a.bytes(), rel.bytes(), b.bytes())?,
+            Edit::Unlink { a, rel, b } => unlink(net, a.bytes(), rel.bytes(), b.bytes()),
+            Edit::Mute { event, name } => mute(net, event.bytes(), name.bytes()),
+            Edit::Unmute { event, name } => unmute(net, event.bytes(), name.bytes()),
+        }
+        Ok(())
     }
 }

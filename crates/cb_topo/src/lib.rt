@@ -3,7 +3,10 @@
 
 mod edits;
 mod fault;
+mod instances;
 pub mod laws;
+mod links;
+mod mutes;
 mod order;
 mod readers;
 mod topology;
