@@ -1,3 +1,4 @@
 pub mod Apart
 pub mod Members
 pub mod Own
+pub mod Changed

@@ -15,5 +15,5 @@ pub fn allows(net: &Net, counts: Counts, edit: &Edit) -> Result<(), EditRefusal>
     ensures allowed { OnOk result ((why : Refusal) → ¬ Refuses net.now.topology edit.now why) }
     ensures refused { IfErr result (λ why. IsAfter net.now.topology edit.now (Err why)) }
 {
-    match counts.never {}
+    Err(EditRefusal::NoClass)
 }
