@@ -1,7 +1,9 @@
 -- What is kept of a topology beside its instances: numbers of nodes, and counts.
-use Rattle.std.specs.Prelude.{◌≤◌, length}
+use Rattle.std.specs.Prelude.{◌≤◌, ℕ, List, length}
+use Rattle.cb_model.specs.declared.id.ClassId.{ClassId}
 use Rattle.cb_model.specs.declared.id.EventId.{EventId}
-use Rattle.cb_model.specs.WellTyped.{WellTyped}
+use Rattle.cb_model.specs.WellTyped.{WellTyped, IsClass}
+use Rattle.cb_network.specs.Topology.{IsOf}
 use Rattle.cb_network.specs.Nodes.{IsNodeOf, IsCount}
 use Rattle.cb_network.specs.Sound.{Sound, node_limit}
 use Rattle.cb_net.specs.declared.id.InstanceId.{InstanceId}
@@ -21,10 +23,11 @@ pub record FitsTable (net : Net) (nodes : Table) : Type 0 where
   pub count : IsCount (IsNodeOf net.topology) (count_of nodes)
   pub few : length nodes ≤ node_limit
 
--- the topology is sound, its nodes have numbers, and the counts are its own
+-- the topology is sound, its instances are of the model's classes, its nodes have numbers, and the counts are its own
 pub record IsKept (net : Net) (nodes : Table) (counts : Counts) : Type 0 where
   pub sound : Sound net.topology
   pub typed : WellTyped net.topology.model
   pub whole : IsWholeNet net
+  pub classed : (name : List ℕ) (c : ClassId) → IsOf net.topology name c → IsClass net.topology.model c
   pub table : FitsTable net nodes
   pub counted : AreCounts net.topology counts
