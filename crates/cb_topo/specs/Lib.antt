@@ -2,3 +2,4 @@ pub mod Numbered
 pub mod Codes
 pub mod Applied
 pub mod Kept
+pub mod Ordered

@@ -3,6 +3,7 @@
 
 mod edits;
 mod fault;
+mod kind;
 mod order;
 mod readers;
 mod topology;
