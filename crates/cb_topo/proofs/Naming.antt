@@ -2,7 +2,6 @@
 use Rattle.std.proofs.Common.{◌≡◌, ◌↔◌, ℕ, List, Bool, Option, Some, None, is_some, refl, sym, ap, subst, ◌∙◌}
 use Rattle.std.specs.Prelude.{slice_get, IfSome, IfNone, IsTrue}
 use Rattle.std.proofs.lemmas.Bool.{false≢true}
-use Rattle.std.specs.FinMap as map
 use Rattle.cb_model.specs.Classes.{HasEvent, NamesEvent, IsProblemOf, IsSymptomOf}
 use Rattle.cb_model.specs.declared.id.ClassId.{ClassId}
 use Rattle.cb_model.specs.declared.id.EventId.{EventId}
@@ -11,7 +10,7 @@ use Rattle.cb_model.specs.declared.tables.EventRow.{EventRow}
 use Rattle.cb_model.specs.declared.tables.Tables.{Tables}
 use Rattle.cb_network.specs.Edits.{node_of as name_of}
 use Rattle.cb_network.specs.Nodes.{IsNodeOf, IsEventAt, IsProblem, IsSymptomNode}
-use Rattle.cb_network.specs.Topology.{IsOf}
+use Rattle.cb_network.specs.Topology.{Topology, IsOf}
 use Rattle.cb_network.proofs.Counts.{Kind, IsAt, of_problems, of_symptoms, problems_are, symptoms_are}
 use Rattle.cb_network.proofs.Kept.{live_of}
 use Rattle.cb_net.specs.declared.id.InstanceId.{InstanceId}
@@ -25,20 +24,20 @@ use Rattle.cb_accept.specs.declared.counts.Counts.{Counts}
 use Rattle.cb_topo.specs.Kept.{IsKept}
 use Rattle.cb_topo.specs.Numbered.{Numbered, topology_of, IsNodeNamed, IsLiveNode, IsWhole}
 
-pub some_weaker : {A : Type 0} (r : Option A) (P Q : A → Type 0) → ((x : A) → P x → Q x) → IfSome r P → IfSome r Q
-some_weaker None P Q also is = tt
-some_weaker (Some x) P Q also is = also x is
-
+-- what follows from what a clause says of a `None`
 pub none_weaker : {A : Type 0} (r : Option A) (P Q : Type 0) → (P → Q) → IfNone r P → IfNone r Q
 none_weaker None P Q also is = also is
 none_weaker (Some x) P Q also is = tt
 
+-- a name that an instance has is that at its number
 pub name_is : (net : Net) (i : InstanceId) (name : List ℕ) → IsNamed net i name → name_at net i ≡ name
 name_is net i name is = ap name_or is
 
+-- a live instance has the name at its number
 pub is_named : (net : Net) (i : InstanceId) → IsLive net i → IsNamed net i (name_at net i)
 is_named net i (name, is) = is ∙ ap Some (sym (name_is net i name is))
 
+-- the name of an event is that in its row
 pub event_name_is : (tables : Tables) (e : EventId) (row : EventRow) → slice_get tables.events e.0 ≡ Some row → event_name tables e ≡ row.name
 event_name_is tables e row is = ap name_in_row is
 
@@ -58,6 +57,10 @@ name_of_node n id node name is named =
 -- a number has one name
 pub one_name : (n : Numbered) (id : NodeId) (a b : NodeName) → IsNodeNamed n id a → IsNodeNamed n id b → a ≡ b
 one_name n id a b named other = sym (name_of_node n id named.node a named.is named) ∙ name_of_node n id named.node b named.is other
+
+-- an event that the class of an instance does not have is no node
+pub no_node : (t : Topology) (c : ClassId) (event instance : List ℕ) → IsOf t instance c → ((e : EventId) → ¬ NamesEvent t.model c event e) → ¬ IsNodeOf t (name_of event instance)
+no_node t c event instance of_class none (e, at) = none e (subst (λ k. NamesEvent t.model k event e) (same_inside at.class c (sym at.of_class ∙ of_class)) at.named)
 
 module _ (n : Numbered) (counts : Counts) (kept : IsKept n.net n.nodes counts) where
   -- what has a number has a name
@@ -156,7 +159,3 @@ module _ (n : Numbered) (counts : Counts) (kept : IsKept n.net n.nodes counts) w
         let here : IsTrue b ↔ IsSymptomOf n.net.topology.model c named.node.event = subst (λ (k : Node). IsTrue b ↔ IsSymptomOf n.net.topology.model c k.event) own (subst (λ t. IsTrue b ↔ IsSymptomOf t c at.event) model told) in
         let symptom = symptom_is id name named c class in
         (λ yes. symptom.0 (here.0 yes), λ is. here.1 (symptom.1 is))
-
-  -- an event that the class of an instance does not have is no node
-  pub no_node : (i : InstanceId) (c : ClassId) (event instance : List ℕ) → IsOf n.net.topology instance c → ((e : EventId) → ¬ NamesEvent n.net.topology.model c event e) → ¬ IsNodeOf n.net.topology (name_of event instance)
-  no_node i c event instance of_class none (e, at) = none e (subst (λ k. NamesEvent n.net.topology.model k event e) (same_inside at.class c (sym at.of_class ∙ of_class)) at.named)

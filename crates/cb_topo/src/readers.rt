@@ -62,10 +62,10 @@ impl Topology {
         ensures found { IfSome result (λ id. IsNodeNamed self.now id (name_of event.now instance.now)) }
         ensures absent { IfNone result (¬ IsNodeOf (topology_of self.now) (name_of event.now instance.now)) }
     {
-        let instance = self.net.instance_named(instance)?;
-        let class = self.net.class_of(instance);
+        let id = self.net.instance_named(instance)?;
+        let class = self.net.class_of(id);
         let event = self.net.model().event_named(class, event)?;
-        self.nodes.node_at(instance, event)
+        self.nodes.node_at(id, event)
     }
 
     /// The names of the event and of the instance.

@@ -1,4 +1,4 @@
-use Rattle.std.proofs.Common.{◌↔◌, is_some, Bool, sym, subst}
+use Rattle.std.proofs.Common.{◌↔◌, Bool, sym, subst}
 use Rattle.std.specs.Prelude.{IsTrue}
 use Rattle.cb_topo.specs.Numbered.{Numbered, IsLiveNode}
 use Rattle.cb_topo.proofs.Naming.{told_live}
