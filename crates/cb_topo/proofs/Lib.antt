@@ -6,3 +6,5 @@ pub mod Deleting
 pub mod Rewiring
 pub mod Whole
 pub mod Asking
+pub mod Naming
+pub mod Listing

@@ -3,3 +3,4 @@ pub mod Codes
 pub mod Applied
 pub mod Kept
 pub mod Made
+pub mod Ordered

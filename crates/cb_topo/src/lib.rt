@@ -7,6 +7,7 @@ mod instances;
 pub mod laws;
 mod links;
 mod mutes;
+mod kind;
 mod order;
 mod readers;
 mod topology;

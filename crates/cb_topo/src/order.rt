@@ -1,44 +1,77 @@
 //! Columns and problems in order.
-ghost use Rattle.std.specs.Prelude.{◌≡◌, ◌<◌, ◌≤◌, ◌+◌, ◌↔◌, List as Items, ℕ, [], max, length, OnOk, OnErr, IfOk, IfErr, IfSome, IfNone, IsTrue, Err};
-ghost use Rattle.std.specs.List.{Contains};
-ghost use Rattle.std.specs.FinMap as fin_map;
-ghost use Rattle.cb_model.specs.declared.node.NodeName.{NodeName as Name};
-ghost use Rattle.cb_model.specs.WellTyped.{WellTyped};
-ghost use Rattle.cb_network.specs.declared.edit.EditRefusal.{EditRefusal as Refusal};
-ghost use Rattle.cb_network.specs.Topology.{empty_topology, IsLive as IsLiveName, IsOf};
-ghost use Rattle.cb_network.specs.Nodes.{IsNodeOf, IsColumn, IsProblem, IsCount};
-ghost use Rattle.cb_network.specs.Sound.{Sound, node_limit};
+ghost use Rattle.std.specs.Prelude.{◌↔◌, List as Items, IfOk, IsTrue};
+ghost use Rattle.cb_model.specs.declared.node.NodeName.{NodeName as Node};
 ghost use Rattle.cb_network.specs.Matrix.{AreColumns, AreProblems};
-ghost use Rattle.cb_network.specs.Edits.{Refuses, IsAfter, node_of as name_of};
-ghost use Rattle.cb_network.specs.Laws.{HasGoodName};
-ghost use Rattle.cb_net.specs.declared.id.InstanceId.{InstanceId as Id};
-ghost use Rattle.cb_net.specs.Numbered.{empty_net, IsNamed, IsLive, LinkAt, Once, HasEventAt};
-ghost use Rattle.cb_nodes.specs.declared.id.NodeId.{NodeId as NodeNumber};
-ghost use Rattle.cb_nodes.specs.declared.node.Node.{Node as NodeAt};
-ghost use Rattle.cb_nodes.specs.Table.{IsNode, node_of};
-ghost use Rattle.cb_topo.specs.Numbered.{topology_of, IsNodeNamed, IsLiveNode, AreNamed, IsWhole};
-ghost use Rattle.cb_topo.specs.Applied.{Applies, Prevents, IsNodeRoomAfter};
+ghost use Rattle.cb_topo.specs.Numbered.{topology_of, IsNodeNamed, IsLiveNode, AreNamed};
+ghost use Rattle.cb_topo.specs.Ordered.{IsOfKind, AreOfKind, LeadsToKind};
 
-use crate::fault::EditFault;
+use crate::kind::Kind;
 use crate::topology::Topology;
-use cb_model::{ClassId, EventId, List, Model, RelId};
-use cb_net::{InstanceId, Net};
-use cb_network::{Edit, EditRefusal};
-use cb_nodes::{NodeId, NodeTable};
+use cb_model::{List, Name, NodeName};
+use cb_nodes::NodeId;
 use std::alloc::{AllocError, Global};
+use std::collections::BTreeMap;
 
 impl Topology {
     /// The columns in order.
     pub fn columns(&self, alloc: Global) -> Result<List<NodeId>, AllocError>
-        ensures { IfOk result (λ ids. (names : Items Name) × AreColumns (topology_of self.now) names × AreNamed self.now ids names) }
+        ensures { IfOk result (λ ids. (names : Items Node) × AreColumns (topology_of self.now) names × AreNamed self.now ids names) }
     {
-        match self.counts.never {}
+        self.listed(alloc, Kind::Column)
     }
 
     /// The problems in order.
     pub fn problems(&self, alloc: Global) -> Result<List<NodeId>, AllocError>
-        ensures { IfOk result (λ ids. (names : Items Name) × AreProblems (topology_of self.now) names × AreNamed self.now ids names) }
+        ensures { IfOk result (λ ids. (names : Items Node) × AreProblems (topology_of self.now) names × AreNamed self.now ids names) }
     {
-        match self.counts.never {}
+        self.listed(alloc, Kind::Problem)
+    }
+
+    // The nodes of the kind, in order.
+    fn listed(&self, alloc: Global, kind: Kind) -> Result<List<NodeId>, AllocError>
+        ensures { IfOk result (λ ids. (names : Items Node) × AreOfKind kind (topology_of self.now) names × AreNamed self.now ids names) }
+    {
+        let by_name = self.by_name(alloc, kind)?;
+        let mut nodes = List::new(alloc);
+        for node in by_name.values() {
+            nodes.push(*node)?;
+        }
+        Ok(nodes)
+    }
+
+    // The nodes of the kind, by their names.
+    fn by_name(&self, alloc: Global, kind: Kind) -> Result<BTreeMap<NodeName, NodeId>, AllocError>
+        ensures { IfOk result (LeadsToKind self.now kind) }
+    {
+        let mut nodes = BTreeMap::new(alloc);
+        for place in 0..self.nodes.room() {
+            let node = NodeId(place as u32);
+            if self.is_live(node) && self.is_of(node, kind) {
+                nodes.insert(self.copy_name(alloc, node)?, node)?;
+            }
+        }
+        Ok(nodes)
+    }
+
+    fn is_of(&self, node: NodeId, kind: Kind) -> bool
+        requires { IsLiveNode self.now node }
+        ensures { (name : Node) → IsNodeNamed self.now node name → IsTrue result ↔ IsOfKind kind (topology_of self.now) name }
+    {
+        match kind {
+            Kind::Column => self.is_column(node),
+            Kind::Problem => self.is_problem(node),
+        }
+    }
+
+    // A copy of the node's name.
+    fn copy_name(&self, alloc: Global, node: NodeId) -> Result<NodeName, AllocError>
+        requires { IsLiveNode self.now node }
+        ensures { IfOk result (IsNodeNamed self.now node) }
+    {
+        let (event, instance) = self.node_name(node);
+        Ok(NodeName {
+            event: Name::of(alloc, event)?,
+            instance: Name::of(alloc, instance)?,
+        })
     }
 }

@@ -1,37 +1,29 @@
 //! What a topology has.
-ghost use Rattle.std.specs.Prelude.{◌≡◌, ◌<◌, ◌≤◌, ◌+◌, ◌↔◌, List as Items, ℕ, [], max, length, OnOk, OnErr, IfOk, IfErr, IfSome, IfNone, IsTrue, Err};
+ghost use Rattle.std.specs.Prelude.{◌≡◌, ◌<◌, ◌≤◌, ◌↔◌, List as Items, ℕ, length, IfSome, IfNone, IsTrue};
 ghost use Rattle.std.specs.List.{Contains};
 ghost use Rattle.std.specs.FinMap as fin_map;
 ghost use Rattle.cb_model.specs.declared.node.NodeName.{NodeName as Name};
-ghost use Rattle.cb_model.specs.WellTyped.{WellTyped};
-ghost use Rattle.cb_network.specs.declared.edit.EditRefusal.{EditRefusal as Refusal};
-ghost use Rattle.cb_network.specs.Topology.{empty_topology, IsLive as IsLiveName, IsOf};
-ghost use Rattle.cb_network.specs.Nodes.{IsNodeOf, IsColumn, IsProblem, IsCount};
-ghost use Rattle.cb_network.specs.Sound.{Sound, node_limit};
-ghost use Rattle.cb_network.specs.Matrix.{AreColumns, AreProblems};
-ghost use Rattle.cb_network.specs.Edits.{Refuses, IsAfter, node_of as name_of};
-ghost use Rattle.cb_network.specs.Laws.{HasGoodName};
+ghost use Rattle.cb_network.specs.Topology.{IsLive as IsLiveName, IsOf, IsMuted};
+ghost use Rattle.cb_network.specs.Nodes.{IsNodeOf, IsColumn, IsProblem, IsSymptomNode, IsCount};
+ghost use Rattle.cb_network.specs.Sound.{node_limit};
+ghost use Rattle.cb_network.specs.Edits.{node_of as name_of};
 ghost use Rattle.cb_net.specs.declared.id.InstanceId.{InstanceId as Id};
-ghost use Rattle.cb_net.specs.Numbered.{empty_net, IsNamed, IsLive, LinkAt, Once, HasEventAt};
+ghost use Rattle.cb_net.specs.Numbered.{IsNamed, IsLive, LinkAt, Once, HasEventAt};
 ghost use Rattle.cb_nodes.specs.declared.id.NodeId.{NodeId as NodeNumber};
 ghost use Rattle.cb_nodes.specs.declared.node.Node.{Node as NodeAt};
 ghost use Rattle.cb_nodes.specs.Table.{IsNode, node_of};
-ghost use Rattle.cb_topo.specs.Numbered.{topology_of, IsNodeNamed, IsLiveNode, AreNamed, IsWhole};
-ghost use Rattle.cb_topo.specs.Applied.{Applies, Prevents, IsNodeRoomAfter};
+ghost use Rattle.cb_topo.specs.Numbered.{topology_of, IsNodeNamed, IsLiveNode};
 
-use crate::fault::EditFault;
 use crate::topology::Topology;
-use cb_model::{ClassId, EventId, List, Model, RelId};
-use cb_net::{InstanceId, Net};
-use cb_network::{Edit, EditRefusal};
-use cb_nodes::{NodeId, NodeTable};
-use std::alloc::{AllocError, Global};
+use cb_model::{ClassId, EventId, Marks, Model, RelId};
+use cb_net::InstanceId;
+use cb_nodes::{Node, NodeId};
 
 impl Topology {
     pub fn model(&self) -> &Model
         ensures { result.now ≡ (topology_of self.now).model }
     {
-        match self.counts.never {}
+        self.net.model()
     }
 
     /// The number of the instance of this name.
@@ -39,21 +31,21 @@ impl Topology {
         ensures found { IfSome result (λ id. IsNamed self.now.net id name.now) }
         ensures absent { IfNone result (¬ IsLiveName (topology_of self.now) name.now) }
     {
-        match self.counts.never {}
+        self.net.instance_named(name)
     }
 
     pub fn instance_name(&self, id: InstanceId) -> &[u8]
         requires { IsLive self.now.net id }
         ensures { IsNamed self.now.net id result.now }
     {
-        match self.counts.never {}
+        self.net.name_of(id)
     }
 
     pub fn class_of(&self, id: InstanceId) -> ClassId
         requires { IsLive self.now.net id }
         ensures { (name : Items ℕ) → IsNamed self.now.net id name → IsOf (topology_of self.now) name result }
     {
-        match self.counts.never {}
+        self.net.class_of(id)
     }
 
     /// The instances that the relation leads to from this one.
@@ -62,7 +54,7 @@ impl Topology {
         ensures exactly { (to : Id) → Contains result.now to ↔ LinkAt self.now.net id rel to }
         ensures once { Once result.now }
     {
-        match self.counts.never {}
+        self.net.links(id, rel)
     }
 
     /// The number of the node of this event and instance.
@@ -70,7 +62,10 @@ impl Topology {
         ensures found { IfSome result (λ id. IsNodeNamed self.now id (name_of event.now instance.now)) }
         ensures absent { IfNone result (¬ IsNodeOf (topology_of self.now) (name_of event.now instance.now)) }
     {
-        match self.counts.never {}
+        let id = self.net.instance_named(instance)?;
+        let class = self.net.class_of(id);
+        let event = self.net.model().event_named(class, event)?;
+        self.nodes.node_at(id, event)
     }
 
     /// The names of the event and of the instance.
@@ -78,7 +73,9 @@ impl Topology {
         requires { IsLiveNode self.now node }
         ensures { IsNodeNamed self.now node (name_of result.0.now result.1.now) }
     {
-        match self.counts.never {}
+        let at = self.node_of(node);
+        let row = self.net.model().tables().events.at(at.event.0 as usize);
+        (row.name.bytes(), self.net.name_of(at.instance))
     }
 
     /// The node of the instance's event, where its class has the event.
@@ -87,28 +84,28 @@ impl Topology {
         ensures found { IfSome result (λ id. IsNode self.now.nodes id (node_of instance event)) }
         ensures absent { IfNone result (¬ HasEventAt self.now.net instance event) }
     {
-        match self.counts.never {}
+        self.nodes.node_at(instance, event)
     }
 
     pub fn instance_of(&self, node: NodeId) -> InstanceId
         requires { IsLiveNode self.now node }
         ensures { (at : NodeAt) → IsNode self.now.nodes node at → at.instance ≡ result }
     {
-        match self.counts.never {}
+        self.node_of(node).instance
     }
 
     pub fn event_of(&self, node: NodeId) -> EventId
         requires { IsLiveNode self.now node }
         ensures { (at : NodeAt) → IsNode self.now.nodes node at → at.event ≡ result }
     {
-        match self.counts.never {}
+        self.node_of(node).event
     }
 
     /// Whether a number is that of a node.
     pub fn is_live(&self, node: NodeId) -> bool
         ensures { IsTrue result ↔ IsLiveNode self.now node }
     {
-        match self.counts.never {}
+        self.nodes.node(node).is_some()
     }
 
     /// Whether the node is a symptom that is not muted.
@@ -116,26 +113,26 @@ impl Topology {
         requires { IsLiveNode self.now node }
         ensures { (name : Name) → IsNodeNamed self.now node name → IsTrue result ↔ IsColumn (topology_of self.now) name }
     {
-        match self.counts.never {}
+        self.marks_of(node).symptom && !self.is_muted(node)
     }
 
     pub fn is_problem(&self, node: NodeId) -> bool
         requires { IsLiveNode self.now node }
         ensures { (name : Name) → IsNodeNamed self.now node name → IsTrue result ↔ IsProblem (topology_of self.now) name }
     {
-        match self.counts.never {}
+        self.marks_of(node).problem
     }
 
     pub fn instance_count(&self) -> usize
         ensures { result ≡ fin_map.len (topology_of self.now).instances }
     {
-        match self.counts.never {}
+        self.net.count()
     }
 
     pub fn node_count(&self) -> usize
         ensures { IsCount (IsNodeOf (topology_of self.now)) result }
     {
-        match self.counts.never {}
+        self.nodes.count()
     }
 
     /// Above the number of each instance.
@@ -143,7 +140,7 @@ impl Topology {
         ensures value { result ≡ self.now.net.room }
         ensures above { (id : Id) → IsLive self.now.net id → id.0 < result }
     {
-        match self.counts.never {}
+        self.net.room()
     }
 
     /// Above the number of each node. It is at most 65,536.
@@ -152,6 +149,33 @@ impl Topology {
         ensures above { (id : NodeNumber) → IsLiveNode self.now id → id.0 < result }
         ensures few { result ≤ node_limit }
     {
-        match self.counts.never {}
+        self.nodes.room()
+    }
+
+    // The instance and the event of a node.
+    fn node_of(&self, node: NodeId) -> Node
+        requires { IsLiveNode self.now node }
+        ensures { IsNode self.now.nodes node result }
+    {
+        self.nodes.node(node).unwrap()
+    }
+
+    // What the node's event is for its class.
+    fn marks_of(&self, node: NodeId) -> Marks
+        requires { IsLiveNode self.now node }
+        ensures problem { (name : Name) → IsNodeNamed self.now node name → IsTrue result.problem ↔ IsProblem (topology_of self.now) name }
+        ensures symptom { (name : Name) → IsNodeNamed self.now node name → IsTrue result.symptom ↔ IsSymptomNode (topology_of self.now) name }
+    {
+        let at = self.node_of(node);
+        let class = self.net.class_of(at.instance);
+        self.net.model().marks(class, at.event)
+    }
+
+    fn is_muted(&self, node: NodeId) -> bool
+        requires { IsLiveNode self.now node }
+        ensures { (name : Name) → IsNodeNamed self.now node name → IsTrue result ↔ IsMuted (topology_of self.now) name }
+    {
+        let at = self.node_of(node);
+        self.net.is_muted(at.instance, at.event)
     }
 }
