@@ -4,7 +4,6 @@ pub mod Counted
 pub mod Creating
 pub mod Deleting
 pub mod Rewiring
-pub mod Whole
 pub mod Asking
 pub mod Naming
 pub mod Listing

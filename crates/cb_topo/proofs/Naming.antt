@@ -104,6 +104,7 @@ module _ (n : Numbered) (counts : Counts) (kept : IsKept n.net n.nodes counts) w
     live = is_node;
     named = has_number;
     node_named = λ id node is. (node_at n.net node.instance node.event, named_node id node is);
+    had = kept.table.had;
   }
 
   module _ (id : NodeId) (name : NodeName) (named : IsNodeNamed n id name) (c : ClassId) (of_class : IsOf n.net.topology name.instance c) where

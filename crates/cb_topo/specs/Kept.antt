@@ -3,11 +3,7 @@ use Rattle.std.specs.Prelude.{◌≤◌, ℕ, List, length}
 use Rattle.cb_model.specs.declared.id.ClassId.{ClassId}
 use Rattle.cb_model.specs.declared.id.EventId.{EventId}
 use Rattle.cb_model.specs.WellTyped.{WellTyped, IsClass}
-<<<<<<< HEAD
 use Rattle.cb_network.specs.Topology.{Topology, IsOf}
-=======
-use Rattle.cb_network.specs.Topology.{IsOf}
->>>>>>> hread
 use Rattle.cb_network.specs.Nodes.{IsNodeOf, IsCount}
 use Rattle.cb_network.specs.Sound.{Sound, node_limit}
 use Rattle.cb_net.specs.declared.id.InstanceId.{InstanceId}
@@ -27,22 +23,15 @@ pub record FitsTable (net : Net) (nodes : Table) : Type 0 where
   pub count : IsCount (IsNodeOf net.topology) (count_of nodes)
   pub few : length nodes ≤ node_limit
 
-<<<<<<< HEAD
 -- instances are of classes of the model
 abbrev pub AreClassed : Topology → Type 0
 AreClassed t = (name : List ℕ) (c : ClassId) → IsOf t name c → IsClass t.model c
 
-=======
->>>>>>> hread
 -- the topology is sound, its instances are of the model's classes, its nodes have numbers, and the counts are its own
 pub record IsKept (net : Net) (nodes : Table) (counts : Counts) : Type 0 where
   pub sound : Sound net.topology
   pub typed : WellTyped net.topology.model
   pub whole : IsWholeNet net
-<<<<<<< HEAD
   pub classed : AreClassed net.topology
-=======
-  pub classed : (name : List ℕ) (c : ClassId) → IsOf net.topology name c → IsClass net.topology.model c
->>>>>>> hread
   pub table : FitsTable net nodes
   pub counted : AreCounts net.topology counts
