@@ -5,14 +5,14 @@ use Rattle.std.proofs.lemmas.Bool.{cases_order}
 use Rattle.cb_model.specs.declared.id.ClassId.{ClassId}
 use Rattle.cb_model.specs.declared.id.EventId.{EventId}
 use Rattle.cb_model.specs.declared.node.NodeName.{NodeName}
-use Rattle.cb_model.specs.Classes.{HasEvent}
+use Rattle.cb_model.specs.Classes.{HasEvent, NamesClass}
 use Rattle.cb_model.specs.Views.{AreEventsOf}
 use Rattle.cb_model.specs.WellTyped.{WellTyped, IsClass}
 use Rattle.cb_model.proofs.Rising.{name_cmp_total, name_cmp_exact}
 use Rattle.cb_network.specs.Topology.{Topology, IsLive as IsLiveName, IsOf}
 use Rattle.cb_network.specs.Nodes.{IsNodeOf, IsCount, IsBeyond}
 use Rattle.cb_network.specs.Sound.{node_limit}
-use Rattle.cb_network.specs.Edits.{with_instance}
+use Rattle.cb_network.specs.Edits.{with_instance, Changes}
 use Rattle.cb_network.proofs.Kept.{live_of}
 use Rattle.cb_network.proofs.Sets.{got_insert}
 use Rattle.cb_net.specs.declared.id.InstanceId.{InstanceId}
@@ -24,7 +24,17 @@ use Rattle.cb_nodes.specs.Table.{Table, IsNode, HasEvent as HasEventIn, IsOne, A
 use Rattle.cb_accept.proofs.Own.{event_is_listed, listed_is_event}
 use Rattle.cb_topo.specs.Numbered.{Numbered, IsNodeNamed}
 use Rattle.cb_topo.specs.Applied.{KeepsInstances, KeepsNodes}
-use Rattle.cb_topo.specs.Kept.{FitsTable}
+use Rattle.cb_topo.specs.Kept.{FitsTable, IsKept}
+use Rattle.cb_topo.specs.Made.{IsAccepted, Makes}
+use Rattle.cb_topo.proofs.Regular.{typed_is_regular}
+use Rattle.cb_accept.specs.declared.counts.Counts.{Counts}
+use Rattle.cb_accept.specs.Counts.{CountWith}
+use Rattle.cb_nodes.specs.Created.{Creates, AddsAll}
+use Rattle.cb_network.specs.declared.edit.Edit.TheVariants.{Create}
+use Rattle.cb_network.specs.declared.edit.EditRefusal.TheVariants.{Exists, NodeLimit}
+use Rattle.cb_network.proofs.Accepted.{edit_keeps_sound}
+use Rattle.cb_text.specs.Names.{IsInstance}
+use Rattle.std.proofs.lemmas.Option.{slice_get_within}
 use Rattle.cb_topo.proofs.Counted.{fits_count}
 use Rattle.cb_topo.proofs.Named.{name_is, one_class_of}
 
@@ -146,3 +156,39 @@ module _ (n : Net) (name : List ℕ) (c : ClassId) (names : List (Option (List �
     instance = named_stays named.node.instance q.instance named.instance;
     event = named.event;
   }
+
+-- an accepted instance is made on the whole
+pub create_makes : (n m : Net) (ns ms : Table) (counts counts' : Counts) (name class : List ℕ) (c : ClassId) (id : InstanceId)
+    → IsKept n ns counts → IsInstance name → IsAccepted n.topology (Create name class) → NamesClass n.topology.model class c
+    → Creates n m id name c → AddsAll n c ns ms id → IsWholeNet m → IsOne ms → CountWith n.topology.model counts c counts'
+    → Makes n ns (Create name class) m ms counts'
+create_makes n m ns ms counts counts' name class c id kept good accepted named creates (events, are, adds) whole one with =
+    let v : Net = created n name c m.names m.room in
+    let made = creates.made in
+    let same : m ≡ v = λ i. record { topology = made i; names = m.names; room = m.room } in
+    let fresh = accepted Exists in
+    let changes : Changes n.topology (Create name class) v.topology = (c, named, refl) in
+    let regular = typed_is_regular n.topology.model kept.typed in
+    let new_whole = subst IsWholeNet same whole in
+    let fits = created_fits n name c m.names m.room id kept.whole fresh creates.free creates.named ns ms kept.table kept.typed new_whole one events are adds
+    (λ many. accepted NodeLimit (v.topology, changes, many)) in
+    let all : Makes n ns (Create name class) v ms counts' = record {
+      applies = record {
+        after = (accepted, changes);
+        instances = keeps_instances n name c m.names m.room id kept.whole fresh creates.free creates.named ns ms;
+        nodes = keeps_nodes n name c m.names m.room id kept.whole fresh creates.free creates.named ns ms events adds;
+        node_room = (c, events, named, are, adds.room);
+      };
+      kept = record {
+        sound = edit_keeps_sound n.topology v.topology (Create name class) regular good kept.sound (accepted, changes);
+        typed = kept.typed;
+        whole = new_whole;
+        classed = λ q d is. elim (class_before n.topology name c fresh q d is) [
+          | inl now ↦ subst (IsClass n.topology.model) now.1 (slice_get_within n.topology.model.classes c.0 named.0 named.1)
+          | inr was ↦ kept.classed q d was
+        ];
+        table = fits;
+        counted = with n.topology name refl fresh kept.counted;
+      };
+    } in
+    subst (λ k. Makes n ns (Create name class) k ms counts') (sym same) all

@@ -7,7 +7,7 @@ use Rattle.cb_model.specs.declared.id.EventId.{EventId}
 use Rattle.cb_model.specs.WellTyped.{WellTyped}
 use Rattle.cb_model.proofs.Rising.{name_cmp_total, name_cmp_exact}
 use Rattle.cb_network.specs.Topology.{Topology, IsLive as IsLiveName, IsOf}
-use Rattle.cb_network.specs.Edits.{without_instance}
+use Rattle.cb_network.specs.Edits.{without_instance, Changes}
 use Rattle.cb_network.specs.Sound.{node_limit}
 use Rattle.cb_network.proofs.Kept.{class_of}
 use Rattle.cb_network.proofs.Sets.{got_remove}
@@ -18,7 +18,13 @@ use Rattle.cb_nodes.specs.declared.node.Node.{Node}
 use Rattle.cb_nodes.specs.Table.{Table, IsNode, HasEvent as HasEventIn, IsOne, Removes}
 use Rattle.cb_topo.specs.Numbered.{Numbered, IsNodeNamed}
 use Rattle.cb_topo.specs.Applied.{KeepsInstances, KeepsNodes}
-use Rattle.cb_topo.specs.Kept.{FitsTable}
+use Rattle.cb_topo.specs.Kept.{FitsTable, IsKept}
+use Rattle.cb_topo.specs.Made.{IsAccepted, Makes}
+use Rattle.cb_topo.proofs.Regular.{typed_is_regular}
+use Rattle.cb_accept.specs.declared.counts.Counts.{Counts}
+use Rattle.cb_accept.specs.Counts.{AreCounts, CountWithout}
+use Rattle.cb_network.specs.declared.edit.Edit.TheVariants.{Delete}
+use Rattle.cb_network.proofs.Accepted.{edit_keeps_sound}
 use Rattle.cb_topo.proofs.Counted.{fits_count}
 use Rattle.cb_topo.proofs.Named.{name_is, named_at}
 use Rattle.cb_net.proofs.Placing.{same_id}
@@ -115,3 +121,32 @@ module _ (n : Net) (id : InstanceId) (here : IsLive n id) (whole : IsWholeNet n)
         instance = named_stays named.node.instance q.instance other named.instance;
         event = named.event;
       }
+
+-- an accepted delete is made on the whole
+pub delete_makes : (n m : Net) (ns ms : Table) (counts counts' : Counts) (name : List ℕ) (c : ClassId) (id : InstanceId)
+    → IsKept n ns counts → IsAccepted n.topology (Delete name) → IsNamed n id name → IsOf n.topology name c → m ≡ without n id
+    → Removes ns ms id → IsWholeNet m → IsOne ms → CountWithout n.topology.model counts c counts' → Makes n ns (Delete name) m ms counts'
+delete_makes n m ns ms counts counts' name c id kept accepted named of_class same removes whole one less =
+    let v : Net = without n id in
+    let here : IsLive n id = (name, named) in
+    let is : name_at n id ≡ name = name_is n id name named in
+    let changes : Changes n.topology (Delete name) v.topology = ap (without_instance n.topology) is in
+    let regular = typed_is_regular n.topology.model kept.typed in
+    let new_whole = subst IsWholeNet same whole in
+    let all : Makes n ns (Delete name) v ms counts' = record {
+      applies = record {
+        after = (accepted, changes);
+        instances = keeps_instances n id here kept.whole ns ms;
+        nodes = keeps_nodes n id here kept.whole ns ms removes;
+        node_room = removes.room;
+      };
+      kept = record {
+        sound = edit_keeps_sound n.topology v.topology (Delete name) regular tt kept.sound (accepted, changes);
+        typed = kept.typed;
+        whole = new_whole;
+        classed = λ q d of_d. kept.classed q d (class_was n.topology (name_at n id) q d of_d).1;
+        table = deleted_fits n id here kept.whole ns ms kept.table kept.typed new_whole one removes;
+        counted = subst (λ t. AreCounts t counts') (ap (without_instance n.topology) (sym is)) (less n.topology name refl of_class kept.counted);
+      };
+    } in
+    subst (λ k. Makes n ns (Delete name) k ms counts') (sym same) all

@@ -5,5 +5,6 @@ pub mod Creating
 pub mod Deleting
 pub mod Rewiring
 pub mod Asking
+pub mod Limits
 pub mod Naming
 pub mod Listing
