@@ -1,5 +1,5 @@
 -- The counts of a topology that gains or loses an instance.
-use Rattle.std.proofs.Common.{◌≡◌, ◌⊎◌, ◌↔◌, ℕ, ◌+◌, ◌-◌, ◌≤◌, List, refl, sym, ap, subst, ◌∙◌, inl, inr, arith, true, Some}
+use Rattle.std.proofs.Common.{◌≡◌, ◌⊎◌, ◌↔◌, ℕ, ◌+◌, ◌-◌, List, refl, sym, ap, subst, ◌∙◌, inl, inr, arith, Some}
 use Rattle.std.specs.Prelude.{is_some}
 use Rattle.std.specs.FinMap as map
 use Rattle.cb_model.specs.declared.id.ClassId.{ClassId}
@@ -12,14 +12,12 @@ use Rattle.cb_network.specs.Topology.{Topology, empty_topology, IsLive, IsOf}
 use Rattle.cb_network.specs.Nodes.{IsNodeOf, IsProblem, IsSymptomNode, IsCount}
 use Rattle.cb_network.specs.Edits.{with_instance, without_instance}
 use Rattle.cb_network.proofs.Sets.{got_insert, got_remove, decide_key}
+use Rattle.cb_network.proofs.Kept.{live_of}
 use Rattle.cb_network.proofs.Counts.{Kind, IsAt, of_nodes, of_problems, of_symptoms, nodes_are, problems_are, symptoms_are, same_count, turned, count_is_one, within_deleted}
 use Rattle.cb_accept.specs.declared.counts.Counts.{Counts}
 use Rattle.cb_accept.specs.Counts.{AreCounts, AreOwn, CountWith, CountWithout}
 use Rattle.cb_accept.proofs.Apart.{count_of_either, count_of_none}
 use Rattle.cb_accept.proofs.Own.{IsOwn}
-
-pub is_live : (t : Topology) (name : List ℕ) (c : ClassId) → IsOf t name c → IsLive t name
-is_live t name c is = ap is_some is
 
 -- an instance is of one class
 pub one_class_of : (t : Topology) (name : List ℕ) (c d : ClassId) → IsOf t name c → IsOf t name d → c ≡ d
@@ -37,13 +35,13 @@ module _ (M : Kind) (t : Topology) (name : List ℕ) (class : ClassId) where
           | inr (other, old) ↦ inl (d, old, em)
         ],
         λ h. elim h [
-          | inl (d, is, em) ↦ (d, (got d).1 (inr (λ here. fresh (is_live t name d (subst (λ q. IsOf t q d) here is)), is)), em)
+          | inl (d, is, em) ↦ (d, (got d).1 (inr (λ here. fresh (live_of t name d (subst (λ q. IsOf t q d) here is)), is)), em)
           | inr (here, em) ↦ (class, (got class).1 (inl (here, refl)), em)
         ],
       )
 
   new_apart : ¬ IsLive t name → (n : NodeName) → IsAt t M n → IsOwn M class name n → ⊥
-  new_apart fresh n (d, is, em) (here, _) = fresh (is_live t name d (subst (λ q. IsOf t q d) here is))
+  new_apart fresh n (d, is, em) (here, _) = fresh (live_of t name d (subst (λ q. IsOf t q d) here is))
 
   -- an instance that goes takes its own nodes along
   without_own : IsOf t name class → (n : NodeName) → IsAt t M n ↔ (IsAt (without_instance t name) M n ⊎ IsOwn M class name n)
@@ -160,3 +158,21 @@ counts_of_none tables none nodes problems symptoms =
   where
     nothing_at : (M : Kind) (n : NodeName) → ¬ IsAt (empty_topology tables) M n
     nothing_at M n (c, is, em) = let none = map.get-empty {X = ClassId} name_cmp n.instance in cc
+
+-- links and mutes are no nodes
+pub counts_stay : (t u : Topology) (counts : Counts) → u.model ≡ t.model → u.instances ≡ t.instances → AreCounts t counts → AreCounts u counts
+counts_stay t u counts model instances are = record {
+  nodes = same_count (IsNodeOf t) (IsNodeOf u) (same IsNodeOf of_nodes nodes_are) counts.nodes are.nodes;
+  problems = same_count (IsProblem t) (IsProblem u) (same IsProblem of_problems problems_are) counts.problems are.problems;
+  symptoms = same_count (IsSymptomNode t) (IsSymptomNode u) (same IsSymptomNode of_symptoms symptoms_are) counts.symptoms are.symptoms;
+}
+  where
+    same : (IsSuch : Topology → NodeName → Type 0) (M : Tables → Kind) → ((v : Topology) (n : NodeName) → IsSuch v n ↔ IsAt v (M v.model) n) → (n : NodeName) → IsSuch t n ↔ IsSuch u n
+    same IsSuch M is n = (
+      λ p.
+          let (c, of, em) = (is t n).0 p in
+          (is u n).1 (c, subst (λ (m : map.FinMap name_cmp ClassId). map.get m n.instance ≡ Some c) (sym instances) of, subst (λ (m : Tables). (e : EventId) × M m c e n.event) (sym model) em),
+      λ p.
+          let (c, of, em) = (is u n).0 p in
+          (is t n).1 (c, subst (λ (m : map.FinMap name_cmp ClassId). map.get m n.instance ≡ Some c) instances of, subst (λ (m : Tables). (e : EventId) × M m c e n.event) model em),
+    )

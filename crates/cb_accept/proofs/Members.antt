@@ -1,6 +1,5 @@
 -- A class has one member of a name, and a name is that of one class.
-use Rattle.std.proofs.Common.{◌≡◌, ℕ, ◌+◌, ◌-◌, ◌<◌, List, refl, sym, ap, subst, ◌∙◌, inl, inr, arith, Some}
-use Rattle.std.specs.List.{slice_get}
+use Rattle.std.proofs.Common.{◌≡◌, ℕ, ◌+◌, ◌-◌, ◌<◌, List, refl, sym, ap, ◌∙◌, inl, inr, arith}
 use Rattle.std.proofs.lemmas.Bool.{cases_order}
 use Rattle.std.proofs.lemmas.Option.{slice_get_within, get_or_from_slice_get}
 use Rattle.cb_model.specs.declared.id.ClassId.{ClassId}
@@ -10,6 +9,8 @@ use Rattle.cb_model.specs.declared.tables.Tables.{Tables}
 use Rattle.cb_model.specs.declared.tables.ClassRow.{ClassRow}
 use Rattle.cb_model.specs.Classes.{IsA, NamesClass, NamesEvent, NamesRelation}
 use Rattle.cb_model.specs.WellTyped.{WellTyped, Member, Declares}
+use Rattle.cb_net.specs.Numbered.{name_in_row}
+use Rattle.cb_net.proofs.Muting.{event_told}
 use Rattle.cb_model.proofs.Climb.{ancestor_add, class_is}
 
 module _ (t : Tables) (typed : WellTyped t) where
@@ -26,12 +27,7 @@ module _ (t : Tables) (typed : WellTyped t) where
   ]
 
   pub one_event : (c : ClassId) (name : List ℕ) (e f : EventId) → NamesEvent t c name e → NamesEvent t c name f → e ≡ f
-  one_event c name e f (a, at_a) (b, at_b) =
-      let same = number e.0 f.0 (one_member c a.row.class b.row.class (Member.event e.0) (Member.event f.0) name a.from_c b.from_c (a.row, a.is, refl, at_a) (b.row, b.is, refl, at_b)) in
-      λ i. record { 0 = same i }
-    where
-      number : (m n : ℕ) → Member.event m ≡ Member.event n → m ≡ n
-      number m n e = cc
+  one_event c name e f (a, at_a) (b, at_b) = event_told t typed c e f a b (ap name_in_row a.is ∙ (at_a ∙ (sym at_b ∙ ap name_in_row (sym b.is))))
 
   pub one_relation : (c : ClassId) (name : List ℕ) (r s : RelId) → NamesRelation t c name r → NamesRelation t c name s → r ≡ s
   one_relation c name r s (a, at_a) (b, at_b) =

@@ -1,10 +1,10 @@
 -- The nodes of one instance, event by event.
 use mir.Val.{bool_byte}
-use Rattle.std.proofs.Common.{◌≡◌, ◌⊎◌, ◌↔◌, ℕ, ◌+◌, ◌<◌, ◌≤◌, List, [], ◌∷◌, ◌++◌, length, map, take, get_or, cond, refl, sym, ap, subst, ◌∙◌, inl, inr, arith, Bool, true, false, IsTrue, Some}
-use Rattle.std.specs.List.{Contains, slice_get}
+use Rattle.std.proofs.Common.{◌≡◌, ◌↔◌, ℕ, ◌+◌, ◌<◌, ◌≤◌, List, [], ◌∷◌, ◌++◌, length, map, take, get_or, cond, refl, sym, ap, subst, ◌∙◌, inl, inr, arith, Bool, true, false, IsTrue, Some}
+use Rattle.std.specs.List.{Contains}
 use Rattle.std.proofs.lemmas.List.{take_more, length-map, get_or-map}
 use Rattle.std.proofs.lemmas.List.Elements.{Contains-append_left, Contains-push, Contains-push_cases, Contains-get_or}
-use Rattle.std.proofs.lemmas.Option.{get_or_from_slice_get, slice_get_within}
+use Rattle.std.proofs.lemmas.Option.{get_or_from_slice_get}
 use Rattle.cb_model.specs.declared.id.ClassId.{ClassId}
 use Rattle.cb_model.specs.declared.id.EventId.{EventId}
 use Rattle.cb_model.specs.declared.node.NodeName.{NodeName}
@@ -191,17 +191,17 @@ module _ (tables : Tables) (class : ClassId) where
         record {
           nodes = next_tally (of_nodes tables) (nodes_named tables) i d i true within (λ mark x is. is) (λ x is. refl) so_far.nodes;
           problems_are = subst (λ one. Tallies (of_problems tables) class (take (i + 1) events) (problems + one)) (sym (problem_bit ∙ bit_of problem))
-          (next_tally (of_problems tables) (problems_named tables) i d problems problem within
-          (λ mark x (has, at). let is = problem_is.0 mark in (is, one_name e is.has has ∙ at)) (λ x (is, at). problem_is.1 is) so_far.problems_are);
+              (next_tally (of_problems tables) (problems_named tables) i d problems problem within
+              (λ mark x (has, at). let is = problem_is.0 mark in (is, one_name e is.has has ∙ at)) (λ x (is, at). problem_is.1 is) so_far.problems_are);
           symptoms_are = subst (λ one. Tallies (of_symptoms tables) class (take (i + 1) events) (symptoms + one)) (sym (symptom_bit ∙ bit_of symptom))
-          (next_tally (of_symptoms tables) (symptoms_named tables) i d symptoms symptom within
-          (λ mark x (has, at). let is = symptom_is.0 mark in (is, one_name e is.has has ∙ at)) (λ x (is, at). symptom_is.1 is) so_far.symptoms_are);
+              (next_tally (of_symptoms tables) (symptoms_named tables) i d symptoms symptom within
+              (λ mark x (has, at). let is = symptom_is.0 mark in (is, one_name e is.has has ∙ at)) (λ x (is, at). symptom_is.1 is) so_far.symptoms_are);
           few_problems = omega arith;
           few_symptoms = omega arith;
         }
 
     pub own_nodes : (problems symptoms : ℕ) → HasTallied events (length events) problems symptoms → (name : List ℕ) → IsCount (IsOwn (of_nodes tables) class name) (length events)
-    own_nodes problems symptoms all = tally_all (of_nodes tables) class events (length events) (λ e x (has, at). event_is_listed events are e has) 
+    own_nodes problems symptoms all = tally_all (of_nodes tables) class events (length events) (λ e x (has, at). event_is_listed events are e has)
         (subst (λ (es : List EventId). Tallies (of_nodes tables) class es (length events)) (take_whole events (length events) (omega arith)) all.nodes)
 
     pub own_problems : (problems symptoms : ℕ) → HasTallied events (length events) problems symptoms → (name : List ℕ) → IsCount (IsOwn (of_problems tables) class name) problems
