@@ -7,16 +7,20 @@ ghost use Rattle.cb_network.specs.Edits.{Refuses, IsAfter};
 ghost use Rattle.cb_network.specs.Laws.{HasGoodName};
 ghost use Rattle.cb_net.specs.Numbered.{empty_net};
 ghost use Rattle.cb_topo.specs.Numbered.{topology_of, IsWhole};
-ghost use Rattle.cb_topo.specs.Applied.{Applies, Prevents, IsNodeRoomAfter};
+ghost use Rattle.cb_topo.specs.Applied.{Applies, Prevents, MayGrow, IsNodeRoomAfter};
+ghost use Rattle.cb_topo.specs.Kept.{IsKept};
+ghost use Rattle.cb_topo.specs.Made.{IsAccepted, Makes};
 
 use crate::fault::EditFault;
 use crate::instances::{create, delete};
 use crate::links::{link, unlink};
 use crate::mutes::{mute, unmute};
 use crate::topology::Topology;
-use cb_accept::allows;
+use cb_accept::{Counts, allows};
 use cb_model::Model;
+use cb_net::Net;
 use cb_network::{Edit, EditRefusal};
+use cb_nodes::NodeTable;
 use std::alloc::{AllocError, Global};
 
 impl Topology {
@@ -68,20 +72,48 @@ impl Topology {
         ensures fault { IfErr result (Prevents self.old edit.now) }
         ensures kept { OnErr result (self.new ≡ self.old) }
     {
-        allows(&self.net, self.counts, edit)?;
-        let (net, nodes) = (&mut self.net, &mut self.nodes);
-        match edit {
-            Edit::Create { name, class } => {
-                self.counts = create(alloc, net, nodes, self.counts, name.bytes(), class.bytes())?;
-            }
-            Edit::Delete { name } => {
-                self.counts = delete(net, nodes, self.counts, name.bytes());
-            }
-            Edit::Link { a, rel, b } => link(alloc, net, a.bytes(), rel.bytes(), b.bytes())?,
-            Edit::Unlink { a, rel, b } => unlink(net, a.bytes(), rel.bytes(), b.bytes()),
-            Edit::Mute { event, name } => mute(net, event.bytes(), name.bytes()),
-            Edit::Unmute { event, name } => unmute(net, event.bytes(), name.bytes()),
-        }
+        self.allows(edit)?;
+        self.counts = make(alloc, &mut self.net, &mut self.nodes, self.counts, edit)?;
         Ok(())
+    }
+}
+
+// Makes an edit that is accepted; the counts are those after it.
+fn make(
+    alloc: Global,
+    net: &mut Net,
+    nodes: &mut NodeTable,
+    counts: Counts,
+    edit: &Edit,
+) -> Result<Counts, AllocError>
+    requires kept { IsKept net.old nodes.old counts }
+    requires name { HasGoodName edit.now }
+    requires accepted { IsAccepted net.old.topology edit.now }
+    ensures ok { IfOk result (Makes net.old nodes.old edit.now net.new nodes.new) }
+    ensures grows { OnErr result (MayGrow edit.now) }
+    ensures net { OnErr result (net.new ≡ net.old) }
+    ensures nodes { OnErr result (nodes.new ≡ nodes.old) }
+{
+    match edit {
+        Edit::Create { name, class } => {
+            create(alloc, net, nodes, counts, name.bytes(), class.bytes())
+        }
+        Edit::Delete { name } => Ok(delete(net, nodes, counts, name.bytes())),
+        Edit::Link { a, rel, b } => {
+            link(alloc, net, a.bytes(), rel.bytes(), b.bytes())?;
+            Ok(counts)
+        }
+        Edit::Unlink { a, rel, b } => {
+            unlink(net, a.bytes(), rel.bytes(), b.bytes());
+            Ok(counts)
+        }
+        Edit::Mute { event, name } => {
+            mute(net, event.bytes(), name.bytes());
+            Ok(counts)
+        }
+        Edit::Unmute { event, name } => {
+            unmute(net, event.bytes(), name.bytes());
+            Ok(counts)
+        }
     }
 }
