@@ -241,15 +241,15 @@ module _ (tables : Tables) (old new : Slots) (entries entries' : Entries) (room 
         );
   }
 
-  pub deleted_net : seen tables new room ≡ without (seen tables old room) id
-  deleted_net =
+  pub deleted_net : (next : ℕ) → seen tables new room id.0 ≡ without (seen tables old room next) id
+  deleted_net next =
       let t : Topology = topology_of tables old in
-      let n : Net = seen tables old room in
+      let n : Net = seen tables old room next in
       let same : topology_of tables new ≡ without_instance t x.name = shown_once new (topology_of tables new) (without_instance t x.name) refl (shown_of tables new entries' room deleted_sound) (deleted_shows t (shown_of tables old entries room sound)) in
       let name : name_at n id ≡ x.name = ap name_or (at_seen old id x.name (x, at, refl)) in
       let topology : topology_of tables new ≡ without_instance t (name_at n id) = same ∙ ap (without_instance t) (sym name) in
       let names : map name_in new ≡ set (map name_in old) id.0 None = same_names mid new sheds.heads ∙ emptied_names old id.0 in
-      λ i. record { topology = topology i; names = names i; room = room }
+      λ i. record { topology = topology i; names = names i; room = room; next = id.0 }
 
 -- each name but one has the place that it had
 pub other_places : (entries entries' : Entries) (name : List ℕ) (eq : Vec ℕ Global → Vec ℕ Global → Bool) → KeepsOthers eq (λ k. bytes_eq name k.items) entries entries'

@@ -119,15 +119,15 @@ module _ (old new : Slots) (heads : SameHeads old new) where
   }
 
   -- where the slots show the links of a changed topology, they show it
-  pub relinked_net : (tables : Tables) (entries : Entries) (room : ℕ) (links : set.FinSet link_cmp) → IsSound tables old entries room → IsSound tables new entries room
+  pub relinked_net : (tables : Tables) (entries : Entries) (room next : ℕ) (links : set.FinSet link_cmp) → IsSound tables old entries room → IsSound tables new entries room
       → ((a : List ℕ) (r : RelId) (b : List ℕ) → HasLink (record (topology_of tables old) { links = links }) a r b ↔ HoldsLink new a r b)
-      → seen tables new room ≡ record (seen tables old room) { topology = record (topology_of tables old) { links = links } }
-  relinked_net tables entries room links before after holds =
+      → seen tables new room next ≡ record (seen tables old room next) { topology = record (topology_of tables old) { links = links } }
+  relinked_net tables entries room next links before after holds =
       let t : Topology = topology_of tables old in
       let u : Topology = record t { links = links } in
       let same : topology_of tables new ≡ u = shown_once new (topology_of tables new) u refl (shown_of tables new entries room after) (relinked_shows t links (shown_of tables old entries room before) holds) in
       let names = same_names old new heads in
-      λ i. record { topology = same i; names = names i; room = room }
+      λ i. record { topology = same i; names = names i; room = room; next = next }
 
 pub same_sound : (old new : Slots) → SameLinks old new → (tables : Tables) (entries : Entries) (room : ℕ) → IsSound tables old entries room → IsSound tables new entries room
 same_sound old new same tables entries room sound =
@@ -135,10 +135,10 @@ same_sound old new same tables entries room sound =
     (λ i r j l. let back = sound.both_ways i r j ((same.lists i r j).0 l) in (back.0, (same.lists j (inverse_of tables r) i).1 back.1))
     (same.tidy sound.tidy)
 
-pub same_net : (old new : Slots) → SameLinks old new → (tables : Tables) (entries : Entries) (room : ℕ) → IsSound tables old entries room
-    → seen tables new room ≡ seen tables old room
-same_net old new same tables entries room sound =
-    relinked_net old new same.heads tables entries room (topology_of tables old).links sound (same_sound old new same tables entries room sound) (λ a r b.
+pub same_net : (old new : Slots) → SameLinks old new → (tables : Tables) (entries : Entries) (room next : ℕ) → IsSound tables old entries room
+    → seen tables new room next ≡ seen tables old room next
+same_net old new same tables entries room next sound =
+    relinked_net old new same.heads tables entries room next (topology_of tables old).links sound (same_sound old new same tables entries room sound) (λ a r b.
     let is = (shown_of tables old entries room sound).links a r b in (
       λ h. let g = is.0 h in
           record { from = g.from; to = g.to; from_is = named_after old new same.heads g.from a g.from_is; to_is = named_after old new same.heads g.to b g.to_is; lists = (same.lists g.from r g.to).1 g.lists },
@@ -169,8 +169,8 @@ module _ (tables : Tables) (old new : Slots) (entries : Entries) (room : ℕ) (f
   back_of_tables : IsRelation tables back
   back_of_tables = subst (λ s. IsRelation tables s) (sym is) (inverse_twice tables sound.typed rel of_tables).0
 
-  name_is : (i : InstanceId) (name : List ℕ) → NamedAt old i name → name_at (seen tables old room) i ≡ name
-  name_is i name at = ap name_or (at_seen old i name at)
+  name_is : (next : ℕ) (i : InstanceId) (name : List ℕ) → NamedAt old i name → name_at (seen tables old room next) i ≡ name
+  name_is next i name at = ap name_or (at_seen old i name at)
 
   module _ (joins : Joins old new from rel to back) where
     joined_both : StandBothWays tables new
@@ -235,11 +235,11 @@ module _ (tables : Tables) (old new : Slots) (entries : Entries) (room : ℕ) (f
           ],
         )
 
-    pub joined_net : ¬ Lists old from rel to → seen tables new room ≡ linked (seen tables old room) from rel to
-    joined_net none =
-        let net = relinked_net old new joins.heads tables entries room (with_link t a rel back b).links sound (joined_sound none) joined_holds in
-        let n : Net = seen tables old room in
-        net ∙ (λ i. record n { topology = with_link t (sym (name_is from a from_is) i) rel (is i) (sym (name_is to b to_is) i) })
+    pub joined_net : (next : ℕ) → ¬ Lists old from rel to → seen tables new room next ≡ linked (seen tables old room next) from rel to
+    joined_net next none =
+        let net = relinked_net old new joins.heads tables entries room next (with_link t a rel back b).links sound (joined_sound none) joined_holds in
+        let n : Net = seen tables old room next in
+        net ∙ (λ i. record n { topology = with_link t (sym (name_is next from a from_is) i) rel (is i) (sym (name_is next to b to_is) i) })
 
   module _ (parts : Parts old new from rel to back) where
     lists : (i : InstanceId) (r : RelId) (j : InstanceId) → Lists new i r j ↔ (Lists old i r j × ¬ IsJoin from rel to back i r j)
@@ -294,8 +294,8 @@ module _ (tables : Tables) (old new : Slots) (entries : Entries) (room : ℕ) (f
               two.1 (not_q, one.1 (not_p, has)),
         )
 
-    pub parted_net : seen tables new room ≡ unlinked (seen tables old room) from rel to
-    parted_net =
-        let net = relinked_net old new parts.heads tables entries room (without_link t a rel back b).links sound parted_sound parted_holds in
-        let n : Net = seen tables old room in
-        net ∙ (λ i. record n { topology = without_link t (sym (name_is from a from_is) i) rel (is i) (sym (name_is to b to_is) i) })
+    pub parted_net : (next : ℕ) → seen tables new room next ≡ unlinked (seen tables old room next) from rel to
+    parted_net next =
+        let net = relinked_net old new parts.heads tables entries room next (without_link t a rel back b).links sound parted_sound parted_holds in
+        let n : Net = seen tables old room next in
+        net ∙ (λ i. record n { topology = without_link t (sym (name_is next from a from_is) i) rel (is i) (sym (name_is next to b to_is) i) })

@@ -189,21 +189,21 @@ module _ (tables : Tables) (old new : Slots) (entries : Entries) (room : ℕ) (i
     mutes = holds;
   }
 
-  remuted_net : (mutes : fin_set.FinSet node_cmp) → FitsMutes tables (head_of y)
+  remuted_net : (next : ℕ) (mutes : fin_set.FinSet node_cmp) → FitsMutes tables (head_of y)
       → ((n : NodeName) → IsMuted (record (topology_of tables old) { mutes = mutes }) n ↔ HoldsMute tables new n)
-      → seen tables new room ≡ record (seen tables old room) { topology = record (topology_of tables old) { mutes = mutes } }
-  remuted_net mutes fits holds =
+      → seen tables new room next ≡ record (seen tables old room next) { topology = record (topology_of tables old) { mutes = mutes } }
+  remuted_net next mutes fits holds =
       let t : Topology = topology_of tables old in
       let u : Topology = record t { mutes = mutes } in
       let same : topology_of tables new ≡ u = shown_once new (topology_of tables new) u refl (shown_of tables new entries room (remuted_sound fits)) (remuted_shows t mutes (shown_of tables old entries room sound) holds) in
-      λ i. record { topology = same i; names = w.names i; room = room }
+      λ i. record { topology = same i; names = w.names i; room = room; next = next }
 
   -- the node of an event at the instance
   abbrev node : EventId → NodeName
   node e = node_of (event_name tables e) x.name
 
-  node_is : (e : EventId) → node_at (seen tables old room) id e ≡ node e
-  node_is e = ap (node_of (event_name tables e)) (ap name_or (at_seen old id x.name (x, at, refl)))
+  node_is : (next : ℕ) (e : EventId) → node_at (seen tables old room next) id e ≡ node e
+  node_is next e = ap (node_of (event_name tables e)) (ap name_or (at_seen old id x.name (x, at, refl)))
 
   -- a mute is at this instance, or where nothing changed
   mute_now : (n : NodeName) → HoldsMute tables new n → ((e : EventId) × Contains m.items e × (node e ≡ n)) ⊎ ((h : HoldsMute tables old n) × (h.at ≢ id))
@@ -300,12 +300,12 @@ module _ (tables : Tables) (old new : Slots) (entries : Entries) (room : ℕ) (i
   pub gained_sound : ¬ Contains x.muted.items e → IsSound tables new entries room
   gained_sound none = remuted_sound tables old new entries room id x at (GainsEvent e) w sound (gain_fits none)
 
-  pub gained_net : ¬ Contains x.muted.items e → seen tables new room ≡ muted (seen tables old room) id e
-  gained_net none =
-      let n : Net = seen tables old room in
+  pub gained_net : (next : ℕ) → ¬ Contains x.muted.items e → seen tables new room next ≡ muted (seen tables old room next) id e
+  gained_net next none =
+      let n : Net = seen tables old room next in
       let t = topology_of tables old in
-      remuted_net tables old new entries room id x at (GainsEvent e) w sound (with_mute t (node_of (event_name tables e) x.name)).mutes (gain_fits none) gain_holds
-      ∙ ap (λ k. record n { topology = with_mute t k }) (sym (node_is tables old new entries room id x at (GainsEvent e) w sound e))
+      remuted_net tables old new entries room id x at (GainsEvent e) w sound next (with_mute t (node_of (event_name tables e) x.name)).mutes (gain_fits none) gain_holds
+      ∙ ap (λ k. record n { topology = with_mute t k }) (sym (node_is tables old new entries room id x at (GainsEvent e) w sound next e))
 
 -- one event less
 module _ (tables : Tables) (old new : Slots) (entries : Entries) (room : ℕ) (id : InstanceId) (x : Instance) (at : At old id x) (e : EventId)
@@ -351,25 +351,25 @@ module _ (tables : Tables) (old new : Slots) (entries : Entries) (room : ℕ) (i
   pub lost_sound : IsSound tables new entries room
   lost_sound = remuted_sound tables old new entries room id x at (Loses e) w sound loss_fits
 
-  pub lost_net : seen tables new room ≡ unmuted (seen tables old room) id e
-  lost_net =
-      let n : Net = seen tables old room in
+  pub lost_net : (next : ℕ) → seen tables new room next ≡ unmuted (seen tables old room next) id e
+  lost_net next =
+      let n : Net = seen tables old room next in
       let t = topology_of tables old in
-      remuted_net tables old new entries room id x at (Loses e) w sound (without_mute t (node_of (event_name tables e) x.name)).mutes loss_fits loss_holds
-      ∙ ap (λ k. record n { topology = without_mute t k }) (sym (node_is tables old new entries room id x at (Loses e) w sound e))
+      remuted_net tables old new entries room id x at (Loses e) w sound next (without_mute t (node_of (event_name tables e) x.name)).mutes loss_fits loss_holds
+      ∙ ap (λ k. record n { topology = without_mute t k }) (sym (node_is tables old new entries room id x at (Loses e) w sound next e))
 
 -- nothing is muted anew
 pub same_mutes : (slots : Slots) (id : InstanceId) → Remutes slots slots id (λ a b. b ≡ a)
 same_mutes slots id = record { names = refl; others = λ i ne. refl; this = λ x is. (x.muted, is, refl, refl) }
 
-module _ (tables : Tables) (slots : Slots) (entries : Entries) (room : ℕ) (n : Net) (is : seen tables slots room ≡ n) (id : InstanceId) (x : Instance) (at : At slots id x) (e : EventId)
+module _ (tables : Tables) (slots : Slots) (entries : Entries) (room next : ℕ) (n : Net) (is : seen tables slots room next ≡ n) (id : InstanceId) (x : Instance) (at : At slots id x) (e : EventId)
     (sound : IsSound tables slots entries room) where
   -- the class of the instance has the event
   pub class_has : HasEventAt n id e → HasEvent tables x.class e
   class_has has =
-      let h : HasEventAt (seen tables slots room) id e = subst (λ (k : Net). HasEventAt k id e) (sym is) has in
-      let name : name_at (seen tables slots room) id ≡ x.name = ap name_or (at_seen slots id x.name (x, at, refl)) in
-      let held = ((shown_of tables slots entries room sound).instances (name_at (seen tables slots room) id) h.0).0 h.1 in
+      let h : HasEventAt (seen tables slots room next) id e = subst (λ (k : Net). HasEventAt k id e) (sym is) has in
+      let name : name_at (seen tables slots room next) id ≡ x.name = ap name_or (at_seen slots id x.name (x, at, refl)) in
+      let held = ((shown_of tables slots entries room sound).instances (name_at (seen tables slots room next) id) h.0).0 h.1 in
       let i = told slots entries sound.indexed held.at id x.name (held.instance, held.is, held.named ∙ name) (x, at, refl) in
       let same = one_at slots id held.instance x (subst (λ k. At slots k held.instance) i held.is) at in
       subst (λ c. HasEvent tables c e) (sym held.of_class ∙ ap (λ (z : Instance). z.class) same) h.2
@@ -377,5 +377,5 @@ module _ (tables : Tables) (slots : Slots) (entries : Entries) (room : ℕ) (n :
   pub muted_at : HasEvent tables x.class e → Contains x.muted.items e ↔ IsMutedAt n id e
   muted_at has =
       let here = muted_here tables slots slots entries room id x at (λ a b. b ≡ a) (same_mutes slots id) sound e has in
-      let node = node_is tables slots slots entries room id x at (λ a b. b ≡ a) (same_mutes slots id) sound e in
+      let node = node_is tables slots slots entries room id x at (λ a b. b ≡ a) (same_mutes slots id) sound next e in
       subst (λ (k : Net). Contains x.muted.items e ↔ IsMutedAt k id e) is (subst (λ k. Contains x.muted.items e ↔ IsMuted (topology_of tables slots) k) (sym node) here)

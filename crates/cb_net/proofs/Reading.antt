@@ -23,8 +23,8 @@ pub occupied : (slots : Slots) (i : InstanceId) (name : List ℕ) → NamedAt sl
 occupied slots i name (x, at, is) = subst IsSome (sym at) refl
 
 -- a live number is that of an instance of some name
-pub live_at : (tables : Tables) (slots : Slots) (room : ℕ) (n : Net) → seen tables slots room ≡ n → (i : InstanceId) → IsLive n i → (name : List ℕ) × NamedAt slots i name
-live_at tables slots room n is i live = (live.0, seen_at slots i live.0 (subst (λ (m : Net). slot m.names i.0 ≡ Some live.0) (sym is) live.1))
+pub live_at : (tables : Tables) (slots : Slots) (room next : ℕ) (n : Net) → seen tables slots room next ≡ n → (i : InstanceId) → IsLive n i → (name : List ℕ) × NamedAt slots i name
+live_at tables slots room next n is i live = (live.0, seen_at slots i live.0 (subst (λ (m : Net). slot m.names i.0 ≡ Some live.0) (sym is) live.1))
 
 module _ (tables : Tables) (slots : Slots) (entries : Entries) (room : ℕ) (sound : IsSound tables slots entries room) where
   shown : Shows slots (topology_of tables slots)
@@ -58,10 +58,10 @@ module _ (tables : Tables) (slots : Slots) (entries : Entries) (room : ℕ) (sou
       subst (λ n. IsOf (topology_of tables slots) n x.class) (ap (λ (z : Instance). z.name) same ∙ is) (class_at i x at)
 
   -- the numbers in a list are those of the links
-  pub row_is : (i : InstanceId) (r : RelId) (x : Instance) → At slots i x → (j : InstanceId) → Contains (row_of x.links.rows.items r) j ↔ LinkAt (seen tables slots room) i r j
-  row_is i r x at j = (to, back)
+  pub row_is : (next : ℕ) (i : InstanceId) (r : RelId) (x : Instance) → At slots i x → (j : InstanceId) → Contains (row_of x.links.rows.items r) j ↔ LinkAt (seen tables slots room next) i r j
+  row_is next i r x at j = (to, back)
     where
-      to : Contains (row_of x.links.rows.items r) j → LinkAt (seen tables slots room) i r j
+      to : Contains (row_of x.links.rows.items r) j → LinkAt (seen tables slots room next) i r j
       to has =
           let l : Lists slots i r j = record { lister = x; is = at; listed = has } in
           let y = listed_live tables slots sound.both_ways i r j l in
@@ -73,7 +73,7 @@ module _ (tables : Tables) (slots : Slots) (entries : Entries) (room : ℕ) (sou
             linked = (shown.links x.name r y.0.name).1 (record { from = i; to = j; from_is = (x, at, refl); to_is = (y.0, y.1, refl); lists = l });
           }
 
-      back : LinkAt (seen tables slots room) i r j → Contains (row_of x.links.rows.items r) j
+      back : LinkAt (seen tables slots room next) i r j → Contains (row_of x.links.rows.items r) j
       back l =
           let h = (shown.links l.from r l.to).0 l.linked in
           let from : h.from ≡ i = told slots entries sound.indexed h.from i l.from h.from_is (seen_at slots i l.from l.from_is) in
@@ -82,11 +82,11 @@ module _ (tables : Tables) (slots : Slots) (entries : Entries) (room : ℕ) (sou
           subst (λ k. Contains (row_of x.links.rows.items r) k) to (subst (λ (z : Instance). Contains (row_of z.links.rows.items r) h.to) same h.lists.listed)
 
   -- where no link leads, nothing is listed
-  pub not_listed : (n : Net) → seen tables slots room ≡ n → (i : InstanceId) (r : RelId) (j : InstanceId) → ¬ LinkAt n i r j → ¬ Lists slots i r j
-  not_listed n is i r j none l = none (subst (λ m. LinkAt m i r j) is ((row_is i r l.lister l.is j).0 l.listed))
+  pub not_listed : (next : ℕ) (n : Net) → seen tables slots room next ≡ n → (i : InstanceId) (r : RelId) (j : InstanceId) → ¬ LinkAt n i r j → ¬ Lists slots i r j
+  not_listed next n is i r j none l = none (subst (λ m. LinkAt m i r j) is ((row_is next i r l.lister l.is j).0 l.listed))
 
-  pub whole : IsWhole (seen tables slots room)
-  whole = record {
+  pub whole : (next : ℕ) → IsWhole (seen tables slots room next)
+  whole next = record {
     one = λ i j name a b. told slots entries sound.indexed i j name (seen_at slots i name a) (seen_at slots j name b);
     named = λ name live. let at = live_name name live in (at.0, at_seen slots at.0 name at.1);
     live = λ i name is.
@@ -98,14 +98,14 @@ module _ (tables : Tables) (slots : Slots) (entries : Entries) (room : ℕ) (sou
   }
 
   -- a link that is listed at its end stands
-  pub listed_back : (i : InstanceId) (r s : RelId) (j : InstanceId) → IsRelation tables r → s ≡ inverse_of tables r → LinkAt (seen tables slots room) j s i ↔ LinkAt (seen tables slots room) i r j
-  listed_back i r s j of_tables is = (
-    λ l. subst (λ q. LinkAt (seen tables slots room) i q j) (ap (inverse_of tables) is ∙ (inverse_twice tables sound.typed r of_tables).1) (turn j s i l),
-    λ l. subst (λ q. LinkAt (seen tables slots room) j q i) (sym is) (turn i r j l),
+  pub listed_back : (next : ℕ) (i : InstanceId) (r s : RelId) (j : InstanceId) → IsRelation tables r → s ≡ inverse_of tables r → LinkAt (seen tables slots room next) j s i ↔ LinkAt (seen tables slots room next) i r j
+  listed_back next i r s j of_tables is = (
+    λ l. subst (λ q. LinkAt (seen tables slots room next) i q j) (ap (inverse_of tables) is ∙ (inverse_twice tables sound.typed r of_tables).1) (turn j s i l),
+    λ l. subst (λ q. LinkAt (seen tables slots room next) j q i) (sym is) (turn i r j l),
   )
     where
-      turn : (i : InstanceId) (r : RelId) (j : InstanceId) → LinkAt (seen tables slots room) i r j → LinkAt (seen tables slots room) j (inverse_of tables r) i
+      turn : (i : InstanceId) (r : RelId) (j : InstanceId) → LinkAt (seen tables slots room next) i r j → LinkAt (seen tables slots room next) j (inverse_of tables r) i
       turn i r j l =
           let x = seen_at slots i l.from l.from_is in
-          let back = (sound.both_ways i r j (record { lister = x.0; is = x.1; listed = (row_is i r x.0 x.1 j).1 l })).1 in
-          (row_is j (inverse_of tables r) back.lister back.is i).0 back.listed
+          let back = (sound.both_ways i r j (record { lister = x.0; is = x.1; listed = (row_is next i r x.0 x.1 j).1 l })).1 in
+          (row_is next j (inverse_of tables r) back.lister back.is i).0 back.listed

@@ -34,8 +34,8 @@ topology_code =
 abbrev pub net_code : Coded Net
 net_code =
     code_by
-    (Topology × (List (Option (List ℕ)) × ℕ))
-    (coded× topology_code (coded× (coded_list (coded_option name_code)) coded_ℕ))
-    (λ n. (n.topology, (n.names, n.room)))
-    (λ p. record { topology = p.0; names = p.1.0; room = p.1.1 })
+    (Topology × (List (Option (List ℕ)) × (ℕ × ℕ)))
+    (coded× topology_code (coded× (coded_list (coded_option name_code)) (coded× coded_ℕ coded_ℕ)))
+    (λ n. (n.topology, (n.names, (n.room, n.next))))
+    (λ p. record { topology = p.0; names = p.1.0; room = p.1.1.0; next = p.1.1.1 })
     (λ _. refl)

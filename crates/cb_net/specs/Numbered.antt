@@ -13,15 +13,16 @@ use Rattle.cb_network.specs.Topology.{Topology, empty_topology, HasLink, IsMuted
 use Rattle.cb_network.specs.Edits.{with_link, without_link, without_instance, with_mute, without_mute, node_of}
 use Rattle.cb_net.specs.declared.id.InstanceId.{InstanceId}
 
--- a topology, the name of the instance of each number, and a number above all of them
+-- a topology, the name of the instance of each number, a number above all of them, and the number that the next instance gets
 pub record Net : Type 0 where
   pub topology : Topology
   pub names : List (Option (List ℕ))
   pub room : ℕ
+  pub next : ℕ
 
 -- no instance
 abbrev pub empty_net : Tables → Net
-empty_net tables = record { topology = empty_topology tables; names = []; room = 0 }
+empty_net tables = record { topology = empty_topology tables; names = []; room = 0; next = 0 }
 
 -- what a number has, if it has something
 abbrev pub slot : {X : Type 0} → List (Option X) → ℕ → Option X
@@ -80,9 +81,9 @@ linked n i r j = record n { topology = with_link n.topology (name_at n i) r (inv
 abbrev pub unlinked : Net → InstanceId → RelId → InstanceId → Net
 unlinked n i r j = record n { topology = without_link n.topology (name_at n i) r (inverse_of n.topology.model r) (name_at n j) }
 
--- the net without the instance, its links and its mutes; its number is free
+-- the net without the instance, its links and its mutes; its number is the next
 abbrev pub without : Net → InstanceId → Net
-without n i = record n { topology = without_instance n.topology (name_at n i); names = slice_set n.names i.0 None }
+without n i = record n { topology = without_instance n.topology (name_at n i); names = slice_set n.names i.0 None; next = i.0 }
 
 -- names tell instances apart, and links end at instances
 pub record IsWhole (n : Net) : Type 0 where

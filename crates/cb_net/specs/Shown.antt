@@ -1,5 +1,5 @@
 -- The topology that slots show.
-use Rattle.std.specs.Prelude.{◌≡◌, ◌↔◌, ℕ, List, [], ◌∷◌, Option, Some, None, map}
+use Rattle.std.specs.Prelude.{◌≡◌, ◌↔◌, ℕ, ◌-◌, ◌^◌, min, List, [], ◌∷◌, Option, Some, None, map}
 use Rattle.std.specs.List.{Contains, flat_map}
 use Rattle.std.specs.FinMap as fin_map
 use Rattle.std.specs.FinSet as set
@@ -48,9 +48,13 @@ topology_of tables slots = record {
   mutes = set.from_list (flat_map (mutes_in tables) slots);
 }
 
+-- the number that the next instance gets, by the key that is vacant: no instance gets the last key, above which there is no number
+abbrev pub next_of : ℕ → ℕ
+next_of key = min key (2 ^ 64 - 2)
+
 -- the topology that slots show, with their names
-abbrev pub seen : Tables → Slots → ℕ → Net
-seen tables slots room = record { topology = topology_of tables slots; names = map name_in slots; room = room }
+abbrev pub seen : Tables → Slots → ℕ → ℕ → Net
+seen tables slots room next = record { topology = topology_of tables slots; names = map name_in slots; room = room; next = next }
 
 -- some slot has an instance of this name and class
 pub record HoldsInstance (slots : Slots) (name : List ℕ) (c : ClassId) : Type 0 where

@@ -25,7 +25,8 @@ pub fn inverse(model: &Model, rel: RelId) -> RelId
 /// Those that were listed by an instance list it no more.
 pub fn forget(model: &Model, slots: &mut Slab<Instance>, id: InstanceId, links: &Links)
     requires { (row : TheRow) (at : Id) → Contains links.now.rows.items row → Contains row.to.items at → IsRelation model.now row.rel }
-    ensures { ForgetsAll model.now slots.old.slots slots.new.slots id links.now.rows.items }
+    ensures forgets { ForgetsAll model.now slots.old.slots slots.new.slots id links.now.rows.items }
+    ensures next { slots.new.vacant_key ≡ slots.old.vacant_key }
 {
     for row in &links.rows {
         forget_row(model, slots, id, row.rel, &row.to);
@@ -41,7 +42,8 @@ fn forget_row(
     list: &[InstanceId],
 )
     requires { (at : Id) → Contains list.now at → IsRelation model.now rel }
-    ensures { ForgetsRow slots.old.slots slots.new.slots id (inverse_of model.now rel) list.now }
+    ensures forgets { ForgetsRow slots.old.slots slots.new.slots id (inverse_of model.now rel) list.now }
+    ensures next { slots.new.vacant_key ≡ slots.old.vacant_key }
 {
     for at in list {
         let back = inverse(model, rel);

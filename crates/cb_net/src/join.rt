@@ -24,6 +24,7 @@ pub fn join(
     requires to { (x : TheInstance) × At slots.old.slots to x }
     ensures ok { OnOk result (Joins slots.old.slots slots.new.slots from rel to back) }
     ensures err { OnErr result (SameLinks slots.old.slots slots.new.slots) }
+    ensures next { slots.new.vacant_key ≡ slots.old.vacant_key }
 {
     reserve(alloc, slots, from, rel)?;
     if from == to && rel == back {
@@ -40,7 +41,8 @@ pub fn join(
 pub fn part(slots: &mut Slab<Instance>, from: InstanceId, rel: RelId, to: InstanceId, back: RelId)
     requires from { (x : TheInstance) × At slots.old.slots from x }
     requires to { (x : TheInstance) × At slots.old.slots to x }
-    ensures { Parts slots.old.slots slots.new.slots from rel to back }
+    ensures parts { Parts slots.old.slots slots.new.slots from rel to back }
+    ensures next { slots.new.vacant_key ≡ slots.old.vacant_key }
 {
     take_away(slots, from, rel, to);
     take_away(slots, to, back, from);
@@ -48,7 +50,8 @@ pub fn part(slots: &mut Slab<Instance>, from: InstanceId, rel: RelId, to: Instan
 
 /// The instance lists the other under the relation no more.
 pub fn take_away(slots: &mut Slab<Instance>, at: InstanceId, rel: RelId, to: InstanceId)
-    ensures { Rewires slots.old.slots slots.new.slots at rel (Loses to) }
+    ensures rewires { Rewires slots.old.slots slots.new.slots at rel (Loses to) }
+    ensures next { slots.new.vacant_key ≡ slots.old.vacant_key }
 {
     if let Some(x) = slots.get_mut(at.0) {
         x.links.remove(rel, to);
@@ -63,6 +66,7 @@ fn reserve(
 ) -> Result<(), AllocError>
     ensures same { Rewires slots.old.slots slots.new.slots at rel Stays }
     ensures room { OnOk result (HasRoomAt slots.new.slots at rel) }
+    ensures next { slots.new.vacant_key ≡ slots.old.vacant_key }
 {
     match slots.get_mut(at.0) {
         Some(x) => x.links.reserve(alloc, rel),
@@ -72,7 +76,8 @@ fn reserve(
 
 fn add(slots: &mut Slab<Instance>, at: InstanceId, rel: RelId, to: InstanceId)
     requires { HasRoomAt slots.old.slots at rel }
-    ensures { Rewires slots.old.slots slots.new.slots at rel (Gains to) }
+    ensures rewires { Rewires slots.old.slots slots.new.slots at rel (Gains to) }
+    ensures next { slots.new.vacant_key ≡ slots.old.vacant_key }
 {
     if let Some(x) = slots.get_mut(at.0) {
         x.links.add(rel, to);

@@ -42,7 +42,8 @@ fn take_out(list: &mut Vec<EventId>, event: EventId)
 /// Mutes the event at the instance. It takes no memory.
 pub fn mute(slots: &mut Slab<Instance>, id: InstanceId, event: EventId)
     requires { HasRoomToMute slots.old.slots id }
-    ensures { Remutes slots.old.slots slots.new.slots id (GainsEvent event) }
+    ensures remutes { Remutes slots.old.slots slots.new.slots id (GainsEvent event) }
+    ensures next { slots.new.vacant_key ≡ slots.old.vacant_key }
 {
     if let Some(x) = slots.get_mut(id.0) {
         x.muted.push_reserved(event);
@@ -51,7 +52,8 @@ pub fn mute(slots: &mut Slab<Instance>, id: InstanceId, event: EventId)
 
 /// The event is muted at the instance no more.
 pub fn unmute(slots: &mut Slab<Instance>, id: InstanceId, event: EventId)
-    ensures { Remutes slots.old.slots slots.new.slots id (Loses event) }
+    ensures remutes { Remutes slots.old.slots slots.new.slots id (Loses event) }
+    ensures next { slots.new.vacant_key ≡ slots.old.vacant_key }
 {
     if let Some(x) = slots.get_mut(id.0) {
         take_out(&mut x.muted, event);

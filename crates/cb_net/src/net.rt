@@ -37,10 +37,10 @@ impl std::marker::Model for Net {
 
     ghost coded = { net_code };
 
-    ghost use Rattle.cb_net.specs.Shown.{seen};
+    ghost use Rattle.cb_net.specs.Shown.{seen, next_of};
     ghost use Rattle.cb_net.specs.Sound.{IsSound};
 
-    ghost view = { λ s. seen s.model s.slots.slots s.room };
+    ghost view = { λ s. seen s.model s.slots.slots s.room (next_of s.slots.vacant_key) };
 
     ghost invariant = { λ s. IsSound s.model s.slots.slots s.places.entries s.room };
 }
@@ -137,6 +137,21 @@ impl Net {
         self.room
     }
 
+    /// The number that the next instance gets.
+    pub fn next(&self) -> InstanceId
+        ensures { result.0 ≡ self.now.next }
+    {
+        InstanceId(self.slots.vacant_key().min(usize::MAX - 1))
+    }
+
+    /// What `room` is once a further instance is made.
+    pub fn room_with_one(&self) -> usize
+        ensures { result ≡ max self.now.room (self.now.next + 1) }
+    {
+        let above = self.slots.vacant_key().saturating_add(1);
+        self.room.max(above)
+    }
+
     /// A new instance, under a number that was free.
     pub fn create(
         &mut self,
@@ -146,10 +161,11 @@ impl Net {
     ) -> Result<InstanceId, AllocError>
         requires class { IsClass self.old.topology.model class }
         requires absent { ¬ IsLiveName self.old.topology name.now }
+        ensures number { IfOk result (λ id. id.0 ≡ self.old.next) }
         ensures free { IfOk result (IsFree self.old) }
         ensures named { IfOk result (λ id. SetsOnly self.old.names self.new.names id (Some name.now)) }
         ensures made { OnOk result (self.new.topology ≡ with_instance self.old.topology name.now class) }
-        ensures room { IfOk result (λ id. self.new.room ≡ max self.old.room (id.0 + 1)) }
+        ensures room { OnOk result (self.new.room ≡ max self.old.room (self.old.next + 1)) }
         ensures err { OnErr result (self.new ≡ self.old) }
     {
         self.slots.reserve(1)?;
@@ -199,7 +215,7 @@ impl Net {
         part(&mut self.slots, from, rel, to, back);
     }
 
-    /// Takes the instance away, with its links and its mutes; its number is free then.
+    /// Takes the instance away, with its links and its mutes; the next instance gets its number.
     pub fn delete(&mut self, id: InstanceId)
         requires { IsLive self.old id }
         ensures { self.new ≡ without self.old id }

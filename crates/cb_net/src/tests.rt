@@ -166,13 +166,14 @@ fn event_at(net: &Net, id: InstanceId, name: &[u8]) -> Option<EventId>
     }
 }
 
-// Whether the name was free, and is that of a new instance now.
+// Whether the name was free, and is that of a new instance now, for which there is as much room as was foretold.
 fn create(alloc: Global, net: &mut Net, name: &[u8], class: ClassId) -> Result<bool, AllocError> {
     if !is_class(net.model(), class) || net.instance_named(name).is_some() {
         return Ok(false);
     }
+    let foretold = net.room_with_one();
     let id = net.create(alloc, name, class)?;
-    Ok(net.instance_named(name) == Some(id))
+    Ok(net.room() == foretold && net.instance_named(name) == Some(id))
 }
 
 // Whether the link was absent, and is added.

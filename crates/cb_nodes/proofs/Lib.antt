@@ -1,0 +1,5 @@
+pub mod Apart
+pub mod Taking
+pub mod Listing
+pub mod Freeing
+pub mod Events

@@ -13,7 +13,7 @@ pub record Creates (old new : Net) (id : InstanceId) (name : List ℕ) (class : 
   pub free : IsFree old id
   pub named : SetsOnly old.names new.names id (Some name)
   pub made : new.topology ≡ with_instance old.topology name class
-  pub room : new.room ≡ max old.room (id.0 + 1)
+  pub room : new.room ≡ max old.room (old.next + 1)
 
 -- free numbers of instances have no nodes
 abbrev pub IsFreed : Net → Table → Type 0

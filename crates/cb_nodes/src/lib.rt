@@ -2,9 +2,15 @@
 #![tactic(auto)]
 
 mod id;
+mod listed;
+mod lists;
 mod node;
+mod numbers;
 mod table;
 
 pub use id::NodeId;
 pub use node::Node;
 pub use table::NodeTable;
+
+#[cfg(test)]
+mod tests;

@@ -1,30 +1,29 @@
 //! The table of nodes and numbers.
-ghost use Rattle.std.specs.Prelude.{◌≡◌, ◌≤◌, ◌<◌, ◌^◌, ◌↔◌, [], length, OnOk, OnErr, IfOk, IfSome, IfNone};
-ghost use Rattle.std.specs.List.{Contains};
-ghost use Rattle.cb_model.specs.declared.id.EventId.{EventId as Event};
-ghost use Rattle.cb_net.specs.Numbered.{Once};
-ghost use Rattle.cb_nodes.specs.declared.id.NodeId.{NodeId as Id};
-ghost use Rattle.cb_nodes.specs.Table.{IsNode, HasNumber, node_of, HasEvent, IsOne, Adds, Removes, count_of, room_with};
-ghost use Rattle.std.specs.Prelude.{List as Items};
+ghost use Rattle.std.specs.Prelude.{◌≡◌, ◌≤◌, ◌<◌, ◌^◌, ◌↔◌, List, [], length, OnOk, OnErr, IfOk, IfSome, IfNone};
 ghost use Rattle.cb_model.specs.Views.{AreEventsOf};
 ghost use Rattle.cb_model.specs.WellTyped.{IsClass};
+ghost use Rattle.cb_model.specs.declared.id.EventId.{EventId as Event};
+ghost use Rattle.cb_net.specs.Numbered.{Once};
 ghost use Rattle.cb_network.specs.Topology.{IsLive as IsLiveName};
 ghost use Rattle.cb_nodes.specs.Created.{Creates, AddsAll, IsFreed};
+ghost use Rattle.cb_nodes.specs.declared.id.NodeId.{NodeId as Id};
+ghost use Rattle.cb_nodes.specs.Table.{IsNode, HasNumber, node_of, HasEvent, IsOne, Adds, Removes, count_of, room_with};
 
 use crate::id::NodeId;
+use crate::listed::Listed;
+use crate::lists::{free_all, number_events, number_of, reserve};
 use crate::node::Node;
+use crate::numbers::Numbers;
 use cb_model::{ClassId, EventId};
 use cb_net::{InstanceId, Net};
 use std::alloc::{AllocError, Global};
 
-#[derive(Drop)]
-pub enum Never {}
-
-/// For each number the node that has it, if one has.
+/// The nodes of all numbers, and for each instance the numbers of its events.
 #[derive(Drop)]
 pub struct NodeTable {
-    slots: Vec<Option<Node>>,
-    never: Never,
+    numbers: Numbers,
+    // By the number of the instance.
+    lists: Vec<Vec<Listed>>,
 }
 
 impl std::marker::Model for NodeTable {
@@ -32,22 +31,29 @@ impl std::marker::Model for NodeTable {
 
     ghost Value = { Table };
 
-    ghost view = { λ s. s.slots.items };
+    ghost use Rattle.cb_nodes.specs.Kept.{IsSound};
+
+    ghost view = { λ s. s.numbers.slots.items };
+
+    ghost invariant = { λ s. IsSound s.numbers s.lists.items };
 }
 
 impl NodeTable {
-    /// No node. (Stub: the real one answers no error.)
-    pub fn new(alloc: Global) -> Result<NodeTable, AllocError>
-        ensures { IfOk result (λ t. t ≡ []) }
+    /// No node.
+    pub fn new(alloc: Global) -> NodeTable
+        ensures { result ≡ [] }
     {
-        Err(AllocError)
+        NodeTable {
+            numbers: Numbers::new(alloc),
+            lists: Vec::new(alloc),
+        }
     }
 
     /// Says that no node has two numbers. It does nothing.
     pub fn is_one(&self)
         ensures { IsOne self.now }
     {
-        match self.never {}
+        let _ = &self.numbers;
     }
 
     /// Gives each of the events a number that was free.
@@ -63,7 +69,15 @@ impl NodeTable {
         ensures ok { OnOk result (Adds self.old self.new instance events.now) }
         ensures err { OnErr result (self.new ≡ self.old) }
     {
-        match self.never {}
+        self.numbers.reserve(events.len())?;
+        reserve(alloc, &mut self.lists, instance, events.len())?;
+        number_events(
+            &mut self.numbers,
+            &mut self.lists[instance.0],
+            instance,
+            events,
+        );
+        Ok(())
     }
 
     /// A new instance of the net, each of whose events gets a number that was free.
@@ -77,20 +91,31 @@ impl NodeTable {
         requires class { IsClass net.old.topology.model class }
         requires absent { ¬ IsLiveName net.old.topology name.now }
         requires freed { IsFreed net.old self.old }
-        requires few { (events : Items Event) → AreEventsOf net.old.topology.model class events → room_with self.old (length events) ≤ 2 ^ 32 }
+        requires few { (events : List Event) → AreEventsOf net.old.topology.model class events → room_with self.old (length events) ≤ 2 ^ 32 }
         ensures created { IfOk result (λ id. Creates net.old net.new id name.now class) }
         ensures added { IfOk result (AddsAll net.old class self.old self.new) }
         ensures net { OnErr result (net.new ≡ net.old) }
         ensures nodes { OnErr result (self.new ≡ self.old) }
     {
-        match self.never {}
+        let instance = net.next();
+        let count = net.model().events_of(class).len();
+        self.numbers.reserve(count)?;
+        reserve(alloc, &mut self.lists, instance, count)?;
+        net.create(alloc, name, class)?;
+        let events = net.model().events_of(class).as_slice();
+        let list = &mut self.lists[instance.0];
+        number_events(&mut self.numbers, list, instance, events);
+        Ok(instance)
     }
 
     /// Takes the numbers of the instance's events away. It takes no memory.
     pub fn remove(&mut self, instance: InstanceId)
         ensures { Removes self.old self.new instance }
     {
-        match self.never {}
+        if let Some(list) = self.lists.get_mut(instance.0) {
+            free_all(&mut self.numbers, list);
+            list.clear();
+        }
     }
 
     /// The number of an instance's event.
@@ -98,7 +123,8 @@ impl NodeTable {
         ensures found { IfSome result (λ id. IsNode self.now id (node_of instance event)) }
         ensures absent { IfNone result (¬ HasEvent self.now instance event) }
     {
-        match self.never {}
+        let list = self.lists.get(instance.0)?;
+        number_of(list, event)
     }
 
     /// The node of a number.
@@ -106,14 +132,17 @@ impl NodeTable {
         ensures found { IfSome result (IsNode self.now id) }
         ensures absent { IfNone result (¬ HasNumber self.now id) }
     {
-        match self.never {}
+        match self.numbers.slots.get(id.0 as usize) {
+            Some(slot) => *slot,
+            None => None,
+        }
     }
 
     /// How many nodes there are.
     pub fn count(&self) -> usize
         ensures { result ≡ count_of self.now }
     {
-        match self.never {}
+        self.numbers.count()
     }
 
     /// Above each number in use.
@@ -121,7 +150,7 @@ impl NodeTable {
         ensures value { result ≡ length self.now }
         ensures above { (id : Id) → HasNumber self.now id → id.0 < result }
     {
-        match self.never {}
+        self.numbers.slots.len()
     }
 
     /// What `room` is once so many nodes more have their numbers.
@@ -129,6 +158,6 @@ impl NodeTable {
         requires { room_with self.now more < 2 ^ 64 }
         ensures { result ≡ room_with self.now more }
     {
-        match self.never {}
+        self.numbers.room_with(more)
     }
 }

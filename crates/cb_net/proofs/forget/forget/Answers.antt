@@ -23,7 +23,10 @@ loop-row-preserved c =
     let is : row ≡ get_or rows c.loop-row.row-index row = c.row-item.is ∙ ap (λ xs. get_or xs c.loop-row.row-index row) c.deref-row-items.ensures.value in
     let mid = c.loop-row.slots.slots in
     let new = c.forget_row.new.slots.slots in
-    let step : ForgetsRow mid new c.args.id (inverse_of c.args.model.now row.rel) row.to.items = subst (ForgetsRow mid new c.args.id (inverse_of c.args.model.now row.rel)) c.deref.ensures.value c.forget_row.ensures in
-    let more = forgets_row c.args.model.now c.args.slots.now.slots mid new c.args.id (take c.loop-row.row-index rows) row c.loop-row.invariant step in
+    let step : ForgetsRow mid new c.args.id (inverse_of c.args.model.now row.rel) row.to.items = subst (ForgetsRow mid new c.args.id (inverse_of c.args.model.now row.rel)) c.deref.ensures.value c.forget_row.ensures.forgets in
+    let more = forgets_row c.args.model.now c.args.slots.now.slots mid new c.args.id (take c.loop-row.row-index rows) row c.loop-row.invariant.forgets step in
     let last : take (c.loop-row.row-index + 1) rows ≡ take c.loop-row.row-index rows ++ row ∷ [] = take_more rows c.loop-row.row-index row within ∙ ap (λ x. take c.loop-row.row-index rows ++ x ∷ []) (sym is) in
-    subst (ForgetsAll c.args.model.now c.args.slots.now.slots new c.args.id) (sym last) more
+    record {
+      forgets = subst (ForgetsAll c.args.model.now c.args.slots.now.slots new c.args.id) (sym last) more;
+      next = c.forget_row.ensures.next ∙ c.loop-row.invariant.next;
+    }

@@ -3,8 +3,8 @@ use Rattle.cb_net.specs.Rows.{Loses}
 use Rattle.cb_net.proofs.Muting.{remuted, remuted_none}
 use Rattle.cb_net.proofs.mutes.unmute.Goals as goal
 
-pub returns-in-Some : goal.returns-in-Some
-returns-in-Some c = remuted c.args.slots.now.slots c.args.id (Loses c.args.event) c.in-Some.x.now c.take_out.new.list (sym c.in-Some.ensures.value) c.take_out.ensures.capacity c.take_out.ensures.lost
+pub returns-in-Some-clause-remutes : goal.returns-in-Some-clause-remutes
+returns-in-Some-clause-remutes c = remuted c.args.slots.now.slots c.args.id (Loses c.args.event) c.in-Some.x.now c.take_out.new.list (sym c.in-Some.ensures.value) c.take_out.ensures.capacity c.take_out.ensures.lost
 
-pub returns-in_default : goal.returns-in_default
-returns-in_default c = remuted_none c.args.slots.now.slots c.args.id (Loses c.args.event) (sym c.in_default.ensures.value)
+pub returns-in_default-clause-remutes : goal.returns-in_default-clause-remutes
+returns-in_default-clause-remutes c = remuted_none c.args.slots.now.slots c.args.id (Loses c.args.event) (sym c.in_default.ensures.value)

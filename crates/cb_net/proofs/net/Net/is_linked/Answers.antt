@@ -10,7 +10,7 @@ returns-then-there-back c = (λ h. (c.links-there.ensures.exactly c.args.to).0 (
 pub returns-else-there-back : goal.returns-else-there-back
 returns-else-there-back c =
     let rel = subst (λ (n : Net). IsRelation n.topology.model c.args.rel) (sym c.self.view_is) c.requires.rel in
-    let same : LinkAt c.args.self.now c.args.to c.inverse.result c.args.from ↔ LinkAt c.args.self.now c.args.from c.args.rel c.args.to = subst (λ (n : Net). LinkAt n c.args.to c.inverse.result c.args.from ↔ LinkAt n c.args.from c.args.rel c.args.to) c.self.view_is (listed_back _ _ _ _ c.self.invariant c.args.from c.args.rel c.inverse.result c.args.to rel c.inverse.ensures) in (
+    let same : LinkAt c.args.self.now c.args.to c.inverse.result c.args.from ↔ LinkAt c.args.self.now c.args.from c.args.rel c.args.to = subst (λ (n : Net). LinkAt n c.args.to c.inverse.result c.args.from ↔ LinkAt n c.args.from c.args.rel c.args.to) c.self.view_is (listed_back _ _ _ _ c.self.invariant _ c.args.from c.args.rel c.inverse.result c.args.to rel c.inverse.ensures) in (
       λ h. same.0 ((c.links-back.ensures.exactly c.args.from).0 (c.lists-else-there-back.ensures.0 h)),
       λ l. c.lists-else-there-back.ensures.1 ((c.links-back.ensures.exactly c.args.from).1 (same.1 l)),
     )

@@ -15,8 +15,8 @@ pub returns : goal.returns
 returns c =
     let x = c.index.result.now in
     let at = c.index.ensures in
-    let has = class_has _ _ _ _ _ c.self.view_is c.args.id x at c.args.event c.self.invariant c.requires.event in
-    let here = muted_at _ _ _ _ _ c.self.view_is c.args.id x at c.args.event c.self.invariant has in (
+    let has = class_has _ _ _ _ _ _ c.self.view_is c.args.id x at c.args.event c.self.invariant c.requires.event in
+    let here = muted_at _ _ _ _ _ _ c.self.view_is c.args.id x at c.args.event c.self.invariant has in (
       λ h. here.0 (subst (λ es. Contains es c.args.event) c.deref.ensures.value (c.has.ensures.0 h)),
       λ is. c.has.ensures.1 (subst (λ es. Contains es c.args.event) (sym c.deref.ensures.value) (here.1 is)),
     )

@@ -1,0 +1,222 @@
+-- Events that get numbers.
+use Rattle.std.proofs.Common.{◌≡◌, ◌≢◌, ◌⊎◌, ◌↔◌, ℕ, ◌<◌, ◌≤◌, List, [], ◌∷◌, ◌++◌, length, get_or, take, Some, refl, sym, ap, subst, ◌∙◌, inl, inr, arith}
+use Rattle.std.specs.Prelude.{slice_get, slice_set}
+use Rattle.std.specs.Global.{Global}
+use Rattle.std.specs.List.{Contains}
+use Rattle.std.specs.declared.vec.Vec.{Vec}
+use Rattle.std.proofs.lemmas.Bool.{cases_eq, cases_lt}
+use Rattle.std.proofs.lemmas.List.{get_or-set_same, get_or-set_other, get_or-take, get_or_default, length_push, length-set, length-take}
+use Rattle.std.proofs.lemmas.List.Elements.{Contains-push, Contains-append_left, Contains-push_cases}
+use Rattle.std.proofs.lemmas.Option.{slice_get-get_or, slice_get_past, slice_get_read}
+use Rattle.cb_model.specs.declared.id.EventId.{EventId}
+use Rattle.cb_model.proofs.Rising.{nothing_in_empty}
+use Rattle.cb_net.specs.declared.id.InstanceId.{InstanceId}
+use Rattle.cb_net.specs.Numbered.{slot, Once}
+use Rattle.cb_nodes.specs.declared.id.NodeId.{NodeId}
+use Rattle.cb_nodes.specs.declared.listed.Listed.{Listed}
+use Rattle.cb_nodes.specs.declared.node.Node.{Node}
+use Rattle.cb_nodes.specs.declared.numbers.Numbers.{Numbers}
+use Rattle.cb_nodes.specs.Kept.{AreKept, HasRoomFor, Takes, Lists, list_at, items_in, SameLists, IsListOf, NumbersAll, IsSound}
+use Rattle.cb_nodes.specs.Table.{Table, IsNode, node_of, HasEvent, IsOne, Adds, room_with}
+use Rattle.cb_nodes.proofs.Apart.{pairs_more}
+use Rattle.cb_nodes.proofs.Taking.{same_number}
+
+pub same_listed : (x y : Listed) → x.event ≡ y.event → x.id ≡ y.id → x ≡ y
+same_listed x y e n = λ k. record { event = e k; id = n k }
+
+inside : {X : Type 0} (x y : X) → Some x ≡ Some y → x ≡ y
+inside x y e = cc
+
+-- one number has one node
+pub one_node : (t : Table) (id : NodeId) (a b : Node) → IsNode t id a → IsNode t id b → a ≡ b
+one_node t id a b is also = inside a b (sym is ∙ also)
+
+module _ (old new : Numbers) (i : InstanceId) (e : EventId) (id : NodeId) (takes : Takes old new id (node_of i e)) where
+  other : (x : NodeId) (n : Node) → IsNode old.slots.items x n → x.0 ≢ id.0
+  other x n is same =
+      let some : slot old.slots.items id.0 ≡ Some n = ap (λ k. slot old.slots.items k) (sym same) ∙ is in
+      let none = takes.free in
+      absurd (cc)
+
+  stays : (x : NodeId) (n : Node) → IsNode old.slots.items x n → IsNode new.slots.items x n
+  stays x n is = takes.others x.0 (other x n is) ∙ is
+
+  either : (x : NodeId) (n : Node) → IsNode new.slots.items x n → IsNode old.slots.items x n ⊎ ((x ≡ id) × (n ≡ node_of i e))
+  either x n is = elim (cases_eq x.0 id.0) [
+    | inl same ↦ inr (same_number x id same, inside n (node_of i e) (sym is ∙ (ap (λ k. slot new.slots.items k) same ∙ takes.this)))
+    | inr ne ↦ inl (sym (takes.others x.0 ne) ∙ is)
+  ]
+
+  pub listed_more : (list : List Listed) → IsListOf old.slots.items i list → IsListOf new.slots.items i (list ++ record { event = e; id = id } ∷ [])
+  listed_more list was =
+      let here : Listed = record { event = e; id = id } in
+      record {
+        listed = λ x has. elim (Contains-push_cases list here x has) [
+          | inl before ↦ stays x.id (node_of i x.event) (was.listed x before)
+          | inr same ↦ subst (λ (y : Listed). IsNode new.slots.items y.id (node_of i y.event)) same takes.this
+        ];
+        whole = λ x is. elim (either x.id (node_of i x.event) is) [
+          | inl before ↦ Contains-append_left list (here ∷ []) x (was.whole x before)
+          | inr same ↦ subst (Contains (list ++ here ∷ [])) (same_listed here x (ap (λ (n : Node). n.event) (sym same.1)) (sym same.0)) (Contains-push list here)
+        ];
+        apart = pairs_more (λ x y. x.id ≢ y.id) list here was.apart (λ x has same. other x.id (node_of i x.event) (was.listed x has) (ap (λ (k : NodeId). k.0) same));
+      }
+
+  pub one_more : IsOne old.slots.items → ¬ HasEvent old.slots.items i e → IsOne new.slots.items
+  one_more one none a b n is_a is_b = elim (either a n is_a) [
+    | inl was_a ↦ elim (either b n is_b) [
+      | inl was_b ↦ one a b n was_a was_b
+      | inr now_b ↦ absurd (none (a, subst (IsNode old.slots.items a) now_b.1 was_a))
+    ]
+    | inr now_a ↦ elim (either b n is_b) [
+      | inl was_b ↦ absurd (none (b, subst (IsNode old.slots.items b) now_a.1 was_b))
+      | inr now_b ↦ now_a.0 ∙ sym now_b.0
+    ]
+  ]
+
+  pub adds_more : (first : Table) (es : List EventId) → Adds first old.slots.items i es → Adds first new.slots.items i (es ++ e ∷ [])
+  adds_more first es adds =
+      let size = length_push es e in
+      record {
+        kept = λ x n is. stays x n (adds.kept x n is);
+        each = λ x n is. elim (either x n is) [
+          | inl was ↦ elim (adds.each x n was) [
+            | inl before ↦ inl before
+            | inr so ↦ inr (so.0, Contains-append_left es (e ∷ []) n.event so.1)
+          ]
+          | inr now ↦ inr (ap (λ (m : Node). m.instance) now.1, subst (Contains (es ++ e ∷ [])) (ap (λ (m : Node). m.event) (sym now.1)) (Contains-push es e))
+        ];
+        all = λ f has. elim (Contains-push_cases es e f has) [
+          | inl before ↦ let at = adds.all f before in (at.0, stays at.0 (node_of i f) at.1)
+          | inr same ↦ (id, subst (λ g. IsNode new.slots.items id (node_of i g)) same takes.this)
+        ];
+        count = omega (arith, takes.count, adds.count, size);
+        room = omega (arith, takes.room, adds.room, adds.count, size);
+      }
+
+-- an event that was not there, and is not among those that came, is not there
+pub none_yet : (first now : Table) (i : InstanceId) (es : List EventId) (e : EventId) → Adds first now i es → ¬ HasEvent first i e → ¬ Contains es e → ¬ HasEvent now i e
+none_yet first now i es e adds none off (id, is) = elim (adds.each id (node_of i e) is) [
+  | inl was ↦ none (id, was)
+  | inr so ↦ off so.1
+]
+
+pub not_before : {X : Type 0} (xs : List X) (k : ℕ) (d : X) → Once xs → k < length xs → ¬ Contains (take k xs) (get_or xs k d)
+not_before xs k d once lt (j, within, is) =
+    let x = get_or xs k d in
+    let below : j < k = omega (arith, within, length-take k xs) in
+    let at : get_or xs j x ≡ x = sym (get_or-take k xs j x below) ∙ is in
+    once j k x below lt (at ∙ get_or_default xs k d x lt)
+
+pub numbers_none : (old : Numbers) (i : InstanceId) (list : List Listed) → AreKept old → IsOne old.slots.items → IsListOf old.slots.items i list → NumbersAll old old i list []
+numbers_none old i list kept one listed = record {
+  kept = kept;
+  same_room = record { slots = refl; free = refl };
+  one = one;
+  listed = listed;
+  adds = record {
+    kept = λ x n is. is;
+    each = λ x n is. inl is;
+    all = λ e has. absurd (nothing_in_empty e has);
+    count = omega arith;
+    room = omega (arith, kept.counted);
+  };
+}
+
+pub numbers_more : (first old new : Numbers) (i : InstanceId) (list : List Listed) (es : List EventId) (e : EventId) (id : NodeId) → NumbersAll first old i list es
+    → ¬ HasEvent first.slots.items i e → ¬ Contains es e → Takes old new id (node_of i e) → NumbersAll first new i (list ++ record { event = e; id = id } ∷ []) (es ++ e ∷ [])
+numbers_more first old new i list es e id all none off takes = record {
+  kept = takes.kept;
+  same_room = record { slots = takes.same_room.slots ∙ all.same_room.slots; free = takes.same_room.free ∙ all.same_room.free };
+  one = one_more old new i e id takes all.one (none_yet first.slots.items old.slots.items i es e all.adds none off);
+  listed = listed_more old new i e id takes list all.listed;
+  adds = adds_more old new i e id takes first.slots.items es all.adds;
+}
+
+-- while some are left, one more fits
+pub room_left : (first old : Numbers) (i : InstanceId) (list : List Listed) (es : List EventId) (more : ℕ) → NumbersAll first old i list es → HasRoomFor first more → length es < more → HasRoomFor old 1
+room_left first old i list es more all room lt =
+    let a = all.adds.count in
+    let b = all.adds.room in
+    let c = all.same_room.slots in
+    let d = all.same_room.free in
+    let e = room.slots in
+    let f = room.free in
+    record { slots = omega arith; free = omega arith }
+
+pub few_left : (first old : Numbers) (i : InstanceId) (list : List Listed) (es : List EventId) (more limit : ℕ) → NumbersAll first old i list es → room_with first.slots.items more ≤ limit → length es < more
+    → room_with old.slots.items 1 ≤ limit
+few_left first old i list es more limit all few lt =
+    let a = all.adds.count in
+    let b = all.adds.room in
+    omega arith
+
+-- an instance whose nodes are the same has the same list
+pub same_list : (old new : Table) (j : InstanceId) (list : List Listed) → ((x : NodeId) (e : EventId) → IsNode new x (node_of j e) ↔ IsNode old x (node_of j e)) → IsListOf old j list → IsListOf new j list
+same_list old new j list same was = record {
+  listed = λ x has. (same x.id x.event).1 (was.listed x has);
+  whole = λ x is. was.whole x ((same x.id x.event).0 is);
+  apart = was.apart;
+}
+
+-- one instance's list is this one, and each other's is what it was
+pub record SetsList (old new : Lists) (i : InstanceId) (list : List Listed) : Type 0 where
+  pub this : list_at new i ≡ list
+  pub others : (j : InstanceId) → j ≢ i → list_at new j ≡ list_at old j
+
+same_instance : (i j : InstanceId) → i.0 ≡ j.0 → i ≡ j
+same_instance i j e = λ k. record { 0 = e k }
+
+pub decide_instance : (i j : InstanceId) → (i ≡ j) ⊎ (i ≢ j)
+decide_instance i j = elim (cases_eq i.0 j.0) [
+  | inl e ↦ inl (same_instance i j e)
+  | inr ne ↦ inr (λ e. ne (ap (λ (k : InstanceId). k.0) e))
+]
+
+get_set_other : {X : Type 0} (xs : List X) (i j : ℕ) (y : X) → j ≢ i → slice_get (slice_set xs i y) j ≡ slice_get xs j
+get_set_other xs i j y ne = elim (cases_lt j (length xs)) [
+  | inl lt ↦ slice_get-get_or (slice_set xs i y) j y (omega (arith, length-set xs i y)) ∙ (ap Some (get_or-set_other xs i j y y ne) ∙ sym (slice_get-get_or xs j y lt))
+  | inr past ↦ slice_get_past (slice_set xs i y) j (omega (arith, length-set xs i y)) ∙ sym (slice_get_past xs j past)
+]
+
+pub list_set : (lists : Lists) (i : InstanceId) (v : Vec Listed Global) → i.0 < length lists → SetsList lists (slice_set lists i.0 v) i v.items
+list_set lists i v lt = record {
+  this = ap items_in (slice_get-get_or (slice_set lists i.0 v) i.0 v (omega (arith, length-set lists i.0 v)) ∙ ap Some (get_or-set_same lists i.0 v v lt));
+  others = λ j ne. ap items_in (get_set_other lists i.0 j.0 v (λ e. ne (same_instance j i e)));
+}
+
+pub sound_sets : (old new : Numbers) (lists lists' : Lists) (i : InstanceId) (list : List Listed) → AreKept new → IsOne new.slots.items → IsListOf new.slots.items i list → SetsList lists lists' i list
+    → ((j : InstanceId) → j ≢ i → (x : NodeId) (e : EventId) → IsNode new.slots.items x (node_of j e) ↔ IsNode old.slots.items x (node_of j e)) → IsSound old lists → IsSound new lists'
+sound_sets old new lists lists' i list kept one listed sets same sound = record {
+  kept = kept;
+  one = one;
+  listed = λ j. elim (decide_instance j i) [
+    | inl e ↦ subst (λ k. IsListOf new.slots.items k (list_at lists' k)) (sym e) (subst (IsListOf new.slots.items i) (sym sets.this) listed)
+    | inr ne ↦ subst (IsListOf new.slots.items j) (sym (sets.others j ne)) (same_list old.slots.items new.slots.items j (list_at lists j) (same j ne) (sound.listed j))
+  ];
+}
+
+pub numbered_sound : (old new : Numbers) (lists lists' : Lists) (i : InstanceId) (list : List Listed) (es : List EventId) → NumbersAll old new i list es → SetsList lists lists' i list → IsSound old lists → IsSound new lists'
+numbered_sound old new lists lists' i list es all sets sound =
+    sound_sets old new lists lists' i list all.kept all.one all.listed sets
+    (λ j ne x e. (
+      λ is. elim (all.adds.each x (node_of j e) is) [ inl was ↦ was | inr so ↦ absurd (ne so.0) ],
+      λ was. all.adds.kept x (node_of j e) was,
+    ))
+    sound
+
+-- nothing changed but room
+pub same_sound : (old new : Numbers) (lists lists' : Lists) → AreKept new → new.slots.items ≡ old.slots.items → SameLists lists lists' → IsSound old lists → IsSound new lists'
+same_sound old new lists lists' kept slots same sound = record {
+  kept = kept;
+  one = subst IsOne (sym slots) sound.one;
+  listed = λ i. subst (λ t. IsListOf t i (list_at lists' i)) (sym slots) (subst (IsListOf old.slots.items i) (sym (same i)) (sound.listed i));
+}
+
+-- the list that is read there
+pub list_read : (lists : Lists) (i : InstanceId) (v : Vec Listed Global) → i.0 < length lists → v ≡ get_or lists i.0 v → slice_get lists i.0 ≡ Some v
+list_read lists i v lt read = slice_get_read lists (length lists) i.0 v refl lt read
+
+-- nothing that was said of an event's number changed
+pub none_there : (old new : Table) (i : InstanceId) → new ≡ old → ((e : EventId) → ¬ HasEvent old i e) → (e : EventId) → ¬ HasEvent new i e
+none_there old new i same none e (id, is) = none e (id, subst (λ (t : Table). IsNode t id (node_of i e)) same is)

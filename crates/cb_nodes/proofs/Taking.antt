@@ -1,0 +1,153 @@
+-- Numbers that are taken and given back.
+use Rattle.std.proofs.Common.{◌≡◌, ◌≢◌, ◌⊎◌, ℕ, ◌+◌, ◌<◌, ◌≤◌, List, [], ◌∷◌, ◌++◌, length, Option, Some, None, is_some, cond, vec_capacity, sym, ap, subst, ◌∙◌, inl, inr, arith}
+use Rattle.std.specs.List.{Contains, count_by, slice_set}
+use Rattle.std.proofs.lemmas.List.{get_or-set_same, get_or-set_other, get_or_past, get_or_push, get_or_append_left, length-set, length_push}
+use Rattle.std.proofs.lemmas.List.Elements.{Contains-push, Contains-append_left, Contains-push_cases}
+use Rattle.std.proofs.lemmas.List.Sums.{sum_by-set, sum_by_push}
+use Rattle.std.proofs.lemmas.Bool.{cases_lt}
+use Rattle.cb_net.specs.Numbered.{slot, Once}
+use Rattle.cb_nodes.specs.declared.id.NodeId.{NodeId}
+use Rattle.cb_nodes.specs.declared.node.Node.{Node}
+use Rattle.cb_nodes.specs.declared.numbers.Numbers.{Numbers}
+use Rattle.cb_nodes.specs.Kept.{AreKept, HasRoomFor, SameSlots, Takes, GivesBack}
+use Rattle.cb_nodes.specs.Table.{Table, HasNumber, count_of}
+use Rattle.cb_nodes.proofs.Apart.{pairs_last, pairs_front, pairs_more}
+
+pub same_number : (i j : NodeId) → i.0 ≡ j.0 → i ≡ j
+same_number i j e = λ k. record { 0 = e k }
+
+-- what is in a slot is within
+pub within_slots : {X : Type 0} (xs : List (Option X)) (i : ℕ) (x : X) → slot xs i ≡ Some x → i < length xs
+within_slots xs i x is = elim (cases_lt i (length xs)) [
+  | inl within ↦ within
+  | inr past ↦ let none : slot xs i ≡ None = get_or_past xs i None past in absurd (cc)
+]
+
+-- one number more has a node
+pub count_set_some : {X : Type 0} (xs : List (Option X)) (i : ℕ) (x : X) → i < length xs → slot xs i ≡ None → count_by is_some (slice_set xs i (Some x)) ≡ count_by is_some xs + 1
+count_set_some {X} xs i x lt none =
+    let one : Option X → ℕ = λ o. cond (is_some o) 1 0 in
+    let h = sum_by-set one xs i (Some x) None lt in
+    let e : one (slot xs i) ≡ 0 = ap one none in
+    omega (arith, h, e)
+
+-- one number fewer has a node
+pub count_set_none : {X : Type 0} (xs : List (Option X)) (i : ℕ) (x : X) → i < length xs → slot xs i ≡ Some x → count_by is_some (slice_set xs i None) + 1 ≡ count_by is_some xs
+count_set_none {X} xs i x lt some =
+    let one : Option X → ℕ = λ o. cond (is_some o) 1 0 in
+    let h = sum_by-set one xs i None None lt in
+    let e : one (slot xs i) ≡ 1 = ap one some in
+    omega (arith, h, e)
+
+pub count_push_some : {X : Type 0} (xs : List (Option X)) (x : X) → count_by is_some (xs ++ Some x ∷ []) ≡ count_by is_some xs + 1
+count_push_some {X} xs x = sum_by_push (λ (o : Option X). cond (is_some o) 1 0) xs (Some x)
+
+-- nothing changed but room
+pub same_slots : (old new : Numbers) → AreKept old → new.slots.items ≡ old.slots.items → new.free.items ≡ old.free.items → vec_capacity old.free ≤ vec_capacity new.free → SameSlots old new
+same_slots old new kept slots free room = record {
+  slots = slots;
+  kept = record {
+    counted = (ap (λ (xs : List NodeId). length xs + count_of new.slots.items) free ∙ ap (λ (t : Table). length old.free.items + count_of t) slots) ∙ (kept.counted ∙ ap length (sym slots));
+    within = λ id has. subst (λ (t : Table). id.0 < length t) (sym slots) (kept.within id (subst (λ xs. Contains xs id) free has));
+    vacant = λ id has. subst (λ (t : Table). slot t id.0 ≡ None) (sym slots) (kept.vacant id (subst (λ xs. Contains xs id) free has));
+    once = subst Once (sym free) kept.once;
+    room = let n : length new.slots.items ≡ length old.slots.items = ap length slots in omega (arith, kept.room);
+  };
+}
+
+-- the last of the free numbers is taken
+pub taken_free : (old new : Numbers) (id : NodeId) (node : Node) → AreKept old → old.free.items ≡ new.free.items ++ id ∷ [] → vec_capacity new.free ≡ vec_capacity old.free
+    → new.slots.items ≡ slice_set old.slots.items id.0 (Some node) → vec_capacity new.slots ≡ vec_capacity old.slots → Takes old new id node
+taken_free old new id node kept popped free_room written slots_room =
+    let has : Contains old.free.items id = subst (λ xs. Contains xs id) (sym popped) (Contains-push new.free.items id) in
+    let lt = kept.within id has in
+    let none = kept.vacant id has in
+    let front : (x : NodeId) → Contains new.free.items x → Contains old.free.items x = λ x in_x. subst (λ xs. Contains xs x) (sym popped) (Contains-append_left new.free.items (id ∷ []) x in_x) in
+    let once : Once (new.free.items ++ id ∷ []) = subst Once popped kept.once in
+    let other : (x : NodeId) → Contains new.free.items x → x.0 ≢ id.0 = λ x in_x e. pairs_last (λ a b. a ≢ b) new.free.items id once x in_x (same_number x id e) in
+    let size : length new.slots.items ≡ length old.slots.items = ap length written ∙ length-set old.slots.items id.0 (Some node) in
+    let others : (k : ℕ) → k ≢ id.0 → slot new.slots.items k ≡ slot old.slots.items k = λ k ne. ap (λ (t : Table). slot t k) written ∙ get_or-set_other old.slots.items id.0 k (Some node) None ne in
+    let count : count_of new.slots.items ≡ count_of old.slots.items + 1 = ap (λ (t : Table). count_of t) written ∙ count_set_some old.slots.items id.0 node lt none in
+    let free : length old.free.items ≡ length new.free.items + 1 = ap length popped ∙ length_push new.free.items id in
+    record {
+      kept = record {
+        counted = omega (arith, kept.counted);
+        within = λ x in_x. omega (arith, kept.within x (front x in_x));
+        vacant = λ x in_x. others x.0 (other x in_x) ∙ kept.vacant x (front x in_x);
+        once = pairs_front (λ a b. a ≢ b) new.free.items id once;
+        room = omega (arith, kept.room);
+      };
+      same_room = record { slots = slots_room; free = free_room };
+      free = none;
+      this = ap (λ (t : Table). slot t id.0) written ∙ get_or-set_same old.slots.items id.0 (Some node) None lt;
+      others = others;
+      count = count;
+      room = omega (arith, kept.counted);
+    }
+
+-- where none is free, a new number is taken
+pub taken_new : (old new : Numbers) (id : NodeId) (node : Node) → AreKept old → HasRoomFor old 1 → old.free.items ≡ [] → new.free ≡ old.free
+    → id.0 ≡ length old.slots.items → new.slots.items ≡ old.slots.items ++ Some node ∷ [] → vec_capacity new.slots ≡ vec_capacity old.slots → Takes old new id node
+taken_new old new id node kept room empty same is pushed slots_room =
+    let none : (x : NodeId) → Contains new.free.items x → ⊥ = λ x has.
+    let n : length new.free.items ≡ 0 = ap (λ v. length v.items) same ∙ ap length empty in
+    let lt = has.1 in
+    omega arith in
+    let e : length old.free.items ≡ 0 = ap length empty in
+    let n : length new.free.items ≡ 0 = ap (λ v. length v.items) same ∙ e in
+    let cap : vec_capacity new.free ≡ vec_capacity old.free = ap vec_capacity same in
+    let size : length new.slots.items ≡ length old.slots.items + 1 = ap length pushed ∙ length_push old.slots.items (Some node) in
+    let count : count_of new.slots.items ≡ count_of old.slots.items + 1 = ap (λ (t : Table). count_of t) pushed ∙ count_push_some old.slots.items node in
+    record {
+      kept = record {
+        counted = omega (arith, kept.counted);
+        within = λ x has. absurd (none x has);
+        vacant = λ x has. absurd (none x has);
+        once = λ i j d lt le. absurd (omega arith);
+        room = omega (arith, room.free);
+      };
+      same_room = record { slots = slots_room; free = cap };
+      free = get_or_past old.slots.items id.0 None (omega arith);
+      this = ap (λ (t : Table). slot t id.0) pushed ∙ get_or_push old.slots.items (Some node) None id.0 (sym is);
+      others = λ k ne. ap (λ (t : Table). slot t k) pushed ∙ elim (cases_lt k (length old.slots.items)) [
+        | inl within ↦ get_or_append_left old.slots.items (Some node ∷ []) None k within
+        | inr past ↦ get_or_past (old.slots.items ++ Some node ∷ []) k None (omega (arith, length_push old.slots.items (Some node))) ∙ sym (get_or_past old.slots.items k None past)
+      ];
+      count = count;
+      room = omega (arith, kept.counted);
+    }
+
+-- a number that had a node is free
+pub given_back : (old new : Numbers) (id : NodeId) → AreKept old → HasNumber old.slots.items id → new.slots.items ≡ slice_set old.slots.items id.0 None
+    → new.free.items ≡ old.free.items ++ id ∷ [] → vec_capacity new.free ≡ vec_capacity old.free → GivesBack old new id
+given_back old new id kept (node, is) written pushed room =
+    let lt = within_slots old.slots.items id.0 node is in
+    let size : length new.slots.items ≡ length old.slots.items = ap length written ∙ length-set old.slots.items id.0 None in
+    let this : slot new.slots.items id.0 ≡ None = ap (λ (t : Table). slot t id.0) written ∙ get_or-set_same old.slots.items id.0 None None lt in
+    let others : (k : ℕ) → k ≢ id.0 → slot new.slots.items k ≡ slot old.slots.items k = λ k ne. ap (λ (t : Table). slot t k) written ∙ get_or-set_other old.slots.items id.0 k None None ne in
+    let count : count_of new.slots.items + 1 ≡ count_of old.slots.items = ap (λ (t : Table). count_of t + 1) written ∙ count_set_none old.slots.items id.0 node lt is in
+    let free : length new.free.items ≡ length old.free.items + 1 = ap length pushed ∙ length_push old.free.items id in
+    let cases : (x : NodeId) → Contains new.free.items x → Contains old.free.items x ⊎ (id ≡ x) = λ x has. Contains-push_cases old.free.items id x (subst (λ xs. Contains xs x) pushed has) in
+    let other : (x : NodeId) → Contains old.free.items x → x ≢ id = λ x has e.
+    let none : slot old.slots.items x.0 ≡ None = kept.vacant x has in
+    let some : slot old.slots.items x.0 ≡ Some node = ap (λ (y : NodeId). slot old.slots.items y.0) e ∙ is in
+    absurd (cc) in
+    record {
+      kept = record {
+        counted = omega (arith, kept.counted);
+        within = λ x has. elim (cases x has) [
+          | inl was ↦ omega (arith, kept.within x was)
+          | inr e ↦ let same : id.0 ≡ x.0 = ap (λ (y : NodeId). y.0) e in omega arith
+        ];
+        vacant = λ x has. elim (cases x has) [
+          | inl was ↦ others x.0 (λ e. other x was (same_number x id e)) ∙ kept.vacant x was
+          | inr e ↦ ap (λ (y : NodeId). slot new.slots.items y.0) (sym e) ∙ this
+        ];
+        once = subst Once (sym pushed) (pairs_more (λ a b. a ≢ b) old.free.items id kept.once other);
+        room = omega (arith, kept.room);
+      };
+      this = this;
+      others = others;
+      count = count;
+      room = size;
+    }
