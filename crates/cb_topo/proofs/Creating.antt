@@ -38,9 +38,9 @@ use Rattle.std.proofs.lemmas.Option.{slice_get_within}
 use Rattle.cb_topo.proofs.Counted.{fits_count}
 use Rattle.cb_topo.proofs.Named.{name_is, one_class_of}
 
--- the net with the instance, whose names and room are these
-abbrev pub created : Net → List ℕ → ClassId → List (Option (List ℕ)) → ℕ → Net
-created n name c names room = record { topology = with_instance n.topology name c; names = names; room = room }
+-- the net with the instance, whose names, room and next number are these
+abbrev pub created : Net → List ℕ → ClassId → List (Option (List ℕ)) → ℕ → ℕ → Net
+created n name c names room next = record { topology = with_instance n.topology name c; names = names; room = room; next = next }
 
 -- of new instances, those before stay
 module _ (t : Topology) (name : List ℕ) (c : ClassId) (fresh : ¬ IsLiveName t name) where
@@ -58,10 +58,10 @@ module _ (t : Topology) (name : List ℕ) (c : ClassId) (fresh : ¬ IsLiveName t
   pub class_new : IsOf (with_instance t name c) name c
   class_new = (got_insert name_cmp_total name_cmp_exact t.instances name c name c).1 (inl (refl, refl))
 
-module _ (n : Net) (name : List ℕ) (c : ClassId) (names : List (Option (List ℕ))) (room : ℕ) (id : InstanceId)
+module _ (n : Net) (name : List ℕ) (c : ClassId) (names : List (Option (List ℕ))) (room next : ℕ) (id : InstanceId)
     (old_whole : IsWholeNet n) (fresh : ¬ IsLiveName n.topology name) (free : IsFree n id) (sets : SetsOnly n.names names id (Some name)) where
   abbrev new : Net
-  new = created n name c names room
+  new = created n name c names room next
 
   elsewhere : (i : InstanceId) (x : List ℕ) → IsNamed n i x → i ≢ id
   elsewhere i x is e = let f : None ≡ Some x = sym free ∙ (ap (λ (k : InstanceId). slot n.names k.0) (sym e) ∙ is) in cc
@@ -163,21 +163,22 @@ pub create_makes : (n m : Net) (ns ms : Table) (counts counts' : Counts) (name c
     → Creates n m id name c → AddsAll n c ns ms id → IsWholeNet m → IsOne ms → CountWith n.topology.model counts c counts'
     → Makes n ns (Create name class) m ms counts'
 create_makes n m ns ms counts counts' name class c id kept good accepted named creates (events, are, adds) whole one with =
-    let v : Net = created n name c m.names m.room in
+    let v : Net = created n name c m.names m.room m.next in
     let made = creates.made in
-    let same : m ≡ v = λ i. record { topology = made i; names = m.names; room = m.room } in
+    let same : m ≡ v = λ i. record { topology = made i; names = m.names; room = m.room; next = m.next } in
     let fresh = accepted Exists in
     let changes : Changes n.topology (Create name class) v.topology = (c, named, refl) in
     let regular = typed_is_regular n.topology.model kept.typed in
     let new_whole = subst IsWholeNet same whole in
-    let fits = created_fits n name c m.names m.room id kept.whole fresh creates.free creates.named ns ms kept.table kept.typed new_whole one events are adds
+    let fits = created_fits n name c m.names m.room m.next id kept.whole fresh creates.free creates.named ns ms kept.table kept.typed new_whole one events are adds
     (λ many. accepted NodeLimit (v.topology, changes, many)) in
     let all : Makes n ns (Create name class) v ms counts' = record {
       applies = record {
         after = (accepted, changes);
-        instances = keeps_instances n name c m.names m.room id kept.whole fresh creates.free creates.named ns ms;
-        nodes = keeps_nodes n name c m.names m.room id kept.whole fresh creates.free creates.named ns ms events adds;
+        instances = keeps_instances n name c m.names m.room m.next id kept.whole fresh creates.free creates.named ns ms;
+        nodes = keeps_nodes n name c m.names m.room m.next id kept.whole fresh creates.free creates.named ns ms events adds;
         node_room = (c, events, named, are, adds.room);
+        instance_room = creates.room;
       };
       kept = record {
         sound = edit_keeps_sound n.topology v.topology (Create name class) regular good kept.sound (accepted, changes);

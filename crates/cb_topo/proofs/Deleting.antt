@@ -139,6 +139,7 @@ delete_makes n m ns ms counts counts' name c id kept accepted named of_class sam
         instances = keeps_instances n id here kept.whole ns ms;
         nodes = keeps_nodes n id here kept.whole ns ms removes;
         node_room = removes.room;
+        instance_room = refl;
       };
       kept = record {
         sound = edit_keeps_sound n.topology v.topology (Delete name) regular tt kept.sound (accepted, changes);

@@ -18,7 +18,7 @@ use Rattle.cb_net.specs.Numbered.{Net, IsWhole as IsWholeNet}
 use Rattle.cb_nodes.specs.Table.{Table}
 use Rattle.cb_accept.specs.declared.counts.Counts.{Counts}
 use Rattle.cb_accept.specs.Counts.{AreCounts}
-use Rattle.cb_topo.specs.Applied.{Applies, IsNodeRoomAfter}
+use Rattle.cb_topo.specs.Applied.{Applies, IsNodeRoomAfter, IsInstanceRoomAfter}
 use Rattle.cb_topo.specs.Kept.{IsKept, FitsTable}
 use Rattle.cb_topo.specs.Made.{IsAccepted, Makes, Rewires, rewired}
 use Rattle.cb_topo.proofs.Regular.{typed_is_regular}
@@ -86,9 +86,9 @@ module _ (n : Net) (links : set.FinSet link_cmp) (mutes : set.FinSet node_cmp) w
 
   -- an edit of links and mutes alone is made on the whole
   pub rewired_makes : (nodes : Table) (counts : Counts) (edit : Edit) → IsKept n nodes counts → HasGoodName edit
-      → IsAccepted n.topology edit → IsNodeRoomAfter (record { net = n; nodes = nodes }) edit (length nodes)
+      → IsAccepted n.topology edit → IsNodeRoomAfter (record { net = n; nodes = nodes }) edit (length nodes) → IsInstanceRoomAfter (record { net = n; nodes = nodes }) edit n.room
       → Changes n.topology edit new.topology → Makes n nodes edit new nodes counts
-  rewired_makes nodes counts edit kept good accepted room changes =
+  rewired_makes nodes counts edit kept good accepted room above changes =
       let sound = edit_keeps_sound n.topology new.topology edit (typed_is_regular n.topology.model kept.typed) good kept.sound (accepted, changes) in
       record {
         applies = record {
@@ -96,14 +96,15 @@ module _ (n : Net) (links : set.FinSet link_cmp) (mutes : set.FinSet node_cmp) w
           instances = λ i x is live. is;
           nodes = λ k q named is_node. record { node = named.node; is = named.is; instance = named.instance; event = named.event };
           node_room = room;
+          instance_room = above;
         };
         kept = rewired_kept nodes counts kept sound;
       }
 
 pub rewires_makes : (n m : Net) (nodes : Table) (counts : Counts) (edit : Edit) → IsKept n nodes counts → HasGoodName edit
-    → IsAccepted n.topology edit → IsNodeRoomAfter (record { net = n; nodes = nodes }) edit (length nodes)
+    → IsAccepted n.topology edit → IsNodeRoomAfter (record { net = n; nodes = nodes }) edit (length nodes) → IsInstanceRoomAfter (record { net = n; nodes = nodes }) edit n.room
     → Rewires n edit m → Makes n nodes edit m nodes counts
-rewires_makes n m nodes counts edit kept good accepted room rewires =
+rewires_makes n m nodes counts edit kept good accepted room above rewires =
     let changes = subst (λ (k : Net). Changes n.topology edit k.topology) rewires.is rewires.changes in
     subst (λ k. Makes n nodes edit k nodes counts) (sym rewires.is)
-    (rewired_makes n rewires.links rewires.mutes nodes counts edit kept good accepted room changes)
+    (rewired_makes n rewires.links rewires.mutes nodes counts edit kept good accepted room above changes)

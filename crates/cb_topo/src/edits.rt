@@ -1,12 +1,12 @@
 //! The topology under edits.
-ghost use Rattle.std.specs.Prelude.{◌≡◌, ◌≤◌, [], length, OnOk, OnErr, IfOk, IfErr, Err};
+ghost use Rattle.std.specs.Prelude.{◌≡◌, ◌≤◌, ◌<◌, [], length, OnOk, OnErr, IfOk, IfErr, Err};
 ghost use Rattle.cb_model.specs.WellTyped.{WellTyped};
 ghost use Rattle.cb_network.specs.declared.edit.EditRefusal.{EditRefusal as Refusal};
 ghost use Rattle.cb_network.specs.Sound.{Sound, node_limit};
 ghost use Rattle.cb_network.specs.Edits.{Refuses, IsAfter};
 ghost use Rattle.cb_network.specs.Laws.{HasGoodName};
 ghost use Rattle.cb_net.specs.Numbered.{empty_net};
-ghost use Rattle.cb_topo.specs.Numbered.{topology_of, IsWhole};
+ghost use Rattle.cb_topo.specs.Numbered.{Numbered, topology_of, IsWhole};
 ghost use Rattle.cb_topo.specs.Applied.{Applies, Prevents, MayGrow, IsNodeRoomAfter};
 ghost use Rattle.cb_topo.specs.Kept.{IsKept};
 ghost use Rattle.cb_topo.specs.Made.{IsAccepted, Makes};
@@ -24,12 +24,17 @@ use cb_nodes::NodeTable;
 use std::alloc::{AllocError, Global};
 
 impl Topology {
-    /// No instance of any class of the model. (Stub: the real one answers no error.)
-    pub fn new(alloc: Global, model: Model) -> Result<Topology, AllocError>
-        ensures net { IfOk result (λ t. t.net ≡ empty_net model) }
-        ensures nodes { IfOk result (λ t. t.nodes ≡ []) }
+    /// No instance of any class of the model.
+    pub fn new(alloc: Global, model: Model) -> Topology
+        ensures net { result.net ≡ empty_net model }
+        ensures nodes { result.nodes ≡ [] }
     {
-        Err(AllocError)
+        let _typed = model.tables();
+        Topology {
+            net: Net::new(alloc, model),
+            nodes: NodeTable::new(alloc),
+            counts: Counts::none(),
+        }
     }
 
     /// Says what holds of every topology here. It does nothing.
@@ -54,6 +59,17 @@ impl Topology {
                 self.nodes.room_with(model.events_of(class).len())
             }
             _ => self.nodes.room(),
+        }
+    }
+
+    /// What `instance_room` is once the edit is made.
+    pub fn instance_room_after(&self, edit: &Edit) -> usize
+        ensures above { (new : Numbered) → Applies self.now edit.now new → new.net.room ≤ result }
+        ensures grows { self.now.net.room < result → MayGrow edit.now }
+    {
+        match edit {
+            Edit::Create { .. } => self.net.room_with_one(),
+            _ => self.net.room(),
         }
     }
 

@@ -42,7 +42,7 @@ returns-in_ok-link-in-Link-clause-ok c =
     let same : c.args.edit.now ≡ Link c.bytes-in-Link.result.now c.bytes-in-Link-2.result.now c.bytes-in-Link-3.result.now = cc in
     let accepted = subst (IsAccepted n.topology) same c.requires.accepted in
     subst (λ edit. Makes n nodes edit m nodes c.args.counts) (sym same)
-    (rewires_makes n m nodes c.args.counts (Link c.bytes-in-Link.result.now c.bytes-in-Link-2.result.now c.bytes-in-Link-3.result.now) c.requires.kept tt accepted refl c.in_ok-link-in-Link.ensures.ok)
+    (rewires_makes n m nodes c.args.counts (Link c.bytes-in-Link.result.now c.bytes-in-Link-2.result.now c.bytes-in-Link-3.result.now) c.requires.kept tt accepted refl refl c.in_ok-link-in-Link.ensures.ok)
 
 pub returns-in-Unlink-clause-ok : goal.returns-in-Unlink-clause-ok
 returns-in-Unlink-clause-ok c =
@@ -52,7 +52,7 @@ returns-in-Unlink-clause-ok c =
     let same : c.args.edit.now ≡ Unlink c.bytes-in-Unlink.result.now c.bytes-in-Unlink-2.result.now c.bytes-in-Unlink-3.result.now = cc in
     let accepted = subst (IsAccepted n.topology) same c.requires.accepted in
     subst (λ edit. Makes n nodes edit m nodes c.args.counts) (sym same)
-    (rewires_makes n m nodes c.args.counts (Unlink c.bytes-in-Unlink.result.now c.bytes-in-Unlink-2.result.now c.bytes-in-Unlink-3.result.now) c.requires.kept tt accepted refl c.unlink.ensures)
+    (rewires_makes n m nodes c.args.counts (Unlink c.bytes-in-Unlink.result.now c.bytes-in-Unlink-2.result.now c.bytes-in-Unlink-3.result.now) c.requires.kept tt accepted refl refl c.unlink.ensures)
 
 pub returns-in-Mute-clause-ok : goal.returns-in-Mute-clause-ok
 returns-in-Mute-clause-ok c =
@@ -62,7 +62,7 @@ returns-in-Mute-clause-ok c =
     let same : c.args.edit.now ≡ Mute c.bytes-in-Mute.result.now c.bytes-in-Mute-2.result.now = cc in
     let accepted = subst (IsAccepted n.topology) same c.requires.accepted in
     subst (λ edit. Makes n nodes edit m nodes c.args.counts) (sym same)
-    (rewires_makes n m nodes c.args.counts (Mute c.bytes-in-Mute.result.now c.bytes-in-Mute-2.result.now) c.requires.kept tt accepted refl c.mute.ensures)
+    (rewires_makes n m nodes c.args.counts (Mute c.bytes-in-Mute.result.now c.bytes-in-Mute-2.result.now) c.requires.kept tt accepted refl refl c.mute.ensures)
 
 pub returns-in-Unmute-clause-ok : goal.returns-in-Unmute-clause-ok
 returns-in-Unmute-clause-ok c =
@@ -72,4 +72,4 @@ returns-in-Unmute-clause-ok c =
     let same : c.args.edit.now ≡ Unmute c.bytes-in-Unmute.result.now c.bytes-in-Unmute-2.result.now = cc in
     let accepted = subst (IsAccepted n.topology) same c.requires.accepted in
     subst (λ edit. Makes n nodes edit m nodes c.args.counts) (sym same)
-    (rewires_makes n m nodes c.args.counts (Unmute c.bytes-in-Unmute.result.now c.bytes-in-Unmute-2.result.now) c.requires.kept tt accepted refl c.unmute.ensures)
+    (rewires_makes n m nodes c.args.counts (Unmute c.bytes-in-Unmute.result.now c.bytes-in-Unmute-2.result.now) c.requires.kept tt accepted refl refl c.unmute.ensures)
