@@ -1,0 +1,7 @@
+pub mod Apart
+pub mod Members
+pub mod Own
+pub mod Changed
+pub mod Answered
+pub mod Looked
+pub mod Firsts

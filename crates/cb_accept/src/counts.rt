@@ -1,32 +1,51 @@
 //! How many nodes, problems and symptom nodes there are.
-ghost use Rattle.std.specs.Prelude.{IfOk};
 ghost use Rattle.cb_model.specs.declared.tables.Tables.{Tables};
 ghost use Rattle.cb_model.specs.WellTyped.{IsClass};
 ghost use Rattle.cb_network.specs.Topology.{empty_topology};
-ghost use Rattle.cb_accept.specs.Counts.{AreCounts, AreWithin, CountWith, CountWithout};
+ghost use Rattle.cb_accept.specs.Counts.{AreCounts, AreWithin, AreOwn, AreOfOneClass, CountWith, CountWithout};
 
 use cb_model::{ClassId, Model};
-use std::alloc::{AllocError, Global};
-
-#[derive(Clone, Copy, Debug, Drop)]
-pub enum Never {}
 
 /// How many nodes, problems and symptom nodes there are, the muted ones among them.
-#[derive(Clone, Copy, Debug)]
+#[derive(Clone, Copy, Debug, PartialEq, Eq)]
 pub struct Counts {
     pub nodes: usize,
     pub problems: usize,
     pub symptoms: usize,
-    // (Stub: the real one has no such field, and is `PartialEq, Eq` too.)
-    pub never: Never,
 }
 
 impl Counts {
-    /// Those of a topology without instances. (Stub: the real one takes no allocator and answers `Counts`.)
-    pub fn none(alloc: Global) -> Result<Counts, AllocError>
-        ensures { IfOk result (λ counts. (tables : Tables) → AreCounts (empty_topology tables) counts) }
+    /// Those of a topology without instances.
+    pub fn none() -> Counts
+        ensures { (tables : Tables) → AreCounts (empty_topology tables) result }
     {
-        Err(AllocError)
+        Counts {
+            nodes: 0,
+            problems: 0,
+            symptoms: 0,
+        }
+    }
+
+    // What one instance of the class has.
+    fn of_class(model: &Model, class: ClassId) -> Counts
+        requires { IsClass model.now class }
+        ensures own { AreOwn model.now class result }
+        ensures few { AreOfOneClass result }
+    {
+        let _typed = model.tables();
+        let events = model.events_of(class).as_slice();
+        let mut problems = 0;
+        let mut symptoms = 0;
+        for event in events {
+            let marks = model.marks(class, *event);
+            problems += usize::from(marks.problem);
+            symptoms += usize::from(marks.symptom);
+        }
+        Counts {
+            nodes: events.len(),
+            problems,
+            symptoms,
+        }
     }
 
     /// The counts once there is a further instance of the class.
@@ -35,7 +54,12 @@ impl Counts {
         requires few { AreWithin self }
         ensures { CountWith model.now self class result }
     {
-        match self.never {}
+        let own = Counts::of_class(model, class);
+        Counts {
+            nodes: self.nodes + own.nodes,
+            problems: self.problems + own.problems,
+            symptoms: self.symptoms + own.symptoms,
+        }
     }
 
     /// The counts once an instance of the class is gone.
@@ -43,6 +67,11 @@ impl Counts {
         requires class { IsClass model.now class }
         ensures { CountWithout model.now self class result }
     {
-        match self.never {}
+        let own = Counts::of_class(model, class);
+        Counts {
+            nodes: self.nodes.saturating_sub(own.nodes),
+            problems: self.problems.saturating_sub(own.problems),
+            symptoms: self.symptoms.saturating_sub(own.symptoms),
+        }
     }
 }

@@ -2,6 +2,11 @@
 #![tactic(auto)]
 
 mod counts;
+mod create;
+mod limits;
+mod link;
+mod lookup;
+mod mute;
 mod refusal;
 
 pub use counts::Counts;

@@ -5,6 +5,9 @@ ghost use Rattle.cb_network.specs.Edits.{Refuses, IsAfter};
 ghost use Rattle.cb_accept.specs.Counts.{AreCounts, AreWithin};
 
 use crate::counts::Counts;
+use crate::create::{may_create, may_delete};
+use crate::link::{may_link, may_unlink};
+use crate::mute::{may_mute, may_unmute};
 use cb_net::Net;
 use cb_network::{Edit, EditRefusal};
 
@@ -15,5 +18,12 @@ pub fn allows(net: &Net, counts: Counts, edit: &Edit) -> Result<(), EditRefusal>
     ensures allowed { OnOk result ((why : Refusal) → ¬ Refuses net.now.topology edit.now why) }
     ensures refused { IfErr result (λ why. IsAfter net.now.topology edit.now (Err why)) }
 {
-    match counts.never {}
+    match edit {
+        Edit::Create { name, class } => may_create(net, counts, name.bytes(), class.bytes()),
+        Edit::Delete { name } => may_delete(net, name.bytes()),
+        Edit::Link { a, rel, b } => may_link(net, a.bytes(), rel.bytes(), b.bytes()),
+        Edit::Unlink { a, rel, b } => may_unlink(net, a.bytes(), rel.bytes(), b.bytes()),
+        Edit::Mute { event, name } => may_mute(net, event.bytes(), name.bytes()),
+        Edit::Unmute { event, name } => may_unmute(net, event.bytes(), name.bytes()),
+    }
 }

@@ -137,6 +137,13 @@ impl Net {
         self.room
     }
 
+    /// The number that the next instance gets.
+    pub fn next(&self) -> InstanceId
+        ensures { result.0 ≡ self.now.next }
+    {
+        InstanceId(self.slots.vacant_key().min(usize::MAX - 1))
+    }
+
     /// What `room` is once a further instance is made.
     pub fn room_with_one(&self) -> usize
         ensures { result ≡ max self.now.room (self.now.next + 1) }

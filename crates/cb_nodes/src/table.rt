@@ -1,7 +1,11 @@
 //! The table of nodes and numbers.
-ghost use Rattle.std.specs.Prelude.{◌≡◌, ◌≤◌, ◌<◌, ◌^◌, ◌↔◌, [], length, OnOk, OnErr, IfSome, IfNone};
+ghost use Rattle.std.specs.Prelude.{◌≡◌, ◌≤◌, ◌<◌, ◌^◌, ◌↔◌, List, [], length, OnOk, OnErr, IfOk, IfSome, IfNone};
+ghost use Rattle.cb_model.specs.Views.{AreEventsOf};
+ghost use Rattle.cb_model.specs.WellTyped.{IsClass};
 ghost use Rattle.cb_model.specs.declared.id.EventId.{EventId as Event};
 ghost use Rattle.cb_net.specs.Numbered.{Once};
+ghost use Rattle.cb_network.specs.Topology.{IsLive as IsLiveName};
+ghost use Rattle.cb_nodes.specs.Created.{Creates, AddsAll, IsFreed};
 ghost use Rattle.cb_nodes.specs.declared.id.NodeId.{NodeId as Id};
 ghost use Rattle.cb_nodes.specs.Table.{IsNode, HasNumber, node_of, HasEvent, IsOne, Adds, Removes, count_of, room_with};
 
@@ -10,8 +14,8 @@ use crate::listed::Listed;
 use crate::lists::{free_all, number_events, number_of, reserve};
 use crate::node::Node;
 use crate::numbers::Numbers;
-use cb_model::EventId;
-use cb_net::InstanceId;
+use cb_model::{ClassId, EventId};
+use cb_net::{InstanceId, Net};
 use std::alloc::{AllocError, Global};
 
 /// The nodes of all numbers, and for each instance the numbers of its events.
@@ -74,6 +78,34 @@ impl NodeTable {
             events,
         );
         Ok(())
+    }
+
+    /// A new instance of the net, each of whose events gets a number that was free.
+    pub fn create(
+        &mut self,
+        alloc: Global,
+        net: &mut Net,
+        name: &[u8],
+        class: ClassId,
+    ) -> Result<InstanceId, AllocError>
+        requires class { IsClass net.old.topology.model class }
+        requires absent { ¬ IsLiveName net.old.topology name.now }
+        requires freed { IsFreed net.old self.old }
+        requires few { (events : List Event) → AreEventsOf net.old.topology.model class events → room_with self.old (length events) ≤ 2 ^ 32 }
+        ensures created { IfOk result (λ id. Creates net.old net.new id name.now class) }
+        ensures added { IfOk result (AddsAll net.old class self.old self.new) }
+        ensures net { OnErr result (net.new ≡ net.old) }
+        ensures nodes { OnErr result (self.new ≡ self.old) }
+    {
+        let instance = net.next();
+        let count = net.model().events_of(class).len();
+        self.numbers.reserve(count)?;
+        reserve(alloc, &mut self.lists, instance, count)?;
+        net.create(alloc, name, class)?;
+        let events = net.model().events_of(class).as_slice();
+        let list = &mut self.lists[instance.0];
+        number_events(&mut self.numbers, list, instance, events);
+        Ok(instance)
     }
 
     /// Takes the numbers of the instance's events away. It takes no memory.

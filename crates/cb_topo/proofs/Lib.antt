@@ -1,0 +1,10 @@
+pub mod Regular
+pub mod Named
+pub mod Counted
+pub mod Creating
+pub mod Deleting
+pub mod Rewiring
+pub mod Asking
+pub mod Limits
+pub mod Naming
+pub mod Listing

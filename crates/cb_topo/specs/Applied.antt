@@ -1,5 +1,5 @@
 -- What an accepted edit does to the numbers.
-use Rattle.std.specs.Prelude.{◌≡◌, ℕ, List, length, Ok, Err}
+use Rattle.std.specs.Prelude.{◌≡◌, ◌+◌, ℕ, List, length, max, Ok, Err}
 use Rattle.cb_model.specs.declared.id.ClassId.{ClassId}
 use Rattle.cb_model.specs.declared.id.EventId.{EventId}
 use Rattle.cb_model.specs.declared.node.NodeName.{NodeName}
@@ -33,12 +33,18 @@ IsNodeRoomAfter n (Create name class) room = (c : ClassId) × (events : List Eve
     × AreEventsOf (topology_of n).model c events × (room ≡ room_with n.nodes (length events))
 IsNodeRoomAfter n edit room = room ≡ length n.nodes
 
+-- numbers of instances are below this once the edit is made: a further instance alone needs a new one, where none is free
+abbrev pub IsInstanceRoomAfter : Numbered → Edit → ℕ → Type 0
+IsInstanceRoomAfter n (Create name class) room = room ≡ max n.net.room (n.net.next + 1)
+IsInstanceRoomAfter n edit room = room ≡ n.net.room
+
 -- the accepted edit makes the new of the old
 pub record Applies (old : Numbered) (edit : Edit) (new : Numbered) : Type 0 where
   pub after : IsAfter (topology_of old) edit (Ok (topology_of new))
   pub instances : KeepsInstances old new
   pub nodes : KeepsNodes old new
   pub node_room : IsNodeRoomAfter old edit (length new.nodes)
+  pub instance_room : IsInstanceRoomAfter old edit new.net.room
 
 -- the edit is one that may need memory
 abbrev pub MayGrow : Edit → Type 0

@@ -1,3 +1,6 @@
 pub mod Numbered
 pub mod Codes
 pub mod Applied
+pub mod Kept
+pub mod Made
+pub mod Ordered

@@ -1,7 +1,15 @@
 //! A topology whose instances and nodes have numbers that stay, changed by edits.
 #![tactic(auto)]
 
+mod edits;
 mod fault;
+mod instances;
+pub mod laws;
+mod links;
+mod mutes;
+mod kind;
+mod order;
+mod readers;
 mod topology;
 
 pub use fault::EditFault;

@@ -1,0 +1,41 @@
+use Rattle.std.proofs.Common.{◌↔◌, IsTrue, subst}
+use Rattle.cb_model.specs.declared.node.NodeName.{NodeName}
+use Rattle.cb_network.specs.declared.edit.Edit.TheVariants.{Mute, Unmute}
+use Rattle.cb_network.specs.declared.edit.EditRefusal.TheVariants.{NoSymptom}
+use Rattle.cb_network.specs.Topology.{IsMuted}
+use Rattle.cb_net.specs.declared.id.InstanceId.{InstanceId}
+use Rattle.cb_net.specs.Numbered.{IsNamed}
+use Rattle.cb_accept.specs.Refusals.{IsRefused}
+use Rattle.cb_accept.proofs.Answered.{absent_err, present}
+use Rattle.cb_accept.proofs.Firsts.{no_symptom_to_mute, no_symptom_to_unmute}
+use Rattle.cb_accept.proofs.mute.is_muted.Goals as goal
+
+pub returns-in_err-event-clause-mute : goal.returns-in_err-event-clause-mute
+returns-in_err-event-clause-mute c =
+    let net = c.args.net.now in
+    let named = present (λ (id : InstanceId). IsNamed net id c.args.name.now) c.instance_named.result c.in_ok-id.id c.in_ok-id.ensures.ok_part c.instance_named.ensures.found in
+    absent_err c.symptom_at.result NoSymptom _ c.from_residual-in_err-event.result _ (IsRefused net.topology (Mute c.args.event.now c.args.name.now))
+    c.in_err-event.ensures.value c.from_residual-in_err-event.ensures.1 c.symptom_at.ensures.absent
+    (λ none. no_symptom_to_mute net.topology c.args.event.now c.args.name.now (c.is_whole.ensures.live _ _ named) (none c.args.name.now named))
+
+pub returns-in_err-event-clause-unmute : goal.returns-in_err-event-clause-unmute
+returns-in_err-event-clause-unmute c =
+    let net = c.args.net.now in
+    let named = present (λ (id : InstanceId). IsNamed net id c.args.name.now) c.instance_named.result c.in_ok-id.id c.in_ok-id.ensures.ok_part c.instance_named.ensures.found in
+    absent_err c.symptom_at.result NoSymptom _ c.from_residual-in_err-event.result _ (IsRefused net.topology (Unmute c.args.event.now c.args.name.now))
+    c.in_err-event.ensures.value c.from_residual-in_err-event.ensures.1 c.symptom_at.ensures.absent
+    (λ none. no_symptom_to_unmute net.topology c.args.event.now c.args.name.now (c.is_whole.ensures.live _ _ named) (none c.args.name.now named))
+
+pub is_muted-requires-clause-event : goal.is_muted-requires-clause-event
+is_muted-requires-clause-event c =
+    let net = c.args.net.now in
+    let named = present (λ (id : InstanceId). IsNamed net id c.args.name.now) c.instance_named.result c.in_ok-id.id c.in_ok-id.ensures.ok_part c.instance_named.ensures.found in
+    let at = present _ c.symptom_at.result c.in_ok-event.event c.in_ok-event.ensures.ok_part c.symptom_at.ensures.found in
+    (at c.args.name.now named).has
+
+pub returns-clause-found : goal.returns-clause-found
+returns-clause-found c =
+    let net = c.args.net.now in
+    let named = present (λ (id : InstanceId). IsNamed net id c.args.name.now) c.instance_named.result c.in_ok-id.id c.in_ok-id.ensures.ok_part c.instance_named.ensures.found in
+    let at = present _ c.symptom_at.result c.in_ok-event.event c.in_ok-event.ensures.ok_part c.symptom_at.ensures.found c.args.name.now named in
+    record { symptom = at.symptom; tells = subst (λ (n : NodeName). IsTrue c.is_muted.result ↔ IsMuted net.topology n) at.node c.is_muted.ensures }

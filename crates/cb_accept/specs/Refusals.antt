@@ -1,0 +1,66 @@
+-- What is looked up to decide an edit.
+use Rattle.std.specs.Prelude.{◌≡◌, ◌↔◌, ℕ, ◌<◌, ◌≤◌, List, Some, slice_get, IsTrue, Bool, Err}
+use Rattle.cb_model.specs.declared.id.ClassId.{ClassId}
+use Rattle.cb_model.specs.declared.id.EventId.{EventId}
+use Rattle.cb_model.specs.declared.id.RelId.{RelId}
+use Rattle.cb_model.specs.declared.tables.RelRow.{RelRow}
+use Rattle.cb_model.specs.Classes.{IsA}
+use Rattle.cb_model.specs.WellTyped.{IsClass}
+use Rattle.cb_network.specs.declared.edit.Edit.{Edit}
+use Rattle.cb_network.specs.declared.edit.EditRefusal.{EditRefusal}
+use Rattle.cb_network.specs.declared.edit.EditRefusal.TheVariants.{NodeLimit, ProblemLimit, SymptomLimit}
+use Rattle.cb_network.specs.Topology.{Topology, IsOf, IsMuted}
+use Rattle.cb_network.specs.Nodes.{IsSymptomNode}
+use Rattle.cb_network.specs.Sound.{node_limit, problem_limit, symptom_limit}
+use Rattle.cb_network.specs.Edits.{node_of, Refuses, IsAfter, IsRelationAt}
+use Rattle.cb_net.specs.declared.id.InstanceId.{InstanceId}
+use Rattle.cb_net.specs.Numbered.{Net, IsNamed, HasEventAt, node_at}
+use Rattle.cb_accept.specs.declared.counts.Counts.{Counts}
+use Rattle.cb_accept.specs.declared.link.Ends.{Ends}
+
+-- no refusal holds
+abbrev pub IsAccepted : Topology → Edit → Type 0
+IsAccepted t edit = (why : EditRefusal) → ¬ Refuses t edit why
+
+-- this refusal holds, and none that comes before it
+abbrev pub IsRefused : Topology → Edit → EditRefusal → Type 0
+IsRefused t edit why = IsAfter t edit (Err why)
+
+-- the first limit that a number is above
+abbrev pub IsFirstLimit : Counts → EditRefusal → Type 0
+IsFirstLimit counts NodeLimit = node_limit < counts.nodes
+IsFirstLimit counts ProblemLimit = (counts.nodes ≤ node_limit) × (problem_limit < counts.problems)
+IsFirstLimit counts SymptomLimit = (counts.nodes ≤ node_limit) × (counts.problems ≤ problem_limit) × (symptom_limit < counts.symptoms)
+IsFirstLimit counts why = ⊥
+
+-- the instance is of this class, which is one of the model's
+pub record IsClassAt (n : Net) (id : InstanceId) (class : ClassId) : Type 0 where
+  pub name : List ℕ
+  pub named : IsNamed n id name
+  pub of_class : IsOf n.topology name class
+  pub within : IsClass n.topology.model class
+
+-- b's class is the target of the relation, or a descendant of that
+pub record FitsTarget (t : Topology) (b : List ℕ) (rel : RelId) : Type 0 where
+  pub class : ClassId
+  pub of_class : IsOf t b class
+  pub row : RelRow
+  pub is : slice_get t.model.relations rel.0 ≡ Some row
+  pub kind : IsA t.model class row.target
+
+-- these are the instances a and b, and the relation of this name that a's class has
+pub record AreEnds (n : Net) (a rel b : List ℕ) (ends : Ends) : Type 0 where
+  pub from : IsNamed n ends.from a
+  pub to : IsNamed n ends.to b
+  pub at_a : IsRelationAt n.topology a rel ends.rel
+
+-- the event, of this name, is a symptom of the instance
+pub record IsSymptomAt (n : Net) (id : InstanceId) (event name : List ℕ) (e : EventId) : Type 0 where
+  pub symptom : IsSymptomNode n.topology (node_of event name)
+  pub has : HasEventAt n id e
+  pub node : node_at n id e ≡ node_of event name
+
+-- the node is a symptom, and whether it is muted
+pub record TellsMute (t : Topology) (event name : List ℕ) (muted : Bool) : Type 0 where
+  pub symptom : IsSymptomNode t (node_of event name)
+  pub tells : IsTrue muted ↔ IsMuted t (node_of event name)

@@ -1,0 +1,29 @@
+use Rattle.std.proofs.Common.{subst}
+use Rattle.std.specs.Prelude.{IfNone}
+use Rattle.cb_model.specs.declared.id.RelId.{RelId}
+use Rattle.cb_model.specs.declared.tables.Tables.{Tables}
+use Rattle.cb_model.specs.Classes.{NamesRelation}
+use Rattle.cb_net.specs.Numbered.{name_at}
+use Rattle.cb_topo.proofs.Asking.{relation_there, found_is}
+use Rattle.cb_topo.proofs.Named.{named_at}
+use Rattle.cb_topo.proofs.links.relation_at.Goals as goal
+
+pub unwrap-requires : goal.unwrap-requires
+unwrap-requires c =
+    let net = c.args.net.now in
+    let at = name_at net c.args.id in
+    let of_class = c.class_of-class.ensures at (named_at net c.args.id c.requires.live) in
+    let absent = subst (λ (t : Tables). IfNone c.relation_named.result ((r : RelId) → ¬ NamesRelation t c.class_of-class.result c.args.name.now r)) c.model.ensures c.relation_named.ensures.absent in
+    relation_there net.topology at c.args.name.now c.class_of-class.result of_class c.relation_named.result absent c.requires.has
+
+pub returns : goal.returns
+returns c =
+    let net = c.args.net.now in
+    let at = name_at net c.args.id in
+    let of_class = c.class_of-class.ensures at (named_at net c.args.id c.requires.live) in
+    let named = found_is (NamesRelation c.model.result.now c.class_of-class.result c.args.name.now) c.relation_named.result c.unwrap.result c.unwrap.ensures c.relation_named.ensures.found in
+    record {
+      class = c.class_of-class.result;
+      of_class = of_class;
+      named = subst (λ (t : Tables). NamesRelation t c.class_of-class.result c.args.name.now c.unwrap.result) c.model.ensures named;
+    }

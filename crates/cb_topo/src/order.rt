@@ -1,0 +1,77 @@
+//! Columns and problems in order.
+ghost use Rattle.std.specs.Prelude.{◌↔◌, List as Items, IfOk, IsTrue};
+ghost use Rattle.cb_model.specs.declared.node.NodeName.{NodeName as Node};
+ghost use Rattle.cb_network.specs.Matrix.{AreColumns, AreProblems};
+ghost use Rattle.cb_topo.specs.Numbered.{topology_of, IsNodeNamed, IsLiveNode, AreNamed};
+ghost use Rattle.cb_topo.specs.Ordered.{IsOfKind, AreOfKind, LeadsToKind};
+
+use crate::kind::Kind;
+use crate::topology::Topology;
+use cb_model::{List, Name, NodeName};
+use cb_nodes::NodeId;
+use std::alloc::{AllocError, Global};
+use std::collections::BTreeMap;
+
+impl Topology {
+    /// The columns in order.
+    pub fn columns(&self, alloc: Global) -> Result<List<NodeId>, AllocError>
+        ensures { IfOk result (λ ids. (names : Items Node) × AreColumns (topology_of self.now) names × AreNamed self.now ids names) }
+    {
+        self.listed(alloc, Kind::Column)
+    }
+
+    /// The problems in order.
+    pub fn problems(&self, alloc: Global) -> Result<List<NodeId>, AllocError>
+        ensures { IfOk result (λ ids. (names : Items Node) × AreProblems (topology_of self.now) names × AreNamed self.now ids names) }
+    {
+        self.listed(alloc, Kind::Problem)
+    }
+
+    // The nodes of the kind, in order.
+    fn listed(&self, alloc: Global, kind: Kind) -> Result<List<NodeId>, AllocError>
+        ensures { IfOk result (λ ids. (names : Items Node) × AreOfKind kind (topology_of self.now) names × AreNamed self.now ids names) }
+    {
+        let by_name = self.by_name(alloc, kind)?;
+        let mut nodes = List::new(alloc);
+        for node in by_name.values() {
+            nodes.push(*node)?;
+        }
+        Ok(nodes)
+    }
+
+    // The nodes of the kind, by their names.
+    fn by_name(&self, alloc: Global, kind: Kind) -> Result<BTreeMap<NodeName, NodeId>, AllocError>
+        ensures { IfOk result (LeadsToKind self.now kind) }
+    {
+        let mut nodes = BTreeMap::new(alloc);
+        for place in 0..self.nodes.room() {
+            let node = NodeId(place as u32);
+            if self.is_live(node) && self.is_of(node, kind) {
+                nodes.insert(self.copy_name(alloc, node)?, node)?;
+            }
+        }
+        Ok(nodes)
+    }
+
+    fn is_of(&self, node: NodeId, kind: Kind) -> bool
+        requires { IsLiveNode self.now node }
+        ensures { (name : Node) → IsNodeNamed self.now node name → IsTrue result ↔ IsOfKind kind (topology_of self.now) name }
+    {
+        match kind {
+            Kind::Column => self.is_column(node),
+            Kind::Problem => self.is_problem(node),
+        }
+    }
+
+    // A copy of the node's name.
+    fn copy_name(&self, alloc: Global, node: NodeId) -> Result<NodeName, AllocError>
+        requires { IsLiveNode self.now node }
+        ensures { IfOk result (IsNodeNamed self.now node) }
+    {
+        let (event, instance) = self.node_name(node);
+        Ok(NodeName {
+            event: Name::of(alloc, event)?,
+            instance: Name::of(alloc, instance)?,
+        })
+    }
+}
