@@ -50,7 +50,7 @@ pub fn read_topology(alloc: Global, model: Model, text: &[u8]) -> Result<Topolog
     if let Some(line) = first_long(text) {
         return Err(TopologyStop::LongLine { line });
     }
-    let mut topology = Topology::new(alloc, model)?;
+    let mut topology = Topology::new(alloc, model);
     let mut number = 0;
     for line in lines(text) {
         number += 1;
