@@ -154,12 +154,29 @@ fn edit_of(
     let one = Name::of(alloc, one)?;
     let two = Name::of(alloc, two)?;
     Ok(match word {
-        Word::Create => Edit::Create { name: one, class: two },
+        Word::Create => Edit::Create {
+            name: one,
+            class: two,
+        },
         Word::Delete => Edit::Delete { name: one },
-        Word::Link => Edit::Link { a: one, rel: two, b: Name::of(alloc, three)? },
-        Word::Unlink => Edit::Unlink { a: one, rel: two, b: Name::of(alloc, three)? },
-        Word::Mute => Edit::Mute { event: one, name: two },
-        Word::Unmute => Edit::Unmute { event: one, name: two },
+        Word::Link => Edit::Link {
+            a: one,
+            rel: two,
+            b: Name::of(alloc, three)?,
+        },
+        Word::Unlink => Edit::Unlink {
+            a: one,
+            rel: two,
+            b: Name::of(alloc, three)?,
+        },
+        Word::Mute => Edit::Mute {
+            event: one,
+            name: two,
+        },
+        Word::Unmute => Edit::Unmute {
+            event: one,
+            name: two,
+        },
     })
 }
 
@@ -286,42 +303,162 @@ fn create_numbered(
 // Edits, and the refusal of each.
 const EDITS: [(Word, &[u8], &[u8], &[u8], Option<EditRefusal>); 38] = [
     (Word::Create, b"x", b"Nope", b"", Some(EditRefusal::NoClass)),
-    (Word::Create, b"hub", b"Nope", b"", Some(EditRefusal::NoClass)),
-    (Word::Create, b"hub", b"Port", b"", Some(EditRefusal::Exists)),
+    (
+        Word::Create,
+        b"hub",
+        b"Nope",
+        b"",
+        Some(EditRefusal::NoClass),
+    ),
+    (
+        Word::Create,
+        b"hub",
+        b"Port",
+        b"",
+        Some(EditRefusal::Exists),
+    ),
     (Word::Create, b"x", b"Port", b"", None),
     (Word::Delete, b"x", b"", b"", Some(EditRefusal::NoInstance)),
     (Word::Delete, b"hub", b"", b"", None),
-    (Word::Link, b"hub", b"ports", b"x", Some(EditRefusal::NoInstance)),
-    (Word::Link, b"x", b"nope", b"p1", Some(EditRefusal::NoInstance)),
-    (Word::Link, b"hub", b"nope", b"p1", Some(EditRefusal::NoRelation)),
-    (Word::Link, b"p1", b"ports", b"p2", Some(EditRefusal::NoRelation)),
-    (Word::Link, b"hub", b"ports", b"low", Some(EditRefusal::WrongKind)),
-    (Word::Link, b"p1", b"owner", b"p2", Some(EditRefusal::WrongKind)),
-    (Word::Link, b"hub", b"ports", b"p1", Some(EditRefusal::Linked)),
-    (Word::Link, b"p1", b"owner", b"hub", Some(EditRefusal::Linked)),
+    (
+        Word::Link,
+        b"hub",
+        b"ports",
+        b"x",
+        Some(EditRefusal::NoInstance),
+    ),
+    (
+        Word::Link,
+        b"x",
+        b"nope",
+        b"p1",
+        Some(EditRefusal::NoInstance),
+    ),
+    (
+        Word::Link,
+        b"hub",
+        b"nope",
+        b"p1",
+        Some(EditRefusal::NoRelation),
+    ),
+    (
+        Word::Link,
+        b"p1",
+        b"ports",
+        b"p2",
+        Some(EditRefusal::NoRelation),
+    ),
+    (
+        Word::Link,
+        b"hub",
+        b"ports",
+        b"low",
+        Some(EditRefusal::WrongKind),
+    ),
+    (
+        Word::Link,
+        b"p1",
+        b"owner",
+        b"p2",
+        Some(EditRefusal::WrongKind),
+    ),
+    (
+        Word::Link,
+        b"hub",
+        b"ports",
+        b"p1",
+        Some(EditRefusal::Linked),
+    ),
+    (
+        Word::Link,
+        b"p1",
+        b"owner",
+        b"hub",
+        Some(EditRefusal::Linked),
+    ),
     // A port has one owner, from whichever side the link is told.
-    (Word::Link, b"p1", b"owner", b"low", Some(EditRefusal::Occupied)),
-    (Word::Link, b"low", b"ports", b"p1", Some(EditRefusal::Occupied)),
+    (
+        Word::Link,
+        b"p1",
+        b"owner",
+        b"low",
+        Some(EditRefusal::Occupied),
+    ),
+    (
+        Word::Link,
+        b"low",
+        b"ports",
+        b"p1",
+        Some(EditRefusal::Occupied),
+    ),
     (Word::Link, b"hub", b"ports", b"p2", None),
     (Word::Link, b"p2", b"owner", b"low", None),
-    (Word::Unlink, b"x", b"owner", b"hub", Some(EditRefusal::NoInstance)),
-    (Word::Unlink, b"p1", b"owner", b"x", Some(EditRefusal::NoInstance)),
-    (Word::Unlink, b"p1", b"nope", b"hub", Some(EditRefusal::NoRelation)),
-    (Word::Unlink, b"p1", b"owner", b"low", Some(EditRefusal::NotLinked)),
-    (Word::Unlink, b"hub", b"ports", b"hub", Some(EditRefusal::NotLinked)),
+    (
+        Word::Unlink,
+        b"x",
+        b"owner",
+        b"hub",
+        Some(EditRefusal::NoInstance),
+    ),
+    (
+        Word::Unlink,
+        b"p1",
+        b"owner",
+        b"x",
+        Some(EditRefusal::NoInstance),
+    ),
+    (
+        Word::Unlink,
+        b"p1",
+        b"nope",
+        b"hub",
+        Some(EditRefusal::NoRelation),
+    ),
+    (
+        Word::Unlink,
+        b"p1",
+        b"owner",
+        b"low",
+        Some(EditRefusal::NotLinked),
+    ),
+    (
+        Word::Unlink,
+        b"hub",
+        b"ports",
+        b"hub",
+        Some(EditRefusal::NotLinked),
+    ),
     (Word::Unlink, b"p1", b"owner", b"hub", None),
     (Word::Unlink, b"hub", b"ports", b"p1", None),
     (Word::Mute, b"S", b"x", b"", Some(EditRefusal::NoInstance)),
     (Word::Mute, b"P", b"hub", b"", Some(EditRefusal::NoSymptom)),
-    (Word::Mute, b"nope", b"hub", b"", Some(EditRefusal::NoSymptom)),
+    (
+        Word::Mute,
+        b"nope",
+        b"hub",
+        b"",
+        Some(EditRefusal::NoSymptom),
+    ),
     (Word::Mute, b"S", b"p1", b"", Some(EditRefusal::NoSymptom)),
     // Hidden at this class.
     (Word::Mute, b"T", b"low", b"", Some(EditRefusal::NoSymptom)),
-    (Word::Mute, b"S", b"hub", b"", Some(EditRefusal::AlreadyMuted)),
+    (
+        Word::Mute,
+        b"S",
+        b"hub",
+        b"",
+        Some(EditRefusal::AlreadyMuted),
+    ),
     (Word::Mute, b"T", b"hub", b"", None),
     (Word::Mute, b"S", b"low", b"", None),
     (Word::Unmute, b"S", b"x", b"", Some(EditRefusal::NoInstance)),
-    (Word::Unmute, b"T", b"low", b"", Some(EditRefusal::NoSymptom)),
+    (
+        Word::Unmute,
+        b"T",
+        b"low",
+        b"",
+        Some(EditRefusal::NoSymptom),
+    ),
     (Word::Unmute, b"T", b"hub", b"", Some(EditRefusal::NotMuted)),
     (Word::Unmute, b"S", b"low", b"", Some(EditRefusal::NotMuted)),
     (Word::Unmute, b"S", b"hub", b"", None),
@@ -387,10 +524,34 @@ fn limits(rt: HostRuntime) -> Result<(), AllocError> {
     let most = Some(EditRefusal::InstanceLimit);
     let symptoms = Some(EditRefusal::SymptomLimit);
     let alloc = rt.alloc();
-    try_full(&rt, alloc, b"Port", 16_383, &[(Word::Create, b"new", b"Port", b"", None)])?;
-    try_full(&rt, alloc, b"Port", 16_384, &[(Word::Create, b"new", b"Port", b"", most)])?;
-    try_full(&rt, alloc, b"Base", 4_095, &[(Word::Create, b"new", b"Base", b"", None)])?;
-    try_full(&rt, alloc, b"Base", 4_096, &[(Word::Create, b"new", b"Low", b"", symptoms)])
+    try_full(
+        &rt,
+        alloc,
+        b"Port",
+        16_383,
+        &[(Word::Create, b"new", b"Port", b"", None)],
+    )?;
+    try_full(
+        &rt,
+        alloc,
+        b"Port",
+        16_384,
+        &[(Word::Create, b"new", b"Port", b"", most)],
+    )?;
+    try_full(
+        &rt,
+        alloc,
+        b"Base",
+        4_095,
+        &[(Word::Create, b"new", b"Base", b"", None)],
+    )?;
+    try_full(
+        &rt,
+        alloc,
+        b"Base",
+        4_096,
+        &[(Word::Create, b"new", b"Low", b"", symptoms)],
+    )
 }
 
 #[test]
