@@ -1,5 +1,5 @@
 -- The counts of a topology that gains or loses an instance.
-use Rattle.std.proofs.Common.{◌≡◌, ◌⊎◌, ◌↔◌, ℕ, ◌+◌, ◌-◌, List, refl, sym, ap, subst, ◌∙◌, inl, inr, arith, Some}
+use Rattle.std.proofs.Common.{◌≡◌, ◌⊎◌, ◌↔◌, ℕ, ◌+◌, ◌-◌, ◌≤◌, List, refl, sym, ap, subst, ◌∙◌, inl, inr, arith, Some}
 use Rattle.std.specs.Prelude.{is_some}
 use Rattle.std.specs.FinMap as map
 use Rattle.cb_model.specs.declared.id.ClassId.{ClassId}
@@ -9,13 +9,14 @@ use Rattle.cb_model.specs.declared.tables.Tables.{Tables}
 use Rattle.cb_model.specs.Order.{name_cmp}
 use Rattle.cb_model.proofs.Rising.{name_cmp_total, name_cmp_exact}
 use Rattle.cb_network.specs.Topology.{Topology, empty_topology, IsLive, IsOf}
-use Rattle.cb_network.specs.Nodes.{IsNodeOf, IsProblem, IsSymptomNode, IsCount}
+use Rattle.cb_network.specs.Nodes.{IsNodeOf, IsProblem, IsSymptomNode, IsCount, IsWithin}
+use Rattle.cb_network.specs.Sound.{Sound, node_limit, problem_limit, symptom_limit}
 use Rattle.cb_network.specs.Edits.{with_instance, without_instance}
 use Rattle.cb_network.proofs.Sets.{got_insert, got_remove, decide_key}
 use Rattle.cb_network.proofs.Kept.{live_of}
 use Rattle.cb_network.proofs.Counts.{Kind, IsAt, of_nodes, of_problems, of_symptoms, nodes_are, problems_are, symptoms_are, same_count, turned, count_is_one, within_deleted}
 use Rattle.cb_accept.specs.declared.counts.Counts.{Counts}
-use Rattle.cb_accept.specs.Counts.{AreCounts, AreOwn, CountWith, CountWithout}
+use Rattle.cb_accept.specs.Counts.{AreCounts, AreWithin, AreOwn, CountWith, CountWithout}
 use Rattle.cb_accept.proofs.Apart.{count_of_either, count_of_none}
 use Rattle.cb_accept.proofs.Own.{IsOwn}
 
@@ -176,3 +177,14 @@ counts_stay t u counts model instances are = record {
           let (c, of, em) = (is u n).0 p in
           (is t n).1 (c, subst (λ (m : map.FinMap name_cmp ClassId). map.get m n.instance ≡ Some c) instances of, subst (λ (m : Tables). (e : EventId) × M m c e n.event) model em),
     )
+
+-- a sound topology has no more than the limits
+pub within_of_sound : (t : Topology) (counts : Counts) → Sound t → AreCounts t counts → AreWithin counts
+within_of_sound t counts sound are = record {
+  nodes = small (IsNodeOf t) node_limit counts.nodes sound.few_nodes are.nodes;
+  problems = small (IsProblem t) problem_limit counts.problems sound.few_problems are.problems;
+  symptoms = small (IsSymptomNode t) symptom_limit counts.symptoms sound.few_symptoms are.symptoms;
+}
+  where
+    small : (P : NodeName → Type 0) (limit k : ℕ) → IsWithin P limit → IsCount P k → k ≤ limit
+    small P limit k (m, count, few) count' = let same = count_is_one P m k count count' in omega arith

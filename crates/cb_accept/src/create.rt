@@ -9,8 +9,8 @@ use crate::limits::{MOST_INSTANCES, MOST_NODES, MOST_PROBLEMS, MOST_SYMPTOMS};
 use cb_net::Net;
 use cb_network::EditRefusal;
 
-// Whether no number is above its limit, and else the first one that is.
-fn are_within(counts: Counts) -> Result<(), EditRefusal>
+/// Whether no number is above its limit, and else the first one that is.
+pub fn are_within(counts: Counts) -> Result<(), EditRefusal>
     ensures within { OnOk result (AreWithin counts) }
     ensures beyond { IfErr result (IsFirstLimit counts) }
 {

@@ -11,3 +11,6 @@ mod refusal;
 
 pub use counts::Counts;
 pub use refusal::allows;
+
+#[cfg(test)]
+mod tests;
