@@ -6,5 +6,6 @@ pub mod Deleting
 pub mod Rewiring
 pub mod Asking
 pub mod Limits
+pub mod Empty
 pub mod Naming
 pub mod Listing

@@ -4,7 +4,6 @@
 mod edits;
 mod fault;
 mod instances;
-pub mod laws;
 mod links;
 mod mutes;
 mod kind;
