@@ -86,11 +86,11 @@ effects_gained n i cause rule caused path same here at members are old new gains
   λ h. elim ((gains k).0 h) [
     | inl g ↦ inl g
     | inr g ↦ inr (record {
-        caused = caused;
-        at = g.0;
-        leads = subst (λ p. LeadsAt n.net i p g.0) same ((at g.0.0).0 ((are g.0).0 g.1));
-        is = g.2;
-      })
+      caused = caused;
+      at = g.0;
+      leads = subst (λ p. LeadsAt n.net i p g.0) same ((at g.0.0).0 ((are g.0).0 g.1));
+      is = g.2;
+    })
   ],
   λ s. (gains k).1 (elim s [
     | inl g ↦ inl g
@@ -193,13 +193,13 @@ module _ (n : Numbered) (whole : IsWhole n) where
           let row : is.0 ≡ edge.has.row = cc in
           let same : place.0 ≡ rule_of edge.has.row = is.2 ∙ ap rule_of row in
           let cause : edge.has.row.cause ≡ named.node.event = one_event tables typed c from.event edge.has.row.cause named.node.event
-                  (subst (λ d. NamesEvent tables d from.event edge.has.row.cause) class edge.cause) here in
+          (subst (λ d. NamesEvent tables d from.event edge.has.row.cause) class edge.cause) here in
           let to = event_at (number k) at.to_is.node at.to at.to_is.is at.to_is.instance at.to_is.event in
           let to_class : to.class ≡ edge.effect.class = one_class (topology_of n) at.to.instance to.class edge.effect.class to.of_class edge.effect.of_class in
           let effect : at.to_is.node.event ≡ edge.has.row.effect = one_event tables typed edge.effect.class at.to.event at.to_is.node.event edge.has.row.effect
-                  (subst (λ d. NamesEvent tables d at.to.event at.to_is.node.event) to_class to.named) edge.effect.named in
+          (subst (λ d. NamesEvent tables d at.to.event at.to_is.node.event) to_class to.named) edge.effect.named in
           let leads : LeadsAt n.net named.node.instance edge.has.row.path at.to_is.node.instance =
-                  (leads_are_leads n.net whole.net edge.has.row.path named.node.instance at.to_is.node.instance from.instance at.to.instance named.instance at.to_is.instance).1 edge.leads in (
+          (leads_are_leads n.net whole.net edge.has.row.path named.node.instance at.to_is.node.instance from.instance at.to.instance named.instance at.to_is.instance).1 edge.leads in (
             place.0,
             place.1,
             record {

@@ -38,9 +38,9 @@ has_grown : (row : List Bool) (n k : ℕ) → Has (row ++ replicate n false) k �
 has_grown row n k = elim (cases_lt k (length row)) [
   | inl lt ↦ let e = get_or_append_left row (replicate n false) false k lt in (λ h. sym e ∙ h, λ h. e ∙ h)
   | inr le ↦ let e = get_or-append_right row (replicate n false) (length row) k false refl le in (
-      λ h. absurd (nothing n (k - length row) (sym e ∙ h)),
-      λ h. absurd (let lt = has_within row k h in omega arith),
-    )
+    λ h. absurd (nothing n (k - length row) (sym e ∙ h)),
+    λ h. absurd (let lt = has_within row k h in omega arith),
+  )
 ]
 
 -- nothing is listed where there is no place
@@ -108,9 +108,9 @@ module _ (list : List InstanceId) (i : ℕ) (old row : List Bool) (left : IsLeft
     len = length-set row x.0 false ∙ left.len;
     rest = λ id h.
         let other : id.0 ≢ x.0 = λ same.
-            let off = get_or-set_same row x.0 false false within in
-            let h' : get_or (slice_set row x.0 false) x.0 false ≡ true = subst (λ k. get_or (slice_set row x.0 false) k false ≡ true) same h in
-            absurd (cc) in
+        let off = get_or-set_same row x.0 false false within in
+        let h' : get_or (slice_set row x.0 false) x.0 false ≡ true = subst (λ k. get_or (slice_set row x.0 false) k false ≡ true) same h in
+        absurd (cc) in
         let had : Has row id.0 = sym (get_or-set_other row x.0 id.0 false false other) ∙ h in
         let split : drop i list ≡ x ∷ drop (i + 1) list = drop_more list i x lt ∙ (λ j. is j ∷ drop (i + 1) list) in
         elim (contains_cases x (drop (i + 1) list) id (subst (λ xs. Contains xs id) split (left.rest id had))) [

@@ -89,13 +89,7 @@ impl Graph {
     {
         steps.tick();
         out.wipe();
-        add_edges(
-            &self.topology,
-            node,
-            &mut self.here,
-            &mut self.spare,
-            out,
-        );
+        add_edges(&self.topology, node, &mut self.here, &mut self.spare, out);
     }
 }
 
@@ -109,13 +103,7 @@ impl Edges for Graph {
         self.topology.facts();
         let node = NodeId(node as u32);
         if self.topology.is_live(node) {
-            add_edges(
-                &self.topology,
-                node,
-                &mut self.here,
-                &mut self.spare,
-                row,
-            );
+            add_edges(&self.topology, node, &mut self.here, &mut self.spare, row);
         }
     }
 }

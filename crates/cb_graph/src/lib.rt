@@ -4,6 +4,8 @@
 mod graph;
 mod instances;
 mod rules;
+#[cfg(test)]
+mod tests;
 mod walk;
 
 pub use graph::Graph;

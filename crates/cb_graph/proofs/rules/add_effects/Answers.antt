@@ -19,17 +19,17 @@ loop-rule-preserved c =
     let inv = c.loop-rule.invariant in
     elim c.if-eq.branch [
       | then-eq w ↦ record {
-          here = rw w.here-is w.follow.ensures.here;
-          spare = rw w.spare-is w.follow.ensures.spare;
-          gained = rw w.out-is (gained_next (BringsAbout n c.args.from c.args.cause) c.args.out.now rules c.loop-rule.rule-index c.loop-rule.out inv.gained rule c.loop-rule-test.true (sym c.rule-item.is)
-              w.add_events.new.out w.add_events.ensures.length
-              (effects_gained n c.args.from c.args.cause rule (event_of rule.cause c.args.cause (sym c.eq.ensures ∙ w.if-eq.true)) w.as_slice.result.now w.as_slice.ensures w.follow.new.here w.follow.ensures.exactly
-              w.members.result.now w.members.ensures c.loop-rule.out w.add_events.new.out w.add_events.ensures.each));
-        }
+        here = rw w.here-is w.follow.ensures.here;
+        spare = rw w.spare-is w.follow.ensures.spare;
+        gained = rw w.out-is (gained_next (BringsAbout n c.args.from c.args.cause) c.args.out.now rules c.loop-rule.rule-index c.loop-rule.out inv.gained rule c.loop-rule-test.true (sym c.rule-item.is)
+            w.add_events.new.out w.add_events.ensures.length
+            (effects_gained n c.args.from c.args.cause rule (event_of rule.cause c.args.cause (sym c.eq.ensures ∙ w.if-eq.true)) w.as_slice.result.now w.as_slice.ensures w.follow.new.here w.follow.ensures.exactly
+            w.members.result.now w.members.ensures c.loop-rule.out w.add_events.new.out w.add_events.ensures.each));
+      }
       | else-eq w ↦ record {
-          here = rw w.here-is inv.here;
-          spare = rw w.spare-is inv.spare;
-          gained = rw w.out-is (gained_skip (BringsAbout n c.args.from c.args.cause) c.args.out.now rules c.loop-rule.rule-index c.loop-rule.out inv.gained rule c.loop-rule-test.true (sym c.rule-item.is)
-              (λ k b. other_event rule.cause c.args.cause (sym c.eq.ensures ∙ w.if-eq.false) b.caused));
-        }
+        here = rw w.here-is inv.here;
+        spare = rw w.spare-is inv.spare;
+        gained = rw w.out-is (gained_skip (BringsAbout n c.args.from c.args.cause) c.args.out.now rules c.loop-rule.rule-index c.loop-rule.out inv.gained rule c.loop-rule-test.true (sym c.rule-item.is)
+            (λ k b. other_event rule.cause c.args.cause (sym c.eq.ensures ∙ w.if-eq.false) b.caused));
+      }
     ]

@@ -24,6 +24,6 @@ loop-rel-preserved c =
     let path = c.args.path.now in
     let rel = get_or path c.loop-rel.rel-index (record { 0 = 0 }) in
     let next = walk_more net c.args.from (take c.loop-rel.rel-index path) c.loop-rel.here c.loop-rel.spare c.requires.from c.loop-rel.invariant c.members.result.now c.members.ensures
-            rel c.clear-in-loop-rel.new.self c.add_links.new.out c.clear-in-loop-rel.ensures.none c.clear-in-loop-rel.ensures.length c.add_links.ensures.length c.add_links.ensures.each in
+    rel c.clear-in-loop-rel.new.self c.add_links.new.out c.clear-in-loop-rel.ensures.none c.clear-in-loop-rel.ensures.length c.add_links.ensures.length c.add_links.ensures.each in
     rw (c.swap.ensures.x_after, c.swap.ensures.y_after)
     (subst (λ (p : List RelId). IsWalk net c.args.from p c.add_links.new.out c.loop-rel.here) (sym (take_more path c.loop-rel.rel-index (record { 0 = 0 }) c.loop-rel-test.true)) next)

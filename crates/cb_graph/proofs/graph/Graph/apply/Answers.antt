@@ -13,7 +13,7 @@ invariant_of-self c = (subst (HasPlaces c.self.inside.topology.net) (sym c.in_er
 pub returns-in_err-reserve-clause-fault : goal.returns-in_err-reserve-clause-fault
 returns-in_err-reserve-clause-fault c =
     let more : c.self.inside.topology.net.room < c.instance_room_after-room.result =
-            more_wanted c.self.inside.here c.self.inside.topology.net.room c.instance_room_after-room.result (λ le. false≢true (c.in_err-reserve.ensures.succeeds le)) c.self.invariant.0.room in
+    more_wanted c.self.inside.here c.self.inside.topology.net.room c.instance_room_after-room.result (λ le. false≢true (c.in_err-reserve.ensures.succeeds le)) c.self.invariant.0.room in
     passed_on c.from_residual.result (λ fault. fault ≡ NoMemory) (Prevents c.args.self.now c.args.edit.now) c.from_residual.ensures.1
     (λ fault is. subst (Prevents c.args.self.now c.args.edit.now) (sym is) (c.instance_room_after-room.ensures.grows more))
 
@@ -27,7 +27,7 @@ invariant_of-self-in_err-reserve-2 c =
 pub returns-in_err-reserve-2-clause-fault : goal.returns-in_err-reserve-2-clause-fault
 returns-in_err-reserve-2-clause-fault c =
     let more : c.self.inside.topology.net.room < c.instance_room_after-room.result =
-            more_wanted c.self.inside.spare c.self.inside.topology.net.room c.instance_room_after-room.result (λ le. false≢true (c.in_err-reserve-2.ensures.succeeds le)) c.self.invariant.1.room in
+    more_wanted c.self.inside.spare c.self.inside.topology.net.room c.instance_room_after-room.result (λ le. false≢true (c.in_err-reserve-2.ensures.succeeds le)) c.self.invariant.1.room in
     passed_on c.from_residual-in_err-reserve-2.result (λ fault. fault ≡ NoMemory) (Prevents c.args.self.now c.args.edit.now) c.from_residual-in_err-reserve-2.ensures.1
     (λ fault is. subst (Prevents c.args.self.now c.args.edit.now) (sym is) (c.instance_room_after-room.ensures.grows more))
 
@@ -37,7 +37,7 @@ invariant_of-self-2 c =
     let new = c.apply-made.new.self in
     let room = c.instance_room_after-room.result in
     let fits : (k : ℕ) → old.net.room ≤ k → room ≤ k → new.net.room ≤ k = λ k le le'.
-            room_after c.apply-made.result (Applies old c.args.edit.now) (λ (n : Numbered). n.net.room) old new room k c.apply-made.ensures.made c.apply-made.ensures.kept c.instance_room_after-room.ensures.above le le' in
+    room_after c.apply-made.result (Applies old c.args.edit.now) (λ (n : Numbered). n.net.room) old new room k c.apply-made.ensures.made c.apply-made.ensures.kept c.instance_room_after-room.ensures.above le le' in
     let above = c.instance_room-room.ensures in
     let here = no_fewer c.self.inside.here c.reserve.new.self room c.in_ok-reserve.ensures.ok in
     let spare = no_fewer c.self.inside.spare c.reserve-2.new.self room c.in_ok-reserve-2.ensures.ok in (
