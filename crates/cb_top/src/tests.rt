@@ -298,34 +298,45 @@ fn a_file_of_too_many_bytes_is_refused(rt: HostRuntime) -> Result<(), Fail> {
     let Ok(text) = from_utf8(&bytes) else {
         return Err(Fail::new("spaces are text"));
     };
-    let cases: [(&[&str], &[(&str, &str)], &str); 3] = [
-        (&["model", "m"], &[("m", text)], "error 7 limit bytes m\n"),
-        (
-            &["burst", "m", "t", "s"],
-            &[("m", ""), ("t", text)],
-            "error 7 limit bytes t\n",
-        ),
-        (
-            &["burst", "m", "t", "s"],
-            &[("m", ""), ("t", ""), ("s", text)],
-            "error 7 limit bytes s\n",
-        ),
-    ];
-    for (words, files, err) in cases {
-        let case = Case {
-            words,
-            files,
-            piece: 0,
-            failing_read: 0,
-            failing_write: 0,
-        };
-        let wanted = Wanted {
-            code: 7,
-            out: "",
-            err,
-        };
-        check(&rt, rt.alloc(), &case, &wanted)?;
-    }
+    let case = Case {
+        words: &["model", "m"],
+        files: &[("m", text)],
+        piece: 0,
+        failing_read: 0,
+        failing_write: 0,
+    };
+    let wanted = Wanted {
+        code: 7,
+        out: "",
+        err: "error 7 limit bytes m\n",
+    };
+    check(&rt, rt.alloc(), &case, &wanted)?;
+    let case = Case {
+        words: &["burst", "m", "t", "s"],
+        files: &[("m", ""), ("t", text)],
+        piece: 0,
+        failing_read: 0,
+        failing_write: 0,
+    };
+    let wanted = Wanted {
+        code: 7,
+        out: "",
+        err: "error 7 limit bytes t\n",
+    };
+    check(&rt, rt.alloc(), &case, &wanted)?;
+    let case = Case {
+        words: &["burst", "m", "t", "s"],
+        files: &[("m", ""), ("t", ""), ("s", text)],
+        piece: 0,
+        failing_read: 0,
+        failing_write: 0,
+    };
+    let wanted = Wanted {
+        code: 7,
+        out: "",
+        err: "error 7 limit bytes s\n",
+    };
+    check(&rt, rt.alloc(), &case, &wanted)?;
     Ok(())
 }
 
