@@ -71,8 +71,13 @@ module _ (n : Net) (a rel b : List ℕ) (i j : InstanceId) (r : RelId) (a_is : I
         links = u.links;
         mutes = n.topology.mutes;
         is = is;
-        changes = (r, s, pair, ap (λ (k : Net). k.topology) is
-            ∙ (ap (λ x. with_link n.topology x r s (name_at n j)) (name_is n i a a_is) ∙ ap (with_link n.topology a r s) (name_is n j b b_is)));
+        changes = (
+          r,
+          s,
+          pair,
+          ap (λ (k : Net). k.topology) is
+              ∙ (ap (λ x. with_link n.topology x r s (name_at n j)) (name_is n i a a_is) ∙ ap (with_link n.topology a r s) (name_is n j b b_is)),
+        );
       }
 
   pub unlink_rewires : (m : Net) → m ≡ unlinked n i r j → Rewires n (Unlink a rel b) m
@@ -83,8 +88,13 @@ module _ (n : Net) (a rel b : List ℕ) (i j : InstanceId) (r : RelId) (a_is : I
         links = u.links;
         mutes = n.topology.mutes;
         is = is;
-        changes = (r, s, pair, ap (λ (k : Net). k.topology) is
-            ∙ (ap (λ x. without_link n.topology x r s (name_at n j)) (name_is n i a a_is) ∙ ap (without_link n.topology a r s) (name_is n j b b_is)));
+        changes = (
+          r,
+          s,
+          pair,
+          ap (λ (k : Net). k.topology) is
+              ∙ (ap (λ x. without_link n.topology x r s (name_at n j)) (name_is n i a a_is) ∙ ap (without_link n.topology a r s) (name_is n j b b_is)),
+        );
       }
 
 module _ (n : Net) (event name : List ℕ) (i : InstanceId) (e : EventId) (is_named : IsNamed n i name)

@@ -84,11 +84,13 @@ module _ (n : Net) (name : List ℕ) (c : ClassId) (names : List (Option (List �
   had_before i e ne (x, is) (d, of_d, has) =
       let was : IsNamed n i x = sym (sets.others i ne) ∙ is in
       let same : name_at new i ≡ name_at n i = name_is new i x is ∙ sym (name_is n i x was) in
-      let of_name : IsOf new.topology (name_at n i) d = subst (λ q. IsOf new.topology q d) same of_d in
-      ((x, was), elim (class_before n.topology name c fresh (name_at n i) d of_name) [
-        | inl here ↦ absurd (fresh (subst (IsLiveName n.topology) (sym (name_is n i x was) ∙ here.0) (old_whole.live i x was)))
-        | inr old ↦ (d, old, has)
-      ])
+      let of_name : IsOf new.topology (name_at n i) d = subst (λ q. IsOf new.topology q d) same of_d in (
+        (x, was),
+        elim (class_before n.topology name c fresh (name_at n i) d of_name) [
+          | inl here ↦ absurd (fresh (subst (IsLiveName n.topology) (sym (name_is n i x was) ∙ here.0) (old_whole.live i x was)))
+          | inr old ↦ (d, old, has)
+        ],
+      )
 
   -- what an instance of the name has of events, its class has
   events_of_new : (e : EventId) → HasEventAt new id e → HasEvent n.topology.model c e

@@ -34,12 +34,7 @@ pub(crate) fn create(
 }
 
 // The instance is gone; the counts are those without it.
-pub(crate) fn delete(
-    net: &mut Net,
-    nodes: &mut NodeTable,
-    counts: Counts,
-    name: &[u8],
-) -> Counts
+pub(crate) fn delete(net: &mut Net, nodes: &mut NodeTable, counts: Counts, name: &[u8]) -> Counts
     requires kept { IsKept net.old nodes.old counts }
     requires accepted { IsAccepted net.old.topology (Delete name.now) }
     ensures { Makes net.old nodes.old (Delete name.now) net.new nodes.new result }

@@ -4,12 +4,15 @@
 mod edits;
 mod fault;
 mod instances;
+mod kind;
 mod links;
 mod mutes;
-mod kind;
 mod order;
 mod readers;
 mod topology;
 
 pub use fault::EditFault;
 pub use topology::Topology;
+
+#[cfg(test)]
+mod tests;

@@ -1,0 +1,344 @@
+//! Edits in turn over the sample model: a base with many ports, each of which has one owner.
+ghost use Rattle.std.specs.Prelude.{◌≡◌, IfOk, IsTrue};
+ghost use Rattle.cb_model.specs.Sample.{sample_classes, sample_events, sample_relations, sample_rules};
+ghost use Rattle.cb_network.specs.Laws.{HasGoodName};
+
+use crate::{EditFault, Topology};
+use cb_model::{
+    BlockRow, ClassId, ClassRow, EventId, EventRow, HideRow, List, Model, Name, RelId, RelRow,
+    RuleRow, Tables,
+};
+use cb_network::{Edit, EditRefusal};
+use cb_nodes::NodeId;
+use cb_text::is_instance;
+use std::alloc::{AllocError, Global};
+use std::process::Abort;
+
+fn classes(alloc: Global) -> Result<List<ClassRow>, AllocError>
+    ensures { IfOk result (λ rows. rows ≡ sample_classes) }
+{
+    let mut rows = List::new(alloc);
+    rows.push(ClassRow {
+        name: Name::of(alloc, b"Base")?,
+        parent: None,
+    })?;
+    rows.push(ClassRow {
+        name: Name::of(alloc, b"Mid")?,
+        parent: Some(ClassId(0)),
+    })?;
+    rows.push(ClassRow {
+        name: Name::of(alloc, b"Low")?,
+        parent: Some(ClassId(1)),
+    })?;
+    rows.push(ClassRow {
+        name: Name::of(alloc, b"Port")?,
+        parent: None,
+    })?;
+    Ok(rows)
+}
+
+fn events(alloc: Global) -> Result<List<EventRow>, AllocError>
+    ensures { IfOk result (λ rows. rows ≡ sample_events) }
+{
+    let class = ClassId(0);
+    let mut rows = List::new(alloc);
+    rows.push(EventRow {
+        class,
+        name: Name::of(alloc, b"P")?,
+        problem: true,
+        symptom: false,
+    })?;
+    rows.push(EventRow {
+        class,
+        name: Name::of(alloc, b"S")?,
+        problem: false,
+        symptom: true,
+    })?;
+    rows.push(EventRow {
+        class,
+        name: Name::of(alloc, b"T")?,
+        problem: false,
+        symptom: true,
+    })?;
+    Ok(rows)
+}
+
+fn relations(alloc: Global) -> Result<List<RelRow>, AllocError>
+    ensures { IfOk result (λ rows. rows ≡ sample_relations) }
+{
+    let mut rows = List::new(alloc);
+    rows.push(RelRow {
+        class: ClassId(0),
+        name: Name::of(alloc, b"ports")?,
+        target: ClassId(3),
+        many: true,
+        inverse: RelId(1),
+    })?;
+    rows.push(RelRow {
+        class: ClassId(3),
+        name: Name::of(alloc, b"owner")?,
+        target: ClassId(0),
+        many: false,
+        inverse: RelId(0),
+    })?;
+    Ok(rows)
+}
+
+fn rules(alloc: Global) -> Result<List<RuleRow>, AllocError>
+    ensures { IfOk result (λ rows. rows ≡ sample_rules) }
+{
+    let class = ClassId(0);
+    let cause = EventId(0);
+    let mut rows = List::new(alloc);
+    rows.push(RuleRow {
+        class,
+        name: Name::of(alloc, b"s")?,
+        cause,
+        path: List::new(alloc),
+        effect: EventId(1),
+    })?;
+    rows.push(RuleRow {
+        class,
+        name: Name::of(alloc, b"t")?,
+        cause,
+        path: List::new(alloc),
+        effect: EventId(2),
+    })?;
+    Ok(rows)
+}
+
+// The model of cb_model's `specs/Sample.antt`.
+fn sample_model(alloc: Global) -> Result<Model, AllocError> {
+    let mut blocks = List::new(alloc);
+    blocks.push(BlockRow {
+        class: ClassId(1),
+        rule: 1,
+    })?;
+    let mut hides = List::new(alloc);
+    hides.push(HideRow {
+        class: ClassId(2),
+        event: EventId(2),
+    })?;
+    let tables = Tables {
+        classes: classes(alloc)?,
+        events: events(alloc)?,
+        relations: relations(alloc)?,
+        rules: rules(alloc)?,
+        blocks,
+        hides,
+    };
+    Model::seal(alloc, tables)
+}
+
+// Kinds of edits, by their words.
+#[derive(Clone, Copy)]
+enum Kind {
+    Create,
+    Delete,
+    Link,
+    Unlink,
+    Mute,
+    Unmute,
+}
+
+// The words of an edit: one, two or three of these.
+type Words = [&'static [u8]; 3];
+
+fn edit_of(alloc: Global, kind: Kind, words: Words) -> Result<Edit, AllocError> {
+    let [a, b, c] = words;
+    let a = Name::of(alloc, a)?;
+    let b = Name::of(alloc, b)?;
+    Ok(match kind {
+        Kind::Create => Edit::Create { name: a, class: b },
+        Kind::Delete => Edit::Delete { name: a },
+        Kind::Link => Edit::Link {
+            a,
+            rel: b,
+            b: Name::of(alloc, c)?,
+        },
+        Kind::Unlink => Edit::Unlink {
+            a,
+            rel: b,
+            b: Name::of(alloc, c)?,
+        },
+        Kind::Mute => Edit::Mute { event: a, name: b },
+        Kind::Unmute => Edit::Unmute { event: a, name: b },
+    })
+}
+
+fn has_good_name(edit: &Edit) -> bool
+    ensures { IsTrue result → HasGoodName edit.now }
+{
+    match edit {
+        Edit::Create { name, .. } => is_instance(name.bytes()),
+        _ => true,
+    }
+}
+
+// Why the edit isn't made, if it isn't.
+fn fault_of(
+    alloc: Global,
+    topology: &mut Topology,
+    kind: Kind,
+    words: Words,
+) -> Result<Option<EditFault>, AllocError> {
+    let edit = edit_of(alloc, kind, words)?;
+    if !has_good_name(&edit) {
+        return Ok(None);
+    }
+    Ok(topology.apply(alloc, &edit).err())
+}
+
+// What is done in turn, and why it isn't done.
+const STEPS: [(Kind, Words, Option<EditRefusal>); 30] = [
+    (
+        Kind::Create,
+        [b"hub", b"Hub", b""],
+        Some(EditRefusal::NoClass),
+    ),
+    (Kind::Create, [b"hub", b"Base", b""], None),
+    (
+        Kind::Create,
+        [b"hub", b"Port", b""],
+        Some(EditRefusal::Exists),
+    ),
+    (Kind::Create, [b"p1", b"Port", b""], None),
+    (Kind::Create, [b"p2", b"Port", b""], None),
+    (Kind::Create, [b"other", b"Mid", b""], None),
+    (
+        Kind::Link,
+        [b"hub", b"ports", b"p3"],
+        Some(EditRefusal::NoInstance),
+    ),
+    (
+        Kind::Link,
+        [b"hub", b"links", b"p1"],
+        Some(EditRefusal::NoRelation),
+    ),
+    (
+        Kind::Link,
+        [b"hub", b"ports", b"other"],
+        Some(EditRefusal::WrongKind),
+    ),
+    (Kind::Link, [b"hub", b"ports", b"p1"], None),
+    (
+        Kind::Link,
+        [b"hub", b"ports", b"p1"],
+        Some(EditRefusal::Linked),
+    ),
+    (
+        Kind::Link,
+        [b"p1", b"owner", b"hub"],
+        Some(EditRefusal::Linked),
+    ),
+    (
+        Kind::Link,
+        [b"other", b"ports", b"p1"],
+        Some(EditRefusal::Occupied),
+    ),
+    (Kind::Link, [b"hub", b"ports", b"p2"], None),
+    (
+        Kind::Unlink,
+        [b"other", b"ports", b"p1"],
+        Some(EditRefusal::NotLinked),
+    ),
+    // Unlinked from the other side.
+    (Kind::Unlink, [b"p1", b"owner", b"hub"], None),
+    (Kind::Link, [b"other", b"ports", b"p1"], None),
+    (Kind::Mute, [b"S", b"hub", b""], None),
+    (
+        Kind::Mute,
+        [b"S", b"hub", b""],
+        Some(EditRefusal::AlreadyMuted),
+    ),
+    (
+        Kind::Mute,
+        [b"P", b"hub", b""],
+        Some(EditRefusal::NoSymptom),
+    ),
+    (Kind::Mute, [b"S", b"p1", b""], Some(EditRefusal::NoSymptom)),
+    (
+        Kind::Unmute,
+        [b"T", b"hub", b""],
+        Some(EditRefusal::NotMuted),
+    ),
+    (Kind::Unmute, [b"S", b"hub", b""], None),
+    (Kind::Mute, [b"T", b"hub", b""], None),
+    (
+        Kind::Delete,
+        [b"p3", b"", b""],
+        Some(EditRefusal::NoInstance),
+    ),
+    (Kind::Delete, [b"other", b"", b""], None),
+    // Nothing is left of the link of an instance that is deleted.
+    (Kind::Link, [b"hub", b"ports", b"p1"], None),
+    // T is hidden in Low.
+    (Kind::Create, [b"low", b"Low", b""], None),
+    (
+        Kind::Mute,
+        [b"T", b"low", b""],
+        Some(EditRefusal::NoSymptom),
+    ),
+    (Kind::Create, [b"alpha", b"Base", b""], None),
+];
+
+fn try_all(
+    rt: &impl Abort,
+    alloc: Global,
+    topology: &mut Topology,
+    steps: &[(Kind, Words, Option<EditRefusal>)],
+) -> Result<(), AllocError> {
+    for (kind, words, wanted) in steps {
+        let fault = fault_of(alloc, topology, *kind, *words)?;
+        assert_eq!(rt; fault, wanted.map(EditFault::Refused), "{words:?}");
+    }
+    Ok(())
+}
+
+// Whether these are the nodes of these events and instances, in this order.
+fn are_nodes(topology: &Topology, nodes: &[NodeId], names: &[(&[u8], &[u8])]) -> bool {
+    nodes.len() == names.len()
+        && nodes.iter().zip(names).all(|(node, (event, name))| topology.node_named(event, name)
+            == Some(*node))
+}
+
+const COLUMNS: [(&[u8], &[u8]); 4] = [
+    (b"S", b"alpha"),
+    (b"T", b"alpha"),
+    // T is muted at the hub.
+    (b"S", b"hub"),
+    (b"S", b"low"),
+];
+
+const PROBLEMS: [(&[u8], &[u8]); 3] = [(b"P", b"alpha"), (b"P", b"hub"), (b"P", b"low")];
+
+// Whether the numbers stay while another instance comes and goes, whose numbers are used again.
+fn keep_numbers(alloc: Global, topology: &mut Topology) -> Result<bool, AllocError> {
+    let instance = topology.instance_named(b"hub");
+    let node = topology.node_named(b"T", b"hub");
+    let room = topology.node_room();
+    fault_of(alloc, topology, Kind::Delete, [b"low", b"", b""])?;
+    fault_of(alloc, topology, Kind::Create, [b"new", b"Mid", b""])?;
+    Ok(
+        topology.instance_named(b"hub") == instance
+            && topology.node_named(b"T", b"hub") == node
+            && node.is_some()
+            && topology.node_named(b"P", b"new").is_some()
+            && topology.node_room() == room,
+    )
+}
+
+#[test]
+fn edits_in_turn(rt: HostRuntime) -> Result<(), AllocError> {
+    let alloc = rt.alloc();
+    let mut topology = Topology::new(alloc, sample_model(alloc)?);
+    try_all(&rt, alloc, &mut topology, &STEPS)?;
+    let columns = topology.columns(alloc)?;
+    assert!(rt; are_nodes(&topology, columns.as_slice(), &COLUMNS));
+    let problems = topology.problems(alloc)?;
+    assert!(rt; are_nodes(&topology, problems.as_slice(), &PROBLEMS));
+    assert_eq!(rt; topology.instance_count(), 5);
+    assert_eq!(rt; topology.node_count(), 9);
+    assert!(rt; keep_numbers(alloc, &mut topology)?);
+    Ok(())
+}
