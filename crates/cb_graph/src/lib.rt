@@ -3,9 +3,6 @@
 
 mod graph;
 mod instances;
-mod rules;
-#[cfg(test)]
-mod tests;
-mod walk;
+mod rules;mod walk;
 
 pub use graph::Graph;
