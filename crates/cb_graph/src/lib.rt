@@ -3,6 +3,7 @@
 
 mod graph;
 mod instances;
-mod rules;mod walk;
+mod rules;
+mod walk;
 
 pub use graph::Graph;
