@@ -4,8 +4,6 @@
 mod graph;
 mod instances;
 mod rules;
-#[cfg(test)]
-mod tests;
 mod walk;
 
 pub use graph::Graph;
