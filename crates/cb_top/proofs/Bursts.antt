@@ -1,5 +1,5 @@
 -- What `burst` gives for its three files is one outcome.
-use Rattle.std.proofs.Common.{◌≡◌, ◌⊎◌, List, ℕ, length, ◌<◌, ◌≤◌, sym, ap, ◌∙◌, inl, inr, arith}
+use Rattle.std.proofs.Common.{◌≡◌, ◌⊎◌, List, ℕ, sym, ap, ◌∙◌, inl, inr, arith}
 use Rattle.cb_model.specs.declared.node.NodeName.{NodeName}
 use Rattle.cb_model.specs.declared.tables.Tables.{Tables}
 use Rattle.cb_network.specs.declared.finding.Finding.{Finding}

@@ -1,7 +1,7 @@
 -- What is printed at status 0 names the cause.
 use Rattle.std.proofs.Common.{◌≡◌, ◌≢◌, sym, ℕ, List, [], ◌∷◌, Bool, true, false, ap, subst, arith, inl, inr, Result, Ok, Err, Vec}
 use Rattle.std.proofs.lemmas.List.{length-map}
-use Rattle.std.specs.Prelude.{codes, MatchBool, if◌then◌else◌, IfSome, Option}
+use Rattle.std.specs.Prelude.{codes, MatchBool, IfSome, Option}
 use Rattle.std.specs.Str.{bytes_eq}
 use Rattle.std.specs.declared.alloc.Global.{Global}
 use Rattle.cb_coding.specs.declared.group.Group.{Group}

@@ -1,7 +1,7 @@
 -- A text of lines makes one topology or has one fault, and so a text of nodes.
-use Rattle.std.proofs.Common.{◌≡◌, ◌≢◌, ℕ, ◌+◌, ◌<◌, List, [], ◌∷◌, ◌++◌, length, refl, sym, ap, subst, ◌∙◌, inl, inr, arith, Some, Ok, Err}
+use Rattle.std.proofs.Common.{◌≡◌, ◌≢◌, ℕ, List, [], ◌∷◌, ◌++◌, length, refl, sym, ap, subst, ◌∙◌, inl, inr, arith, Some, Ok, Err}
 use Rattle.std.specs.Prelude.{⊤, MatchOption}
-use Rattle.std.specs.List.{All, Contains, slice_get}
+use Rattle.std.specs.List.{All, slice_get}
 use Rattle.std.proofs.lemmas.List.Elements.{All-head, All-tail, All-contains, Contains-append_right}
 use Rattle.cb_text.specs.Words.{words_of, IsPassedOver}
 use Rattle.cb_text.specs.Lines.{lines_of}
@@ -11,7 +11,6 @@ use Rattle.cb_model.specs.NodeOrder.{node_cmp}
 use Rattle.cb_model.proofs.Rising.{same_rising, node_strict, contains_head}
 use Rattle.cb_network.specs.declared.edit.Edit.{Edit}
 use Rattle.cb_network.specs.declared.edit.Edit.TheVariants.{Create, Delete, Link, Unlink, Mute, Unmute}
-use Rattle.cb_network.specs.declared.edit.EditRefusal.{EditRefusal}
 use Rattle.cb_network.specs.Topology.{Topology, empty_topology}
 use Rattle.cb_network.specs.Edits.{IsAfter}
 use Rattle.cb_network.specs.Regular.{IsRegular}
@@ -20,7 +19,7 @@ use Rattle.cb_edits.specs.Spelled.{SpellsEdit}
 use Rattle.cb_edits.proofs.Decoded.{spelled_once}
 use Rattle.cb_lines.specs.declared.topology.LineFault.{LineFault}
 use Rattle.cb_lines.specs.declared.topology.LineFault.TheVariants.{BadWords, Refused}
-use Rattle.cb_lines.specs.Lines.{line_limit, IsShort, HasShortLines, IsLineOf, IsFirstLong}
+use Rattle.cb_lines.specs.Lines.{IsShort, HasShortLines, IsFirstLong}
 use Rattle.cb_lines.specs.Topologies.{LineMakes, LinesMake, MakesTopology, IsWrong, IsFirstWrong}
 use Rattle.cb_lines.specs.Symptoms.{IsSymptomLine, ListsNodes, IsFirstBad}
 

@@ -1,12 +1,12 @@
 -- What judging a file shows.
-use Rattle.std.proofs.Common.{◌≡◌, ◌⊎◌, ◌<◌, ◌≤◌, List, ℕ, length, refl, sym, ap, subst, inl, inr, arith, Result, Ok, Err, Option, Some, None}
-use Rattle.std.specs.Prelude.{IfSome, IfErr, IfOk, IsErrOf}
+use Rattle.std.proofs.Common.{◌≡◌, ◌<◌, List, ℕ, length, refl, sym, subst, inl, inr, Result, Ok, Err, Option, Some, None}
+use Rattle.std.specs.Prelude.{IfSome, IfErr, IfOk}
 use Rattle.std.specs.Result.{IsErrAnd}
 use Rattle.cb_io.specs.Outside.{FilesTold, left_of, TakesAll, ReadsAll}
 use Rattle.cb_grammar.specs.declared.tree.Tree.{Tree}
 use Rattle.cb_syntax.specs.declared.fault.SyntaxFault.{SyntaxFault}
 use Rattle.cb_syntax.specs.declared.fault.SyntaxFault.TheVariants as syntax
-use Rattle.cb_syntax.specs.Spells.{Spells, IsFault as IsSyntaxFault}
+use Rattle.cb_syntax.specs.Spells.{Spells}
 use Rattle.cb_syntax.specs.Laws.{TellsFault}
 use Rattle.cb_rules.specs.Fault.{IsFault as IsTypeFault}
 use Rattle.cb_check.specs.Fault.{OnBroken}

@@ -1,20 +1,12 @@
 -- File words that are read one after the other.
-use Rattle.std.proofs.Common.{◌≡◌, ◌≢◌, ℕ, List, [], ◌∷◌, ◌++◌, Bool, true, false, ◌||◌, refl, sym, ◌∙◌, ap, subst, ◌<◌, length, arith, take, slice_get, Result, Ok, Err}
-use Rattle.std.proofs.Math.Bool.{or-true}
-use Rattle.std.proofs.lemmas.Slice.Eq.{bytes_eq-Decides}
+use Rattle.std.proofs.Common.{◌≡◌, ℕ, List, sym, ap, subst, ◌<◌, length, arith, take, slice_get, Result, Ok, Err}
 use Rattle.std.specs.Prelude.{None, Some, IfSome}
 use Rattle.std.specs.declared.option.Option.{Option}
-use Rattle.std.specs.List.{list_any}
-use Rattle.std.specs.Option.{option_map}
-use Rattle.std.specs.Prelude.{unwrap_or}
-use Rattle.cb_io.specs.Pairs.{look_up}
-use Rattle.std.specs.Str.{bytes_eq}
-use Rattle.std.specs.Io.KnownBytes.{Keeps}
-use Rattle.cb_io.specs.Outside.{FilesTold, left_of, KeepsOthers, ReadsAll, TakesAll}
+use Rattle.cb_io.specs.Outside.{FilesTold, left_of, KeepsOthers}
 use Rattle.cb_top.specs.Outcome.{Outcome, usage, faulty, wrong_lined, bad_named, too_long, long_lined, not_built}
 use Rattle.cb_io.specs.Outside.{contents}
 use Rattle.std.specs.Result.{IsErrAnd}
-use Rattle.cb_io.specs.Outside.{ReadFailed, NoCountFalls}
+use Rattle.cb_io.specs.Outside.{NoCountFalls}
 use Rattle.cb_io.proofs.Told.{ReadFailed-after}
 use Rattle.cb_top.specs.declared.halt.Halt.{Halt}
 use Rattle.cb_top.specs.declared.halt.Halt.TheVariants as halts

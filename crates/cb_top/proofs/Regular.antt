@@ -1,7 +1,6 @@
 -- The tables of a model are regular: names tell classes and relations apart, relations have one back, and lines of ancestors
 -- are short.
 use Rattle.std.proofs.Common.{◌≡◌, ℕ, suc, ◌-◌, ◌<◌, ◌≤◌, List, sym, ap, refl, ◌∙◌, inl, inr, arith, Some, None}
-use Rattle.std.specs.List.{slice_get}
 use Rattle.std.proofs.lemmas.Bool.{cases_lt, cases_order}
 use Rattle.std.proofs.lemmas.Option.{slice_get_within, get_or_from_slice_get}
 use Rattle.cb_model.specs.declared.id.ClassId.{ClassId}
@@ -12,7 +11,7 @@ use Rattle.cb_model.specs.Classes.{ancestor, IsA, NamesClass, NamesRelation}
 use Rattle.cb_model.specs.WellTyped.{WellTyped, Member, Declares}
 use Rattle.cb_model.specs.declared.limits.TheConstants.{MOST_ANCESTORS}
 use Rattle.cb_model.proofs.Climb.{class_is, ancestor_add, stops}
-use Rattle.cb_network.specs.Regular.{IsRegular, IsReturn}
+use Rattle.cb_network.specs.Regular.{IsRegular}
 
 -- where nothing is so many steps above, ancestors are fewer steps above
 below : (tables : Tables) (c b : ClassId) (top n : ℕ) → ancestor tables c top ≡ None → ancestor tables c n ≡ Some b → n < top

@@ -1,5 +1,5 @@
 -- What a file that is judged shows of the outcome.
-use Rattle.std.proofs.Common.{◌≡◌, ◌<◌, List, ℕ, [], ◌∷◌, length, refl, ap, inl, inr, arith, Result, Ok, Err, Vec}
+use Rattle.std.proofs.Common.{◌≡◌, ℕ, [], ◌∷◌, refl, ap, inl, inr, arith, Result, Ok, Err, Vec}
 use Rattle.std.specs.Prelude.{IfOk, IfErr}
 use Rattle.std.specs.declared.alloc.Global.{Global}
 use Rattle.cb_model.specs.declared.tables.Tables.{Tables}
@@ -11,7 +11,7 @@ use Rattle.cb_top.specs.declared.halt.Halt.TheVariants as halts
 use Rattle.cb_top.specs.Model.{HasShortText, IsTreeText, IsModelText}
 use Rattle.cb_top.specs.Burst.{IsTopologyText}
 use Rattle.cb_top.specs.Halts.{JudgesModel, JudgesTopology, JudgesSymptoms}
-use Rattle.cb_top.specs.Outcome.{Outcome, File, RefusesModel, RefusesTopology, RefusesSymptoms, ModelGives, BurstGives, done}
+use Rattle.cb_top.specs.Outcome.{File, RefusesModel, RefusesTopology, RefusesSymptoms, ModelGives, BurstGives, done}
 use Rattle.cb_top.specs.Run.{Shows}
 use Rattle.cb_top.proofs.Reading.{Gives, gives_more}
 

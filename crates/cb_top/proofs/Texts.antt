@@ -1,5 +1,5 @@
 -- What the text of a model says is one: it has one fault or one tree, and stands for one model at most.
-use Rattle.std.proofs.Common.{◌≡◌, ◌⊎◌, ◌<◌, List, ℕ, length, refl, sym, ap, subst, ◌∙◌, inl, inr, Ok, Err, arith}
+use Rattle.std.proofs.Common.{◌≡◌, ◌⊎◌, List, ℕ, refl, sym, ap, subst, ◌∙◌, inl, inr, Ok, Err, arith}
 use Rattle.cb_model.specs.declared.tables.Tables.{Tables}
 use Rattle.cb_grammar.specs.declared.tree.Tree.{Tree}
 use Rattle.cb_syntax.specs.declared.fault.SyntaxFault.{SyntaxFault}
@@ -12,7 +12,7 @@ use Rattle.cb_rules.specs.Fault.{IsFault as IsTypeFault}
 use Rattle.cb_check.specs.Stands.{Stands}
 use Rattle.cb_top.specs.declared.fault.ModelFault.{ModelFault}
 use Rattle.cb_top.specs.declared.fault.ModelFault.TheVariants.{BadByte, Unexpected, LongName, Unfinished, Broken}
-use Rattle.cb_top.specs.Model.{file_limit, IsTreeText, IsModelText, IsFirst, IsFaultOf}
+use Rattle.cb_top.specs.Model.{IsTreeText, IsModelText, IsFirst, IsFaultOf}
 use Rattle.cb_top.specs.Outcome.{Outcome, File, RefusesModel, ModelGives, done, faulty}
 use Rattle.cb_syntax.specs.Canonical.{canonical_text}
 use Rattle.cb_check.proofs.One.{one_model}

@@ -1,9 +1,9 @@
 -- A line that is written part after part.
 use Rattle.std.specs.List.{flat_map}
-use Rattle.std.proofs.Common.{◌≡◌, inl, inr, ◌≤◌, ◌<◌, zero, suc, [], ◌∷◌, length, get_or, take, drop, refl, sym, ap, ◌∙◌, append_assoc, List, ℕ, ◌++◌, arith, true, false, Result, is_err, OnErr, OnOk}
+use Rattle.std.proofs.Common.{◌≡◌, inr, ◌≤◌, ◌<◌, zero, suc, [], ◌∷◌, length, get_or, take, drop, refl, sym, ap, ◌∙◌, append_assoc, List, ℕ, ◌++◌, arith, true, false, Result, is_err, OnErr, OnOk}
 use Rattle.std.specs.declared.result.Result.TheVariants.{Ok, Err}
 use Rattle.cb_io.specs.Outside.{SinkTold, WritesAll, WritesFront, WriteFailed}
-use Rattle.cb_io.proofs.Told.{WritesAll-trans, WritesFront-first, WritesFront-second}
+use Rattle.cb_io.proofs.Told.{WritesFront-first, WritesFront-second}
 use Rattle.cb_top.specs.Run.{Says}
 
 pub on_err : {T E P : Type 0} (r : Result T E) → is_err r ≡ true → OnErr r P → P

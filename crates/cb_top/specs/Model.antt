@@ -1,5 +1,5 @@
 -- What the text of a model says, and its first fault.
-use Rattle.std.specs.Prelude.{◌≡◌, ℕ, ◌≤◌, List, length}
+use Rattle.std.specs.Prelude.{ℕ, ◌≤◌, List, length}
 use Rattle.cb_model.specs.declared.tables.Tables.{Tables}
 use Rattle.cb_grammar.specs.declared.tree.Tree.{Tree}
 use Rattle.cb_syntax.specs.declared.fault.SyntaxFault.TheVariants as syntax

@@ -1,5 +1,5 @@
 -- What each part of `burst` shows.
-use Rattle.std.proofs.Common.{List, ℕ, [], ◌∷◌, refl, ap, subst, inl, inr, arith}
+use Rattle.std.proofs.Common.{List, ℕ, [], ◌∷◌, refl, ap, subst, inr, arith}
 use Rattle.cb_model.specs.declared.tables.Tables.{Tables}
 use Rattle.cb_network.specs.Topology.{Topology}
 use Rattle.cb_topo.specs.Numbered.{topology_of}

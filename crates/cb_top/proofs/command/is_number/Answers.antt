@@ -1,4 +1,4 @@
-use Rattle.std.proofs.Common.{◌≡◌, ◌≤◌, ℕ, sym, subst, ◌∙◌, rules}
+use Rattle.std.proofs.Common.{◌≡◌, ◌≤◌, ℕ, sym, subst, ◌∙◌}
 use Rattle.std.proofs.lemmas.Fmt.{decimal_injective}
 use Rattle.cb_top.proofs.command.is_number.Goals as goal
 

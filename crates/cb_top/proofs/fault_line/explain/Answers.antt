@@ -1,4 +1,4 @@
-use Rattle.std.proofs.Common.{◌+◌, arith, refl, string_bytes}
+use Rattle.std.proofs.Common.{arith, refl, string_bytes}
 use Rattle.std.proofs.lemmas.List.{length-map}
 use Rattle.cb_top.specs.Faults.{symptom_line}
 use Rattle.cb_top.specs.Outcome.{texts}
