@@ -4,7 +4,7 @@ use Rattle.std.specs.Int.{bit_at}
 use Rattle.std.proofs.lemmas.Bool.{cases_lt}
 use Rattle.std.proofs.lemmas.List.{get_or-replicate, get_or_past, length-replicate}
 use Rattle.std.proofs.lemmas.Nat.Bits.{bit_at-zero}
-use Rattle.cb_bits.specs.Bits.{bit_of, values, words_for}
+use Rattle.cb_bits.specs.Bits.{bit_of, values, Holds}
 use Rattle.cb_bits.proofs.Values.{values-are}
 
 abbrev pub zeros : ℕ → List ℕ
@@ -19,8 +19,19 @@ zero_word m j = elim (cases_lt j m) [
 pub zero_bit : (m k : ℕ) → bit_of (zeros m) k ≡ false
 zero_bit m k = ap (λ w. bit_at w (k % 64) == 1) (zero_word m (k / 64)) ∙ ap (λ b. b == 1) (bit_at-zero (k % 64))
 
-pub zero_values : (words : List ℕ) (n : ℕ) → words ≡ zeros (words_for n) → values words n ≡ replicate n false
-zero_values words n are =
+pub zero_values : (words : List ℕ) (m n : ℕ) → words ≡ zeros m → values words n ≡ replicate n false
+zero_values words m n are =
     ap (λ ws. values ws n) are
-    ∙ values-are (zeros (words_for n)) n (replicate n false) (length-replicate n false)
-    (λ k lt. zero_bit (words_for n) k ∙ sym (get_or-replicate n k false false lt))
+    ∙ values-are (zeros m) n (replicate n false) (length-replicate n false)
+    (λ k lt. zero_bit m k ∙ sym (get_or-replicate n k false false lt))
+
+-- zeros in the place of words hold as many values
+pub zeros_hold : (words after : List ℕ) (n : ℕ) → after ≡ zeros (length words) → Holds words n → Holds after n
+zeros_hold words after n are holds =
+    let long = ap length are ∙ length-replicate (length words) 0 in
+    record {
+      fits = holds.fits;
+      enough = let e = holds.enough in omega arith;
+      no_more = let e = holds.no_more in omega arith;
+      rest = λ k past. ap (λ ws. bit_of ws k) are ∙ zero_bit (length words) k;
+    }

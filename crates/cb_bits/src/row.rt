@@ -4,8 +4,8 @@ ghost use Rattle.std.specs.Simd.Lanes.{zip2};
 ghost use Rattle.cb_bits.specs.Bits.{Packs, differing};
 
 use crate::words::{
-    are_same, as_words, clear_bit, count_differing, count_differing_below, count_ones, is_set,
-    set_bit, unite, zero_words,
+    are_same, as_words, clear_all, clear_bit, count_differing, count_differing_below, count_ones,
+    is_set, set_bit, unite, zero_words,
 };
 use std::alloc::{AllocError, Global};
 use std::marker::Model;
@@ -75,6 +75,13 @@ impl Row {
         ensures { self.new ≡ slice_set self.old i false }
     {
         clear_bit(&mut self.words, i);
+    }
+
+    /// Makes all values false.
+    pub fn wipe(&mut self)
+        ensures { self.new ≡ replicate (length self.old) false }
+    {
+        clear_all(&mut self.words);
     }
 
     /// Makes true what is true in `other`.

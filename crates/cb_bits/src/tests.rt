@@ -43,6 +43,8 @@ fn rows_of_many_lengths(rt: HostRuntime) -> Result<(), Fail> {
             row.clear(0);
             assert!(rt; !row.get(0), "{n}");
         }
+        row.wipe();
+        assert!(rt; row.len() == n + 65 && row.ones() == 0, "{n}");
     }
     Ok(())
 }

@@ -40,6 +40,13 @@ pub fn clear_bit(words: &mut [u64], k: usize)
     words[k / 64] &= !(1 << (k % 64));
 }
 
+/// Makes all bits zero.
+pub fn clear_all(words: &mut [u64])
+    ensures { words.new ≡ replicate (length words.old) 0 }
+{
+    words.fill(0);
+}
+
 /// As many zeros as `n` bits need words.
 pub fn zero_words(alloc: Global, n: usize) -> Result<Vec<u64>, AllocError>
     ensures { IfOk result (λ words. words.items ≡ replicate (words_for n) 0) }

@@ -1,9 +1,14 @@
 -- The best of the pairs that were tried, in any order.
-use Rattle.std.specs.Prelude.{◌≡◌, ℕ, false, length, ◌+◌, ◌<◌, ◌≤◌, List, Bool, Option, None, Some, ⊤, nat_lt, ◌==◌, ◌||◌, ◌&&◌, if◌then◌else◌}
+use Rattle.std.specs.Prelude.{◌≡◌, ℕ, false, length, ◌+◌, ◌<◌, ◌≤◌, List, Bool, Option, None, Some, slice_get, ⊤, nat_lt, ◌==◌, ◌||◌, ◌&&◌, if◌then◌else◌}
 use Rattle.cb_coding.specs.declared.book.Pair.{Pair}
 use Rattle.std.specs.List.{filter}
 use Rattle.cb_coding.specs.Distance.{apart, all_columns, code_at, bit}
 use Rattle.cb_coding.specs.Pairs.{IsPair, ComesBefore}
+
+-- how far each code is from the first
+pub record AreFromFirst (width : ℕ) (codes : List (List Bool)) (far : List ℕ) : Type 0 where
+  pub all : length far ≡ length codes
+  pub each : (i n : ℕ) → slice_get far i ≡ Some n → n ≡ apart (all_columns width) codes 0 i
 
 -- what is told of the pair is so
 abbrev pub IsTold : ℕ → List (List Bool) → Option Pair → Type 0

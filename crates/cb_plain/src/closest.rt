@@ -3,9 +3,9 @@ ghost use Rattle.std.specs.Prelude.{◌≡◌, ◌<◌, ◌^◌, ℕ, length, Is
 ghost use Rattle.std.specs.List.{All, AllPairs};
 ghost use Rattle.cb_coding.specs.Distance.{HaveWidth};
 ghost use Rattle.cb_coding.specs.Pairs.{IsPair, IsLeast};
-ghost use Rattle.cb_plain.specs.Closest.{IsTold, Beats, Improves, limit_of, is_before, StartsWithZero, IsPairOf, holders_of};
+ghost use Rattle.cb_plain.specs.Closest.{AreFromFirst, IsTold, Beats, Improves, limit_of, is_before, StartsWithZero, IsPairOf, holders_of};
 
-use crate::measure::{bit, distance_below};
+use crate::measure::{bit, distance, distance_below};
 use cb_bits::Row;
 use cb_coding::Pair;
 use cb_model::List;
@@ -18,11 +18,26 @@ pub fn least(alloc: Global, codes: &List<Row>, width: usize) -> Result<Option<Pa
     requires columns_fit { width < 2 ^ 32 }
     ensures { IfOk result (IsLeast width codes.now) }
 {
+    let far = from_first(alloc, codes, width)?;
     if starts_with_zero(codes) && are_sparse(codes, width) {
-        least_of_sharing(alloc, codes, width)
+        least_of_sharing(alloc, codes, &far, width)
     } else {
-        Ok(least_of_all(codes, width))
+        Ok(least_of_all(codes, &far, width))
     }
+}
+
+// How far each code is from the first. Two codes are apart by the difference of these at least, which spares most looks
+// at their words.
+fn from_first(alloc: Global, codes: &List<Row>, width: usize) -> Result<List<u32>, AllocError>
+    requires have_width { HaveWidth width codes.now }
+    requires columns_fit { width < 2 ^ 32 }
+    ensures { IfOk result (AreFromFirst width codes.now) }
+{
+    let mut far = List::new(alloc);
+    for i in 0..codes.len() {
+        far.push(distance(codes.at(0), codes.at(i)))?;
+    }
+    Ok(far)
 }
 
 // Whether the first code has no symptom.
@@ -43,15 +58,16 @@ fn are_sparse(codes: &List<Row>, width: usize) -> bool {
 }
 
 // The closest pair, found among all.
-fn least_of_all(codes: &List<Row>, width: usize) -> Option<Pair>
+fn least_of_all(codes: &List<Row>, far: &List<u32>, width: usize) -> Option<Pair>
     requires have_width { HaveWidth width codes.now }
+    requires far { AreFromFirst width codes.now far.now }
     requires places_fit { length codes.now < 2 ^ 32 }
     requires columns_fit { width < 2 ^ 32 }
     ensures { IsLeast width codes.now result }
 {
     let mut best = None;
     for first in 0..codes.len() {
-        best = closest_from(codes, width, first, best);
+        best = closest_from(codes, far, width, first, best);
     }
     best
 }
@@ -61,18 +77,20 @@ fn least_of_all(codes: &List<Row>, width: usize) -> Option<Pair>
 fn least_of_sharing(
     alloc: Global,
     codes: &List<Row>,
+    far: &List<u32>,
     width: usize,
 ) -> Result<Option<Pair>, AllocError>
     requires have_width { HaveWidth width codes.now }
+    requires far { AreFromFirst width codes.now far.now }
     requires places_fit { length codes.now < 2 ^ 32 }
     requires columns_fit { width < 2 ^ 32 }
     requires zero { StartsWithZero codes.now }
     ensures { IfOk result (IsLeast width codes.now) }
 {
-    let mut best = closest_from(codes, width, 0, None);
+    let mut best = closest_from(codes, far, width, 0, None);
     for column in 0..width as u32 {
         let places = holders(alloc, codes, column)?;
-        best = closest_among(codes, width, places.as_slice(), best);
+        best = closest_among(codes, far, width, places.as_slice(), best);
     }
     Ok(best)
 }
@@ -93,11 +111,13 @@ fn holders(alloc: Global, codes: &List<Row>, column: u32) -> Result<List<usize>,
 // The best of the pairs of these places, and of the best so far.
 fn closest_among(
     codes: &List<Row>,
+    far: &List<u32>,
     width: usize,
     places: &[usize],
     mut best: Option<Pair>,
 ) -> Option<Pair>
     requires have_width { HaveWidth width codes.now }
+    requires far { AreFromFirst width codes.now far.now }
     requires places_fit { length codes.now < 2 ^ 32 }
     requires columns_fit { width < 2 ^ 32 }
     requires rise { AllPairs (λ i j. i < j) places.now }
@@ -107,7 +127,7 @@ fn closest_among(
     ensures beats { (k l : ℕ) → IsPairOf places.now k l → Beats width codes.now result (slice_index_or places.now k 0) (slice_index_or places.now l 0) }
 {
     for k in 0..places.len() {
-        best = closest_after(codes, width, places, k, best);
+        best = closest_after(codes, far, width, places, k, best);
     }
     best
 }
@@ -115,12 +135,14 @@ fn closest_among(
 // The best of the pairs of one of these places with those after it, and of the best so far.
 fn closest_after(
     codes: &List<Row>,
+    far: &List<u32>,
     width: usize,
     places: &[usize],
     k: usize,
     mut best: Option<Pair>,
 ) -> Option<Pair>
     requires have_width { HaveWidth width codes.now }
+    requires far { AreFromFirst width codes.now far.now }
     requires places_fit { length codes.now < 2 ^ 32 }
     requires columns_fit { width < 2 ^ 32 }
     requires rise { AllPairs (λ i j. i < j) places.now }
@@ -131,7 +153,7 @@ fn closest_after(
     ensures beats { (l : ℕ) → IsPairOf places.now k l → Beats width codes.now result (slice_index_or places.now k 0) (slice_index_or places.now l 0) }
 {
     for l in k + 1..places.len() {
-        best = closer(codes, width, places[k], places[l], best);
+        best = closer(codes, far, width, places[k], places[l], best);
     }
     best
 }
@@ -139,11 +161,13 @@ fn closest_after(
 // The best of the pairs that have this first place, and of the best so far.
 fn closest_from(
     codes: &List<Row>,
+    far: &List<u32>,
     width: usize,
     first: usize,
     mut best: Option<Pair>,
 ) -> Option<Pair>
     requires have_width { HaveWidth width codes.now }
+    requires far { AreFromFirst width codes.now far.now }
     requires places_fit { length codes.now < 2 ^ 32 }
     requires columns_fit { width < 2 ^ 32 }
     requires within { first < length codes.now }
@@ -152,7 +176,7 @@ fn closest_from(
     ensures beats { (j : ℕ) → IsPair codes.now first j → Beats width codes.now result first j }
 {
     for second in first + 1..codes.len() {
-        best = closer(codes, width, first, second, best);
+        best = closer(codes, far, width, first, second, best);
     }
     best
 }
@@ -160,12 +184,14 @@ fn closest_from(
 // The better of this pair and the best so far.
 fn closer(
     codes: &List<Row>,
+    far: &List<u32>,
     width: usize,
     first: usize,
     second: usize,
     best: Option<Pair>,
 ) -> Option<Pair>
     requires have_width { HaveWidth width codes.now }
+    requires far { AreFromFirst width codes.now far.now }
     requires places_fit { length codes.now < 2 ^ 32 }
     requires columns_fit { width < 2 ^ 32 }
     requires pair { IsPair codes.now first second }
@@ -174,6 +200,10 @@ fn closer(
     ensures beats { Beats width codes.now result first second }
 {
     let limit = limit(width, first, second, best);
+    let apart = far.at(first).abs_diff(*far.at(second));
+    if limit <= apart as usize {
+        return best;
+    }
     match distance_below(codes.at(first), codes.at(second), limit) {
         None => best,
         Some(distance) => Some(Pair {

@@ -4,7 +4,7 @@ ghost use Rattle.std.specs.List.{All};
 ghost use Rattle.cb_model.specs.Order.{Rises};
 ghost use Rattle.cb_model.specs.NodeOrder.{node_cmp};
 ghost use Rattle.cb_coding.specs.Groups.{AreProblems};
-ghost use Rattle.cb_network.specs.Finding.{least_or_one, is_among as is_among_of, word_of as word_of_raised, unknown_of as unknown_of_raised, named_group as named_group_of, named_groups as named_groups_of};
+ghost use Rattle.cb_network.specs.Finding.{least_or_one, is_among as is_among_of, word_of as word_of_raised, named_group as named_group_of, named_groups as named_groups_of};
 ghost use Rattle.cb_plain.specs.Finds.{Finds};
 
 use crate::closest::least;
@@ -16,7 +16,6 @@ use cb_coding::{Book, Group, Pair, Problem};
 use cb_model::{List, NamedGroup, NodeName};
 use cb_network::Finding;
 use std::alloc::{AllocError, Global};
-use std::cmp::Ordering;
 
 /// The problems nearest to what is raised, over all columns. The raised nodes are a set, given as its list in order.
 pub fn find(
@@ -26,6 +25,7 @@ pub fn find(
     raised: &List<NodeName>,
 ) -> Result<Finding, AllocError>
     requires problems { AreProblems (length columns.now) problems.now }
+    requires columns { Rises node_cmp columns.now }
     requires raised { Rises node_cmp raised.now }
     requires columns_fit { length columns.now < 2 ^ 32 }
     requires problems_fit { length problems.now + 1 < 2 ^ 32 }
@@ -41,7 +41,7 @@ pub fn find(
     let answer = nearest(alloc, &codes, &book, &word)?;
     Ok(Finding {
         raised: raised.len() as u64,
-        unknown: unknown_of(columns, raised),
+        unknown: (raised.len() - word.ones()) as u64,
         distance: answer.distance,
         radius: book.distance.saturating_sub(1) / 2,
         sure: answer.sure,
@@ -59,14 +59,12 @@ fn distance_or_one(least: Option<Pair>) -> u32
     }
 }
 
-// Whether the node is one of these.
+// Whether the node is one of these, which are in order.
 fn is_among(nodes: &List<NodeName>, node: &NodeName) -> bool
+    requires { Rises node_cmp nodes.now }
     ensures { result ≡ is_among_of nodes.now node.now }
 {
-    nodes
-        .as_slice()
-        .iter()
-        .any(|other| node.cmp(other) == Ordering::Equal)
+    nodes.as_slice().binary_search(node).is_ok()
 }
 
 // For each column, whether it is raised.
@@ -75,6 +73,7 @@ fn word_of(
     columns: &List<NodeName>,
     raised: &List<NodeName>,
 ) -> Result<Row, AllocError>
+    requires { Rises node_cmp raised.now }
     ensures { IfOk result (λ word. word ≡ word_of_raised columns.now raised.now) }
 {
     let mut word = Row::zeroed(alloc, columns.len())?;
@@ -84,19 +83,6 @@ fn word_of(
         }
     }
     Ok(word)
-}
-
-// How many of the raised nodes are no column.
-fn unknown_of(columns: &List<NodeName>, raised: &List<NodeName>) -> u64
-    ensures { result ≡ unknown_of_raised columns.now raised.now }
-{
-    let mut unknown = 0;
-    for node in raised.as_slice() {
-        if !is_among(columns, node) {
-            unknown += 1;
-        }
-    }
-    unknown
 }
 
 // The groups at these places, by their members.

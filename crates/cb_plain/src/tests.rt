@@ -1,6 +1,8 @@
 ghost use Rattle.std.specs.Prelude.{◌≡◌, ◌<◌, ◌≤◌, ◌^◌, ℕ, length, IfOk, IsTrue, slice_index_or};
 ghost use Rattle.std.specs.declared.cmp.Ordering.TheVariants.{Less};
+ghost use Rattle.cb_model.specs.Order.{Rises};
 ghost use Rattle.cb_model.specs.NodeOrder.{node_cmp};
+ghost use Rattle.cb_model.specs.declared.node.NodeName.{NodeName as NodeName_};
 ghost use Rattle.cb_coding.specs.declared.group.Problem.{Problem as Problem_};
 ghost use Rattle.cb_coding.specs.Distance.{HaveWidth};
 ghost use Rattle.cb_coding.specs.Groups.{AreProblems};
@@ -118,16 +120,7 @@ fn decodes_words(rt: HostRuntime) -> Result<(), Fail> {
 #[test]
 fn groups_problems_by_codes(rt: HostRuntime) -> Result<(), Fail> {
     let alloc = rt.alloc();
-    let mut problems = List::new(alloc);
-    for (event, instance, code) in [
-        ("Down", "a", "110"),
-        ("Hot", "a", "000"),
-        ("Down", "b", "011"),
-        ("Hot", "b", "110"),
-        ("Down", "c", "000"),
-    ] {
-        problems.push(problem(alloc, event, instance, code)?)?;
-    }
+    let problems = five_problems(alloc)?;
     assert!(rt; are_problems(&problems, 3));
     let made = groups(alloc, &problems, 3)?;
     let want: [&[usize]; 3] = [&[1, 4], &[0, 3], &[2]];
@@ -143,15 +136,105 @@ fn groups_problems_by_codes(rt: HostRuntime) -> Result<(), Fail> {
     Ok(())
 }
 
-// A problem with its code from their texts.
-fn problem(alloc: Global, event: &str, instance: &str, code: &str) -> Result<Problem, AllocError> {
-    Ok(Problem {
-        name: NodeName {
-            event: Name::of(alloc, event.as_bytes())?,
-            instance: Name::of(alloc, instance.as_bytes())?,
-        },
-        code: code_of(alloc, 3, code)?,
+#[test]
+fn finds_the_nearest_groups(rt: HostRuntime) -> Result<(), Fail> {
+    let alloc = rt.alloc();
+    let problems = five_problems(alloc)?;
+    let columns = nodes_of(alloc, &[("Alarm", "a"), ("Alarm", "b"), ("Noise", "b")])?;
+    assert!(rt; are_problems(&problems, 3) && columns.len() == 3);
+    assert!(rt; are_in_order(&columns));
+    // What is raised, how many of these are no column, the distance, how many groups are so near, and whether it is sure.
+    let table: [(&[(&str, &str)], u64, u32, usize, bool); 4] = [
+        (&[], 0, 0, 1, true),
+        (&[("Alarm", "b")], 0, 1, 3, false),
+        (
+            &[
+                ("Alarm", "a"),
+                ("Noise", "a"),
+                ("Alarm", "b"),
+                ("Alarm", "c"),
+            ],
+            2,
+            0,
+            1,
+            true,
+        ),
+        (
+            &[("Alarm", "A"), ("Noise", "b"), ("Other", "b")],
+            2,
+            1,
+            2,
+            false,
+        ),
+    ];
+    for (texts, unknown, distance, count, sure) in table {
+        let raised = nodes_of(alloc, texts)?;
+        assert!(rt; are_in_order(&raised) && problems.len() == 5);
+        let finding = find(alloc, &columns, &problems, &raised)?;
+        assert_eq!(rt; (finding.unknown, finding.distance), (unknown, distance));
+        assert_eq!(rt; (finding.groups.len(), finding.sure), (count, sure));
+        assert_eq!(rt; finding.raised, texts.len() as u64);
+    }
+    Ok(())
+}
+
+// Five problems in order, of which two have no symptom and two others have the same.
+fn five_problems(alloc: Global) -> Result<List<Problem>, AllocError> {
+    let mut problems = List::new(alloc);
+    for (event, instance, code) in [
+        ("Down", "a", "110"),
+        ("Hot", "a", "000"),
+        ("Down", "b", "011"),
+        ("Hot", "b", "110"),
+        ("Down", "c", "000"),
+    ] {
+        problems.push(Problem {
+            name: node(alloc, event, instance)?,
+            code: code_of(alloc, 3, code)?,
+        })?;
+    }
+    Ok(problems)
+}
+
+fn node(alloc: Global, event: &str, instance: &str) -> Result<NodeName, AllocError> {
+    Ok(NodeName {
+        event: Name::of(alloc, event.as_bytes())?,
+        instance: Name::of(alloc, instance.as_bytes())?,
     })
+}
+
+fn nodes_of(alloc: Global, texts: &[(&str, &str)]) -> Result<List<NodeName>, AllocError> {
+    let mut nodes = List::new(alloc);
+    for (event, instance) in texts {
+        nodes.push(node(alloc, event, instance)?)?;
+    }
+    Ok(nodes)
+}
+
+// Whether the nodes are in order.
+fn are_in_order(nodes: &List<NodeName>) -> bool
+    ensures { IsTrue result → Rises node_cmp nodes.now }
+{
+    for i in 0..nodes.len() {
+        if !stands_last(nodes, i) {
+            return false;
+        }
+    }
+    true
+}
+
+// Whether a node comes after all those before it.
+fn stands_last(nodes: &List<NodeName>, i: usize) -> bool
+    requires { i < length nodes.now }
+    ensures { IsTrue result → (j : ℕ) (d : NodeName_) → j < i
+        → node_cmp (slice_index_or nodes.now j d) (slice_index_or nodes.now i d) ≡ Less }
+{
+    for j in 0..i {
+        if nodes.at(j).cmp(nodes.at(i)) != Ordering::Less {
+            return false;
+        }
+    }
+    true
 }
 
 // Whether the problems are in order, with codes of that width.

@@ -1,7 +1,7 @@
 -- Chains of edges.
-use Rattle.std.proofs.Common.{◌↔◌, ℕ, List, [], ◌∷◌, Bool, refl, sym, subst}
+use Rattle.std.proofs.Common.{ℕ, List, [], ◌∷◌, Bool, refl, sym, subst}
 use Rattle.cb_reach.specs.Rows.{Has}
-use Rattle.cb_reach.specs.Graphs.{HaveSameEdges, Chain, LeadsTo}
+use Rattle.cb_reach.specs.Graphs.{Chain, LeadsTo}
 
 -- one edge more
 pub chain_more : (edge : ℕ → ℕ → Type 0) (from : ℕ) (rest : List ℕ) (to next : ℕ) → Chain edge from rest to → edge to next → LeadsTo edge from next
@@ -19,17 +19,3 @@ pub closed_along : (edge : ℕ → ℕ → Type 0) (row : List Bool) → ((a b :
     → (from : ℕ) (rest : List ℕ) (to : ℕ) → Chain edge from rest to → Has row from → Has row to
 closed_along edge row closed from [] to same has = subst (Has row) same has
 closed_along edge row closed from (node ∷ rest) to chain has = closed_along edge row closed node rest to chain.1 (closed from node has chain.0)
-
-pub edges_stay : (a b c : ℕ → ℕ → Type 0) → HaveSameEdges a b → HaveSameEdges b c → HaveSameEdges a c
-edges_stay a b c one two from to = (λ e. (two from to).0 ((one from to).0 e), λ e. (one from to).1 ((two from to).1 e))
-
--- where the edges are the same, so is what a node leads to
-alike_along : (edge other : ℕ → ℕ → Type 0) → ((from to : ℕ) → edge from to → other from to) → (from : ℕ) (rest : List ℕ) (to : ℕ) → Chain edge from rest to → Chain other from rest to
-alike_along edge other into from [] to same = same
-alike_along edge other into from (node ∷ rest) to chain = (into from node chain.0, alike_along edge other into node rest to chain.1)
-
-pub leads_alike : (edge other : ℕ → ℕ → Type 0) → HaveSameEdges edge other → (from to : ℕ) → LeadsTo edge from to ↔ LeadsTo other from to
-leads_alike edge other same from to = (
-  λ led. (led.0, alike_along edge other (λ a b. (same a b).0) from led.0 to led.1),
-  λ led. (led.0, alike_along other edge (λ a b. (same a b).1) from led.0 to led.1),
-)

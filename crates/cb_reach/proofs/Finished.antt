@@ -1,19 +1,6 @@
--- Rows of all that a node leads to stay so while the edges stay.
+-- Rows of all that a node leads to, each at its node's place.
 use Rattle.std.proofs.Common.{◌≡◌, ◌⊎◌, inl, inr, ℕ, zero, suc, List, [], ◌∷◌, ◌++◌, Bool, length, Option, Some, slice_get, refl, sym, subst, ◌∙◌, arith}
-use Rattle.cb_reach.specs.Graphs.{HaveSameEdges, IsFinished, AreFinished}
-use Rattle.cb_reach.proofs.Chains.{leads_alike}
-
-pub still_finished : (edge other : ℕ → ℕ → Type 0) → HaveSameEdges other edge → (count node : ℕ) (row : List Bool) → IsFinished edge count node row → IsFinished other count node row
-still_finished edge other same count node row finished = record {
-  room = finished.room;
-  each = λ k. let alike = leads_alike other edge same node k in (
-    λ has. alike.1 ((finished.each k).0 has),
-    λ led. (finished.each k).1 (alike.0 led),
-  );
-}
-
-pub all_still_finished : (edge other : ℕ → ℕ → Type 0) → HaveSameEdges other edge → (count : ℕ) (rows : List (Option (List Bool))) → AreFinished edge count rows → AreFinished other count rows
-all_still_finished edge other same count rows finished node row at = still_finished edge other same count node row (finished node row at)
+use Rattle.cb_reach.specs.Graphs.{IsFinished, AreFinished}
 
 -- what is read of a list with one item more
 appended : {X : Type 0} (xs : List X) (x : X) (i : ℕ) (y : X) → slice_get (xs ++ (x ∷ [])) i ≡ Some y → (slice_get xs i ≡ Some y) ⊎ ((i ≡ length xs) × (x ≡ y))

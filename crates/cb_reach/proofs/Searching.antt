@@ -5,7 +5,7 @@ use Rattle.std.proofs.lemmas.Bool.{cases_lt}
 use Rattle.std.proofs.lemmas.List.{get_or_past, length-set, length-replicate}
 use Rattle.std.proofs.lemmas.Simd.{length-zip2}
 use Rattle.cb_reach.specs.Rows.{Has, IsLeft, HasAllOf, ones}
-use Rattle.cb_reach.specs.Graphs.{HaveSameEdges, LeadsTo, IsLedTo, IsSettled, IsFinished}
+use Rattle.cb_reach.specs.Graphs.{LeadsTo, IsLedTo, IsSettled, IsFinished}
 use Rattle.cb_reach.proofs.Chains.{chain_more, chains_joined, closed_along}
 use Rattle.cb_reach.proofs.Marks.{ones-set, ones_within, has_set, set_cases, same_rows, or_left, or_right, or_cases, nothing, no_ones}
 
@@ -38,10 +38,10 @@ module _ (edge : ℕ → ℕ → Type 0) (nodes : ℕ) (found0 done0 found done 
   ]
 
   -- a node that is found is done, and its successors are added
-  pub visited : (now : ℕ → ℕ → Type 0) → HaveSameEdges now edge → (node : ℕ) (found' : List Bool) (steps' : ℕ) → IsLeft found done node → length found' ≡ length found
-      → ((k : ℕ) → Has found' k ↔ (Has found k ⊎ now node k)) → steps' ≡ steps + 1
+  pub visited : (node : ℕ) (found' : List Bool) (steps' : ℕ) → IsLeft found done node → length found' ≡ length found
+      → ((k : ℕ) → Has found' k ↔ (Has found k ⊎ edge node k)) → steps' ≡ steps + 1
       → IsSearch edge nodes found0 done0 found' (slice_set done node true) steps0 steps'
-  visited now same_edges node found' steps' left len_found added step = record {
+  visited node found' steps' left len_found added step = record {
     len_found = len_found ∙ old.len_found;
     len_done = length-set done node true ∙ old.len_done;
     settled = record {
@@ -50,14 +50,14 @@ module _ (edge : ℕ → ℕ → Type 0) (nodes : ℕ) (found0 done0 found done 
         | inr had ↦ up k (old.settled.within k had)
       ];
       next = λ a b has e. elim (set_cases done node a has) [
-        | inl same ↦ (added b).1 (inr ((same_edges node b).1 (subst (λ n. edge n b) same e)))
+        | inl same ↦ (added b).1 (inr (subst (λ n. edge n b) same e))
         | inr had ↦ up b (old.settled.next a b had e)
       ];
     };
     kept = λ k has. up k (old.kept k has);
     led = λ k has. elim ((added k).0 has) [
       | inl had ↦ old.led k had
-      | inr e ↦ let from = old.led node left.0 in (from.0, from.1, chain_more edge from.0 from.2.0 node k from.2.1 ((same_edges node k).0 e))
+      | inr e ↦ let from = old.led node left.0 in (from.0, from.1, chain_more edge from.0 from.2.0 node k from.2.1 e)
     ];
     cost = let more = ones-set done node below left.1 in let e = old.cost in omega arith;
   }

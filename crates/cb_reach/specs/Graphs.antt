@@ -2,10 +2,6 @@
 use Rattle.std.specs.Prelude.{◌≡◌, ◌↔◌, ℕ, Bool, List, [], ◌∷◌, Option, Some, length, slice_get}
 use Rattle.cb_reach.specs.Rows.{Has}
 
--- two graphs have the same edges
-abbrev pub HaveSameEdges : (ℕ → ℕ → Type 0) → (ℕ → ℕ → Type 0) → Type 0
-HaveSameEdges edge other = (from to : ℕ) → edge from to ↔ other from to
-
 -- there is an edge to the first of these nodes and from each to the next, and the last is `to`; without any, both are one
 abbrev pub Chain : (ℕ → ℕ → Type 0) → ℕ → List ℕ → ℕ → Type 0
 Chain edge from [] to = from ≡ to

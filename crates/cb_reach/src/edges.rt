@@ -1,6 +1,5 @@
 //! Where a search learns of edges.
 ghost use Rattle.std.specs.Prelude.{◌≡◌, ◌<◌, ◌+◌, ◌↔◌, ◌⊎◌, ℕ, length};
-ghost use Rattle.cb_reach.specs.Graphs.{HaveSameEdges};
 ghost use Rattle.cb_reach.specs.Rows.{Has};
 
 use cb_bits::Row;
@@ -15,13 +14,12 @@ pub trait Edges {
     // how many nodes there are
     ghost count: { Self → ℕ };
 
-    /// Adds the successors of a node to a row, and counts one step. The graph may use room of its own for it, as long as
-    /// its edges stay.
+    /// Adds the successors of a node to a row, and counts one step. The graph may use hidden room of its own for it, but
+    /// its value, as contracts see it, stays as it is.
     fn add_successors<L: Ledger>(&mut self, node: usize, row: &mut Row, steps: &mut Steps<L>)
         requires node { node < count self.old }
         requires row { length row.old ≡ count self.old }
-        ensures edges { HaveSameEdges (edge self.new) (edge self.old) }
-        ensures count { count self.new ≡ count self.old }
+        ensures same { self.new ≡ self.old }
         ensures length { length row.new ≡ length row.old }
         ensures row { (k : ℕ) → Has row.new k ↔ (Has row.old k ⊎ edge self.old node k) }
         ensures step { steps.new ≡ steps.old + 1 };

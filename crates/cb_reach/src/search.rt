@@ -1,6 +1,6 @@
 //! The search along edges. It keeps no list of nodes to visit: those that are found and not done are left.
 ghost use Rattle.std.specs.Prelude.{◌≡◌, ◌≢◌, ◌<◌, ◌≤◌, ◌+◌, ◌↔◌, ℕ, length, replicate, false, slice_get, List, Bool, IfSome, IfNone};
-ghost use Rattle.cb_reach.specs.Graphs.{HaveSameEdges, LeadsTo, IsLedTo, IsSettled, AreFinished};
+ghost use Rattle.cb_reach.specs.Graphs.{LeadsTo, IsLedTo, IsSettled, AreFinished};
 ghost use Rattle.cb_reach.specs.Rows.{Has, ones};
 
 use crate::edges::Edges;
@@ -11,7 +11,7 @@ use std::sync::ledger::Ledger;
 
 /// Adds to `found` all that its nodes lead to. The nodes in `done` have their successors in `found` already, and cost
 /// nothing; at the end all that is found is done. Where a row is known of all that some node leads to, at its place in
-/// `finished`, that row is added as a whole, and its nodes cost nothing either.
+/// `finished`, that row is added as a whole, and its nodes cost nothing either. The graph's value stays as it is.
 pub fn extend<L: Ledger, G: Edges>(
     graph: &mut G,
     finished: &[Option<Row>],
@@ -23,8 +23,7 @@ pub fn extend<L: Ledger, G: Edges>(
     requires done { length done.old ≡ G.count graph.old }
     requires settled { IsSettled (G.edge graph.old) found.old done.old }
     requires finished { AreFinished (G.edge graph.old) (G.count graph.old) finished.now }
-    ensures edges { HaveSameEdges (G.edge graph.new) (G.edge graph.old) }
-    ensures count { G.count graph.new ≡ G.count graph.old }
+    ensures same { graph.new ≡ graph.old }
     ensures length { length found.new ≡ length found.old }
     ensures found { (node : ℕ) → Has found.new node ↔ IsLedTo (G.edge graph.old) found.old node }
     ensures done { done.new ≡ found.new }
@@ -55,7 +54,8 @@ fn row_at(rows: &[Option<Row>], node: usize) -> Option<&Row>
     rows.get(node)?.as_ref()
 }
 
-/// Adds to a row without nodes all that a node leads to. The other row is room for the search.
+/// Adds to a row without nodes all that a node leads to. The other row is room for the search. The graph's value stays as
+/// it is.
 pub fn reach<L: Ledger, G: Edges>(
     graph: &mut G,
     from: usize,
@@ -68,8 +68,7 @@ pub fn reach<L: Ledger, G: Edges>(
     requires finished { AreFinished (G.edge graph.old) (G.count graph.old) finished.now }
     requires found { found.old ≡ replicate (G.count graph.old) false }
     requires done { done.old ≡ replicate (G.count graph.old) false }
-    ensures edges { HaveSameEdges (G.edge graph.new) (G.edge graph.old) }
-    ensures count { G.count graph.new ≡ G.count graph.old }
+    ensures same { graph.new ≡ graph.old }
     ensures length { length found.new ≡ G.count graph.old }
     ensures found { (node : ℕ) → Has found.new node ↔ LeadsTo (G.edge graph.old) from node }
     ensures done { done.new ≡ found.new }

@@ -4,6 +4,9 @@ use Rattle.std.proofs.lemmas.List.Elements.{Contains-get_or}
 use Rattle.std.proofs.lemmas.List.{length-map}
 use Rattle.cb_coding.specs.declared.group.Group.{Group}
 use Rattle.cb_coding.proofs.GroupLaws.{groups_are_wide}
+use Rattle.cb_model.specs.NodeOrder.{node_cmp}
+use Rattle.cb_model.proofs.Rising.{node_cmp_total}
+use Rattle.cb_plain.proofs.Shared.{known_or_not}
 use Rattle.cb_plain.proofs.finding.find.Goals as goal
 
 pub least-requires-clause-have_width : goal.least-requires-clause-have_width
@@ -22,6 +25,13 @@ named_groups-requires c = λ k d lt.
     let wide = length-map c.in_ok-groups.groups (λ (g : Group). g.code) in
     omega (arith, within, wide)
 
+pub overflow_sub-result : goal.overflow_sub-result
+overflow_sub-result c =
+    let parts = known_or_not node_cmp node_cmp_total c.args.columns.now c.args.raised.now c.requires.columns c.requires.raised c.in_ok-word.word c.in_ok-word.ensures in
+    let all = c.len-5.ensures in
+    let known = c.ones.ensures in
+    omega arith
+
 pub returns : goal.returns
 returns c = record {
   groups = c.in_ok-groups.groups;
@@ -31,7 +41,11 @@ returns c = record {
   found = record {
     rise = c.requires.raised;
     raised_are = c.len-4.ensures;
-    unknown_are = c.unknown_of.ensures;
+    unknown_are =
+        let parts = known_or_not node_cmp node_cmp_total c.args.columns.now c.args.raised.now c.requires.columns c.requires.raised c.in_ok-word.word c.in_ok-word.ensures in
+        let all = c.len-5.ensures in
+        let known = c.ones.ensures in
+        omega arith;
     radius_is = rw (c.saturating_sub.ensures, c.distance_or_one.ensures) refl;
     answer = c.in_ok-answer.answer;
     answered = rw (c.in_ok-every_column.ensures, c.len-2.ensures, c.in_ok-codes.ensures, c.distance_or_one.ensures, c.in_ok-word.ensures) at c.in_ok-answer.ensures;

@@ -1,23 +1,23 @@
-use Rattle.std.proofs.Common.{sym, ◌∙◌, true, slice_set, arith}
+use Rattle.std.proofs.Common.{sym, subst, ◌∙◌, ◌⊎◌, ◌↔◌, ℕ, true, slice_set, arith}
 use Rattle.std.proofs.lemmas.List.{length-set}
-use Rattle.cb_reach.proofs.Chains.{edges_stay}
+use Rattle.cb_reach.specs.Rows.{Has}
 use Rattle.cb_reach.proofs.Marks.{fewer_left, ones-set}
 use Rattle.cb_reach.proofs.Searching.{visited, joined, more_done, left_below, all_done, all_led, all_counted}
 use Rattle.cb_reach.proofs.search.extend.Goals as goal
 use Rattle.cb_reach.proofs.search.extend.Goals.{in-Some-row_at, in-None}
 
 pub returns-clause-found : goal.returns-clause-found
-returns-clause-found g c = all_led _ _ _ _ _ _ _ _ c.loop-node.invariant.2 c.in_default.ensures.none
+returns-clause-found g c = all_led _ _ _ _ _ _ _ _ c.loop-node.invariant.1 c.in_default.ensures.none
 
 pub returns-clause-done : goal.returns-clause-done
-returns-clause-done g c = all_done _ _ _ _ _ _ _ _ c.loop-node.invariant.2 c.in_default.ensures.none
+returns-clause-done g c = all_done _ _ _ _ _ _ _ _ c.loop-node.invariant.1 c.in_default.ensures.none
 
 pub returns-clause-cost : goal.returns-clause-cost
-returns-clause-cost g c = all_counted _ _ _ _ _ _ _ _ c.loop-node.invariant.2 c.in_default.ensures.none
+returns-clause-cost g c = all_counted _ _ _ _ _ _ _ _ c.loop-node.invariant.1 c.in_default.ensures.none
 
 pub loop-node-smaller : goal.loop-node-smaller
 loop-node-smaller g c =
-    let kept = c.loop-node.invariant.2 in
+    let kept = c.loop-node.invariant.1 in
     elim c.match-row_at.branch [
       | in-Some-row_at w ↦
           let finished = c.requires.finished c.in-Some.node _ w.in-Some-row_at.ensures.some in
@@ -35,14 +35,12 @@ loop-node-preserved g c =
     elim c.match-row_at.branch [
       | in-Some-row_at w ↦
           let finished = c.requires.finished c.in-Some.node _ w.in-Some-row_at.ensures.some in
-          let next = joined _ _ _ _ _ _ _ _ kept.2 c.in-Some.node _ c.in-Some.ensures.left finished in
-          rw (w.graph-is, w.found-is, w.or_from.ensures, w.done-is, w.or_from-in-Some-row_at.ensures, w.steps-is) (kept.0, kept.1, next)
+          let next = joined _ _ _ _ _ _ _ _ kept.1 c.in-Some.node _ c.in-Some.ensures.left finished in
+          rw (w.graph-is, w.found-is, w.or_from.ensures, w.done-is, w.or_from-in-Some-row_at.ensures, w.steps-is) (kept.0, next)
       | in-None w ↦
-          let next = visited _ _ _ _ _ _ _ _ kept.2 (g.G.Edges.edge c.loop-node.graph) kept.0 c.in-Some.node w.add_successors.new.row w.add_successors.new.steps
-          c.in-Some.ensures.left w.add_successors.ensures.length w.add_successors.ensures.row w.add_successors.ensures.step in
-          rw (w.graph-is, w.found-is, w.done-is, w.set.ensures, w.steps-is) (
-            edges_stay _ _ _ w.add_successors.ensures.edges kept.0,
-            w.add_successors.ensures.count ∙ kept.1,
-            next,
-          )
+          let added = subst (λ graph. (k : ℕ) → Has w.add_successors.new.row k ↔ (Has c.loop-node.found k ⊎ g.G.Edges.edge graph c.in-Some.node k)) kept.0
+          w.add_successors.ensures.row in
+          let next = visited _ _ _ _ _ _ _ _ kept.1 c.in-Some.node w.add_successors.new.row w.add_successors.new.steps
+          c.in-Some.ensures.left w.add_successors.ensures.length added w.add_successors.ensures.step in
+          rw (w.graph-is, w.found-is, w.done-is, w.set.ensures, w.steps-is) (w.add_successors.ensures.same ∙ kept.0, next)
     ]

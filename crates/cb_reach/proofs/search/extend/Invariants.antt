@@ -1,11 +1,10 @@
 use Rattle.std.proofs.Common.{◌≡◌, ◌-◌, length}
-use Rattle.cb_reach.specs.Graphs.{HaveSameEdges}
 use Rattle.cb_reach.specs.Rows.{ones}
 use Rattle.cb_reach.proofs.Searching.{IsSearch}
 use Rattle.cb_reach.proofs.search.extend.Given as goal
 
 abbrev pub invariant-loop-node : goal.invariant-loop-node
-invariant-loop-node g l = HaveSameEdges (g.G.Edges.edge l.graph) (g.G.Edges.edge l.initial.graph) × (g.G.Edges.count l.graph ≡ g.G.Edges.count l.initial.graph)
+invariant-loop-node g l = (l.graph ≡ l.initial.graph)
     × IsSearch (g.G.Edges.edge l.initial.graph) (g.G.Edges.count l.initial.graph) l.initial.found l.initial.done l.found l.done l.initial.steps l.steps
 
 abbrev pub decreases-loop-node : goal.decreases-loop-node

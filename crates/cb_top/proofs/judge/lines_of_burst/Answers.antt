@@ -8,6 +8,9 @@ use Rattle.cb_flat.specs.FlatTopology.{topology_of}
 use Rattle.cb_top.proofs.Judged.{if_ok_more}
 use Rattle.cb_top.proofs.judge.lines_of_burst.Goals as goal
 
+pub find-requires-clause-columns : goal.find-requires-clause-columns
+find-requires-clause-columns c = rw c.in_ok-columns.ensures c.requires.nodes.columns.rise
+
 pub find-requires-clause-problems : goal.find-requires-clause-problems
 find-requires-clause-problems c = coded_are_wide (topology_of c.args.model.now c.args.topology.now) c.in_ok-columns.columns c.in_ok-problems.problems c.in_ok-problems.ensures
 
