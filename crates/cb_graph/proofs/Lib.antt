@@ -1,1 +1,6 @@
 pub mod Chains
+pub mod Gaining
+pub mod Listing
+pub mod Walking
+pub mod Bridge
+pub mod Places

@@ -1,2 +1,4 @@
 pub mod Edges
+pub mod Instances
+pub mod Walks
 pub mod Laws

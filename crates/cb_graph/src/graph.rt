@@ -6,22 +6,23 @@ ghost use Rattle.cb_topo.specs.Applied.{Applies, Prevents};
 ghost use Rattle.cb_reach.specs.Rows.{Has};
 ghost use Rattle.cb_graph.specs.Edges.{EdgeAt};
 
+use crate::instances::InstanceSet;
+use crate::rules::add_edges;
 use cb_bits::Row;
 use cb_network::Edit;
 use cb_nodes::NodeId;
+use cb_reach::Edges;
 use cb_steps::Steps;
 use cb_topo::{EditFault, Topology};
 use std::alloc::{AllocError, Global};
 use std::sync::ledger::Ledger;
 
-#[derive(Drop)]
-pub enum Never {}
-
 /// A topology with the room that it takes to follow the paths of rules.
 #[derive(Drop)]
 pub struct Graph {
     topology: Topology,
-    never: Never,
+    here: InstanceSet,
+    spare: InstanceSet,
 }
 
 impl std::marker::Model for Graph {
@@ -33,19 +34,32 @@ impl std::marker::Model for Graph {
     ghost coded = { numbered_code };
 
     ghost view = { λ s. s.topology };
+
+    ghost use Rattle.cb_graph.specs.Walks.{HasPlaces};
+
+    ghost invariant = { λ s. HasPlaces s.topology.net s.here × HasPlaces s.topology.net s.spare };
 }
 
 impl Graph {
     pub fn new(alloc: Global, topology: Topology) -> Result<Graph, AllocError>
         ensures { IfOk result (λ graph. graph ≡ topology) }
     {
-        Err(AllocError)
+        let room = topology.instance_room();
+        let mut here = InstanceSet::new(alloc)?;
+        here.reserve(room)?;
+        let mut spare = InstanceSet::new(alloc)?;
+        spare.reserve(room)?;
+        Ok(Graph {
+            topology,
+            here,
+            spare,
+        })
     }
 
     pub fn topology(&self) -> &Topology
         ensures { result.now ≡ self.now }
     {
-        match self.never {}
+        &self.topology
     }
 
     /// Makes the edit. Where it is refused, or memory is wanting, nothing is changed.
@@ -55,7 +69,13 @@ impl Graph {
         ensures fault { IfErr result (Prevents self.old edit.now) }
         ensures kept { OnErr result (self.new ≡ self.old) }
     {
-        match self.never {}
+        let room = self.topology.instance_room_after(edit);
+        self.here.reserve(room)?;
+        self.spare.reserve(room)?;
+        let made = self.topology.apply(alloc, edit);
+        // Each number of an instance is below it.
+        let _room = self.topology.instance_room();
+        made
     }
 
     /// Makes `out` exactly the successors of the node, and counts one step.
@@ -67,6 +87,35 @@ impl Graph {
         ensures exactly { (k : ℕ) → Has out.new k ↔ EdgeAt self.old node.0 k }
         ensures step { steps.new ≡ steps.old + 1 }
     {
-        match self.never {}
+        steps.tick();
+        out.wipe();
+        add_edges(
+            &self.topology,
+            node,
+            &mut self.here,
+            &mut self.spare,
+            out,
+        );
+    }
+}
+
+impl Edges for Graph {
+    ghost edge = { λ g from to. EdgeAt g from to };
+
+    ghost count = { λ g. length g.nodes };
+
+    fn add_successors<L: Ledger>(&mut self, node: usize, row: &mut Row, steps: &mut Steps<L>) {
+        steps.tick();
+        self.topology.facts();
+        let node = NodeId(node as u32);
+        if self.topology.is_live(node) {
+            add_edges(
+                &self.topology,
+                node,
+                &mut self.here,
+                &mut self.spare,
+                row,
+            );
+        }
     }
 }

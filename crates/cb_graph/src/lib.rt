@@ -2,6 +2,9 @@
 #![tactic(auto)]
 
 mod graph;
+mod instances;
 pub mod laws;
+mod rules;
+mod walk;
 
 pub use graph::Graph;

@@ -4,7 +4,7 @@ use Rattle.std.specs.List.{AllZip}
 use Rattle.cb_model.specs.declared.node.NodeName.{NodeName}
 use Rattle.cb_network.specs.Topology.{Topology}
 use Rattle.cb_network.specs.Nodes.{IsNodeOf}
-use Rattle.cb_net.specs.Numbered.{Net, IsNamed, event_name, IsWhole as IsWholeNet}
+use Rattle.cb_net.specs.Numbered.{Net, IsNamed, event_name, HasEventAt, IsWhole as IsWholeNet}
 use Rattle.cb_nodes.specs.declared.id.NodeId.{NodeId}
 use Rattle.cb_nodes.specs.declared.node.Node.{Node}
 use Rattle.cb_nodes.specs.Table.{Table, IsNode}
@@ -32,10 +32,11 @@ IsLiveNode n id = (name : NodeName) × IsNodeNamed n id name
 abbrev pub AreNamed : Numbered → List NodeId → List NodeName → Type 0
 AreNamed n ids names = AllZip (IsNodeNamed n) ids names
 
--- a name has one number, nodes are those of the topology, and instances too
+-- a name has one number, nodes are those of the topology, and instances too; the event of a node is one of its instance
 pub record IsWhole (n : Numbered) : Type 0 where
   pub net : IsWholeNet n.net
   pub one : (i j : NodeId) (name : NodeName) → IsNodeNamed n i name → IsNodeNamed n j name → i ≡ j
   pub live : (id : NodeId) (name : NodeName) → IsNodeNamed n id name → IsNodeOf (topology_of n) name
   pub named : (name : NodeName) → IsNodeOf (topology_of n) name → (id : NodeId) × IsNodeNamed n id name
   pub node_named : (id : NodeId) (node : Node) → IsNode n.nodes id node → (name : NodeName) × IsNodeNamed n id name
+  pub had : (id : NodeId) (node : Node) → IsNode n.nodes id node → HasEventAt n.net node.instance node.event

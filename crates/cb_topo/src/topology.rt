@@ -16,8 +16,8 @@ ghost use Rattle.cb_net.specs.Numbered.{empty_net, IsNamed, IsLive, LinkAt, Once
 ghost use Rattle.cb_nodes.specs.declared.id.NodeId.{NodeId as NodeNumber};
 ghost use Rattle.cb_nodes.specs.declared.node.Node.{Node as NodeAt};
 ghost use Rattle.cb_nodes.specs.Table.{IsNode, node_of};
-ghost use Rattle.cb_topo.specs.Numbered.{topology_of, IsNodeNamed, IsLiveNode, AreNamed, IsWhole};
-ghost use Rattle.cb_topo.specs.Applied.{Applies, Prevents, IsNodeRoomAfter};
+ghost use Rattle.cb_topo.specs.Numbered.{Numbered, topology_of, IsNodeNamed, IsLiveNode, AreNamed, IsWhole};
+ghost use Rattle.cb_topo.specs.Applied.{Applies, Prevents, MayGrow, IsNodeRoomAfter};
 
 use crate::fault::EditFault;
 use cb_model::{ClassId, EventId, List, Model, RelId};
@@ -195,6 +195,14 @@ impl Topology {
     pub fn instance_room(&self) -> usize
         ensures value { result ≡ self.now.net.room }
         ensures above { (id : Id) → IsLive self.now.net id → id.0 < result }
+    {
+        match self.never {}
+    }
+
+    /// At least what `instance_room` is once the edit is made.
+    pub fn instance_room_after(&self, edit: &Edit) -> usize
+        ensures above { (new : Numbered) → Applies self.now edit.now new → new.net.room ≤ result }
+        ensures grows { self.now.net.room < result → MayGrow edit.now }
     {
         match self.never {}
     }

@@ -1,0 +1,59 @@
+//! Walks along links.
+ghost use Rattle.std.specs.Prelude.{◌≡◌, ◌<◌, length};
+ghost use Rattle.std.specs.List.{Contains};
+ghost use Rattle.cb_net.specs.declared.id.InstanceId.{InstanceId as Id};
+ghost use Rattle.cb_net.specs.Numbered.{IsLive};
+ghost use Rattle.cb_graph.specs.Instances.{Gains, IsNumber};
+ghost use Rattle.cb_graph.specs.Walks.{LeadsAt, IsWhereLeads, HasPlaces, AllLive, IsLinked};
+
+use crate::instances::InstanceSet;
+use cb_model::RelId;
+use cb_net::InstanceId;
+use cb_topo::Topology;
+
+// Adds the listed instances to the set.
+fn add_all(list: &[InstanceId], out: &mut InstanceSet)
+    requires { (id : Id) → Contains list.now id → id.0 < length out.old }
+    ensures length { length out.new ≡ length out.old }
+    ensures each { Gains out.old out.new list.now IsNumber }
+{
+    for id in list {
+        out.add(*id);
+    }
+}
+
+// Adds what the relation leads to from the listed instances.
+fn add_links(topology: &Topology, list: &[InstanceId], rel: RelId, out: &mut InstanceSet)
+    requires live { AllLive topology.now.net list.now }
+    requires out { HasPlaces topology.now.net out.old }
+    ensures length { length out.new ≡ length out.old }
+    ensures each { Gains out.old out.new list.now (IsLinked topology.now.net rel) }
+{
+    for id in list {
+        add_all(topology.links(*id, rel), out);
+    }
+}
+
+/// Makes `here` the set of the instances that the path leads to. No instance is followed twice at one place of the path.
+pub fn follow(
+    topology: &Topology,
+    from: InstanceId,
+    path: &[RelId],
+    here: &mut InstanceSet,
+    spare: &mut InstanceSet,
+)
+    requires from { IsLive topology.now.net from }
+    requires here { HasPlaces topology.now.net here.old }
+    requires spare { HasPlaces topology.now.net spare.old }
+    ensures here { HasPlaces topology.now.net here.new }
+    ensures spare { HasPlaces topology.now.net spare.new }
+    ensures exactly { IsWhereLeads topology.now.net from path.now here.new }
+{
+    here.clear();
+    here.add(from);
+    for rel in path {
+        spare.clear();
+        add_links(topology, here.members(), *rel, spare);
+        std::mem::swap(here, spare);
+    }
+}
