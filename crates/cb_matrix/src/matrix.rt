@@ -3,6 +3,8 @@ ghost use Rattle.std.specs.Prelude.{◌≡◌, IfOk};
 ghost use Rattle.cb_topo.specs.Numbered.{topology_of};
 ghost use Rattle.cb_matrix.specs.Fits.{IsMatrixOf};
 
+use crate::columns::Columns;
+use crate::search::Reached;
 use cb_coding::Problem;
 use cb_graph::Graph;
 use cb_model::{List, NodeName};
@@ -27,6 +29,11 @@ impl Matrix {
         ensures matrix { IfOk result (IsMatrixOf (topology_of graph.old)) }
         ensures same { graph.new ≡ graph.old }
     {
-        Err(AllocError)
+        let columns = graph.topology().columns(alloc)?;
+        let problems = coded(alloc, graph, &columns, steps)?;
+        Ok(Matrix {
+            columns: names_of(alloc, graph.topology(), &columns)?,
+            problems,
+        })
     }
 }
