@@ -20,7 +20,7 @@ same_fields : (p q : NodeName) → p.instance ≡ q.instance → p.event ≡ q.e
 same_fields p q instance event = ap (λ (x : List ℕ). make x p.instance) event ∙ ap (make q.event) instance
 
 -- a number has one name
-named_once : (n : Numbered) (id : NodeId) (p q : NodeName) → IsNodeNamed n id p → IsNodeNamed n id q → p ≡ q
+pub named_once : (n : Numbered) (id : NodeId) (p q : NodeName) → IsNodeNamed n id p → IsNodeNamed n id q → p ≡ q
 named_once n id p q a b =
     let same : a.node ≡ b.node = inside a.node b.node (sym a.is ∙ b.is) in
     let there : IsNamed n.net b.node.instance p.instance = subst (λ (x : Node). IsNamed n.net x.instance p.instance) same a.instance in

@@ -1,8 +1,10 @@
 -- From numbers to names, and what that makes of a matrix.
-use Rattle.std.proofs.Common.{◌≡◌, ◌↔◌, ℕ, zero, suc, ◌+◌, ◌<◌, ◌≤◌, List, [], ◌∷◌, Bool, true, false, IsTrue, length, map, Some, slice_get, refl, sym, ap, subst, ◌∙◌, ◌⊎◌, inl, inr, arith}
+use Rattle.std.proofs.Common.{◌≡◌, ◌↔◌, ℕ, zero, suc, ◌+◌, ◌<◌, ◌≤◌, List, [], ◌∷◌, ◌++◌, Bool, true, false, IsTrue, length, map, take, Some, slice_get, refl, sym, ap, subst, ◌∙◌, ◌⊎◌, inl, inr, arith}
 use Rattle.std.specs.List.{All, AllZip, Contains, slice_index_or}
 use Rattle.std.specs.FinSet as set
 use Rattle.std.proofs.lemmas.List.{length-map}
+use Rattle.std.proofs.lemmas.Option.{slice_get-get_or}
+use Rattle.cb_model.proofs.Numbers.{take_more, zip_push}
 use Rattle.cb_model.specs.declared.node.NodeName.{NodeName}
 use Rattle.cb_model.specs.NodeOrder.{node_cmp}
 use Rattle.cb_model.specs.Order.{Rises}
@@ -33,6 +35,13 @@ code_from n columns id reached code found coded = record {
   width = coded.width;
   each = λ place node is. (λ has. (found node).0 ((coded.each place node is).0 has), λ leads. (coded.each place node is).1 ((found node).1 leads));
 }
+
+-- one more pair, at the place behind the first ones
+pub zip_more : {X Y : Type 0} (R : X → Y → Type 0) (xs : List X) (ys : List Y) (i : ℕ) (d : X) (y : Y) → i < length xs → AllZip R (take i xs) ys
+    → R (slice_index_or xs i d) y → AllZip R (take (i + 1) xs) (ys ++ y ∷ [])
+zip_more R xs ys i d y lt zip here =
+    subst (λ front. AllZip R front (ys ++ y ∷ [])) (sym (take_more xs i (slice_index_or xs i d) (slice_get-get_or xs i d lt)))
+    (zip_push R (take i xs) ys (slice_index_or xs i d) y zip here)
 
 -- the name of the number at a place
 name_there : (n : Numbered) (ids : List NodeId) (names : List NodeName) → AreNamed n ids names → (i : ℕ) (id : NodeId) → slice_get ids i ≡ Some id

@@ -2,7 +2,7 @@
 use Rattle.std.proofs.Common.{◌≡◌, ◌↔◌, ℕ, ◌+◌, ◌<◌, ◌≤◌, List, Bool, false, true, length, replicate, Option, None, Some, slice_get, refl, sym, ap, subst, ◌∙◌, ◌⊎◌, inl, inr, arith}
 use Rattle.std.specs.Prelude.{slice_set, slice_index_or}
 use Rattle.std.proofs.lemmas.Bool.{cases_eq, cases_lt}
-use Rattle.std.proofs.lemmas.List.{length-set, length-replicate, get_or-set_other}
+use Rattle.std.proofs.lemmas.List.{length-set, length-replicate, get_or-set_other, get_or_past}
 use Rattle.std.proofs.lemmas.Option.{slice_get_within}
 use Rattle.cb_nodes.specs.declared.id.NodeId.{NodeId}
 use Rattle.cb_reach.specs.Rows.{Has, IsNext, HasAllOf}
@@ -78,6 +78,26 @@ module _ (columns : List NodeId) (reached : List Bool) (to : ℕ) (code : List B
       ],
     );
   }
+
+  module _ (places : List (Option ℕ)) (are : ArePlaces room columns places) where
+    -- the next node is a column
+    pub coded_here : (place : ℕ) → slice_get places node ≡ Some (Some place) → IsCodedTo columns reached (node + 1) (slice_set code place true)
+    coded_here place at = coded_more place (are.each node place at) (λ k is.
+        let both : Some (Some k) ≡ Some (Some place) = sym (are.all node k is) ∙ at in
+        cc)
+
+    pub place_low : (place : ℕ) → slice_get places node ≡ Some (Some place) → place < length code
+    place_low place at = let e = slice_get_within columns place (number node) (are.each node place at) in let f = old.width in omega arith
+
+    -- it is none
+    pub coded_on : slice_get places node ≡ Some None → IsCodedTo columns reached (node + 1) code
+    coded_on at = coded_past (λ k is. let both : Some (Some k) ≡ Some None = sym (are.all node k is) ∙ at in absurd (cc))
+
+pub has_within : (row : List Bool) (k : ℕ) → Has row k → k < length row
+has_within row k has = elim (cases_lt k (length row)) [
+  | inl low ↦ low
+  | inr high ↦ absurd (let e = get_or_past row k false high in cc)
+]
 
 pub all_coded : (columns : List NodeId) (reached : List Bool) (to : ℕ) (code : List Bool) (room : ℕ) → IsCodedTo columns reached to code
     → HasAllOf reached (replicate room false) to → IsCodeOf columns reached code

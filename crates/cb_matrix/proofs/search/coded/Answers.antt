@@ -1,0 +1,1 @@
+use Rattle.cb_matrix.proofs.search.coded.Goals as goal
