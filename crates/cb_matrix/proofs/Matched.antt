@@ -1,14 +1,16 @@
 -- From numbers to names, and what that makes of a matrix.
-use Rattle.std.proofs.Common.{◌≡◌, ◌↔◌, ℕ, zero, suc, ◌+◌, ◌<◌, ◌≤◌, List, [], ◌∷◌, ◌++◌, Bool, true, false, IsTrue, length, map, take, Some, slice_get, refl, sym, ap, subst, ◌∙◌, ◌⊎◌, inl, inr, arith}
+use Rattle.std.proofs.Common.{◌≡◌, ◌↔◌, ℕ, zero, suc, ◌+◌, ◌<◌, ◌≤◌, List, [], ◌∷◌, ◌++◌, Bool, true, false, IsTrue, length, map, take, replicate, Option, None, Some, slice_get, refl, sym, ap, subst, ◌∙◌, ◌⊎◌, inl, inr, arith}
 use Rattle.std.specs.List.{All, AllZip, Contains, slice_index_or}
-use Rattle.std.specs.FinSet as set
+use Rattle.std.specs.Prelude.{slice_set}
+use Rattle.std.specs.declared.cmp.Ordering.TheVariants.{Less}
+use Rattle.std.proofs.lemmas.Bool.{cases_eq, cases_lt}
 use Rattle.std.proofs.lemmas.List.{length-map}
-use Rattle.std.proofs.lemmas.Option.{slice_get-get_or}
-use Rattle.cb_model.proofs.Numbers.{take_more, zip_push}
+use Rattle.std.proofs.lemmas.Option.{slice_get-get_or, slice_get_within, get_or_from_slice_get}
+use Rattle.cb_model.proofs.Numbers.{take_more, zip_push, slice_get-set_other, slice_get-set_same, slice_get-replicate}
 use Rattle.cb_model.specs.declared.node.NodeName.{NodeName}
 use Rattle.cb_model.specs.NodeOrder.{node_cmp}
 use Rattle.cb_model.specs.Order.{Rises}
-use Rattle.cb_model.proofs.Rising.{node_cmp_total, node_cmp_exact}
+use Rattle.cb_model.proofs.Rising.{node_cmp_total, node_cmp_exact, node_strict}
 use Rattle.cb_coding.specs.declared.group.Problem.{Problem}
 use Rattle.cb_network.specs.Topology.{Topology}
 use Rattle.cb_network.specs.Nodes.{IsColumn, IsProblem, IsSymptomNode, IsCount, IsWithin}
@@ -19,7 +21,7 @@ use Rattle.cb_network.proofs.Counts.{count_of_rising, count_is_one}
 use Rattle.cb_network.proofs.Sets.{len_of_part}
 use Rattle.cb_nodes.specs.declared.id.NodeId.{NodeId}
 use Rattle.cb_reach.specs.Rows.{Has}
-use Rattle.cb_reach.specs.Graphs.{LeadsTo, IsFinished}
+use Rattle.cb_reach.specs.Graphs.{LeadsTo, IsFinished, AreFinished}
 use Rattle.cb_topo.specs.Numbered.{Numbered, topology_of, IsNodeNamed, IsLiveNode, AreNamed, IsWhole}
 use Rattle.cb_graph.specs.Edges.{EdgeAt, number}
 use Rattle.cb_graph.proofs.Chains.{named_once, lead_to_caused}
@@ -59,6 +61,48 @@ all_live n (a ∷ ids) (x ∷ names) zip (suc k) d lt = all_live n ids names zip
 
 pub all_below : (n : Numbered) (room : ℕ) (ids : List NodeId) (names : List NodeName) → ((id : NodeId) → IsLiveNode n id → id.0 < room) → AreNamed n ids names → IsBelow room ids
 all_below n room ids names below zip i id at = let there = name_there n ids names zip i id at in below id (there.0, there.2)
+
+-- in a list in order no node stands twice
+apart : (names : List NodeName) (i j : ℕ) (x : NodeName) → Rises node_cmp names → slice_get names i ≡ Some x → slice_get names j ≡ Some x → i < j → ⊥
+apart names i j x rise at_i at_j lt =
+    let below = rise i j x lt (slice_get_within names j x at_j) in
+    let less : node_cmp x x ≡ Less =
+    subst (λ y. node_cmp x y ≡ Less) (get_or_from_slice_get names j x x at_j)
+    (subst (λ y. node_cmp y (slice_index_or names j x) ≡ Less) (get_or_from_slice_get names i x x at_i) below) in
+    node_strict x x less less
+
+-- numbers of nodes in order are each there once
+pub once_of : (n : Numbered) (ids : List NodeId) (names : List NodeName) → Rises node_cmp names → AreNamed n ids names → IsOnce ids
+once_of n ids names rise zip i j id at_i at_j =
+    let one = name_there n ids names zip i id at_i in
+    let other = name_there n ids names zip j id at_j in
+    let same : other.0 ≡ one.0 = named_once n id other.0 one.0 other.2 one.2 in
+    let there : slice_get names j ≡ Some one.0 = other.1 ∙ ap Some same in
+    elim (cases_eq i j) [
+      | inl is ↦ is
+      | inr not_same ↦ elim (cases_lt i j) [
+        | inl lt ↦ absurd (apart names i j one.0 rise one.1 there lt)
+        | inr le ↦ absurd (apart names j i one.0 rise there one.1 (before i j le not_same))
+      ]
+    ]
+  where
+    before : (i j : ℕ) → j ≤ i → (i ≡ j → ⊥) → j < i
+    before i j le ne = elim (cases_lt j i) [ inl lt ↦ lt | inr high ↦ absurd (ne (omega arith)) ]
+
+-- a finished row more
+pub finished_more : (edge : ℕ → ℕ → Type 0) (count : ℕ) (rows : List (Option (List Bool))) (node : ℕ) (row : List Bool) → AreFinished edge count rows
+    → IsFinished edge count node row → AreFinished edge count (slice_set rows node (Some row))
+finished_more edge count rows node row old new k other at = elim (cases_eq k node) [
+  | inl same ↦
+      let written = slice_get-set_same rows node (Some row) (Some other) (subst (λ i. slice_get (slice_set rows node (Some row)) i ≡ Some (Some other)) same at) in
+      let is : row ≡ other = cc in
+      subst (λ i. IsFinished edge count i other) (sym same) (subst (IsFinished edge count node) is new)
+  | inr not_same ↦ old k other (sym (slice_get-set_other rows node k (Some row) (λ e. not_same (sym e))) ∙ at)
+]
+
+-- nothing is finished where there is no row
+pub none_finished : (edge : ℕ → ℕ → Type 0) (count room : ℕ) → AreFinished edge count (replicate room None)
+none_finished edge count room k row at = absurd (let e = slice_get-replicate room k None (Some row) at in cc)
 
 -- names in one list are those in the other
 pub names_are_one : (n : Numbered) (ids : List NodeId) (names others : List NodeName) → AreNamed n ids names → AreNamed n ids others → names ≡ others
