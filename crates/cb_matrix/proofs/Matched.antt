@@ -1,5 +1,5 @@
 -- From numbers to names, and what that makes of a matrix.
-use Rattle.std.proofs.Common.{◌≡◌, ◌↔◌, ℕ, zero, suc, ◌+◌, ◌<◌, ◌≤◌, List, [], ◌∷◌, ◌++◌, Bool, true, false, IsTrue, length, map, take, replicate, Option, None, Some, slice_get, refl, sym, ap, subst, ◌∙◌, ◌⊎◌, inl, inr, arith}
+use Rattle.std.proofs.Common.{◌≡◌, ◌↔◌, ℕ, zero, suc, ◌+◌, ◌<◌, ◌≤◌, List, [], ◌∷◌, ◌++◌, Bool, length, map, take, replicate, Option, None, Some, slice_get, refl, sym, ap, subst, ◌∙◌, inl, inr, arith}
 use Rattle.std.specs.List.{All, AllZip, Contains, slice_index_or}
 use Rattle.std.specs.Prelude.{slice_set}
 use Rattle.std.specs.declared.cmp.Ordering.TheVariants.{Less}
@@ -12,12 +12,10 @@ use Rattle.cb_model.specs.NodeOrder.{node_cmp}
 use Rattle.cb_model.specs.Order.{Rises}
 use Rattle.cb_model.proofs.Rising.{node_cmp_total, node_cmp_exact, node_strict}
 use Rattle.cb_coding.specs.declared.group.Problem.{Problem}
-use Rattle.cb_network.specs.Topology.{Topology}
-use Rattle.cb_network.specs.Nodes.{IsColumn, IsProblem, IsSymptomNode, IsCount, IsWithin}
-use Rattle.cb_network.specs.Causes.{Causes}
-use Rattle.cb_network.specs.Matrix.{AreColumns, AreProblems, AreCoded, IsCode}
+use Rattle.cb_network.specs.Nodes.{IsColumn, IsProblem, IsSymptomNode, IsWithin}
+use Rattle.cb_network.specs.Matrix.{AreColumns, AreProblems, IsCode}
 use Rattle.cb_network.specs.Sound.{Sound, problem_limit, symptom_limit}
-use Rattle.cb_network.proofs.Counts.{count_of_rising, count_is_one}
+use Rattle.cb_network.proofs.Counts.{count_of_rising}
 use Rattle.cb_network.proofs.Sets.{len_of_part}
 use Rattle.cb_nodes.specs.declared.id.NodeId.{NodeId}
 use Rattle.cb_reach.specs.Rows.{Has}
@@ -26,7 +24,7 @@ use Rattle.cb_topo.specs.Numbered.{Numbered, topology_of, IsNodeNamed, IsLiveNod
 use Rattle.cb_graph.specs.Edges.{EdgeAt, number}
 use Rattle.cb_graph.proofs.Chains.{named_once, lead_to_caused}
 use Rattle.cb_matrix.specs.Codes.{IsOnce, IsBelow, IsCodeOf}
-use Rattle.cb_matrix.specs.Searched.{IsCodeFrom, IsProblemAt, AreProblemsAt}
+use Rattle.cb_matrix.specs.Searched.{IsCodeFrom, AreProblemsAt}
 use Rattle.cb_matrix.specs.Fits.{IsMatrixOf}
 use Rattle.cb_matrix.specs.declared.matrix.Matrix.{Matrix}
 
@@ -178,8 +176,8 @@ module _ (n : Numbered) (whole : IsWhole n) (sound : Sound (topology_of n)) (col
         columns = columns_are;
         problems = record { names = problems_are; codes = all_codes n whole columns matrix.columns copied ids matrix.problems coded };
         few_columns = few_of_rising (IsSymptomNode (topology_of n)) (IsColumn (topology_of n)) matrix.columns symptom_limit columns_are.rise
-        (λ q. (columns_are.each q, columns_are.all q)) (λ q column. column.symptom) sound.few_symptoms;
+            (λ q. (columns_are.each q, columns_are.all q)) (λ q column. column.symptom) sound.few_symptoms;
         few_problems = subst (λ k. k ≤ problem_limit) names_are
-        (few_of_rising (IsProblem (topology_of n)) (IsProblem (topology_of n)) (map (λ p. p.name) matrix.problems) problem_limit problems_are.rise
-        (λ q. (problems_are.each q, problems_are.all q)) (λ q problem. problem) sound.few_problems);
+            (few_of_rising (IsProblem (topology_of n)) (IsProblem (topology_of n)) (map (λ p. p.name) matrix.problems) problem_limit problems_are.rise
+            (λ q. (problems_are.each q, problems_are.all q)) (λ q problem. problem) sound.few_problems);
       }

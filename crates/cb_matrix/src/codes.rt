@@ -20,11 +20,7 @@ pub struct Columns {
 }
 
 /// The columns of these numbers. All numbers of nodes are below the room.
-pub fn indexed(
-    alloc: Global,
-    nodes: List<NodeId>,
-    room: usize,
-) -> Result<Columns, AllocError>
+pub fn indexed(alloc: Global, nodes: List<NodeId>, room: usize) -> Result<Columns, AllocError>
     requires once { IsOnce nodes }
     requires below { IsBelow room nodes }
     ensures { IfOk result (AreIndexed room nodes) }
@@ -56,11 +52,7 @@ fn places_of(
 }
 
 /// For each column, whether the row has it. Only what the row has is looked at.
-pub fn code_of(
-    alloc: Global,
-    columns: &Columns,
-    reached: &Row,
-) -> Result<Row, AllocError>
+pub fn code_of(alloc: Global, columns: &Columns, reached: &Row) -> Result<Row, AllocError>
     requires { AreIndexed (length reached.now) columns.now.nodes columns.now }
     ensures { IfOk result (IsCodeOf columns.now.nodes reached.now) }
 {

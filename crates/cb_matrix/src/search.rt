@@ -45,8 +45,9 @@ pub fn coded<L: Ledger>(
     let mut done = Row::zeroed(alloc, room)?;
     let mut problems = List::new(alloc);
     for node in nodes.as_slice() {
-        let Searched { problem, row } =
-            search_from(alloc, graph, columns, *node, &finished, &mut done, steps)?;
+        let Searched { problem, row } = search_from(
+            alloc, graph, columns, *node, &finished, &mut done, steps,
+        )?;
         problems.push(problem)?;
         finished[node.0 as usize] = Some(row);
     }

@@ -1,4 +1,4 @@
-use Rattle.std.proofs.Common.{◌≡◌, ◌+◌, ◌++◌, ◌∷◌, [], length, slice_index_or, take, sym, ap, subst, arith}
+use Rattle.std.proofs.Common.{◌+◌, length, slice_index_or, take, sym, ap, subst, arith}
 use Rattle.cb_nodes.specs.declared.id.NodeId.{NodeId}
 use Rattle.cb_topo.specs.Numbered.{IsLiveNode, IsNodeNamed, AreNamed}
 use Rattle.cb_matrix.proofs.Matched.{zip_more}

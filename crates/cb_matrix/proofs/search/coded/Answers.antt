@@ -1,4 +1,4 @@
-use Rattle.std.proofs.Common.{◌≡◌, ◌<◌, ◌+◌, length, take, slice_index_or, sym, ap, subst, ◌∙◌, arith}
+use Rattle.std.proofs.Common.{◌<◌, ◌+◌, length, take, slice_index_or, sym, ap, subst, ◌∙◌, arith}
 use Rattle.std.proofs.lemmas.List.{length-set}
 use Rattle.cb_nodes.specs.declared.id.NodeId.{NodeId}
 use Rattle.cb_topo.specs.Numbered.{Numbered, IsLiveNode}
@@ -34,5 +34,5 @@ loop-node-preserved g c =
       done = c.search_from.ensures.done ∙ ap (λ (m : Numbered). length m.nodes) kept.same;
       finished = finished_more (EdgeAt n) (length n.nodes) c.loop-node.finished.items node.0 found.row kept.finished searched.row;
       problems = subst (AreProblemsAt n columns (take (i + 1) nodes)) (sym c.in_ok-push.ensures.ok)
-      (zip_more (IsProblemAt n columns) nodes c.loop-node.problems i zero found.problem low kept.problems there);
+          (zip_more (IsProblemAt n columns) nodes c.loop-node.problems i zero found.problem low kept.problems there);
     }

@@ -1,4 +1,4 @@
-use Rattle.std.proofs.Common.{◌≡◌, ◌<◌, ℕ, List, length, sym, ap, subst, ◌∙◌}
+use Rattle.std.proofs.Common.{List, sym, subst, ◌∙◌}
 use Rattle.std.specs.List.{All}
 use Rattle.cb_network.specs.Matrix.{AreColumns, AreProblems}
 use Rattle.cb_network.specs.Sound.{Sound}
