@@ -1,3 +1,4 @@
+pub mod Chains
 pub mod Gaining
 pub mod Listing
 pub mod Walking

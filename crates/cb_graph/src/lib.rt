@@ -3,6 +3,7 @@
 
 mod graph;
 mod instances;
+pub mod laws;
 mod rules;
 mod walk;
 

@@ -3,6 +3,9 @@ ghost use Rattle.std.specs.Prelude.{◌≡◌, IfOk};
 ghost use Rattle.cb_topo.specs.Numbered.{topology_of};
 ghost use Rattle.cb_matrix.specs.Fits.{IsMatrixOf};
 
+use crate::codes::indexed;
+use crate::names::names_of;
+use crate::search::coded;
 use cb_coding::Problem;
 use cb_graph::Graph;
 use cb_model::{List, NodeName};
@@ -27,6 +30,13 @@ impl Matrix {
         ensures matrix { IfOk result (IsMatrixOf (topology_of graph.old)) }
         ensures same { graph.new ≡ graph.old }
     {
-        Err(AllocError)
+        graph.topology().facts();
+        let room = graph.topology().node_room();
+        let nodes = graph.topology().columns(alloc)?;
+        let columns = names_of(alloc, graph.topology(), &nodes)?;
+        let index = indexed(alloc, nodes, room)?;
+        let nodes = graph.topology().problems(alloc)?;
+        let problems = coded(alloc, graph, &index, &nodes, steps)?;
+        Ok(Matrix { columns, problems })
     }
 }

@@ -1,0 +1,183 @@
+-- From numbers to names, and what that makes of a matrix.
+use Rattle.std.proofs.Common.{◌≡◌, ◌↔◌, ℕ, zero, suc, ◌+◌, ◌<◌, ◌≤◌, List, [], ◌∷◌, ◌++◌, Bool, length, map, take, replicate, Option, None, Some, slice_get, refl, sym, ap, subst, ◌∙◌, inl, inr, arith}
+use Rattle.std.specs.List.{All, AllZip, Contains, slice_index_or}
+use Rattle.std.specs.Prelude.{slice_set}
+use Rattle.std.specs.declared.cmp.Ordering.TheVariants.{Less}
+use Rattle.std.proofs.lemmas.Bool.{cases_eq, cases_lt}
+use Rattle.std.proofs.lemmas.List.{length-map}
+use Rattle.std.proofs.lemmas.Option.{slice_get-get_or, slice_get_within, get_or_from_slice_get}
+use Rattle.cb_model.proofs.Numbers.{take_more, zip_push, slice_get-set_other, slice_get-set_same, slice_get-replicate}
+use Rattle.cb_model.specs.declared.node.NodeName.{NodeName}
+use Rattle.cb_model.specs.NodeOrder.{node_cmp}
+use Rattle.cb_model.specs.Order.{Rises}
+use Rattle.cb_model.proofs.Rising.{node_cmp_total, node_cmp_exact, node_strict}
+use Rattle.cb_coding.specs.declared.group.Problem.{Problem}
+use Rattle.cb_network.specs.Nodes.{IsColumn, IsProblem, IsSymptomNode, IsWithin}
+use Rattle.cb_network.specs.Matrix.{AreColumns, AreProblems, IsCode}
+use Rattle.cb_network.specs.Sound.{Sound, problem_limit, symptom_limit}
+use Rattle.cb_network.proofs.Counts.{count_of_rising}
+use Rattle.cb_network.proofs.Sets.{len_of_part}
+use Rattle.cb_nodes.specs.declared.id.NodeId.{NodeId}
+use Rattle.cb_reach.specs.Rows.{Has}
+use Rattle.cb_reach.specs.Graphs.{LeadsTo, IsFinished, AreFinished}
+use Rattle.cb_topo.specs.Numbered.{Numbered, topology_of, IsNodeNamed, IsLiveNode, AreNamed, IsWhole}
+use Rattle.cb_graph.specs.Edges.{EdgeAt, number}
+use Rattle.cb_graph.proofs.Chains.{named_once, lead_to_caused}
+use Rattle.cb_matrix.specs.Codes.{IsOnce, IsBelow, IsCodeOf}
+use Rattle.cb_matrix.specs.Searched.{IsCodeFrom, AreProblemsAt}
+use Rattle.cb_matrix.specs.Fits.{IsMatrixOf}
+use Rattle.cb_matrix.specs.declared.matrix.Matrix.{Matrix}
+
+-- a set's code is a search's, where the set is what was found
+pub code_from : (n : Numbered) (columns : List NodeId) (id : NodeId) (reached code : List Bool) → ((k : ℕ) → Has reached k ↔ LeadsTo (EdgeAt n) id.0 k)
+    → IsCodeOf columns reached code → IsCodeFrom n columns id code
+code_from n columns id reached code found coded = record {
+  width = coded.width;
+  each = λ place node is. (λ has. (found node).0 ((coded.each place node is).0 has), λ leads. (coded.each place node is).1 ((found node).1 leads));
+}
+
+-- one more pair, at the place behind the first ones
+pub zip_more : {X Y : Type 0} (R : X → Y → Type 0) (xs : List X) (ys : List Y) (i : ℕ) (d : X) (y : Y) → i < length xs → AllZip R (take i xs) ys
+    → R (slice_index_or xs i d) y → AllZip R (take (i + 1) xs) (ys ++ y ∷ [])
+zip_more R xs ys i d y lt zip here =
+    subst (λ front. AllZip R front (ys ++ y ∷ [])) (sym (take_more xs i (slice_index_or xs i d) (slice_get-get_or xs i d lt)))
+    (zip_push R (take i xs) ys (slice_index_or xs i d) y zip here)
+
+-- the name of the number at a place
+name_there : (n : Numbered) (ids : List NodeId) (names : List NodeName) → AreNamed n ids names → (i : ℕ) (id : NodeId) → slice_get ids i ≡ Some id
+    → (name : NodeName) × (slice_get names i ≡ Some name) × IsNodeNamed n id name
+name_there n [] names zip i id at = absurd (cc at)
+name_there n (a ∷ ids) [] zip i id at = absurd zip
+name_there n (a ∷ ids) (x ∷ names) zip zero id at = let same : a ≡ id = cc at in (x, refl, subst (λ (k : NodeId). IsNodeNamed n k x) same zip.0)
+name_there n (a ∷ ids) (x ∷ names) zip (suc i) id at = name_there n ids names zip.1 i id at
+
+pub all_live : (n : Numbered) (ids : List NodeId) (names : List NodeName) → AreNamed n ids names → All (IsLiveNode n) ids
+all_live n [] names zip k d lt = absurd (omega arith)
+all_live n (a ∷ ids) [] zip k d lt = absurd zip
+all_live n (a ∷ ids) (x ∷ names) zip zero d lt = (x, zip.0)
+all_live n (a ∷ ids) (x ∷ names) zip (suc k) d lt = all_live n ids names zip.1 k d (omega arith)
+
+pub all_below : (n : Numbered) (room : ℕ) (ids : List NodeId) (names : List NodeName) → ((id : NodeId) → IsLiveNode n id → id.0 < room) → AreNamed n ids names → IsBelow room ids
+all_below n room ids names below zip i id at = let there = name_there n ids names zip i id at in below id (there.0, there.2)
+
+-- in a list in order no node stands twice
+apart : (names : List NodeName) (i j : ℕ) (x : NodeName) → Rises node_cmp names → slice_get names i ≡ Some x → slice_get names j ≡ Some x → i < j → ⊥
+apart names i j x rise at_i at_j lt =
+    let below = rise i j x lt (slice_get_within names j x at_j) in
+    let less : node_cmp x x ≡ Less =
+    subst (λ y. node_cmp x y ≡ Less) (get_or_from_slice_get names j x x at_j)
+    (subst (λ y. node_cmp y (slice_index_or names j x) ≡ Less) (get_or_from_slice_get names i x x at_i) below) in
+    node_strict x x less less
+
+-- numbers of nodes in order are each there once
+pub once_of : (n : Numbered) (ids : List NodeId) (names : List NodeName) → Rises node_cmp names → AreNamed n ids names → IsOnce ids
+once_of n ids names rise zip i j id at_i at_j =
+    let one = name_there n ids names zip i id at_i in
+    let other = name_there n ids names zip j id at_j in
+    let same : other.0 ≡ one.0 = named_once n id other.0 one.0 other.2 one.2 in
+    let there : slice_get names j ≡ Some one.0 = other.1 ∙ ap Some same in
+    elim (cases_eq i j) [
+      | inl is ↦ is
+      | inr not_same ↦ elim (cases_lt i j) [
+        | inl lt ↦ absurd (apart names i j one.0 rise one.1 there lt)
+        | inr le ↦ absurd (apart names j i one.0 rise there one.1 (before i j le not_same))
+      ]
+    ]
+  where
+    before : (i j : ℕ) → j ≤ i → (i ≡ j → ⊥) → j < i
+    before i j le ne = elim (cases_lt j i) [ inl lt ↦ lt | inr high ↦ absurd (ne (omega arith)) ]
+
+-- a finished row more
+pub finished_more : (edge : ℕ → ℕ → Type 0) (count : ℕ) (rows : List (Option (List Bool))) (node : ℕ) (row : List Bool) → AreFinished edge count rows
+    → IsFinished edge count node row → AreFinished edge count (slice_set rows node (Some row))
+finished_more edge count rows node row old new k other at = elim (cases_eq k node) [
+  | inl same ↦
+      let written = slice_get-set_same rows node (Some row) (Some other) (subst (λ i. slice_get (slice_set rows node (Some row)) i ≡ Some (Some other)) same at) in
+      let is : row ≡ other = cc in
+      subst (λ i. IsFinished edge count i other) (sym same) (subst (IsFinished edge count node) is new)
+  | inr not_same ↦ old k other (sym (slice_get-set_other rows node k (Some row) (λ e. not_same (sym e))) ∙ at)
+]
+
+-- nothing is finished where there is no row
+pub none_finished : (edge : ℕ → ℕ → Type 0) (count room : ℕ) → AreFinished edge count (replicate room None)
+none_finished edge count room k row at = absurd (let e = slice_get-replicate room k None (Some row) at in cc)
+
+-- names in one list are those in the other
+pub names_are_one : (n : Numbered) (ids : List NodeId) (names others : List NodeName) → AreNamed n ids names → AreNamed n ids others → names ≡ others
+names_are_one n [] [] [] zip zip' = refl
+names_are_one n [] [] (y ∷ others) zip zip' = absurd zip'
+names_are_one n [] (x ∷ names) others zip zip' = absurd zip
+names_are_one n (a ∷ ids) [] others zip zip' = absurd zip
+names_are_one n (a ∷ ids) (x ∷ names) [] zip zip' = absurd zip'
+names_are_one n (a ∷ ids) (x ∷ names) (y ∷ others) zip zip' =
+    ap (λ (z : NodeName). z ∷ names) (named_once n a x y zip.0 zip'.0) ∙ ap (λ zs. y ∷ zs) (names_are_one n ids names others zip.1 zip'.1)
+
+-- the names of the problems
+pub problem_names : (n : Numbered) (columns ids : List NodeId) (problems : List Problem) → AreProblemsAt n columns ids problems → AreNamed n ids (map (λ p. p.name) problems)
+problem_names n columns [] [] zip = tt
+problem_names n columns [] (p ∷ problems) zip = absurd zip
+problem_names n columns (a ∷ ids) [] zip = absurd zip
+problem_names n columns (a ∷ ids) (p ∷ problems) zip = (zip.0.named, problem_names n columns ids problems zip.1)
+
+module _ (n : Numbered) (whole : IsWhole n) (id : NodeId) (name : NodeName) (named : IsNodeNamed n id name) where
+  -- a code over numbers is one over names
+  code_of_names : (ids : List NodeId) (names : List NodeName) (code : List Bool) → AreNamed n ids names → length code ≡ length ids
+      → ((place node : ℕ) → slice_get ids place ≡ Some (number node) → Has code place ↔ LeadsTo (EdgeAt n) id.0 node)
+      → IsCode (topology_of n) names name code
+  code_of_names [] [] [] zip wide each = tt
+  code_of_names [] [] (b ∷ code) zip wide each = absurd (omega arith)
+  code_of_names [] (x ∷ names) code zip wide each = absurd zip
+  code_of_names (a ∷ ids) [] code zip wide each = absurd zip
+  code_of_names (a ∷ ids) (x ∷ names) [] zip wide each = absurd (omega arith)
+  code_of_names (a ∷ ids) (x ∷ names) (b ∷ code) zip wide each =
+      let here = each 0 a.0 refl in
+      let leads = lead_to_caused n whole id.0 a.0 name x named zip.0 in (
+        (λ is. leads.0 (here.0 is), λ causes. here.1 (leads.1 causes)),
+        code_of_names ids names code zip.1 (omega arith) (λ place node is. each (suc place) node is),
+      )
+
+pub all_codes : (n : Numbered) → IsWhole n → (columns : List NodeId) (names : List NodeName) → AreNamed n columns names
+    → (ids : List NodeId) (problems : List Problem) → AreProblemsAt n columns ids problems
+    → All (λ (p : Problem). IsCode (topology_of n) names p.name p.code) problems
+all_codes n whole columns names zip [] [] are k d lt = absurd (omega arith)
+all_codes n whole columns names zip [] (p ∷ problems) are k d lt = absurd are
+all_codes n whole columns names zip (a ∷ ids) [] are k d lt = absurd are
+all_codes n whole columns names zip (a ∷ ids) (p ∷ problems) are zero d lt =
+    code_of_names n whole a p.name are.0.named columns names p.code zip are.0.coded.width are.0.coded.each
+all_codes n whole columns names zip (a ∷ ids) (p ∷ problems) are (suc k) d lt = all_codes n whole columns names zip ids problems are.1 k d (omega arith)
+
+-- a list in order of some nodes of a kind is not longer than the kind's limit
+few_of_rising : (P Q : NodeName → Type 0) (xs : List NodeName) (limit : ℕ) → Rises node_cmp xs → ((q : NodeName) → Contains xs q ↔ Q q)
+    → ((q : NodeName) → Q q → P q) → IsWithin P limit → length xs ≤ limit
+few_of_rising P Q xs limit rise are part within =
+    let count = count_of_rising Q xs rise are in
+    let all = within.1 in
+    let less = len_of_part node_cmp_total node_cmp_exact count.nodes all.nodes (λ q has. (all.members q).1 (part q ((count.members q).0 has))) in
+    let m = count.len in
+    let k = all.len in
+    let low = within.2 in
+    omega arith
+
+module _ (n : Numbered) (whole : IsWhole n) (sound : Sound (topology_of n)) (columns ids : List NodeId) (matrix : Matrix) (names problems : List NodeName)
+    (are_columns : AreColumns (topology_of n) names) (named : AreNamed n columns names) (copied : AreNamed n columns matrix.columns)
+    (are_problems : AreProblems (topology_of n) problems) (problems_named : AreNamed n ids problems) (coded : AreProblemsAt n columns ids matrix.problems) where
+  same_columns : names ≡ matrix.columns
+  same_columns = names_are_one n columns names matrix.columns named copied
+
+  same_problems : problems ≡ map (λ p. p.name) matrix.problems
+  same_problems = names_are_one n ids problems (map (λ p. p.name) matrix.problems) problems_named (problem_names n columns ids matrix.problems coded)
+
+  pub is_matrix : IsMatrixOf (topology_of n) matrix
+  is_matrix =
+      let columns_are = subst (AreColumns (topology_of n)) same_columns are_columns in
+      let problems_are = subst (AreProblems (topology_of n)) same_problems are_problems in
+      let names_are : length (map (λ p. p.name) matrix.problems) ≡ length matrix.problems = length-map matrix.problems (λ (p : Problem). p.name) in
+      record {
+        columns = columns_are;
+        problems = record { names = problems_are; codes = all_codes n whole columns matrix.columns copied ids matrix.problems coded };
+        few_columns = few_of_rising (IsSymptomNode (topology_of n)) (IsColumn (topology_of n)) matrix.columns symptom_limit columns_are.rise
+            (λ q. (columns_are.each q, columns_are.all q)) (λ q column. column.symptom) sound.few_symptoms;
+        few_problems = subst (λ k. k ≤ problem_limit) names_are
+            (few_of_rising (IsProblem (topology_of n)) (IsProblem (topology_of n)) (map (λ p. p.name) matrix.problems) problem_limit problems_are.rise
+            (λ q. (problems_are.each q, problems_are.all q)) (λ q problem. problem) sound.few_problems);
+      }

@@ -1,0 +1,9 @@
+use Rattle.std.proofs.Common.{◌-◌, length}
+use Rattle.cb_matrix.proofs.Passed.{IsCodedTo}
+use Rattle.cb_matrix.proofs.codes.code_of.Given as goal
+
+abbrev pub invariant-loop-node : goal.invariant-loop-node
+invariant-loop-node l = IsCodedTo l.columns.nodes l.reached l.from l.code
+
+abbrev pub decreases-loop-node : goal.decreases-loop-node
+decreases-loop-node l = length l.reached - l.from

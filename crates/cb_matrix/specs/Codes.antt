@@ -1,0 +1,31 @@
+-- Codes over numbers of nodes.
+use Rattle.std.specs.Prelude.{◌≡◌, ◌↔◌, ◌<◌, ℕ, List, Bool, false, Option, Some, length, slice_get, replicate}
+use Rattle.cb_nodes.specs.declared.id.NodeId.{NodeId}
+use Rattle.cb_reach.specs.Rows.{Has}
+use Rattle.cb_graph.specs.Edges.{number}
+use Rattle.cb_matrix.specs.declared.codes.Columns.{Columns}
+
+-- no number stands twice
+abbrev pub IsOnce : List NodeId → Type 0
+IsOnce ids = (i j : ℕ) (id : NodeId) → slice_get ids i ≡ Some id → slice_get ids j ≡ Some id → i ≡ j
+
+-- all numbers are below the room
+abbrev pub IsBelow : ℕ → List NodeId → Type 0
+IsBelow room ids = (i : ℕ) (id : NodeId) → slice_get ids i ≡ Some id → id.0 < room
+
+-- for the number of each node its place among the columns, if it is one
+pub record ArePlaces (room : ℕ) (columns : List NodeId) (places : List (Option ℕ)) : Type 0 where
+  pub size : length places ≡ room
+  pub each : (node place : ℕ) → slice_get places node ≡ Some (Some place) → slice_get columns place ≡ Some (number node)
+  pub all : (node place : ℕ) → slice_get columns place ≡ Some (number node) → slice_get places node ≡ Some (Some place)
+
+-- the columns with their places, and a row of as many places as there are numbers, with none of them
+pub record AreIndexed (room : ℕ) (ids : List NodeId) (columns : Columns) : Type 0 where
+  pub nodes : columns.nodes ≡ ids
+  pub places : ArePlaces room ids columns.places.items
+  pub none : columns.none ≡ replicate room false
+
+-- for each column, whether the set of nodes has it
+pub record IsCodeOf (columns : List NodeId) (reached code : List Bool) : Type 0 where
+  pub width : length code ≡ length columns
+  pub each : (place node : ℕ) → slice_get columns place ≡ Some (number node) → Has code place ↔ Has reached node

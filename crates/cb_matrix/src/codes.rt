@@ -1,0 +1,68 @@
+//! Codes over numbers of nodes.
+ghost use Rattle.std.specs.Prelude.{◌≡◌, length, IfOk};
+ghost use Rattle.cb_matrix.specs.Codes.{IsOnce, IsBelow, ArePlaces, AreIndexed, IsCodeOf};
+
+use cb_bits::Row;
+use cb_model::List;
+use cb_nodes::NodeId;
+use cb_reach::next_in_not;
+use std::alloc::{AllocError, Global};
+
+/// Columns, and the place of each by its number.
+#[derive(Drop)]
+pub struct Columns {
+    /// The numbers of the columns in order.
+    pub nodes: List<NodeId>,
+    /// For the number of each node, its place among the columns.
+    pub places: Vec<Option<usize>>,
+    /// A row with none of the nodes.
+    pub none: Row,
+}
+
+/// The columns of these numbers. All numbers of nodes are below the room.
+pub fn indexed(alloc: Global, nodes: List<NodeId>, room: usize) -> Result<Columns, AllocError>
+    requires once { IsOnce nodes }
+    requires below { IsBelow room nodes }
+    ensures { IfOk result (AreIndexed room nodes) }
+{
+    let places = places_of(alloc, &nodes, room)?;
+    let none = Row::zeroed(alloc, room)?;
+    Ok(Columns {
+        nodes,
+        places,
+        none,
+    })
+}
+
+// For the number of each node, its place among the columns.
+fn places_of(
+    alloc: Global,
+    columns: &List<NodeId>,
+    room: usize,
+) -> Result<Vec<Option<usize>>, AllocError>
+    requires once { IsOnce columns.now }
+    requires below { IsBelow room columns.now }
+    ensures { IfOk result (λ places. ArePlaces room columns.now places.items) }
+{
+    let mut places = vec![in alloc; None; room]?;
+    for place in 0..columns.len() {
+        places[columns.at(place).0 as usize] = Some(place);
+    }
+    Ok(places)
+}
+
+/// For each column, whether the row has it. Only what the row has is looked at.
+pub fn code_of(alloc: Global, columns: &Columns, reached: &Row) -> Result<Row, AllocError>
+    requires { AreIndexed (length reached.now) columns.now.nodes columns.now }
+    ensures { IfOk result (IsCodeOf columns.now.nodes reached.now) }
+{
+    let mut code = Row::zeroed(alloc, columns.nodes.len())?;
+    let mut from = 0;
+    while let Some(node) = next_in_not(reached, &columns.none, from) {
+        if let Some(place) = columns.places[node] {
+            code.set(place);
+        }
+        from = node + 1;
+    }
+    Ok(code)
+}
