@@ -69,6 +69,7 @@ impl Graph {
         ensures fault { IfErr result (Prevents self.old edit.now) }
         ensures kept { OnErr result (self.new ≡ self.old) }
     {
+        self.topology.allows(edit)?;
         let room = self.topology.instance_room_after(edit);
         self.here.reserve(room)?;
         self.spare.reserve(room)?;

@@ -23,9 +23,9 @@ use Rattle.cb_nodes.specs.declared.node.Node.{Node}
 use Rattle.cb_nodes.specs.Table.{Table, IsNode, HasEvent as HasEventIn, IsOne, Adds, count_of, room_with}
 use Rattle.cb_accept.proofs.Own.{event_is_listed, listed_is_event}
 use Rattle.cb_topo.specs.Numbered.{Numbered, IsNodeNamed}
-use Rattle.cb_topo.specs.Applied.{KeepsInstances, KeepsNodes}
+use Rattle.cb_topo.specs.Applied.{KeepsInstances, KeepsNodes, IsAccepted}
 use Rattle.cb_topo.specs.Kept.{FitsTable, IsKept}
-use Rattle.cb_topo.specs.Made.{IsAccepted, Makes}
+use Rattle.cb_topo.specs.Made.{Makes}
 use Rattle.cb_topo.proofs.Regular.{typed_is_regular}
 use Rattle.cb_accept.specs.declared.counts.Counts.{Counts}
 use Rattle.cb_accept.specs.Counts.{CountWith}

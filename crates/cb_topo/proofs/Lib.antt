@@ -9,3 +9,4 @@ pub mod Limits
 pub mod Empty
 pub mod Naming
 pub mod Listing
+pub mod Rooms

@@ -18,9 +18,9 @@ use Rattle.cb_net.specs.Numbered.{Net, IsWhole as IsWholeNet}
 use Rattle.cb_nodes.specs.Table.{Table}
 use Rattle.cb_accept.specs.declared.counts.Counts.{Counts}
 use Rattle.cb_accept.specs.Counts.{AreCounts}
-use Rattle.cb_topo.specs.Applied.{Applies, IsNodeRoomAfter, IsInstanceRoomAfter}
+use Rattle.cb_topo.specs.Applied.{Applies, IsNodeRoomAfter, IsInstanceRoomAfter, IsAccepted}
 use Rattle.cb_topo.specs.Kept.{IsKept, FitsTable}
-use Rattle.cb_topo.specs.Made.{IsAccepted, Makes, Rewires, rewired}
+use Rattle.cb_topo.specs.Made.{Makes, Rewires, rewired}
 use Rattle.cb_topo.proofs.Regular.{typed_is_regular}
 
 module _ (n : Net) (links : set.FinSet link_cmp) (mutes : set.FinSet node_cmp) where

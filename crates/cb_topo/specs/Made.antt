@@ -3,18 +3,13 @@ use Rattle.std.specs.Prelude.{◌≡◌}
 use Rattle.std.specs.FinSet as set
 use Rattle.cb_model.specs.NodeOrder.{node_cmp}
 use Rattle.cb_network.specs.declared.edit.Edit.{Edit}
-use Rattle.cb_network.specs.declared.edit.EditRefusal.{EditRefusal}
-use Rattle.cb_network.specs.Topology.{Topology, link_cmp}
-use Rattle.cb_network.specs.Edits.{Refuses, Changes}
+use Rattle.cb_network.specs.Topology.{link_cmp}
+use Rattle.cb_network.specs.Edits.{Changes}
 use Rattle.cb_net.specs.Numbered.{Net}
 use Rattle.cb_nodes.specs.Table.{Table}
 use Rattle.cb_accept.specs.declared.counts.Counts.{Counts}
 use Rattle.cb_topo.specs.Applied.{Applies}
 use Rattle.cb_topo.specs.Kept.{IsKept}
-
--- no refusal of the edit holds
-abbrev pub IsAccepted : Topology → Edit → Type 0
-IsAccepted t edit = (why : EditRefusal) → ¬ Refuses t edit why
 
 -- the edit makes the new parts of the old, and what is kept stays so with these counts
 pub record Makes (net : Net) (nodes : Table) (edit : Edit) (new_net : Net) (new_nodes : Table) (counts : Counts) : Type 0 where

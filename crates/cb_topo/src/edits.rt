@@ -7,9 +7,9 @@ ghost use Rattle.cb_network.specs.Edits.{Refuses, IsAfter};
 ghost use Rattle.cb_network.specs.Laws.{HasGoodName};
 ghost use Rattle.cb_net.specs.Numbered.{empty_net};
 ghost use Rattle.cb_topo.specs.Numbered.{Numbered, topology_of, IsWhole};
-ghost use Rattle.cb_topo.specs.Applied.{Applies, Prevents, MayGrow, IsNodeRoomAfter};
+ghost use Rattle.cb_topo.specs.Applied.{Applies, Prevents, MayGrow, IsNodeRoomAfter, IsInstanceRoomAfter, IsAccepted};
 ghost use Rattle.cb_topo.specs.Kept.{IsKept};
-ghost use Rattle.cb_topo.specs.Made.{IsAccepted, Makes};
+ghost use Rattle.cb_topo.specs.Made.{Makes};
 
 use crate::fault::EditFault;
 use crate::instances::{create, delete};
@@ -62,10 +62,9 @@ impl Topology {
         }
     }
 
-    /// What `instance_room` is once the edit is made.
+    /// What `instance_room` is once an accepted edit is made.
     pub fn instance_room_after(&self, edit: &Edit) -> usize
-        ensures above { (new : Numbered) → Applies self.now edit.now new → new.net.room ≤ result }
-        ensures grows { self.now.net.room < result → MayGrow edit.now }
+        ensures { IsInstanceRoomAfter self.now edit.now result }
     {
         match edit {
             Edit::Create { .. } => self.net.room_with_one(),
