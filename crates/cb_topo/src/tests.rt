@@ -328,17 +328,22 @@ fn keep_numbers(alloc: Global, topology: &mut Topology) -> Result<bool, AllocErr
     )
 }
 
+// All steps, over a topology without instances, and then what it has.
+fn work_through(rt: &impl Abort, alloc: Global, topology: &mut Topology) -> Result<(), AllocError> {
+    try_all(rt, alloc, topology, &STEPS)?;
+    let columns = topology.columns(alloc)?;
+    assert!(rt; are_nodes(topology, columns.as_slice(), &COLUMNS));
+    let problems = topology.problems(alloc)?;
+    assert!(rt; are_nodes(topology, problems.as_slice(), &PROBLEMS));
+    assert_eq!(rt; topology.instance_count(), 5);
+    assert_eq!(rt; topology.node_count(), 9);
+    assert!(rt; keep_numbers(alloc, topology)?);
+    Ok(())
+}
+
 #[test]
 fn edits_in_turn(rt: HostRuntime) -> Result<(), AllocError> {
     let alloc = rt.alloc();
     let mut topology = Topology::new(alloc, sample_model(alloc)?);
-    try_all(&rt, alloc, &mut topology, &STEPS)?;
-    let columns = topology.columns(alloc)?;
-    assert!(rt; are_nodes(&topology, columns.as_slice(), &COLUMNS));
-    let problems = topology.problems(alloc)?;
-    assert!(rt; are_nodes(&topology, problems.as_slice(), &PROBLEMS));
-    assert_eq!(rt; topology.instance_count(), 5);
-    assert_eq!(rt; topology.node_count(), 9);
-    assert!(rt; keep_numbers(alloc, &mut topology)?);
-    Ok(())
+    work_through(&rt, alloc, &mut topology)
 }
