@@ -1,10 +1,8 @@
 -- A new instance, and numbers for its events.
 use Rattle.std.proofs.Common.{◌≡◌, ◌≢◌, ◌⊎◌, ℕ, ◌+◌, ◌≤◌, max, List, length, Option, Some, None, refl, sym, ap, subst, ◌∙◌, inl, inr, arith}
-use Rattle.std.specs.List.{Contains}
 use Rattle.std.proofs.lemmas.Bool.{cases_order}
 use Rattle.cb_model.specs.declared.id.ClassId.{ClassId}
 use Rattle.cb_model.specs.declared.id.EventId.{EventId}
-use Rattle.cb_model.specs.declared.node.NodeName.{NodeName}
 use Rattle.cb_model.specs.Classes.{HasEvent, NamesClass}
 use Rattle.cb_model.specs.Views.{AreEventsOf}
 use Rattle.cb_model.specs.WellTyped.{WellTyped, IsClass}
@@ -20,9 +18,8 @@ use Rattle.cb_net.specs.Numbered.{Net, slot, IsNamed, IsLive, IsFree, SetsOnly, 
 use Rattle.cb_net.proofs.Placing.{decide_id}
 use Rattle.cb_nodes.specs.declared.id.NodeId.{NodeId}
 use Rattle.cb_nodes.specs.declared.node.Node.{Node}
-use Rattle.cb_nodes.specs.Table.{Table, IsNode, HasEvent as HasEventIn, IsOne, Adds, count_of, room_with}
+use Rattle.cb_nodes.specs.Table.{Table, IsNode, HasEvent as HasEventIn, IsOne, Adds, count_of}
 use Rattle.cb_accept.proofs.Own.{event_is_listed, listed_is_event}
-use Rattle.cb_topo.specs.Numbered.{Numbered, IsNodeNamed}
 use Rattle.cb_topo.specs.Applied.{KeepsInstances, KeepsNodes, IsAccepted}
 use Rattle.cb_topo.specs.Kept.{FitsTable, IsKept}
 use Rattle.cb_topo.specs.Made.{Makes}

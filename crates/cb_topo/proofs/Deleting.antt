@@ -1,5 +1,5 @@
 -- An instance that goes, with the numbers of its events.
-use Rattle.std.proofs.Common.{◌≡◌, ◌≢◌, ℕ, ◌≤◌, zero, suc, List, [], ◌∷◌, length, Option, Some, None, refl, sym, ap, subst, ◌∙◌, inl, inr, arith}
+use Rattle.std.proofs.Common.{◌≡◌, ◌≢◌, ℕ, ◌≤◌, zero, suc, List, [], ◌∷◌, length, Option, Some, None, refl, sym, ap, subst, ◌∙◌, arith}
 use Rattle.std.specs.Prelude.{slice_set}
 use Rattle.std.proofs.lemmas.List.{get_or-set_other}
 use Rattle.cb_model.specs.declared.id.ClassId.{ClassId}
@@ -16,7 +16,6 @@ use Rattle.cb_net.specs.Numbered.{Net, slot, IsNamed, IsLive, HasEventAt, IsWhol
 use Rattle.cb_nodes.specs.declared.id.NodeId.{NodeId}
 use Rattle.cb_nodes.specs.declared.node.Node.{Node}
 use Rattle.cb_nodes.specs.Table.{Table, IsNode, HasEvent as HasEventIn, IsOne, Removes}
-use Rattle.cb_topo.specs.Numbered.{Numbered, IsNodeNamed}
 use Rattle.cb_topo.specs.Applied.{KeepsInstances, KeepsNodes, IsAccepted}
 use Rattle.cb_topo.specs.Kept.{FitsTable, IsKept}
 use Rattle.cb_topo.specs.Made.{Makes}

@@ -1,5 +1,5 @@
 -- The topology without any instance.
-use Rattle.std.proofs.Common.{◌≡◌, ℕ, ◌≤◌, List, [], Some, None, arith}
+use Rattle.std.proofs.Common.{ℕ, List, [], arith}
 use Rattle.std.specs.FinMap as map
 use Rattle.std.specs.FinSet as set
 use Rattle.cb_model.specs.declared.id.ClassId.{ClassId}
@@ -7,7 +7,7 @@ use Rattle.cb_model.specs.declared.id.EventId.{EventId}
 use Rattle.cb_model.specs.declared.tables.Tables.{Tables}
 use Rattle.cb_model.specs.Order.{name_cmp}
 use Rattle.cb_model.specs.WellTyped.{WellTyped}
-use Rattle.cb_network.specs.Topology.{Topology, empty_topology, link_cmp, IsOf}
+use Rattle.cb_network.specs.Topology.{link_cmp, IsOf}
 use Rattle.cb_network.specs.Edits.{link_of}
 use Rattle.cb_network.proofs.Accepted.{empty_is_sound}
 use Rattle.cb_network.proofs.Kept.{class_of}
@@ -18,7 +18,7 @@ use Rattle.cb_nodes.specs.declared.node.Node.{Node}
 use Rattle.cb_nodes.specs.Table.{Table, IsNode, HasEvent as HasEventIn, IsOne}
 use Rattle.cb_accept.specs.declared.counts.Counts.{Counts}
 use Rattle.cb_accept.specs.Counts.{AreCounts}
-use Rattle.cb_topo.specs.Kept.{IsKept, FitsTable}
+use Rattle.cb_topo.specs.Kept.{IsKept}
 use Rattle.cb_topo.proofs.Counted.{fits_count}
 
 module _ (tables : Tables) (typed : WellTyped tables) where

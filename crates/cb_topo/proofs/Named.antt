@@ -1,18 +1,16 @@
 -- Names by numbers.
-use Rattle.std.proofs.Common.{◌≡◌, ℕ, List, Some, refl, sym, ap, subst, ◌∙◌}
-use Rattle.std.specs.Prelude.{slice_get}
+use Rattle.std.proofs.Common.{◌≡◌, ℕ, List, Some, sym, ap, subst, ◌∙◌}
 use Rattle.cb_model.specs.declared.id.ClassId.{ClassId}
 use Rattle.cb_model.specs.declared.id.EventId.{EventId}
 use Rattle.cb_model.specs.declared.node.NodeName.{NodeName}
-use Rattle.cb_model.specs.declared.tables.EventRow.{EventRow}
 use Rattle.cb_model.specs.declared.tables.Tables.{Tables}
 use Rattle.cb_model.specs.Classes.{HasEvent, NamesEvent}
 use Rattle.cb_model.specs.WellTyped.{WellTyped}
 use Rattle.cb_network.specs.Topology.{Topology, IsOf}
-use Rattle.cb_network.specs.Nodes.{IsNodeOf, IsEventAt}
+use Rattle.cb_network.specs.Nodes.{IsEventAt}
 use Rattle.cb_network.specs.Edits.{node_of as name_of}
 use Rattle.cb_net.specs.declared.id.InstanceId.{InstanceId}
-use Rattle.cb_net.specs.Numbered.{Net, slot, IsNamed, IsLive, HasEventAt, IsWhole as IsWholeNet, name_or, name_at, name_in_row, event_name}
+use Rattle.cb_net.specs.Numbered.{Net, IsNamed, IsLive, HasEventAt, IsWhole as IsWholeNet, name_or, name_at, name_in_row, event_name}
 use Rattle.cb_nodes.specs.declared.node.Node.{Node}
 use Rattle.cb_accept.proofs.Members.{one_event}
 

@@ -1,24 +1,22 @@
 -- Other links and mutes leave instances, nodes and counts as they were.
-use Rattle.std.proofs.Common.{◌≡◌, ℕ, List, length, refl, sym, subst}
-use Rattle.std.specs.Prelude.{Ok}
+use Rattle.std.proofs.Common.{length, sym, subst}
 use Rattle.std.specs.FinSet as set
 use Rattle.cb_model.specs.NodeOrder.{node_cmp}
 use Rattle.cb_model.specs.declared.node.NodeName.{NodeName}
 use Rattle.cb_network.specs.declared.edit.Edit.{Edit}
-use Rattle.cb_network.specs.Topology.{Topology, link_cmp, IsOf}
-use Rattle.cb_network.specs.Nodes.{IsNodeOf, IsProblem, IsSymptomNode, IsCount}
+use Rattle.cb_network.specs.Topology.{link_cmp}
+use Rattle.cb_network.specs.Nodes.{IsNodeOf, IsProblem, IsSymptomNode}
 use Rattle.cb_network.specs.Sound.{Sound}
 use Rattle.cb_network.specs.Laws.{HasGoodName}
 use Rattle.cb_network.specs.Edits.{Changes}
 use Rattle.cb_network.proofs.Accepted.{edit_keeps_sound}
-use Rattle.cb_network.proofs.Counts.{IsAt, of_nodes, of_problems, of_symptoms, nodes_are, problems_are, symptoms_are, same_count}
+use Rattle.cb_network.proofs.Counts.{nodes_are, problems_are, symptoms_are, same_count}
 use Rattle.cb_network.proofs.Kept.{live_of}
-use Rattle.cb_net.specs.declared.id.InstanceId.{InstanceId}
 use Rattle.cb_net.specs.Numbered.{Net, IsWhole as IsWholeNet}
 use Rattle.cb_nodes.specs.Table.{Table}
 use Rattle.cb_accept.specs.declared.counts.Counts.{Counts}
 use Rattle.cb_accept.specs.Counts.{AreCounts}
-use Rattle.cb_topo.specs.Applied.{Applies, IsNodeRoomAfter, IsInstanceRoomAfter, IsAccepted}
+use Rattle.cb_topo.specs.Applied.{IsNodeRoomAfter, IsInstanceRoomAfter, IsAccepted}
 use Rattle.cb_topo.specs.Kept.{IsKept, FitsTable}
 use Rattle.cb_topo.specs.Made.{Makes, Rewires, rewired}
 use Rattle.cb_topo.proofs.Regular.{typed_is_regular}

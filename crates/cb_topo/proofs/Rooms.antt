@@ -1,5 +1,5 @@
 -- The room of instances after an edit.
-use Rattle.std.proofs.Common.{ℕ, List, ◌<◌, ◌≤◌, arith}
+use Rattle.std.proofs.Common.{ℕ, ◌<◌, ◌≤◌, arith}
 use Rattle.cb_network.specs.declared.edit.Edit.{Edit}
 use Rattle.cb_network.specs.declared.edit.Edit.TheVariants.{Create, Delete, Link, Unlink, Mute, Unmute}
 use Rattle.cb_topo.specs.Applied.{IsInstanceRoomAfter, MayGrow}
