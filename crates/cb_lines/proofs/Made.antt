@@ -1,5 +1,5 @@
 -- The topology that the lines of a file make, as far as it is read.
-use Rattle.std.proofs.Common.{◌≡◌, ℕ, List, [], ◌∷◌, ◌++◌, refl, sym, subst}
+use Rattle.std.proofs.Common.{ℕ, List, [], ◌∷◌, ◌++◌, refl, sym, subst}
 use Rattle.cb_network.specs.declared.edit.Edit.{Edit}
 use Rattle.cb_network.specs.declared.edit.Edit.TheVariants.{Create, Delete, Link, Unlink, Mute, Unmute}
 use Rattle.cb_network.specs.Laws.{HasGoodName}

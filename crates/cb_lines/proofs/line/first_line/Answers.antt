@@ -1,4 +1,4 @@
-use Rattle.std.proofs.Common.{◌∙◌, sym, ap, arith, rules, ◌∷◌, List, ℕ}
+use Rattle.std.proofs.Common.{◌∙◌, sym, ap, arith, ◌∷◌, List, ℕ}
 use Rattle.std.specs.List.{slice_range}
 use Rattle.cb_text.specs.Lines.{lines_of}
 use Rattle.cb_lines.proofs.Walk.{line_within, rest_is}
