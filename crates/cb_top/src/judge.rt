@@ -81,7 +81,20 @@ pub fn lines_of_burst<L: Ledger>(
     ensures { IfOk result (λ bytes. (finding : Finding) × IsBurst (topology_of topology) raised.now finding × (bytes.items ≡ text_of_burst finding)) }
 {
     let mut graph = Graph::new(alloc, topology)?;
-    let matrix = Matrix::of(alloc, &mut graph, steps)?;
+    lines_over(alloc, &mut graph, raised, steps)
+}
+
+// The same, over the graph of the topology.
+fn lines_over<L: Ledger>(
+    alloc: Global,
+    graph: &mut Graph,
+    raised: &List<NodeName>,
+    steps: &mut Steps<L>,
+) -> Result<Vec<u8>, AllocError>
+    requires { Rises node_cmp raised.now }
+    ensures { IfOk result (λ bytes. (finding : Finding) × IsBurst (topology_of graph.old) raised.now finding × (bytes.items ≡ text_of_burst finding)) }
+{
+    let matrix = Matrix::of(alloc, graph, steps)?;
     let finding = find(alloc, &matrix.columns, &matrix.problems, raised)?;
     burst_text(alloc, &finding)
 }
