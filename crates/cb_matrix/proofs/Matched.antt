@@ -1,10 +1,10 @@
 -- From numbers to names, and what that makes of a matrix.
-use Rattle.std.proofs.Common.{◌≡◌, ◌↔◌, ℕ, zero, suc, ◌+◌, ◌<◌, ◌≤◌, List, [], ◌∷◌, ◌++◌, Bool, length, map, take, replicate, Option, None, Some, slice_get, refl, sym, ap, subst, ◌∙◌, inl, inr, arith}
+use Rattle.std.proofs.Common.{◌≡◌, ◌↔◌, ◌⊎◌, ℕ, zero, suc, ◌+◌, ◌<◌, ◌≤◌, List, [], ◌∷◌, ◌++◌, Bool, length, map, take, replicate, Option, None, Some, slice_get, refl, sym, ap, subst, ◌∙◌, inl, inr, arith}
 use Rattle.std.specs.List.{All, AllZip, Contains, slice_index_or}
 use Rattle.std.specs.Prelude.{slice_set}
 use Rattle.std.specs.declared.cmp.Ordering.TheVariants.{Less}
 use Rattle.std.proofs.lemmas.Bool.{cases_eq, cases_lt}
-use Rattle.std.proofs.lemmas.List.{length-map}
+use Rattle.std.proofs.lemmas.List.{length-map, length-set}
 use Rattle.std.proofs.lemmas.Option.{slice_get-get_or, slice_get_within, get_or_from_slice_get}
 use Rattle.cb_model.proofs.Numbers.{take_more, zip_push, slice_get-set_other, slice_get-set_same, slice_get-replicate}
 use Rattle.cb_model.specs.declared.node.NodeName.{NodeName}
@@ -181,3 +181,13 @@ module _ (n : Numbered) (whole : IsWhole n) (sound : Sound (topology_of n)) (col
             (few_of_rising (IsProblem (topology_of n)) (IsProblem (topology_of n)) (map (λ p. p.name) matrix.problems) problem_limit problems_are.rise
             (λ q. (problems_are.each q, problems_are.all q)) (λ q problem. problem) sound.few_problems);
       }
+
+-- a row that was kept, or wasn't
+pub finished_or_kept : (edge : ℕ → ℕ → Type 0) (count : ℕ) (rows new : List (Option (List Bool))) (i : ℕ) (row : List Bool)
+    → AreFinished edge count rows → IsFinished edge count i row → (new ≡ rows) ⊎ (new ≡ slice_set rows i (Some row)) → AreFinished edge count new
+finished_or_kept edge count rows new i row finished is (inl same) = subst (AreFinished edge count) (sym same) finished
+finished_or_kept edge count rows new i row finished is (inr set) = subst (AreFinished edge count) (sym set) (finished_more edge count rows i row finished is)
+
+pub as_long : (rows new : List (Option (List Bool))) (i : ℕ) (row : List Bool) → (new ≡ rows) ⊎ (new ≡ slice_set rows i (Some row)) → length new ≡ length rows
+as_long rows new i row (inl same) = ap length same
+as_long rows new i row (inr set) = ap length set ∙ length-set rows i (Some row)

@@ -1,5 +1,5 @@
 //! A search from each problem.
-ghost use Rattle.std.specs.Prelude.{◌≡◌, length, replicate, None, IfOk};
+ghost use Rattle.std.specs.Prelude.{◌≡◌, ◌<◌, ◌⊎◌, length, replicate, slice_set, None, Some, IfOk};
 ghost use Rattle.std.specs.List.{All};
 ghost use Rattle.cb_reach.specs.Graphs.{AreFinished};
 ghost use Rattle.cb_topo.specs.Numbered.{IsLiveNode};
@@ -26,8 +26,8 @@ pub struct Searched {
     pub row: Row,
 }
 
-/// The problems of these numbers, each with its code over the columns. What a problem causes is kept, so that a later
-/// search that meets the problem takes it over as a whole.
+/// The problems of these numbers, each with its code over the columns. Where a problem causes much, that is kept, so that a
+/// later search that meets the problem takes it over as a whole.
 pub fn coded<L: Ledger>(
     alloc: Global,
     graph: &mut Graph,
@@ -49,9 +49,22 @@ pub fn coded<L: Ledger>(
             alloc, graph, columns, *node, &finished, &mut done, steps,
         )?;
         problems.push(problem)?;
-        finished[node.0 as usize] = Some(row);
+        keep(&mut finished, *node, row);
     }
     Ok(problems)
+}
+
+// A row with no more nodes than this isn't kept: to search again is as quick as to look through the row.
+const FEW: usize = 128;
+
+// Keeps the row at the node's place, where it has many nodes.
+fn keep(finished: &mut Vec<Option<Row>>, node: NodeId, row: Row)
+    requires { node.0 < length finished.old.items }
+    ensures { (finished.new.items ≡ finished.old.items) ⊎ (finished.new.items ≡ slice_set finished.old.items node.0 (Some row)) }
+{
+    if FEW < row.ones() {
+        finished[node.0 as usize] = Some(row);
+    }
 }
 
 // So many places without a row.

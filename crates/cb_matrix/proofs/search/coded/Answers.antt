@@ -1,10 +1,9 @@
 use Rattle.std.proofs.Common.{◌<◌, ◌+◌, length, take, slice_index_or, sym, ap, subst, ◌∙◌, arith}
-use Rattle.std.proofs.lemmas.List.{length-set}
 use Rattle.cb_nodes.specs.declared.id.NodeId.{NodeId}
 use Rattle.cb_topo.specs.Numbered.{Numbered, IsLiveNode}
 use Rattle.cb_graph.specs.Edges.{EdgeAt}
 use Rattle.cb_matrix.specs.Searched.{IsSearched, IsProblemAt, AreProblemsAt}
-use Rattle.cb_matrix.proofs.Matched.{zip_more, finished_more}
+use Rattle.cb_matrix.proofs.Matched.{zip_more, finished_or_kept, as_long}
 use Rattle.cb_matrix.proofs.search.coded.Goals as goal
 
 pub search_from-requires-clause-live : goal.search_from-requires-clause-live
@@ -30,9 +29,9 @@ loop-node-preserved g c =
     let low : i < length nodes = omega (arith, c.loop-node-test.true, ap length c.as_slice-node-items.ensures) in
     record {
       same = c.search_from.ensures.same ∙ kept.same;
-      room = length-set c.loop-node.finished.items node.0 _ ∙ kept.room;
+      room = as_long c.loop-node.finished.items c.keep.new.finished.items node.0 found.row c.keep.ensures ∙ kept.room;
       done = c.search_from.ensures.done ∙ ap (λ (m : Numbered). length m.nodes) kept.same;
-      finished = finished_more (EdgeAt n) (length n.nodes) c.loop-node.finished.items node.0 found.row kept.finished searched.row;
+      finished = finished_or_kept (EdgeAt n) (length n.nodes) c.loop-node.finished.items c.keep.new.finished.items node.0 found.row kept.finished searched.row c.keep.ensures;
       problems = subst (AreProblemsAt n columns (take (i + 1) nodes)) (sym c.in_ok-push.ensures.ok)
           (zip_more (IsProblemAt n columns) nodes c.loop-node.problems i zero found.problem low kept.problems there);
     }
