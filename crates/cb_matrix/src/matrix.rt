@@ -21,7 +21,7 @@ pub struct Matrix {
 }
 
 impl Matrix {
-    /// The matrix of the graph's topology. The successors of a node are asked for at most once for each problem that causes it.
+    /// The matrix of the graph's topology.
     pub fn of<L: Ledger>(
         alloc: Global,
         graph: &mut Graph,
