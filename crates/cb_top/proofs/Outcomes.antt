@@ -12,7 +12,7 @@ use Rattle.cb_top.specs.Status.{OnAnswer, OnDone, OnNoOutput, OnReadFault, OnWri
 use Rattle.cb_top.specs.Faults.{limit_line, long_line, read_line}
 use Rattle.cb_top.specs.Halts.{status_of}
 use Rattle.cb_top.specs.Outcome.{Outcome, IsOutcome, ModelAnswers, BurstAnswers, UnreadGives, file_after, file_words, done, usage, faulty, wrong_lined, bad_named, too_long, long_lined, not_built}
-use Rattle.cb_top.specs.Run.{Shows, HaltShows, Explains, Concludes, OnFileFault, OnStop, StopsAt, Answers, BlamesFile, TakesFront, TakesNothing, Says}
+use Rattle.cb_top.specs.Run.{Shows, HaltShows, Explains, Concludes, OnFileFault, OnStop, StopsAt, Answers, BlamesFile, TakesFront, TakesNothing, Says, SaysWhy}
 use Rattle.cb_top.proofs.Texts.{model_gives_one}
 use Rattle.cb_top.proofs.Bursts.{burst_gives_one}
 use Rattle.cb_top.proofs.Reading.{if_some}
@@ -61,25 +61,26 @@ takes_front words o names (Err halt) status out out' err err' shown ends =
     not_at_a_halt halts.Memory = tt
     not_at_a_halt halts.NotBuilt = tt
 
+on_no_output : (status : Status) (P : Type 0) → P → OnNoOutput status P
+on_no_output Done P p = tt
+on_no_output WriteFault P p = tt
+on_no_output status P p = p
+
 -- where there is no output, nothing was written
 pub no_output : (words : List (List ℕ)) (answer : Result (Vec ℕ Global) Halt) (status : Status) (out out' err err' : SinkTold)
     → Concludes words answer status out out' err err' → OnNoOutput status (TakesNothing out out')
 no_output words (Ok bytes) Done out out' err err' ends = tt
 no_output words (Ok bytes) WriteFault out out' err err' ends = tt
 no_output words (Ok bytes) status out out' err err' ends = absurd ends
-no_output words (Err halt) status out out' err err' ends =
-    subst (λ (s : Status). OnNoOutput s (TakesNothing out out')) (sym ends.1) (at_a_halt halt)
-  where
-    at_a_halt : (h : Halt) → OnNoOutput (status_of h) (TakesNothing out out')
-    at_a_halt halts.Usage = ends.0
-    at_a_halt (halts.Model fault) = ends.0
-    at_a_halt (halts.Topology line fault) = ends.0
-    at_a_halt (halts.Symptoms line) = ends.0
-    at_a_halt (halts.TooLong place) = ends.0
-    at_a_halt (halts.LongLine place line) = ends.0
-    at_a_halt (halts.ReadFault place) = ends.0
-    at_a_halt halts.Memory = ends.0
-    at_a_halt halts.NotBuilt = ends.0
+no_output words (Err halt) status out out' err err' ends = on_no_output status (TakesNothing out out') ends.0
+
+-- where there is no output, the line tells why
+pub says_why : (words : List (List ℕ)) (answer : Result (Vec ℕ Global) Halt) (status : Status) (out out' err err' : SinkTold)
+    → Concludes words answer status out out' err err' → OnNoOutput status (SaysWhy words status err err')
+says_why words (Ok bytes) Done out out' err err' ends = tt
+says_why words (Ok bytes) WriteFault out out' err err' ends = tt
+says_why words (Ok bytes) status out out' err err' ends = absurd ends
+says_why words (Err halt) status out out' err err' ends = on_no_output status (SaysWhy words status err err') (halt, sym ends.1, ends.2)
 
 -- where the output is whole, no line was written
 pub no_line : (words : List (List ℕ)) (answer : Result (Vec ℕ Global) Halt) (status : Status) (out out' err err' : SinkTold)

@@ -102,3 +102,7 @@ Delivers bytes status out out' err err' = ⊥
 abbrev pub Concludes : List (List ℕ) → Result (Vec ℕ Global) Halt → Status → SinkTold → SinkTold → SinkTold → SinkTold → Type 0
 Concludes words (Ok bytes) status out out' err err' = Delivers bytes.items status out out' err err'
 Concludes words (Err halt) status out out' err err' = TakesNothing out out' × (status ≡ status_of halt) × Explains words halt err err'
+
+-- the error sink was given the line of a halt that a run of this status may have
+abbrev pub SaysWhy : List (List ℕ) → Status → SinkTold → SinkTold → Type 0
+SaysWhy words status old new = (halt : Halt) × (status_of halt ≡ status) × Explains words halt old new

@@ -7,7 +7,7 @@ ghost use Rattle.cb_top.specs.Halts.{IsPlaced};
 ghost use Rattle.cb_top.specs.Outcome.{texts, file_words, IsOutcome};
 ghost use Rattle.cb_top.specs.Cause.{FindsTheCause};
 ghost use Rattle.cb_io.specs.Outside.{ReadsEach};
-ghost use Rattle.cb_top.specs.Run.{Answers, TakesFront, TakesNothing, BlamesFile, BlamesOut, Says, StopsAt, Shows, OnStop};
+ghost use Rattle.cb_top.specs.Run.{Answers, TakesFront, TakesNothing, BlamesFile, BlamesOut, Says, SaysWhy, StopsAt, Shows, OnStop};
 
 use crate::burst::burst;
 use crate::command::Command;
@@ -47,6 +47,8 @@ pub fn run<F: Files, O: Sink, E: Sink, L: Ledger>(
     ensures read_whole { OnDone result (ReadsEach (F.tells files.old) (F.tells files.new) (file_words (texts words.now))) }
     ensures read_fault { OnReadFault result (BlamesFile (texts words.now) (F.tells files.old) (F.tells files.new) (E.tells err.old) (E.tells err.new)) }
     ensures write_fault { OnWriteFault result (BlamesOut (O.tells out.old) (O.tells out.new) (E.tells err.old) (E.tells err.new)) }
+    // At each other status but 0 the line tells why there is no output.
+    ensures line { OnNoOutput result (SaysWhy (texts words.now) result (E.tells err.old) (E.tells err.new)) }
     ensures memory { OnMemory result (Says (E.tells err.old) (E.tells err.new) memory_line) }
     ensures steps { (¬ AskForBurst (texts words.now)) → steps.new ≡ steps.old }
 {
