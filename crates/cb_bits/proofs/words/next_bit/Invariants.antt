@@ -1,7 +1,7 @@
 use Rattle.std.proofs.Common.{◌*◌}
 use Rattle.std.specs.Slice.Scan.{HoldsNowhere}
-use Rattle.cb_reach.specs.Rows.{in_not}
-use Rattle.cb_reach.proofs.places.next_bit.Given as goal
+use Rattle.cb_bits.specs.Bits.{in_not}
+use Rattle.cb_bits.proofs.words.next_bit.Given as goal
 
 -- no such bit in the words before this one
 abbrev pub invariant-loop-i : goal.invariant-loop-i
