@@ -4,7 +4,7 @@ ghost use Rattle.std.specs.List.{All};
 ghost use Rattle.cb_reach.specs.Graphs.{AreFinished};
 ghost use Rattle.cb_topo.specs.Numbered.{IsLiveNode};
 ghost use Rattle.cb_graph.specs.Edges.{EdgeAt};
-ghost use Rattle.cb_matrix.specs.Codes.{AreIndexed};
+ghost use Rattle.cb_matrix.specs.Codes.{ArePlaces};
 ghost use Rattle.cb_matrix.specs.Searched.{IsSearched, AreProblemsAt};
 
 use crate::codes::{Columns, code_of};
@@ -35,7 +35,7 @@ pub fn coded<L: Ledger>(
     nodes: &List<NodeId>,
     steps: &mut Steps<L>,
 ) -> Result<List<Problem>, AllocError>
-    requires columns { AreIndexed (length graph.old.nodes) columns.now.nodes columns.now }
+    requires columns { ArePlaces (length graph.old.nodes) columns.now.nodes columns.now.places.items }
     requires live { All (IsLiveNode graph.old) nodes.now }
     ensures same { graph.new ≡ graph.old }
     ensures problems { IfOk result (AreProblemsAt graph.old columns.now.nodes nodes.now) }
@@ -88,7 +88,7 @@ fn search_from<L: Ledger>(
     done: &mut Row,
     steps: &mut Steps<L>,
 ) -> Result<Searched, AllocError>
-    requires columns { AreIndexed (length graph.old.nodes) columns.now.nodes columns.now }
+    requires columns { ArePlaces (length graph.old.nodes) columns.now.nodes columns.now.places.items }
     requires live { IsLiveNode graph.old node }
     requires finished { AreFinished (EdgeAt graph.old) (length graph.old.nodes) finished.now }
     requires done { length done.old ≡ length graph.old.nodes }
