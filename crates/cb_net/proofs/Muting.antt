@@ -99,7 +99,7 @@ room_to_mute t x fits e has none =
     let few : length listed ≤ length fits.events = omega (arith, length-map fits.events (λ (d : EventId). d.0)) in
     let count = at_most_listed (HasEvent t x.class) (length fits.events) listed (λ d h. (fits.are.exactly d.0).1 h) few more (once_more x.muted.items e fits.once none) all in
     let longer : length more ≡ length x.muted.items + 1 = length-append x.muted.items (e ∷ []) in
-    let room = fits.room in
+    let spare = fits.spare in
     omega arith
   where
     of_class : (d : EventId) → Contains (x.muted.items ++ e ∷ []) d → HasEvent t x.class d
@@ -270,7 +270,7 @@ module _ (tables : Tables) (old new : Slots) (entries : Entries) (room : ℕ) (i
       record {
         events = fits.events;
         are = fits.are;
-        room = let r = fits.room in let same = t.2 in omega arith;
+        spare = let r = fits.spare in let same = t.2 in omega arith;
         of_class = λ d in_m. elim (Contains-push_cases x.muted.items e d (subst (λ es. Contains es d) t.3 in_m)) [ inl in_x ↦ fits.of_class d in_x | inr is ↦ subst (HasEvent tables x.class) is has ];
         once = subst Once (sym t.3) (once_more x.muted.items e fits.once none);
       }
@@ -317,7 +317,7 @@ module _ (tables : Tables) (old new : Slots) (entries : Entries) (room : ℕ) (i
       record {
         events = fits.events;
         are = fits.are;
-        room = let r = fits.room in let same = t.2 in omega arith;
+        spare = let r = fits.spare in let same = t.2 in omega arith;
         of_class = λ d in_m. fits.of_class d ((t.3.others d (λ is. t.3.gone fits.once (subst (Contains t.0.items) is in_m))).0 in_m);
         once = t.3.once fits.once;
       }

@@ -3,7 +3,7 @@ ghost use Rattle.std.specs.Prelude.{◌≡◌, OnOk, OnErr};
 ghost use Rattle.cb_net.specs.declared.instance.Instance.{Instance as TheInstance};
 ghost use Rattle.cb_net.specs.Rows.{Loses};
 ghost use Rattle.cb_net.specs.Slots.{At};
-ghost use Rattle.cb_net.specs.Joined.{Rewires, Stays, Gains, HasRoomAt, SameLinks, Joins, Parts};
+ghost use Rattle.cb_net.specs.Joined.{Rewires, Stays, Gains, HasSpareAt, SameLinks, Joins, Parts};
 
 use crate::id::InstanceId;
 use crate::instance::Instance;
@@ -65,7 +65,7 @@ fn reserve(
     rel: RelId,
 ) -> Result<(), AllocError>
     ensures same { Rewires slots.old.slots slots.new.slots at rel Stays }
-    ensures room { OnOk result (HasRoomAt slots.new.slots at rel) }
+    ensures spare { OnOk result (HasSpareAt slots.new.slots at rel) }
     ensures next { slots.new.vacant_key ≡ slots.old.vacant_key }
 {
     match slots.get_mut(at.0) {
@@ -75,7 +75,7 @@ fn reserve(
 }
 
 fn add(slots: &mut Slab<Instance>, at: InstanceId, rel: RelId, to: InstanceId)
-    requires { HasRoomAt slots.old.slots at rel }
+    requires { HasSpareAt slots.old.slots at rel }
     ensures rewires { Rewires slots.old.slots slots.new.slots at rel (Gains to) }
     ensures next { slots.new.vacant_key ≡ slots.old.vacant_key }
 {
