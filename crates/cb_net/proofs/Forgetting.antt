@@ -5,12 +5,13 @@ use Rattle.std.proofs.lemmas.List.Elements.{Contains-push_cases}
 use Rattle.cb_model.specs.declared.id.RelId.{RelId}
 use Rattle.cb_model.specs.declared.tables.Tables.{Tables}
 use Rattle.cb_model.proofs.Rising.{nothing_in_empty}
+use Rattle.cb_net.specs.Items.{Loses}
 use Rattle.cb_net.specs.declared.id.InstanceId.{InstanceId}
 use Rattle.cb_net.specs.declared.links.Row.{Row}
 use Rattle.cb_net.specs.Forgotten.{Sheds, ForgetsRow, ForgetsAll}
 use Rattle.cb_net.specs.Joined.{Rewires, AllTidy}
 use Rattle.cb_net.specs.Numbered.{inverse_of}
-use Rattle.cb_net.specs.Rows.{Loses, items_of}
+use Rattle.cb_net.specs.Rows.{items_of}
 use Rattle.cb_net.specs.Slots.{Slots, At, Lists}
 use Rattle.cb_net.specs.Sound.{IsSound}
 use Rattle.cb_net.specs.Places.{Entries}

@@ -14,9 +14,9 @@ use Rattle.std.proofs.lemmas.Map.Keys.{IsDistinct-IsPermutation}
 use Rattle.std.proofs.lemmas.Map.Made.{AllPairs-from_IsDistinct, IsDistinct-from_AllPairs}
 use Rattle.cb_model.proofs.Rising.{contains_cases, contains_tail, nothing_in_empty}
 use Rattle.cb_model.specs.declared.id.EventId.{EventId}
+use Rattle.cb_net.specs.Items.{Loses}
 use Rattle.cb_net.specs.declared.id.InstanceId.{InstanceId}
 use Rattle.cb_net.specs.Numbered.{Once}
-use Rattle.cb_net.specs.Rows.{Loses}
 
 pub once_tail : {X : Type 0} (x : X) (xs : List X) → Once (x ∷ xs) → Once xs
 once_tail x xs once i j d lt le = once (suc i) (suc j) d (omega arith) (omega arith)

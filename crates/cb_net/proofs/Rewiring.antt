@@ -5,11 +5,12 @@ use Rattle.std.proofs.lemmas.List.Elements.{Contains-append_left, Contains-push,
 use Rattle.std.proofs.lemmas.List.Quantifiers.{all_pairs_push}
 use Rattle.cb_model.specs.declared.id.RelId.{RelId}
 use Rattle.cb_network.proofs.Decided.{Decision, decide_number, decide_same, decide_both}
+use Rattle.cb_net.specs.Items.{Gains, Loses}
 use Rattle.cb_net.specs.declared.id.InstanceId.{InstanceId}
 use Rattle.cb_net.specs.declared.instance.Instance.{Instance}
-use Rattle.cb_net.specs.Joined.{head_in, SameHeads, Rewires, Stays, Gains, HasSpareAt, AllTidy, SameLinks}
+use Rattle.cb_net.specs.Joined.{head_in, SameHeads, Rewires, Stays, HasSpareAt, AllTidy, SameLinks}
 use Rattle.cb_net.specs.Numbered.{slot, Once}
-use Rattle.cb_net.specs.Rows.{find_row, items_of, row_of, Puts, Loses}
+use Rattle.cb_net.specs.Rows.{find_row, items_of, row_of, Puts}
 use Rattle.cb_net.specs.Slots.{head_of, Slots, At, Lists}
 use Rattle.cb_net.specs.Sound.{IsTidy}
 use Rattle.cb_net.proofs.Placing.{decide_id}

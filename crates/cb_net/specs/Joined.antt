@@ -28,10 +28,6 @@ pub record Rewires (old new : Slots) (at : InstanceId) (rel : RelId) (Step : Lis
 abbrev pub Stays : List InstanceId → List InstanceId → Type 0
 Stays old new = new ≡ old
 
--- the list has the item more, at its end
-abbrev pub Gains : InstanceId → List InstanceId → List InstanceId → Type 0
-Gains item old new = new ≡ old ++ item ∷ []
-
 -- one instance more fits in the list of this one without memory
 abbrev pub HasSpareAt : Slots → InstanceId → RelId → Type 0
 HasSpareAt slots at rel = (x : Instance) → At slots at x → HasSpare x.links.rows.items rel

@@ -1,6 +1,7 @@
 -- The rows of an instance's links.
 use Rattle.std.specs.Prelude.{◌≡◌, ◌≢◌, ◌<◌, List, [], Option, Some, None, Bool, nat_eq, vec_len, vec_capacity, ◌↔◌, map}
 use Rattle.std.specs.List.{Contains, find}
+use Rattle.cb_net.specs.Items.{Loses}
 use Rattle.cb_net.specs.Numbered.{Once}
 use Rattle.cb_model.specs.declared.id.RelId.{RelId}
 use Rattle.cb_net.specs.declared.id.InstanceId.{InstanceId}
@@ -35,12 +36,6 @@ pub record Puts (old new : List Row) (rel : RelId) (to : List InstanceId) : Type
   pub this : row_of new rel ≡ to
   pub others : (r : RelId) → r ≢ rel → find_row new r ≡ find_row old r
   pub apart : AreApart old → AreApart new
-
--- the list has lost the item, and nothing else
-pub record Loses {X : Type 0} (item : X) (old new : List X) : Type 0 where
-  pub others : (x : X) → x ≢ item → Contains new x ↔ Contains old x
-  pub gone : Once old → ¬ Contains new item
-  pub once : Once old → Once new
 
 -- the relation has lost the instance, and each other relation has the row that it had
 pub record Removes (old new : List Row) (rel : RelId) (to : InstanceId) : Type 0 where

@@ -2,7 +2,7 @@
 ghost use Rattle.std.specs.Prelude.{◌≡◌, vec_capacity};
 ghost use Rattle.std.specs.Bool.{Decides};
 ghost use Rattle.std.specs.List.{position};
-ghost use Rattle.cb_net.specs.Rows.{Loses};
+ghost use Rattle.cb_net.specs.Items.{Loses};
 
 // The first place of the item.
 fn place_of<T: Copy + PartialEq>(list: &[T], item: T) -> Option<usize>

@@ -1,7 +1,7 @@
 //! Events that are muted at an instance.
 ghost use Rattle.std.specs.Prelude.{◌≡◌};
-ghost use Rattle.cb_net.specs.Muted.{Remutes, HasSpareToMute, GainsEvent};
-ghost use Rattle.cb_net.specs.Rows.{Loses};
+ghost use Rattle.cb_net.specs.Items.{Gains, Loses};
+ghost use Rattle.cb_net.specs.Muted.{Remutes, HasSpareToMute};
 
 use crate::id::InstanceId;
 use crate::instance::Instance;
@@ -12,7 +12,7 @@ use slab::Slab;
 /// Mutes the event at the instance. It takes no memory.
 pub fn mute(slots: &mut Slab<Instance>, id: InstanceId, event: EventId)
     requires { HasSpareToMute slots.old.slots id }
-    ensures remutes { Remutes slots.old.slots slots.new.slots id (GainsEvent event) }
+    ensures remutes { Remutes slots.old.slots slots.new.slots id (Gains event) }
     ensures next { slots.new.vacant_key ≡ slots.old.vacant_key }
 {
     if let Some(x) = slots.get_mut(id.0) {

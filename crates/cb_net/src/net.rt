@@ -7,10 +7,10 @@ ghost use Rattle.cb_network.specs.Topology.{IsLive as IsLiveName, IsOf};
 ghost use Rattle.cb_net.specs.declared.id.InstanceId.{InstanceId as Id};
 ghost use Rattle.cb_net.specs.Numbered.{empty_net, IsNamed, IsLive, LinkAt, Creates, Once, inverse_of, linked, unlinked, without, muted, unmuted, HasEventAt, IsMutedAt, IsWhole};
 
-use crate::forget::{forget, inverse};
+use crate::forget::forget;
 use crate::id::InstanceId;
 use crate::instance::Instance;
-use crate::join::{join, part};
+use crate::join::{inverse, join, part};
 use crate::links::Links;
 use crate::mutes::{mute, unmute};
 use cb_model::{ClassId, EventId, Model, Name, RelId};
@@ -45,7 +45,7 @@ impl std::marker::Model for Net {
 }
 
 impl Net {
-    /// No instance of any class.
+    /// A net of the model without any instance.
     pub fn new(alloc: Global, model: Model) -> Net
         ensures { result ≡ empty_net model }
     {
@@ -58,6 +58,7 @@ impl Net {
         }
     }
 
+    /// The model whose classes the instances are of.
     pub fn model(&self) -> &Model
         ensures { result.now ≡ self.now.topology.model }
     {
@@ -75,6 +76,7 @@ impl Net {
         }
     }
 
+    /// The name of the instance.
     pub fn name_of(&self, id: InstanceId) -> &[u8]
         requires { IsLive self.now id }
         ensures { IsNamed self.now id result.now }
@@ -82,6 +84,7 @@ impl Net {
         self.slots[id.0].name.bytes()
     }
 
+    /// The class of the instance, by its number in the model.
     pub fn class_of(&self, id: InstanceId) -> ClassId
         requires { IsLive self.now id }
         ensures { (name : List ℕ) → IsNamed self.now id name → IsOf self.now.topology name result }

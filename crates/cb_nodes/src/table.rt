@@ -56,8 +56,8 @@ impl NodeTable {
         let _ = &self.numbers;
     }
 
-    /// Gives each of the events a number that was free.
-    pub fn add(
+    /// Gives each of the events a number that was free, whatever instance there is: tests number events without a net.
+    pub(crate) fn add(
         &mut self,
         alloc: Global,
         instance: InstanceId,

@@ -1,5 +1,5 @@
 use Rattle.std.proofs.Common.{◌≡◌, sym, subst, ◌∙◌, Some, None, position}
-use Rattle.cb_net.specs.Rows.{Loses}
+use Rattle.cb_net.specs.Items.{Loses}
 use Rattle.cb_net.proofs.Losing.{loses_at, loses_none}
 use Rattle.cb_net.proofs.items.take_out.Goals as goal
 

@@ -1,5 +1,6 @@
 use Rattle.std.proofs.Common.{◌≡◌, sym, ◌∙◌}
-use Rattle.cb_net.specs.Joined.{Stays, Gains}
+use Rattle.cb_net.specs.Items.{Gains}
+use Rattle.cb_net.specs.Joined.{Stays}
 use Rattle.cb_net.proofs.Joining.{joins_once, joins_twice, remains, same_twice}
 use Rattle.cb_net.proofs.Losing.{item_of, other_item}
 use Rattle.cb_net.proofs.Rewiring.{stays_links, spare_elsewhere}

@@ -1,5 +1,5 @@
 use Rattle.std.proofs.Common.{sym}
-use Rattle.cb_net.specs.Rows.{Loses}
+use Rattle.cb_net.specs.Items.{Loses}
 use Rattle.cb_net.proofs.Losing.{decides_event}
 use Rattle.cb_net.proofs.Muting.{remuted, remuted_none}
 use Rattle.cb_net.proofs.mutes.unmute.Goals as goal

@@ -1,7 +1,8 @@
 use Rattle.std.proofs.Common.{◌≡◌, List, [], sym, ap, subst, arith}
 use Rattle.std.specs.Prelude.{slice_set}
+use Rattle.cb_net.specs.Items.{Loses}
 use Rattle.cb_net.specs.declared.links.Row.{Row}
-use Rattle.cb_net.specs.Rows.{is_of, items_of, Puts, row_of, Loses}
+use Rattle.cb_net.specs.Rows.{is_of, items_of, Puts, row_of}
 use Rattle.cb_net.proofs.Losing.{decides_id, loses_nothing}
 use Rattle.cb_net.proofs.RowLemmas.{found_read, none_found, keeps_puts, read_passes, place_within, set_puts}
 use Rattle.cb_net.proofs.links.Links.remove.Goals as goal
