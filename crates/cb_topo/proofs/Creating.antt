@@ -14,7 +14,7 @@ use Rattle.cb_network.specs.Edits.{with_instance, Changes}
 use Rattle.cb_network.proofs.Kept.{live_of}
 use Rattle.cb_network.proofs.Sets.{got_insert}
 use Rattle.cb_net.specs.declared.id.InstanceId.{InstanceId}
-use Rattle.cb_net.specs.Numbered.{Net, slot, IsNamed, IsLive, IsFree, SetsOnly, HasEventAt, IsWhole as IsWholeNet, name_at}
+use Rattle.cb_net.specs.Numbered.{Net, slot, IsNamed, IsLive, IsFree, SetsOnly, Creates, HasEventAt, IsWhole as IsWholeNet, name_at}
 use Rattle.cb_net.proofs.Placing.{decide_id}
 use Rattle.cb_nodes.specs.declared.id.NodeId.{NodeId}
 use Rattle.cb_nodes.specs.declared.node.Node.{Node}
@@ -26,7 +26,7 @@ use Rattle.cb_topo.specs.Made.{Makes}
 use Rattle.cb_topo.proofs.Regular.{typed_is_regular}
 use Rattle.cb_accept.specs.declared.counts.Counts.{Counts}
 use Rattle.cb_accept.specs.Counts.{CountWith}
-use Rattle.cb_nodes.specs.Created.{Creates, AddsAll}
+use Rattle.cb_nodes.specs.Created.{AddsAll}
 use Rattle.cb_network.specs.declared.edit.Edit.TheVariants.{Create}
 use Rattle.cb_network.specs.declared.edit.EditRefusal.TheVariants.{Exists, NodeLimit}
 use Rattle.cb_network.proofs.Accepted.{edit_keeps_sound}
