@@ -1,6 +1,7 @@
 //! The tokens of a text.
 #![tactic(auto)]
 
+mod byte;
 mod found;
 mod gap;
 mod sign;
