@@ -52,8 +52,9 @@ pub fn coded<L: Ledger>(
     Ok(problems)
 }
 
-// The rows of the problems that cause much, at their numbers. The problems are taken by their places with the bits reversed, so
-// that those whose rows are known are spread over all of them, and a search along a chain soon meets one, whichever way it runs.
+// The rows of every sixteenth problem, where it causes much, at their numbers. A later search along a chain soon meets one of
+// them, whichever way it runs. The problems are taken by their places with the bits reversed, so that these searches too soon
+// meet one another's rows.
 fn rows_ahead<L: Ledger>(
     alloc: Global,
     graph: &mut Graph,
@@ -67,7 +68,7 @@ fn rows_ahead<L: Ledger>(
     let room = graph.topology().node_room();
     let mut finished = no_rows(alloc, room)?;
     let mut done = Row::zeroed(alloc, room)?;
-    for k in 0..u16::MAX {
+    for k in 0..u16::MAX / 16 {
         let place = k.reverse_bits() as usize;
         if place < nodes.len() {
             let node = *nodes.at(place);
