@@ -9,7 +9,7 @@ use Rattle.cb_grammar.specs.declared.tree.ClassDecl.{ClassDecl}
 use Rattle.cb_grammar.specs.declared.tree.Member.{Member}
 use Rattle.cb_grammar.specs.declared.tree.Member.TheVariants.{Event, Rule}
 use Rattle.cb_check.specs.Stands.{declared_from, event_in, relation_in, rule_in}
-use Rattle.cb_check.proofs.Places.{slice_get-left, slice_get-right, slice_get-joined, place, kept_at, kept_from, place_below}
+use Rattle.cb_check.proofs.Places.{slice_get-joined, place, kept_from}
 
 module _ {Row : Type 0} (kind : ClassId → Member → Option Row) where
   -- what the class with this place declares
@@ -51,22 +51,6 @@ module _ {Row : Type 0} (kind : ClassId → Member → Option Row) where
         }
   ]
 
-  found_at : (k : ℕ) (decls : List ClassDecl) (n : ℕ) (decl : ClassDecl) (p : ℕ) (row : Row) → slice_get decls n ≡ Some decl → slice_get (own (k + n) decl) p ≡ Some row →
-      slice_get (declared_from kind k decls) (start k decls n + p) ≡ Some row
-  unfolding start
-  found_at k [] n decl p row is own_is = absurd (cc)
-  found_at k (d ∷ ds) zero decl p row is own_is =
-      let same : decl ≡ d = cc in
-      let first : k + 0 ≡ k = omega arith in
-      let here = subst (λ c. slice_get (own c d) p ≡ Some row) first (subst (λ v. slice_get (own (k + 0) v) p ≡ Some row) same own_is) in
-      let at : 0 + p ≡ p = omega arith in
-      ap (slice_get (own k d ++ declared_from kind (suc k) ds)) at ∙ slice_get-left (own k d) (declared_from kind (suc k) ds) p row here
-  found_at k (d ∷ ds) (suc n) decl p row is own_is =
-      let same : k + suc n ≡ suc k + n = omega arith in
-      let there = found_at (suc k) ds n decl p row is (subst (λ c. slice_get (own c decl) p ≡ Some row) same own_is) in
-      let at : (length (own k d) + start (suc k) ds n) + p ≡ length (own k d) + (start (suc k) ds n + p) = omega arith in
-      ap (slice_get (own k d ++ declared_from kind (suc k) ds)) at ∙ (slice_get-right (own k d) (declared_from kind (suc k) ds) (start (suc k) ds n + p) ∙ there)
-
   -- one class more at the end
   pub declared_push : (k : ℕ) (decls : List ClassDecl) (d : ClassDecl) → declared_from kind k (decls ++ d ∷ []) ≡ declared_from kind k decls ++ own (k + length decls) d
   declared_push k [] d =
@@ -100,9 +84,6 @@ module _ {Row : Type 0} (kind : ClassId → Member → Option Row) where
     pub member_is : slice_get decl.members at ≡ Some member
     pub gives : kind class member ≡ Some row
     pub index_is : i ≡ index decls class.0 decl at
-    pub own_at : ℕ
-    pub own_is : slice_get (filter_map (kind class) decl.members) own_at ≡ Some row
-    pub own_index : i ≡ start 0 decls class.0 + own_at
 
   pub declared_by : (decls : List ClassDecl) (i : ℕ) (row : Row) → slice_get (declared_from kind 0 decls) i ≡ Some row → IsDeclared decls i row
   unfolding index
@@ -120,28 +101,7 @@ module _ {Row : Type 0} (kind : ClassId → Member → Option Row) where
         member_is = kept.is;
         gives = kept.gives;
         index_is = f.place_is ∙ ap (λ p. start 0 decls f.n + p) kept.place_is;
-        own_at = f.p;
-        own_is = own_is;
-        own_index = f.place_is;
       }
-
-  pub own_found : (decls : List ClassDecl) (c : ClassId) (decl : ClassDecl) (p : ℕ) (row : Row) → slice_get decls c.0 ≡ Some decl →
-      slice_get (filter_map (kind c) decl.members) p ≡ Some row → slice_get (declared_from kind 0 decls) (start 0 decls c.0 + p) ≡ Some row
-  own_found decls c decl p row is own_is =
-      let same : c.0 ≡ 0 + c.0 = omega arith in
-      found_at 0 decls c.0 decl p row is (subst (λ k. slice_get (own k decl) p ≡ Some row) same own_is)
-
-  pub declared_at : (decls : List ClassDecl) (c : ClassId) (decl : ClassDecl) (j : ℕ) (member : Member) (row : Row) → slice_get decls c.0 ≡ Some decl →
-      slice_get decl.members j ≡ Some member → kind c member ≡ Some row → slice_get (declared_from kind 0 decls) (index decls c.0 decl j) ≡ Some row
-  unfolding index
-  declared_at decls c decl j member row decl_is member_is gives =
-      own_found decls c decl (place (kind c) decl.members j) row decl_is (kept_at (kind c) decl.members j member row member_is gives)
-
-  pub index_below : (decls : List ClassDecl) (c : ClassId) (decl : ClassDecl) (i j : ℕ) (member : Member) (row : Row) →
-      slice_get decl.members i ≡ Some member → kind c member ≡ Some row → i < j → index decls c.0 decl i < index decls c.0 decl j
-  unfolding index
-  index_below decls c decl i j member row member_is gives below =
-      let less = place_below (kind c) decl.members i j member row member_is gives below in omega arith
 
 -- the row of what a member of a class declares
 abbrev pub declaration : List ClassDecl → ℕ → ClassDecl → ℕ → Member → Declaration
