@@ -1,8 +1,8 @@
 -- The tables that a tree stands for keep the type rules where the tree does.
-use Rattle.std.proofs.Common.{◌≡◌, ◌≢◌, ℕ, suc, ◌≤◌, Bool, true, List, [], ◌∷◌, length, get_or, Option, Some, None, refl, sym, ap, subst, ◌∙◌, inl, inr, arith}
+use Rattle.std.proofs.Common.{◌≡◌, ◌≢◌, ℕ, suc, ◌≤◌, Bool, true, List, [], ◌∷◌, get_or, Option, Some, None, refl, sym, ap, subst, ◌∙◌, inl, inr, arith}
 use Rattle.std.specs.Prelude.{slice_get}
 use Rattle.std.specs.List.{AllPairs}
-use Rattle.std.proofs.lemmas.Bool.{cases_lt, cases_eq, cases_Bool}
+use Rattle.std.proofs.lemmas.Bool.{cases_eq, cases_Bool}
 use Rattle.std.proofs.lemmas.Option.{slice_get-get_or}
 use Rattle.cb_model.specs.declared.limits.TheConstants.{MOST_CLASSES, MOST_ANCESTORS, MOST_EVENTS, MOST_RELATIONS, MOST_RULES}
 use Rattle.cb_model.specs.declared.id.ClassId.{ClassId}
@@ -18,18 +18,18 @@ use Rattle.cb_model.specs.WellTyped.{Member as Declaration, event, relation, rul
 use Rattle.cb_grammar.specs.declared.tree.Tree.{Tree}
 use Rattle.cb_grammar.specs.declared.tree.ClassDecl.{ClassDecl}
 use Rattle.cb_grammar.specs.declared.tree.Member.{Member}
-use Rattle.cb_grammar.specs.declared.tree.Member.TheVariants.{Event, Relation, Rule, Hide}
+use Rattle.cb_grammar.specs.declared.tree.Member.TheVariants.{Event, Relation, Hide}
 use Rattle.cb_grammar.specs.Grammar.{NamesFit}
 use Rattle.cb_rules.specs.declared.rule.TypeRule.TheVariants.{TwoClasses, Loop, Depth, TwoNames, BadInverse, NoHidden}
-use Rattle.cb_rules.specs.Classes.{ClassAt, IsNamed, IsAbove, MemberAt, HasAt, Has, Declares, IsSymptomNamed, IsRelationBack}
+use Rattle.cb_rules.specs.Classes.{ClassAt, IsNamed, MemberAt, HasAt, Has, Declares, IsSymptomNamed, IsRelationBack}
 use Rattle.cb_rules.specs.Classes as tree_words
 use Rattle.cb_rules.specs.Rules.{Owns}
 use Rattle.cb_rules.specs.Fault.{KeepsAll}
 use Rattle.cb_rules.proofs.Found.{one_member}
 use Rattle.cb_rules.proofs.Walks.{one_named}
 use Rattle.cb_rules.proofs.Unique.{symptom_declares, back_declares, one_place}
-use Rattle.cb_check.specs.Stands.{Stands, StandsPath, StandsRelation, StandsRule, StandsBlock, StandsHide, RelationDecl, RuleDecl, NameDecl, rules_declared, blocks_declared, hides_declared, event_in, relation_in, rule_in, hide_in}
-use Rattle.cb_check.proofs.Places.{all_from, slice_at, zip_left}
+use Rattle.cb_check.specs.Stands.{Stands, StandsPath, StandsRelation, StandsRule, StandsBlock, StandsHide, RelationDecl, NameDecl, rules_declared, blocks_declared, hides_declared, event_in, relation_in, hide_in}
+use Rattle.cb_check.proofs.Places.{all_from, zip_left}
 use Rattle.cb_check.proofs.Sections.{declared_by}
 use Rattle.cb_check.proofs.Small.{few_classes, event_such, relation_such, rule_such}
 use Rattle.cb_check.proofs.Given.{Gives, has_at, one_row, one_event, one_relation, one_rule, from_some}
