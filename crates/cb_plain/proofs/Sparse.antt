@@ -12,7 +12,8 @@ use Rattle.cb_coding.specs.Distance.{distance, differ, bit, apart, all_columns, 
 use Rattle.cb_coding.specs.Pairs.{IsPair, ComesBefore}
 use Rattle.cb_coding.proofs.Distances.{all_columns_more, all_columns_rise, in_all_columns, below_from_all_columns}
 use Rattle.cb_coding.proofs.BookLaws.{kept_by_filter, was_in_filtered}
-use Rattle.cb_plain.specs.Closest.{Beats, StartsWithZero, IsPairOf, holders_of}
+use Rattle.cb_plain.specs.Closest.{Beats, StartsWithZero, IsPairOf}
+use Rattle.cb_plain.specs.Holders.{holders_of}
 
 -- a code without ones says false of each column
 pub no_ones : (code : List Bool) → count_by (λ value. value) code ≡ 0 → (k : ℕ) → bit code k ≡ false

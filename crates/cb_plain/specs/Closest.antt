@@ -1,7 +1,6 @@
 -- The best of the pairs that were tried, in any order.
 use Rattle.std.specs.Prelude.{◌≡◌, ℕ, false, length, ◌+◌, ◌<◌, ◌≤◌, List, Bool, Option, None, Some, slice_get, ⊤, nat_lt, ◌==◌, ◌||◌, ◌&&◌, if◌then◌else◌}
 use Rattle.cb_coding.specs.declared.book.Pair.{Pair}
-use Rattle.std.specs.List.{filter}
 use Rattle.cb_coding.specs.Distance.{apart, all_columns, code_at, bit}
 use Rattle.cb_coding.specs.Pairs.{IsPair, ComesBefore}
 
@@ -46,7 +45,3 @@ StartsWithZero codes = (0 < length codes) × ((column : ℕ) → bit (code_at co
 -- two different indices of places, the lesser first
 abbrev pub IsPairOf : List ℕ → ℕ → ℕ → Type 0
 IsPairOf places k l = (k < l) × (l < length places)
-
--- which of the first n codes have the column
-abbrev pub holders_of : List (List Bool) → ℕ → ℕ → List ℕ
-holders_of codes column n = filter (λ i. bit (code_at codes i) column) (all_columns n)

@@ -3,9 +3,10 @@ ghost use Rattle.std.specs.Prelude.{◌≡◌, ◌<◌, ◌^◌, ℕ, length, Is
 ghost use Rattle.std.specs.List.{All, AllPairs};
 ghost use Rattle.cb_coding.specs.Distance.{HaveWidth};
 ghost use Rattle.cb_coding.specs.Pairs.{IsPair, IsLeast};
-ghost use Rattle.cb_plain.specs.Closest.{AreFromFirst, IsTold, Beats, Improves, limit_of, is_before, StartsWithZero, IsPairOf, holders_of};
+ghost use Rattle.cb_plain.specs.Closest.{AreFromFirst, IsTold, Beats, Improves, limit_of, is_before, StartsWithZero, IsPairOf};
 
-use crate::measure::{bit, distance, distance_below};
+use crate::holders::holders_by_column;
+use crate::measure::{distance, distance_below};
 use cb_bits::Row;
 use cb_coding::Pair;
 use cb_model::List;
@@ -88,24 +89,11 @@ fn least_of_sharing(
     ensures { IfOk result (IsLeast width codes.now) }
 {
     let mut best = closest_from(codes, far, width, 0, None);
-    for column in 0..width as u32 {
-        let places = holders(alloc, codes, column)?;
+    let lists = holders_by_column(alloc, codes, width)?;
+    for places in &lists {
         best = closest_among(codes, far, width, places.as_slice(), best);
     }
     Ok(best)
-}
-
-// The places of the codes that have a column, in order.
-fn holders(alloc: Global, codes: &List<Row>, column: u32) -> Result<List<usize>, AllocError>
-    ensures { IfOk result (λ places. places ≡ holders_of codes.now column (length codes.now)) }
-{
-    let mut places = List::new(alloc);
-    for i in 0..codes.len() {
-        if bit(codes.at(i), column) {
-            places.push(i)?;
-        }
-    }
-    Ok(places)
 }
 
 // The best of the pairs of these places, and of the best so far.
@@ -113,7 +101,7 @@ fn closest_among(
     codes: &List<Row>,
     far: &List<u32>,
     width: usize,
-    places: &[usize],
+    places: &[u32],
     mut best: Option<Pair>,
 ) -> Option<Pair>
     requires have_width { HaveWidth width codes.now }
@@ -137,7 +125,7 @@ fn closest_after(
     codes: &List<Row>,
     far: &List<u32>,
     width: usize,
-    places: &[usize],
+    places: &[u32],
     k: usize,
     mut best: Option<Pair>,
 ) -> Option<Pair>
@@ -153,7 +141,14 @@ fn closest_after(
     ensures beats { (l : ℕ) → IsPairOf places.now k l → Beats width codes.now result (slice_index_or places.now k 0) (slice_index_or places.now l 0) }
 {
     for l in k + 1..places.len() {
-        best = closer(codes, far, width, places[k], places[l], best);
+        best = closer(
+            codes,
+            far,
+            width,
+            places[k] as usize,
+            places[l] as usize,
+            best,
+        );
     }
     best
 }

@@ -5,6 +5,7 @@ mod closest;
 mod decode;
 mod finding;
 mod grouping;
+mod holders;
 mod measure;
 mod reduce;
 
