@@ -1,6 +1,6 @@
 -- Codes that share no column.
 use Rattle.std.proofs.Common.{◌≡◌, ℕ, zero, suc, ◌+◌, ◌<◌, ◌≤◌, List, [], ◌∷◌, ◌++◌, get_or, filter, Some, Option, Bool, true, false, cond, refl, sym, ap, subst, ◌∙◌, inl, inr, ◌⊎◌, arith}
-use Rattle.std.specs.List.{All, AllPairs, Contains, count_by}
+use Rattle.std.specs.List.{Contains, count_by}
 use Rattle.std.proofs.lemmas.Bool.{cases_lt, cases_eq, cases_Bool}
 use Rattle.std.proofs.lemmas.List.Sums.{sum_by-cons}
 use Rattle.std.proofs.lemmas.List.Kept.{IsStrictlyIncreasing-filter, AllPairs-from_increasing}
@@ -12,7 +12,7 @@ use Rattle.cb_coding.specs.Distance.{distance, differ, bit, apart, all_columns, 
 use Rattle.cb_coding.specs.Pairs.{IsPair, ComesBefore}
 use Rattle.cb_coding.proofs.Distances.{all_columns_more, all_columns_rise, in_all_columns, below_from_all_columns}
 use Rattle.cb_coding.proofs.BookLaws.{kept_by_filter, was_in_filtered}
-use Rattle.cb_plain.specs.Closest.{Beats, StartsWithZero, IsPairOf}
+use Rattle.cb_plain.specs.Closest.{Beats, StartsWithZero, IsPairOf, ArePlaces}
 use Rattle.cb_plain.specs.Holders.{holders_of}
 
 -- a code without ones says false of each column
@@ -116,14 +116,14 @@ module _ (codes : List (List Bool)) (column : ℕ) where
   no_more_holder n hasnt = rw (holders_more n, hasnt, append-nil) refl
 
   module _ (n : ℕ) where
-    pub holders_rise : AllPairs (λ i j. i < j) (holders_of codes column n)
-    holders_rise = AllPairs-from_increasing (holders_of codes column n)
-        (IsStrictlyIncreasing-filter has (all_columns n) (λ k lt. all_columns_rise n k (k + 1) 0 (omega arith) lt))
-
-    pub holders_within : All (λ i. i < n) (holders_of codes column n)
-    holders_within k d lt =
-        let c = Contains-get_or (holders_of codes column n) k d lt in
-        below_from_all_columns n _ (was_in_filtered has (all_columns n) _ c).0
+    pub are_places : ArePlaces n (holders_of codes column n)
+    are_places = record {
+      rise = AllPairs-from_increasing (holders_of codes column n)
+          (IsStrictlyIncreasing-filter has (all_columns n) (λ k lt. all_columns_rise n k (k + 1) 0 (omega arith) lt));
+      within = λ k d lt.
+          let c = Contains-get_or (holders_of codes column n) k d lt in
+          below_from_all_columns n _ (was_in_filtered has (all_columns n) _ c).0;
+    }
 
     -- two codes that have the column are a pair of its holders
     pub pair_of_holders : (P : ℕ → ℕ → Type 0) → ((k l : ℕ) → IsPairOf (holders_of codes column n) k l → P (get_or (holders_of codes column n) k 0) (get_or (holders_of codes column n) l 0))
@@ -140,6 +140,6 @@ module _ (codes : List (List Bool)) (column : ℕ) where
           | inl below ↦ subst (P i) j_is (subst (λ x. P x (get_or places l 0)) i_is (holds k l (below, at_j.1)))
           | inr le ↦ elim (cases_eq k l) [
             | inl e ↦ absurd (let same = ap (λ x. get_or places x 0) e in omega arith)
-            | inr other ↦ absurd (let above = holders_rise l k 0 (omega arith) at_i.1 in omega arith)
+            | inr other ↦ absurd (let above = are_places.rise l k 0 (omega arith) at_i.1 in omega arith)
           ]
         ]

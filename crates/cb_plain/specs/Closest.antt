@@ -1,13 +1,26 @@
 -- The best of the pairs that were tried, in any order.
-use Rattle.std.specs.Prelude.{◌≡◌, ℕ, false, length, ◌+◌, ◌<◌, ◌≤◌, List, Bool, Option, None, Some, slice_get, ⊤, nat_lt, ◌==◌, ◌||◌, ◌&&◌, if◌then◌else◌}
+use Rattle.std.specs.Prelude.{◌≡◌, ℕ, false, length, ◌+◌, ◌<◌, ◌≤◌, ◌^◌, List, Bool, Option, None, Some, slice_get, ⊤, nat_lt, ◌==◌, ◌||◌, ◌&&◌, if◌then◌else◌}
 use Rattle.cb_coding.specs.declared.book.Pair.{Pair}
-use Rattle.cb_coding.specs.Distance.{apart, all_columns, code_at, bit}
+use Rattle.std.specs.List.{All, AllPairs}
+use Rattle.cb_coding.specs.Distance.{apart, all_columns, code_at, bit, HaveWidth}
 use Rattle.cb_coding.specs.Pairs.{IsPair, ComesBefore}
 
 -- how far each code is from the first
 pub record AreFromFirst (width : ℕ) (codes : List (List Bool)) (far : List ℕ) : Type 0 where
   pub all : length far ≡ length codes
   pub each : (i n : ℕ) → slice_get far i ≡ Some n → n ≡ apart (all_columns width) codes 0 i
+
+-- codes of one width, few enough and narrow enough to be numbered by 32 bits, and how far each is from the first
+pub record AreCompared (width : ℕ) (codes : List (List Bool)) (far : List ℕ) : Type 0 where
+  pub have_width : HaveWidth width codes
+  pub places_fit : length codes < 2 ^ 32
+  pub columns_fit : width < 2 ^ 32
+  pub from_first : AreFromFirst width codes far
+
+-- places of so many codes, in order
+pub record ArePlaces (count : ℕ) (places : List ℕ) : Type 0 where
+  pub rise : AllPairs (λ i j. i < j) places
+  pub within : All (λ i. i < count) places
 
 -- what is told of the pair is so
 abbrev pub IsTold : ℕ → List (List Bool) → Option Pair → Type 0

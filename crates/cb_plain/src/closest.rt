@@ -1,9 +1,8 @@
 //! The closest pair of codes.
 ghost use Rattle.std.specs.Prelude.{◌≡◌, ◌<◌, ◌^◌, ℕ, length, IsTrue, IfOk, slice_index_or};
-ghost use Rattle.std.specs.List.{All, AllPairs};
 ghost use Rattle.cb_coding.specs.Distance.{HaveWidth};
 ghost use Rattle.cb_coding.specs.Pairs.{IsPair, IsLeast};
-ghost use Rattle.cb_plain.specs.Closest.{AreFromFirst, IsTold, Beats, Improves, limit_of, is_before, StartsWithZero, IsPairOf};
+ghost use Rattle.cb_plain.specs.Closest.{AreFromFirst, AreCompared, ArePlaces, IsTold, Beats, Improves, limit_of, is_before, StartsWithZero, IsPairOf};
 
 use crate::holders::holders_by_column;
 use crate::measure::{distance, distance_below};
@@ -60,10 +59,7 @@ fn are_sparse(codes: &List<Row>, width: usize) -> bool {
 
 // The closest pair, found among all.
 fn least_of_all(codes: &List<Row>, far: &List<u32>, width: usize) -> Option<Pair>
-    requires have_width { HaveWidth width codes.now }
-    requires far { AreFromFirst width codes.now far.now }
-    requires places_fit { length codes.now < 2 ^ 32 }
-    requires columns_fit { width < 2 ^ 32 }
+    requires compared { AreCompared width codes.now far.now }
     ensures { IsLeast width codes.now result }
 {
     let mut best = None;
@@ -81,10 +77,7 @@ fn least_of_sharing(
     far: &List<u32>,
     width: usize,
 ) -> Result<Option<Pair>, AllocError>
-    requires have_width { HaveWidth width codes.now }
-    requires far { AreFromFirst width codes.now far.now }
-    requires places_fit { length codes.now < 2 ^ 32 }
-    requires columns_fit { width < 2 ^ 32 }
+    requires compared { AreCompared width codes.now far.now }
     requires zero { StartsWithZero codes.now }
     ensures { IfOk result (IsLeast width codes.now) }
 {
@@ -104,12 +97,8 @@ fn closest_among(
     places: &[u32],
     mut best: Option<Pair>,
 ) -> Option<Pair>
-    requires have_width { HaveWidth width codes.now }
-    requires far { AreFromFirst width codes.now far.now }
-    requires places_fit { length codes.now < 2 ^ 32 }
-    requires columns_fit { width < 2 ^ 32 }
-    requires rise { AllPairs (λ i j. i < j) places.now }
-    requires within { All (λ i. i < length codes.now) places.now }
+    requires compared { AreCompared width codes.now far.now }
+    requires places { ArePlaces (length codes.now) places.now }
     requires told { IsTold width codes.now best }
     ensures improves { Improves width codes.now best result }
     ensures beats { (k l : ℕ) → IsPairOf places.now k l → Beats width codes.now result (slice_index_or places.now k 0) (slice_index_or places.now l 0) }
@@ -129,12 +118,8 @@ fn closest_after(
     k: usize,
     mut best: Option<Pair>,
 ) -> Option<Pair>
-    requires have_width { HaveWidth width codes.now }
-    requires far { AreFromFirst width codes.now far.now }
-    requires places_fit { length codes.now < 2 ^ 32 }
-    requires columns_fit { width < 2 ^ 32 }
-    requires rise { AllPairs (λ i j. i < j) places.now }
-    requires within { All (λ i. i < length codes.now) places.now }
+    requires compared { AreCompared width codes.now far.now }
+    requires places { ArePlaces (length codes.now) places.now }
     requires told { IsTold width codes.now best }
     requires place { k < length places.now }
     ensures improves { Improves width codes.now best result }
@@ -161,10 +146,7 @@ fn closest_from(
     first: usize,
     mut best: Option<Pair>,
 ) -> Option<Pair>
-    requires have_width { HaveWidth width codes.now }
-    requires far { AreFromFirst width codes.now far.now }
-    requires places_fit { length codes.now < 2 ^ 32 }
-    requires columns_fit { width < 2 ^ 32 }
+    requires compared { AreCompared width codes.now far.now }
     requires within { first < length codes.now }
     requires told { IsTold width codes.now best }
     ensures improves { Improves width codes.now best result }
@@ -176,7 +158,7 @@ fn closest_from(
     best
 }
 
-// The better of this pair and the best so far.
+// The better of this pair and the best so far. Codes whose distances from the first are too different aren't looked at.
 fn closer(
     codes: &List<Row>,
     far: &List<u32>,
@@ -185,10 +167,7 @@ fn closer(
     second: usize,
     best: Option<Pair>,
 ) -> Option<Pair>
-    requires have_width { HaveWidth width codes.now }
-    requires far { AreFromFirst width codes.now far.now }
-    requires places_fit { length codes.now < 2 ^ 32 }
-    requires columns_fit { width < 2 ^ 32 }
+    requires compared { AreCompared width codes.now far.now }
     requires pair { IsPair codes.now first second }
     requires told { IsTold width codes.now best }
     ensures improves { Improves width codes.now best result }

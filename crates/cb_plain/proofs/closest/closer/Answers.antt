@@ -9,8 +9,8 @@ pub returns-then-limit-apart : goal.returns-then-limit-apart
 returns-then-limit-apart c =
     let codes = c.args.codes.now in
     let columns = all_columns c.args.width in
-    let one : c.at.result.now ≡ distance columns (code_at codes 0) (code_at codes c.args.first) = c.requires.far.each c.args.first c.at.result.now c.at.ensures in
-    let other : c.at-2.result.now ≡ distance columns (code_at codes 0) (code_at codes c.args.second) = c.requires.far.each c.args.second c.at-2.result.now c.at-2.ensures in
+    let one : c.at.result.now ≡ distance columns (code_at codes 0) (code_at codes c.args.first) = c.requires.compared.from_first.each c.args.first c.at.result.now c.at.ensures in
+    let other : c.at-2.result.now ≡ distance columns (code_at codes 0) (code_at codes c.args.second) = c.requires.compared.from_first.each c.args.second c.at-2.result.now c.at-2.ensures in
     let difference : c.abs_diff-apart.result ≡ (c.at.result.now - c.at-2.result.now) + (c.at-2.result.now - c.at.result.now) = c.abs_diff-apart.ensures in
     let least = by_difference columns (code_at codes 0) (code_at codes c.args.first) (code_at codes c.args.second) in
     let limit = c.limit-limit.ensures in
@@ -26,7 +26,7 @@ returns-in-None c =
     let v = c.at-3.result.now in
     let w = c.at-4.result.now in
     let far : distance (all_columns (length v)) v w ≡ apart (all_columns c.args.width) codes c.args.first c.args.second =
-    ap (λ columns. distance columns v w) (width_is c.args.width codes c.args.first v c.requires.have_width c.at-3.ensures)
+    ap (λ columns. distance columns v w) (width_is c.args.width codes c.args.first v c.requires.compared.have_width c.at-3.ensures)
     ∙ apart_is (all_columns c.args.width) codes c.args.first c.args.second v w c.at-3.ensures c.at-4.ensures
     in
     let limit = c.limit-limit.ensures in
@@ -42,7 +42,7 @@ returns-in-Some c =
     let v = c.at-3.result.now in
     let w = c.at-4.result.now in
     let far : distance (all_columns (length v)) v w ≡ apart (all_columns c.args.width) codes c.args.first c.args.second =
-    ap (λ columns. distance columns v w) (width_is c.args.width codes c.args.first v c.requires.have_width c.at-3.ensures)
+    ap (λ columns. distance columns v w) (width_is c.args.width codes c.args.first v c.requires.compared.have_width c.at-3.ensures)
     ∙ apart_is (all_columns c.args.width) codes c.args.first c.args.second v w c.at-3.ensures c.at-4.ensures
     in
     let limit = c.limit-limit.ensures in

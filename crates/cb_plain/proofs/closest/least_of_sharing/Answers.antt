@@ -1,30 +1,20 @@
 use Rattle.std.proofs.Common.{◌≡◌, ◌<◌, ℕ, List, true, length, get_or, ap, sym, subst, ◌∙◌, inl, inr, arith}
-use Rattle.std.specs.List.{All, AllPairs}
 use Rattle.std.proofs.lemmas.Bool.{cases_lt}
 use Rattle.cb_coding.specs.Distance.{bit, code_at}
-use Rattle.cb_plain.specs.Closest.{Beats, IsPairOf}
+use Rattle.cb_plain.specs.Closest.{ArePlaces, Beats, IsPairOf}
 use Rattle.cb_plain.proofs.Best.{best_of_all}
-use Rattle.cb_plain.proofs.Sparse.{beats_all, holders_rise, holders_within, pair_of_holders}
+use Rattle.cb_plain.proofs.Sparse.{beats_all, are_places, pair_of_holders}
 use Rattle.cb_plain.proofs.ByColumn.{list_is}
 use Rattle.cb_plain.proofs.closest.least_of_sharing.Goals as goal
 
-pub closest_among-best-requires-clause-rise : goal.closest_among-best-requires-clause-rise
-closest_among-best-requires-clause-rise c =
+pub closest_among-best-requires-clause-places : goal.closest_among-best-requires-clause-places
+closest_among-best-requires-clause-places c =
     let codes = c.args.codes.now in
     let column = c.loop-places.places-index in
     let places_are = list_is c.args.width codes (length codes) c.in_ok-lists.lists.items c.deref-places-items.result.now c.in_ok-lists.ensures
     c.deref-places-items.ensures.value column c.loop-places-test.true c.places-item.result c.as_slice.result.now c.places-item.is c.as_slice.ensures
     in
-    subst (AllPairs (λ (i j : ℕ). i < j)) (sym places_are) (holders_rise codes column (length codes))
-
-pub closest_among-best-requires-clause-within : goal.closest_among-best-requires-clause-within
-closest_among-best-requires-clause-within c =
-    let codes = c.args.codes.now in
-    let column = c.loop-places.places-index in
-    let places_are = list_is c.args.width codes (length codes) c.in_ok-lists.lists.items c.deref-places-items.result.now c.in_ok-lists.ensures
-    c.deref-places-items.ensures.value column c.loop-places-test.true c.places-item.result c.as_slice.result.now c.places-item.is c.as_slice.ensures
-    in
-    subst (All (λ (i : ℕ). i < length codes)) (sym places_are) (holders_within codes column (length codes))
+    subst (ArePlaces (length codes)) (sym places_are) (are_places codes column (length codes))
 
 pub loop-places-init : goal.loop-places-init
 loop-places-init c = record {
