@@ -1,5 +1,5 @@
 -- The best of the pairs that were tried, in any order.
-use Rattle.std.specs.Prelude.{◌≡◌, ℕ, false, length, ◌+◌, ◌<◌, ◌≤◌, ◌^◌, List, Bool, Option, None, Some, slice_get, ⊤, nat_lt, ◌==◌, ◌||◌, ◌&&◌, if◌then◌else◌}
+use Rattle.std.specs.Prelude.{◌≡◌, ℕ, false, length, ◌<◌, ◌≤◌, ◌^◌, ◌⊎◌, List, Bool, Option, None, Some, slice_get, ⊤}
 use Rattle.cb_coding.specs.declared.book.Pair.{Pair}
 use Rattle.std.specs.List.{All, AllPairs}
 use Rattle.cb_coding.specs.Distance.{apart, all_columns, code_at, bit, HaveWidth}
@@ -33,23 +33,15 @@ Beats width codes None i j = ⊥
 Beats width codes (Some pair) i j = (pair.distance ≤ apart (all_columns width) codes i j)
     × (ComesBefore i j pair.first pair.second → pair.distance < apart (all_columns width) codes i j)
 
--- what the old one beats the new one beats
-abbrev pub BeatsNoLess : ℕ → List (List Bool) → Option Pair → Option Pair → Type 0
-BeatsNoLess width codes old new = (i j : ℕ) → Beats width codes old i j → Beats width codes new i j
-
 -- the new one is told rightly, and beats what the old one beats
 pub record Improves (width : ℕ) (codes : List (List Bool)) (old new : Option Pair) : Type 0 where
   pub told : IsTold width codes new
-  pub no_less : BeatsNoLess width codes old new
+  pub no_less : (i j : ℕ) → Beats width codes old i j → Beats width codes new i j
 
--- whether (i, j) comes before the pair
-abbrev pub is_before : ℕ → ℕ → Pair → Bool
-is_before i j pair = nat_lt i pair.first || ((i == pair.first) && nat_lt j pair.second)
-
--- what (i, j) has to stay below to be better; all do where there is none yet
-abbrev pub limit_of : ℕ → ℕ → ℕ → Option Pair → ℕ
-limit_of width i j None = width + 1
-limit_of width i j (Some pair) = if is_before i j pair then pair.distance + 1 else pair.distance
+-- codes at (i, j) that are d apart are closer than the best so far, or as close and come before it
+abbrev pub IsBetter : ℕ → ℕ → ℕ → Option Pair → Type 0
+IsBetter i j d None = ⊤
+IsBetter i j d (Some pair) = (d < pair.distance) ⊎ ((d ≡ pair.distance) × ComesBefore i j pair.first pair.second)
 
 -- the first code has no symptom
 abbrev pub StartsWithZero : List (List Bool) → Type 0

@@ -1,8 +1,8 @@
 //! The closest pair of codes.
-ghost use Rattle.std.specs.Prelude.{◌≡◌, ◌<◌, ◌^◌, ℕ, length, IsTrue, IfOk, slice_index_or};
+ghost use Rattle.std.specs.Prelude.{◌≡◌, ◌<◌, ◌≤◌, ◌^◌, ◌↔◌, ℕ, length, IsTrue, IfOk, slice_index_or};
 ghost use Rattle.cb_coding.specs.Distance.{HaveWidth};
-ghost use Rattle.cb_coding.specs.Pairs.{IsPair, IsLeast};
-ghost use Rattle.cb_plain.specs.Closest.{AreFromFirst, AreCompared, ArePlaces, IsTold, Beats, Improves, limit_of, is_before, StartsWithZero, IsPairOf};
+ghost use Rattle.cb_coding.specs.Pairs.{IsPair, ComesBefore, IsLeast};
+ghost use Rattle.cb_plain.specs.Closest.{AreFromFirst, AreCompared, ArePlaces, IsTold, Beats, Improves, IsBetter, StartsWithZero, IsPairOf};
 
 use crate::holders::holders_by_column;
 use crate::measure::{distance, distance_below};
@@ -188,10 +188,10 @@ fn closer(
     }
 }
 
-// What this pair has to stay below to be better than the best so far.
+// What the distance of this pair has to stay below for it to be better than the best so far.
 fn limit(width: usize, first: usize, second: usize, best: Option<Pair>) -> usize
     requires { width < 2 ^ 32 }
-    ensures { result ≡ limit_of width first second best }
+    ensures { (d : ℕ) → d ≤ width → d < result ↔ IsBetter first second d best }
 {
     match best {
         None => width + 1,
@@ -202,7 +202,7 @@ fn limit(width: usize, first: usize, second: usize, best: Option<Pair>) -> usize
 
 // Whether the pair comes before the best so far.
 fn comes_before(first: usize, second: usize, pair: Pair) -> bool
-    ensures { result ≡ is_before first second pair }
+    ensures { IsTrue result ↔ ComesBefore first second pair.first pair.second }
 {
     first < pair.first as usize || first == pair.first as usize && second < pair.second as usize
 }
