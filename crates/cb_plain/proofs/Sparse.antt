@@ -1,6 +1,6 @@
 -- Codes that share no column.
 use Rattle.std.proofs.Common.{◌≡◌, ℕ, zero, suc, ◌+◌, ◌<◌, ◌≤◌, List, [], ◌∷◌, ◌++◌, get_or, filter, Some, Option, Bool, true, false, cond, refl, sym, ap, subst, ◌∙◌, inl, inr, ◌⊎◌, arith}
-use Rattle.std.specs.List.{Contains, count_by}
+use Rattle.std.specs.List.{AllPairs, Contains, count_by}
 use Rattle.std.proofs.lemmas.Bool.{cases_lt, cases_eq, cases_Bool}
 use Rattle.std.proofs.lemmas.List.Sums.{sum_by-cons}
 use Rattle.std.proofs.lemmas.List.Kept.{IsStrictlyIncreasing-filter, AllPairs-from_increasing}
@@ -125,21 +125,23 @@ module _ (codes : List (List Bool)) (column : ℕ) where
           below_from_all_columns n _ (was_in_filtered has (all_columns n) _ c).0;
     }
 
-    -- two codes that have the column are a pair of its holders
-    pub pair_of_holders : (P : ℕ → ℕ → Type 0) → ((k l : ℕ) → IsPairOf (holders_of codes column n) k l → P (get_or (holders_of codes column n) k 0) (get_or (holders_of codes column n) l 0))
-        → (i j : ℕ) → i < j → j < n → has i ≡ true → has j ≡ true → P i j
-    pair_of_holders P holds i j lt within a b =
-        let places = holders_of codes column n in
-        let at_i = kept_by_filter has (all_columns n) i (in_all_columns n i (omega arith)) a in
-        let at_j = kept_by_filter has (all_columns n) j (in_all_columns n j within) b in
-        let k = at_i.0 in
-        let l = at_j.0 in
-        let i_is : get_or places k 0 ≡ i = sym (get_or_default places k i 0 at_i.1) ∙ at_i.2 in
-        let j_is : get_or places l 0 ≡ j = sym (get_or_default places l j 0 at_j.1) ∙ at_j.2 in
-        elim (cases_lt k l) [
-          | inl below ↦ subst (P i) j_is (subst (λ x. P x (get_or places l 0)) i_is (holds k l (below, at_j.1)))
-          | inr le ↦ elim (cases_eq k l) [
-            | inl e ↦ absurd (let same = ap (λ x. get_or places x 0) e in omega arith)
-            | inr other ↦ absurd (let above = are_places.rise l k 0 (omega arith) at_i.1 in omega arith)
-          ]
-        ]
+    -- a code that has the column is among them
+    pub holder_there : (i : ℕ) → i < n → has i ≡ true → Contains (holders_of codes column n) i
+    holder_there i lt is = kept_by_filter has (all_columns n) i (in_all_columns n i lt) is
+
+-- two of the places are a pair of them
+pub pair_of_places : (places : List ℕ) → AllPairs (λ i j. i < j) places → (P : ℕ → ℕ → Type 0)
+    → ((k l : ℕ) → IsPairOf places k l → P (get_or places k 0) (get_or places l 0))
+    → (i j : ℕ) → i < j → Contains places i → Contains places j → P i j
+pair_of_places places rise P holds i j lt at_i at_j =
+    let k = at_i.0 in
+    let l = at_j.0 in
+    let i_is : get_or places k 0 ≡ i = sym (get_or_default places k i 0 at_i.1) ∙ at_i.2 in
+    let j_is : get_or places l 0 ≡ j = sym (get_or_default places l j 0 at_j.1) ∙ at_j.2 in
+    elim (cases_lt k l) [
+      | inl below ↦ subst (P i) j_is (subst (λ x. P x (get_or places l 0)) i_is (holds k l (below, at_j.1)))
+      | inr le ↦ elim (cases_eq k l) [
+        | inl e ↦ absurd (let same = ap (λ x. get_or places x 0) e in omega arith)
+        | inr other ↦ absurd (let above = rise l k 0 (omega arith) at_i.1 in omega arith)
+      ]
+    ]

@@ -1,5 +1,6 @@
 //! The closest pair of codes.
 ghost use Rattle.std.specs.Prelude.{◌≡◌, ◌<◌, ◌≤◌, ◌^◌, ◌↔◌, ℕ, length, IsTrue, IfOk, slice_index_or};
+ghost use Rattle.std.specs.List.{Contains};
 ghost use Rattle.cb_coding.specs.Distance.{HaveWidth};
 ghost use Rattle.cb_coding.specs.Pairs.{IsPair, ComesBefore, IsLeast};
 ghost use Rattle.cb_plain.specs.Closest.{AreFromFirst, AreCompared, ArePlaces, IsTold, Beats, Improves, IsBetter, StartsWithZero, IsPairOf};
@@ -69,8 +70,8 @@ fn least_of_all(codes: &List<Row>, far: &List<u32>, width: usize) -> Option<Pair
     best
 }
 
-// The closest pair, found among those with the zero code and those that share a column: two other codes are farther
-// apart than the one with fewer symptoms is from the zero code.
+// The closest pair, found among those with the zero code and those that share a column: two other codes are as far
+// apart as both are from the zero code together.
 fn least_of_sharing(
     alloc: Global,
     codes: &List<Row>,
@@ -101,7 +102,7 @@ fn closest_among(
     requires places { ArePlaces (length codes.now) places.now }
     requires told { IsTold width codes.now best }
     ensures improves { Improves width codes.now best result }
-    ensures beats { (k l : ℕ) → IsPairOf places.now k l → Beats width codes.now result (slice_index_or places.now k 0) (slice_index_or places.now l 0) }
+    ensures beats { (i j : ℕ) → i < j → Contains places.now i → Contains places.now j → Beats width codes.now result i j }
 {
     for k in 0..places.len() {
         best = closest_after(codes, far, width, places, k, best);

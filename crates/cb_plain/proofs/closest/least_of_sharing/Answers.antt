@@ -1,9 +1,10 @@
 use Rattle.std.proofs.Common.{◌≡◌, ◌<◌, ℕ, List, true, length, get_or, ap, sym, subst, ◌∙◌, inl, inr, arith}
+use Rattle.std.specs.List.{Contains}
 use Rattle.std.proofs.lemmas.Bool.{cases_lt}
 use Rattle.cb_coding.specs.Distance.{bit, code_at}
 use Rattle.cb_plain.specs.Closest.{ArePlaces, Beats, IsPairOf}
 use Rattle.cb_plain.proofs.Best.{best_of_all}
-use Rattle.cb_plain.proofs.Sparse.{beats_all, are_places, pair_of_holders}
+use Rattle.cb_plain.proofs.Sparse.{beats_all, are_places, holder_there}
 use Rattle.cb_plain.proofs.ByColumn.{list_is}
 use Rattle.cb_plain.proofs.closest.least_of_sharing.Goals as goal
 
@@ -33,7 +34,9 @@ loop-places-preserved c =
     let places_are = list_is c.args.width codes n c.in_ok-lists.lists.items c.deref-places-items.result.now c.in_ok-lists.ensures
     c.deref-places-items.ensures.value column c.loop-places-test.true c.places-item.result c.as_slice.result.now c.places-item.is c.as_slice.ensures
     in
-    let holds = subst (λ (places : List ℕ). (k l : ℕ) → IsPairOf places k l → Beats c.args.width codes best (get_or places k 0) (get_or places l 0)) places_are new.beats in
+    let there : (i : ℕ) → i < n → bit (code_at codes i) column ≡ true → Contains c.as_slice.result.now i =
+    λ i lt has. subst (λ ps. Contains ps i) (sym places_are) (holder_there codes column n i lt has)
+    in
     record {
       told = new.improves.told;
       zero = λ j pair. new.improves.no_less 0 j (c.loop-places.invariant.zero j pair);
@@ -41,8 +44,9 @@ loop-places-preserved c =
         | inl early ↦ new.improves.no_less i j (c.loop-places.invariant.sharing k i j early pair a b)
         | inr late ↦
             let same : k ≡ column = omega arith in
-            pair_of_holders codes column n (Beats c.args.width codes best) holds i j pair.0 pair.1
-            (subst (λ m. bit (code_at codes i) m ≡ true) same a) (subst (λ m. bit (code_at codes j) m ≡ true) same b)
+            new.beats i j pair.0
+            (there i (omega (arith, pair.0, pair.1)) (subst (λ m. bit (code_at codes i) m ≡ true) same a))
+            (there j pair.1 (subst (λ m. bit (code_at codes j) m ≡ true) same b))
       ];
     }
 
