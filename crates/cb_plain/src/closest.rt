@@ -20,7 +20,7 @@ pub fn least(alloc: Global, codes: &List<Row>, width: usize) -> Result<Option<Pa
     ensures { IfOk result (IsLeast width codes.now) }
 {
     let far = from_first(alloc, codes, width)?;
-    if starts_with_zero(codes) && are_sparse(codes, width) {
+    if starts_with_zero(codes) && are_sparse(&far, width) {
         least_of_sharing(alloc, codes, &far, width)
     } else {
         Ok(least_of_all(codes, &far, width))
@@ -48,13 +48,14 @@ fn starts_with_zero(codes: &List<Row>) -> bool
     codes.len() > 0 && codes.at(0).ones() == 0
 }
 
-// Whether so few codes have a column that it is quicker to try those pairs alone which share one.
-fn are_sparse(codes: &List<Row>, width: usize) -> bool {
-    let mut ones: usize = 0;
-    for code in codes.as_slice() {
-        ones = ones.saturating_add(code.ones());
+// Whether codes have so few symptoms on average, told by how far each is from the zero code, that it is quicker to try
+// those pairs alone which share a column.
+fn are_sparse(far: &List<u32>, width: usize) -> bool {
+    let mut symptoms: usize = 0;
+    for distance in far.as_slice() {
+        symptoms = symptoms.saturating_add(*distance as usize);
     }
-    let mean = ones / codes.len().max(1);
+    let mean = symptoms / far.len().max(1);
     mean.saturating_mul(mean) < width
 }
 
