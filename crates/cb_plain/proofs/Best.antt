@@ -3,7 +3,7 @@ use Rattle.std.proofs.Common.{◌≡◌, ℕ, ◌<◌, ◌≤◌, List, length, 
 use Rattle.std.proofs.lemmas.Bool.{cases_lt, cases_eq}
 use Rattle.cb_coding.specs.declared.book.Pair.{Pair}
 use Rattle.cb_coding.specs.Distance.{apart, all_columns}
-use Rattle.cb_coding.specs.Pairs.{IsPair, ComesBefore, IsLeast}
+use Rattle.cb_coding.specs.Pairs.{IsPair, IsLeast}
 use Rattle.cb_plain.specs.Closest.{IsTold, Beats, Improves, IsBetter}
 
 module _ (width : ℕ) (codes : List (List Bool)) where

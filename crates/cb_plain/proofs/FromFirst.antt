@@ -2,7 +2,7 @@
 use Rattle.std.proofs.Common.{◌≡◌, ◌+◌, ◌-◌, ◌≤◌, ℕ, List, [], ◌∷◌, ◌++◌, length, slice_get, Some, Bool, true, false, cond, refl, sym, ap, ◌∙◌, inl, inr, arith}
 use Rattle.std.proofs.lemmas.List.{length_push}
 use Rattle.std.proofs.lemmas.List.Sums.{sum_by-cons}
-use Rattle.cb_coding.specs.Distance.{HaveWidth, differ, bit, distance, all_columns, apart}
+use Rattle.cb_coding.specs.Distance.{differ, bit, distance, all_columns, apart}
 use Rattle.cb_coding.proofs.Distances.{triangle}
 use Rattle.cb_plain.proofs.Pushed.{pushed_cases}
 

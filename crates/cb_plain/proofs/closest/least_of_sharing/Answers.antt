@@ -1,8 +1,8 @@
-use Rattle.std.proofs.Common.{◌≡◌, ◌<◌, ℕ, List, true, length, get_or, ap, sym, subst, ◌∙◌, inl, inr, arith}
+use Rattle.std.proofs.Common.{◌≡◌, ◌<◌, ℕ, true, length, ap, sym, subst, inl, inr, arith}
 use Rattle.std.specs.List.{Contains}
 use Rattle.std.proofs.lemmas.Bool.{cases_lt}
 use Rattle.cb_coding.specs.Distance.{bit, code_at}
-use Rattle.cb_plain.specs.Closest.{ArePlaces, Beats, IsPairOf}
+use Rattle.cb_plain.specs.Closest.{ArePlaces}
 use Rattle.cb_plain.proofs.Best.{best_of_all}
 use Rattle.cb_plain.proofs.Sparse.{beats_all, are_places, holder_there}
 use Rattle.cb_plain.proofs.ByColumn.{list_is}
