@@ -136,7 +136,7 @@ impl Topology {
         self.net.count()
     }
 
-    /// How many nodes there are, of any kind, muted or not. A search goes through all numbers.
+    /// How many nodes there are, of any kind, muted or not. It takes no search.
     pub fn node_count(&self) -> usize
         ensures { IsCount (IsNodeOf (topology_of self.now)) result }
     {
