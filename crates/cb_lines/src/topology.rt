@@ -1,7 +1,6 @@
 //! Topology files.
-ghost use Rattle.std.specs.Prelude.{◌≡◌, OnOk, IfOk, IfErr};
+ghost use Rattle.std.specs.Prelude.{OnOk, IfOk, IfErr};
 ghost use Rattle.cb_topo.specs.Numbered.{topology_of};
-ghost use Rattle.cb_lines.specs.declared.topology.TopologyStop.TheVariants.{NoMemory};
 ghost use Rattle.cb_lines.specs.Topologies.{LineMakes, MakesTopology, Stops};
 ghost use Rattle.cb_lines.specs.Steps.{StopsTopologyLine};
 
@@ -11,7 +10,7 @@ use cb_model::Model;
 use cb_network::EditRefusal;
 use cb_text::{first_long, is_passed_over, lines};
 use cb_topo::Topology;
-use std::alloc::{AllocError, Global};
+use std::alloc::Global;
 
 /// What is wrong with a line of a topology file.
 #[derive(Clone, Copy, Debug, PartialEq, Eq)]
@@ -31,14 +30,6 @@ pub enum TopologyStop {
     BadLine { line: u64, fault: LineFault },
     /// There is not memory enough.
     NoMemory,
-}
-
-impl From<AllocError> for TopologyStop {
-    ghost from_gives = { λ _ stop. stop ≡ NoMemory };
-
-    fn from(_error: AllocError) -> TopologyStop {
-        TopologyStop::NoMemory
-    }
 }
 
 /// The topology that the lines of a text make.
