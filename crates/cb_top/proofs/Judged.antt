@@ -1,18 +1,8 @@
 -- What judging a file shows.
-use Rattle.std.proofs.Common.{◌≡◌, ◌<◌, List, ℕ, length, length-append, refl, sym, ap, subst, arith, inl, inr, Result, Ok, Err, Option, Some, None}
-use Rattle.std.specs.Io.KnownBytes.{Consumes}
+use Rattle.std.proofs.Common.{◌≡◌, ◌<◌, List, ℕ, length, refl, sym, subst, arith, Result, Ok, Err, Option, Some, None}
 use Rattle.std.specs.Prelude.{IfSome, IfErr, IfOk}
 use Rattle.std.specs.Result.{IsErrAnd}
 use Rattle.cb_io.specs.Outside.{FilesTold, left_of, TakesAll, ReadsAll}
-use Rattle.cb_grammar.specs.declared.tree.Tree.{Tree}
-use Rattle.cb_syntax.specs.declared.fault.SyntaxFault.{SyntaxFault}
-use Rattle.cb_syntax.specs.declared.fault.SyntaxFault.TheVariants as syntax
-use Rattle.cb_syntax.specs.Spells.{Spells}
-use Rattle.cb_syntax.specs.Laws.{TellsFault}
-use Rattle.cb_rules.specs.Fault.{IsFault as IsTypeFault}
-use Rattle.cb_check.specs.Fault.{OnBroken}
-use Rattle.cb_check.specs.declared.fault.TypeFault.{TypeFault}
-use Rattle.cb_check.specs.declared.fault.TypeFault.TheVariants as types
 use Rattle.cb_model.specs.declared.tables.Tables.{Tables}
 use Rattle.cb_lines.specs.declared.topology.TopologyStop.{TopologyStop}
 use Rattle.cb_lines.specs.declared.topology.TopologyStop.TheVariants as topology
@@ -25,7 +15,7 @@ use Rattle.cb_top.specs.declared.halt.Halt.TheVariants as halts
 use Rattle.cb_top.specs.Model.{file_limit, HasShortText}
 use Rattle.cb_top.specs.declared.files.TheConstants.{MODEL, TOPOLOGY, SYMPTOMS}
 use Rattle.cb_top.specs.Halts.{OnFile, IsOfFiles, IsCauseOf, StopsFile, JudgesLength, JudgesModel, JudgesTopology, JudgesSymptoms}
-use Rattle.cb_top.specs.Judged.{halt_of_syntax, halt_of_type, halt_of_topology, halt_of_symptoms}
+use Rattle.cb_top.specs.Judged.{halt_of_topology, halt_of_symptoms}
 use Rattle.cb_top.proofs.Reading.{if_some}
 
 pub if_err_more : {T E : Type 0} (result : Result T E) (P Q : E → Type 0) → ((e : E) → P e → Q e) → IfErr result P → IfErr result Q
@@ -40,21 +30,6 @@ if_ok_more (Err e) P Q f h = tt
 pub err_judged : {T : Type 0} (result : Result T Halt) (halt : Halt) (P : Halt → Type 0) → IsErrAnd result (λ x. x ≡ halt) → P halt → IfErr result P
 err_judged (Ok value) halt P is h = tt
 err_judged (Err x) halt P is h = subst P (sym is) h
-
--- the first fault of the tokens
-pub syntax_judged : (text : List ℕ) (fault : SyntaxFault) → HasShortText text → TellsFault text fault → JudgesModel text (halt_of_syntax fault)
-syntax_judged text fault short (inl memory) = rw memory tt
-syntax_judged text (syntax.BadByte line) short (inr f) = record { short = short; first = f }
-syntax_judged text (syntax.Unexpected line column) short (inr f) = record { short = short; first = f }
-syntax_judged text (syntax.LongName line) short (inr f) = record { short = short; first = f }
-syntax_judged text syntax.Unfinished short (inr f) = record { short = short; first = f }
-syntax_judged text syntax.NoMemory short (inr f) = tt
-
--- the first type rule that is broken
-pub type_judged : {T : Type 0} (text : List ℕ) (tree : Tree) (result : Result T TypeFault) (fault : TypeFault) → HasShortText text → Spells text tree
-    → result ≡ Err fault → OnBroken result (IsTypeFault tree) → JudgesModel text (halt_of_type fault)
-type_judged text tree result (types.Broken broken) short spelled is breaks = record { short = short; first = (tree, spelled, rw is at breaks) }
-type_judged text tree result types.NoMemory short spelled is breaks = tt
 
 -- the first line of a topology that is too long or wrong
 pub topology_judged : (tables : Tables) (text : List ℕ) (stop : TopologyStop) → HasShortText text → StopsTopology tables text stop → JudgesTopology tables text (halt_of_topology stop)
@@ -71,12 +46,6 @@ symptoms_judged text symptoms.NoMemory short stops = tt
 of_read : (old new : Option (List ℕ)) (text : List ℕ) (P : List ℕ → Type 0) → TakesAll old new text → P text → IfSome old P
 of_read None new text P read h = tt
 of_read (Some left) new text P read h = subst P read.0 h
-
--- where more bytes came than so many, there were more
-pub longer : (a b : Option (List ℕ)) (front : List ℕ) (most : ℕ) → most < length front → Consumes a b front → IfSome a (λ text. most < length text)
-longer None b front most more came = tt
-longer (Some xs) None front most more came = absurd came
-longer (Some xs) (Some ys) front most more came = omega (arith, length-append front ys, ap length came)
 
 -- a halt is of a file at a place
 pub record IsAt (place : ℕ) (halt : Halt) : Type 0 where
