@@ -7,5 +7,6 @@ pub mod Halts
 pub mod Judged
 pub mod Outcome
 pub mod Run
+pub mod Ends
 pub mod Cause
 pub mod Laws
