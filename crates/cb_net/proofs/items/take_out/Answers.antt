@@ -7,7 +7,7 @@ pub returns-in-Some-clause-loses : goal.returns-in-Some-clause-loses
 returns-in-Some-clause-loses g c =
     let xs = c.args.list.now.items in
     let at : position (λ y. g.T.PartialEq.eq y c.args.item) xs ≡ Some c.in-Some.place =
-        subst (λ ys. position (λ y. g.T.PartialEq.eq y c.args.item) ys ≡ Some c.in-Some.place) c.deref.ensures.value (sym c.in-Some.ensures) in
+    subst (λ ys. position (λ y. g.T.PartialEq.eq y c.args.item) ys ≡ Some c.in-Some.place) c.deref.ensures.value (sym c.in-Some.ensures) in
     subst (Loses c.args.item xs) (sym c.swap_remove.ensures.items)
     (loses_at g.T.PartialEq.eq c.requires.exact xs c.in-Some.place c.args.item c.swap_remove.result at c.swap_remove.ensures.value)
 

@@ -6,7 +6,7 @@ use Rattle.cb_net.proofs.Reading.{listed_back}
 use Rattle.cb_net.proofs.net.Net.is_linked.Goals as goal
 
 pub returns-then-there-back : goal.returns-then-there-back
-returns-then-there-back c = 
+returns-then-there-back c =
     let any = any_is same_id decides_id c.links-there.result.now c.args.to c.contains.result c.contains.ensures.cases in
     (λ h. (c.links-there.ensures.exactly c.args.to).0 (any.0 h), λ l. any.1 ((c.links-there.ensures.exactly c.args.to).1 l))
 
