@@ -1,5 +1,5 @@
 -- The lines of a canonical text, as they are written piece by piece.
-use Rattle.std.proofs.Common.{◌≡◌, refl, ap, sym, ◌∙◌, ℕ, List, [], ◌∷◌, ◌++◌, true, false, Option, None, Some, append_assoc}
+use Rattle.std.proofs.Common.{◌≡◌, refl, ap, sym, ◌∙◌, ℕ, List, Bool, [], ◌∷◌, ◌++◌, true, false, Option, None, Some, append_assoc}
 use Rattle.std.specs.Prelude.{codes}
 use Rattle.std.specs.List.{flat_map}
 use Rattle.cb_grammar.specs.declared.tree.Token.{Token}
