@@ -166,10 +166,18 @@ fn ports_of_b(topology: &Topology) -> usize {
 
 // How many instances and columns the text makes, and how many ports of `b`; or why it makes no topology.
 fn made(alloc: Global, text: &[u8]) -> Result<(usize, usize, usize), TopologyStop> {
-    let model = sample_model(alloc)?;
+    let Ok(model) = sample_model(alloc) else {
+        return Err(TopologyStop::NoMemory);
+    };
     let topology = read_topology(alloc, model, text)?;
-    let columns = topology.columns(alloc)?.len();
-    Ok((topology.instance_count(), columns, ports_of_b(&topology)))
+    let Ok(columns) = topology.columns(alloc) else {
+        return Err(TopologyStop::NoMemory);
+    };
+    Ok((
+        topology.instance_count(),
+        columns.len(),
+        ports_of_b(&topology),
+    ))
 }
 
 fn check_topology(
