@@ -1,5 +1,5 @@
 -- File words that are read one after the other.
-use Rattle.std.proofs.Common.{◌≡◌, ◌∙◌, ℕ, List, [], refl, sym, ap, subst, take, slice_get, Result, Ok, Err}
+use Rattle.std.proofs.Common.{◌≡◌, ◌∙◌, ℕ, List, [], refl, sym, ap, subst, take, slice_get, Result, Ok, Err, arith}
 use Rattle.std.specs.Prelude.{None, Some, IfSome, unwrap_or}
 use Rattle.std.specs.declared.option.Option.{Option}
 use Rattle.cb_io.specs.Outside.{FilesTold, left_of, KeepsOthers, ReadsFront}
@@ -15,6 +15,10 @@ use Rattle.cb_top.specs.Halts.{OnFile, StopsFile}
 use Rattle.cb_io.specs.Outside.{ReadsEach}
 use Rattle.cb_io.proofs.Told.{ReadsEach-others}
 use Rattle.cb_top.specs.Run.{LeavesRest, ReadsUpTo, IsLastRead, StopsAt, OnFileFault, HaltShows}
+
+-- no count falls where nothing is done
+pub counts_stay : (a : FilesTold) → NoCountFalls a a
+counts_stay a = λ name. omega arith
 
 pub if_some : {T : Type 0} (o : Option T) (P Q : T → Type 0) → ((x : T) → P x → Q x) → IfSome o P → IfSome o Q
 if_some None P Q f h = tt

@@ -3,14 +3,14 @@ use Rattle.std.proofs.Common.{◌<◌, List, ℕ, [], ◌∷◌, refl, ap, subst
 use Rattle.cb_model.specs.declared.tables.Tables.{Tables}
 use Rattle.cb_network.specs.Topology.{Topology}
 use Rattle.cb_topo.specs.Numbered.{topology_of}
-use Rattle.cb_io.proofs.Told.{NoCountFalls-refl, NoCountFalls-trans, ReadsEach-nil, ReadsEach-next, ReadsEach-gives}
+use Rattle.cb_io.proofs.Told.{NoCountFalls-trans, ReadsEach-nil, ReadsEach-next, ReadsEach-gives}
 use Rattle.cb_top.specs.declared.files.TheConstants.{MODEL, TOPOLOGY, SYMPTOMS}
 use Rattle.cb_top.specs.declared.halt.Halt.TheVariants.{Memory}
 use Rattle.cb_top.specs.Model.{IsModelText}
 use Rattle.cb_top.specs.Burst.{IsTopologyText, IsSymptomText}
 use Rattle.cb_top.specs.Halts.{JudgesModel, JudgesTopology, JudgesSymptoms}
 use Rattle.cb_top.specs.Outcome.{BurstAnswers, file_after, done}
-use Rattle.cb_top.proofs.Reading.{if_some, if_some2, if_some3, of_any, of_all, halt_shows, last_read, on_file, stops_at, err_is}
+use Rattle.cb_top.proofs.Reading.{counts_stay, if_some, if_some2, if_some3, of_any, of_all, halt_shows, last_read, on_file, stops_at, err_is}
 use Rattle.cb_top.proofs.Shown.{refused_for_burst, topology_refused_for_burst, symptoms_refused_for_burst}
 use Rattle.cb_top.proofs.burst.burst.Goals as goal
 
@@ -140,7 +140,7 @@ returns-in_err-model-clause-stop g c =
     let s = c.args.symptoms.now in
     rw (err_is _ _ c.from_residual.ensures.1)
     (stops_at (m ∷ t ∷ s ∷ []) [] m MODEL JudgesModel refl old old (g.F.Files.tells c.read_model.new.files) (ReadsEach-nil old) c.in_err-model.field-0.0 refl
-    (NoCountFalls-refl old) c.in_err-model.ensures.others c.in_err-model.ensures.front c.in_err-model.ensures.halt)
+    (counts_stay old) c.in_err-model.ensures.others c.in_err-model.ensures.front c.in_err-model.ensures.halt)
 
 pub returns-in_err-topology-clause-last : goal.returns-in_err-topology-clause-last
 returns-in_err-topology-clause-last g c =
