@@ -1,4 +1,3 @@
-pub mod Digits
 pub mod Values
 pub mod Packed
 pub mod Places
@@ -11,5 +10,3 @@ pub mod Sums
 pub mod Alike
 pub mod Filled
 pub mod Grown
-pub mod NextBits
-pub mod NextOnes

@@ -1,6 +1,7 @@
 pub mod Places
 pub mod Sections
 pub mod Same
+pub mod Kept
 pub mod Given
 pub mod Above
 pub mod Rows

@@ -4,4 +4,3 @@ pub mod Listing
 pub mod Walking
 pub mod Bridge
 pub mod Places
-pub mod TypedPipes

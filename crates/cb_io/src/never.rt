@@ -68,7 +68,6 @@ impl Files for NeverFiles {
 pub struct NeverSink;
 
 impl NeverSink {
-    /// A sink with room for everything.
     pub fn new() -> Self {
         NeverSink
     }

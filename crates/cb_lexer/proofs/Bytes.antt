@@ -37,6 +37,9 @@ all_more P text from at after within all it = rw (range_more text from at after 
 pub blank_byte : (b : ℕ) → (b ≡ 35 → ⊥) → is_blank b ≡ true → gap_byte false b ≡ Some false
 blank_byte b other blank = rw (ne_eqb b 35 other, blank) refl
 
+pub no_gap_byte : (b : ℕ) → (b ≡ 35 → ⊥) → is_blank b ≡ false → gap_byte false b ≡ None
+no_gap_byte b other blank = rw (ne_eqb b 35 other, blank) refl
+
 -- a range and what is behind it
 pub split_at : (text : List ℕ) (from to : ℕ) → from ≤ to → slice_range text from to ++ drop to text ≡ drop from text
 split_at text from to after =

@@ -6,10 +6,9 @@ ghost use Rattle.cb_lexer.specs.Tokens.{IsWordAt, bytes_of};
 ghost use Rattle.cb_lexer.specs.Next.{IsNext};
 ghost use Rattle.cb_lexer.specs.Laws.{OneNext};
 
-use crate::byte::letter;
 use crate::gap::{gap_end, run_end};
 use crate::sign::sign;
-use crate::spot::{LONGEST_TEXT, Spot};
+use crate::spot::{LONGEST_TEXT, Spot, letter};
 use crate::word::reserved;
 use cb_grammar::{Lexeme, Token};
 use cb_model::Name;

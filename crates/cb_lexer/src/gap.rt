@@ -5,8 +5,7 @@ ghost use Rattle.cb_text.specs.Names.{is_name_byte};
 ghost use Rattle.cb_lexer.specs.Places.{IsSpot};
 ghost use Rattle.cb_lexer.specs.Gaps.{IsGapTo};
 
-use crate::byte::{blank, name_byte};
-use crate::spot::{LONGEST_TEXT, Spot};
+use crate::spot::{LONGEST_TEXT, Spot, blank, name_byte};
 
 /// Where the gap from a place on ends: at the text's end, or at a byte that is no part of it.
 pub fn gap_end(text: &[u8], from: Spot) -> Spot

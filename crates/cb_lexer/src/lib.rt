@@ -1,7 +1,6 @@
 //! The tokens of a text.
 #![tactic(auto)]
 
-mod byte;
 mod found;
 mod gap;
 mod sign;

@@ -1,6 +1,8 @@
 //! Places in a text.
 ghost use Rattle.std.specs.Prelude.{◌≡◌, ◌+◌, ◌<◌, ◌≤◌, length, slice_index};
+ghost use Rattle.cb_text.specs.Names.{is_letter, is_name_byte};
 ghost use Rattle.cb_lexer.specs.Places.{IsSpot};
+ghost use Rattle.cb_lexer.specs.Gaps.{is_blank};
 
 /// The most bytes of a text, 16 MiB.
 pub const LONGEST_TEXT: usize = 16_777_216;
@@ -48,4 +50,25 @@ impl Spot {
             }
         }
     }
+}
+
+/// Whether the byte is blank.
+pub fn blank(byte: u8) -> bool
+    ensures { result ≡ is_blank byte }
+{
+    byte == b' ' || byte == b'\t' || byte == b'\r' || byte == b'\n'
+}
+
+/// Whether a name may begin with the byte.
+pub fn letter(byte: u8) -> bool
+    ensures { result ≡ is_letter byte }
+{
+    matches!(byte, b'a'..=b'z' | b'A'..=b'Z')
+}
+
+/// Whether a name may have the byte.
+pub fn name_byte(byte: u8) -> bool
+    ensures { result ≡ is_name_byte byte }
+{
+    letter(byte) || matches!(byte, b'0'..=b'9') || byte == b'_' || byte == b'-'
 }

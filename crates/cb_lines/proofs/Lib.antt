@@ -1,3 +1,4 @@
+pub mod Walk
 pub mod Trees
 pub mod Listed
 pub mod Made

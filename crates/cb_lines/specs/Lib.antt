@@ -1,3 +1,4 @@
+pub mod Lines
 pub mod Topologies
 pub mod Symptoms
 pub mod Steps

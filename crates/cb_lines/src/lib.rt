@@ -1,6 +1,7 @@
 //! Topology files and symptom files, line by line.
 #![tactic(auto)]
 
+mod line;
 mod nodes;
 mod stop;
 mod symptoms;

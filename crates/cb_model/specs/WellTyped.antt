@@ -50,7 +50,7 @@ Declares t c (event n) name = (row : EventRow) × (slice_get t.events n ≡ Some
 Declares t c (relation n) name = (row : RelRow) × (slice_get t.relations n ≡ Some row) × (row.class ≡ c) × (row.name ≡ name)
 Declares t c (rule n) name = (row : RuleRow) × (slice_get t.rules n ≡ Some row) × (row.class ≡ c) × (row.name ≡ name)
 
--- c inherits or declares the rule, whether it is blocked or not
+-- c has the rule or blocks it: it is declared in c or in an ancestor
 abbrev pub InheritsRule : Tables → ClassId → ℕ → Type 0
 InheritsRule t c n = (row : RuleRow) × (slice_get t.rules n ≡ Some row) × IsA t c row.class
 
@@ -71,29 +71,29 @@ pub record HasInverse (t : Tables) (r : RelId) (row : RelRow) : Type 0 where
   pub to_class : back.target ≡ row.class
   pub again : back.inverse ≡ r
 
--- the type rules, but for those on names that lead nowhere, since a row has places where a text has names
+-- the type rules: one field for what each forbids, but for the names that lead nowhere, since a row has places for names
 pub record KeepsTypeRules (t : Tables) : Type 0 where
-  -- no two classes have one name
+  -- two classes of one name
   pub class_names : AllPairs (λ one other. one.name ≢ other.name) t.classes
-  -- no class is its own ancestor
+  -- a class that is its own ancestor
   pub no_loop : (c : ClassId) (n : ℕ) → ancestor t c (suc n) ≢ Some c
-  -- each class has few ancestors
+  -- a class with too many ancestors
   pub depth : (c : ClassId) → ancestor t c (suc MOST_ANCESTORS) ≡ None
-  -- in a class and its ancestors no name is declared twice
+  -- two members of one name, in a class and its ancestors
   pub member_names : (c d : ClassId) (one other : Member) (name : List ℕ) → IsA t c d → Declares t c one name → Declares t d other name → one ≡ other
-  -- the inverse of each relation leads back to it
+  -- a relation whose inverse does not lead back
   pub inverses : (r : RelId) (row : RelRow) → slice_get t.relations r.0 ≡ Some row → HasInverse t r row
-  -- the class of each rule has its cause
+  -- a cause that the rule's class does not have
   pub causes : All (λ row. HasEvent t row.class row.cause) t.rules
-  -- the path of each rule leads to a class that has its effect
+  -- a path that leads nowhere, or to a class that does not have the effect
   pub effects : All (λ row. (d : ClassId) × Reaches t row.class row.path d × HasEvent t d row.effect) t.rules
-  -- a class blocks only rules that it inherits or declares
+  -- a blocked rule that the class does not inherit or declare
   pub blocked : All (λ row. InheritsRule t row.class row.rule) t.blocks
-  -- a class hides only events that it has, and that are marked symptom
+  -- a hidden event that the class does not have, or that is no symptom
   pub hidden : All (λ row. (has : HasEvent t row.class row.event) × (has.row.symptom ≡ true)) t.hides
-  -- there are few classes
+  -- too many classes
   pub few_classes : length t.classes ≤ MOST_CLASSES
-  -- each class has few events, few relations, and few rules with those that it blocks
+  -- a class with too many events, relations or rules
   pub few_events : (c : ClassId) → AtMost MOST_EVENTS (HasEvent t c)
   pub few_relations : (c : ClassId) → AtMost MOST_RELATIONS (HasRelation t c)
   pub few_rules : (c : ClassId) → AtMost MOST_RULES (InheritsRule t c)

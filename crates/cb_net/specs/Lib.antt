@@ -1,5 +1,4 @@
 pub mod Numbered
-pub mod Items
 pub mod Rows
 pub mod Codes
 pub mod Slots

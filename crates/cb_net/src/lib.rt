@@ -4,7 +4,6 @@
 mod forget;
 mod id;
 mod instance;
-mod items;
 mod join;
 mod links;
 mod mutes;

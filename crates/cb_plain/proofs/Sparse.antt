@@ -1,6 +1,6 @@
 -- Codes that share no column.
 use Rattle.std.proofs.Common.{◌≡◌, ℕ, zero, suc, ◌+◌, ◌<◌, ◌≤◌, List, [], ◌∷◌, ◌++◌, get_or, filter, Some, Option, Bool, true, false, cond, refl, sym, ap, subst, ◌∙◌, inl, inr, ◌⊎◌, arith}
-use Rattle.std.specs.List.{AllPairs, Contains, count_by}
+use Rattle.std.specs.List.{All, AllPairs, Contains, count_by}
 use Rattle.std.proofs.lemmas.Bool.{cases_lt, cases_eq, cases_Bool}
 use Rattle.std.proofs.lemmas.List.Sums.{sum_by-cons}
 use Rattle.std.proofs.lemmas.List.Kept.{IsStrictlyIncreasing-filter, AllPairs-from_increasing}
@@ -12,8 +12,7 @@ use Rattle.cb_coding.specs.Distance.{distance, differ, bit, apart, all_columns, 
 use Rattle.cb_coding.specs.Pairs.{IsPair, ComesBefore}
 use Rattle.cb_coding.proofs.Distances.{all_columns_more, all_columns_rise, in_all_columns, below_from_all_columns}
 use Rattle.cb_coding.proofs.BookLaws.{kept_by_filter, was_in_filtered}
-use Rattle.cb_plain.specs.Closest.{Beats, StartsWithZero, IsPairOf, ArePlaces}
-use Rattle.cb_plain.specs.Holders.{holders_of}
+use Rattle.cb_plain.specs.Closest.{Beats, StartsWithZero, IsPairOf, holders_of}
 
 -- a code without ones says false of each column
 pub no_ones : (code : List Bool) → count_by (λ value. value) code ≡ 0 → (k : ℕ) → bit code k ≡ false
@@ -116,32 +115,30 @@ module _ (codes : List (List Bool)) (column : ℕ) where
   no_more_holder n hasnt = rw (holders_more n, hasnt, append-nil) refl
 
   module _ (n : ℕ) where
-    pub are_places : ArePlaces n (holders_of codes column n)
-    are_places = record {
-      rise = AllPairs-from_increasing (holders_of codes column n)
-          (IsStrictlyIncreasing-filter has (all_columns n) (λ k lt. all_columns_rise n k (k + 1) 0 (omega arith) lt));
-      within = λ k d lt.
-          let c = Contains-get_or (holders_of codes column n) k d lt in
-          below_from_all_columns n _ (was_in_filtered has (all_columns n) _ c).0;
-    }
+    pub holders_rise : AllPairs (λ i j. i < j) (holders_of codes column n)
+    holders_rise = AllPairs-from_increasing (holders_of codes column n)
+        (IsStrictlyIncreasing-filter has (all_columns n) (λ k lt. all_columns_rise n k (k + 1) 0 (omega arith) lt))
 
-    -- a code that has the column is among them
-    pub holder_there : (i : ℕ) → i < n → has i ≡ true → Contains (holders_of codes column n) i
-    holder_there i lt is = kept_by_filter has (all_columns n) i (in_all_columns n i lt) is
+    pub holders_within : All (λ i. i < n) (holders_of codes column n)
+    holders_within k d lt =
+        let c = Contains-get_or (holders_of codes column n) k d lt in
+        below_from_all_columns n _ (was_in_filtered has (all_columns n) _ c).0
 
--- two of the places are a pair of them
-pub pair_of_places : (places : List ℕ) → AllPairs (λ i j. i < j) places → (P : ℕ → ℕ → Type 0)
-    → ((k l : ℕ) → IsPairOf places k l → P (get_or places k 0) (get_or places l 0))
-    → (i j : ℕ) → i < j → Contains places i → Contains places j → P i j
-pair_of_places places rise P holds i j lt at_i at_j =
-    let k = at_i.0 in
-    let l = at_j.0 in
-    let i_is : get_or places k 0 ≡ i = sym (get_or_default places k i 0 at_i.1) ∙ at_i.2 in
-    let j_is : get_or places l 0 ≡ j = sym (get_or_default places l j 0 at_j.1) ∙ at_j.2 in
-    elim (cases_lt k l) [
-      | inl below ↦ subst (P i) j_is (subst (λ x. P x (get_or places l 0)) i_is (holds k l (below, at_j.1)))
-      | inr le ↦ elim (cases_eq k l) [
-        | inl e ↦ absurd (let same = ap (λ x. get_or places x 0) e in omega arith)
-        | inr other ↦ absurd (let above = rise l k 0 (omega arith) at_i.1 in omega arith)
-      ]
-    ]
+    -- two codes that have the column are a pair of its holders
+    pub pair_of_holders : (P : ℕ → ℕ → Type 0) → ((k l : ℕ) → IsPairOf (holders_of codes column n) k l → P (get_or (holders_of codes column n) k 0) (get_or (holders_of codes column n) l 0))
+        → (i j : ℕ) → i < j → j < n → has i ≡ true → has j ≡ true → P i j
+    pair_of_holders P holds i j lt within a b =
+        let places = holders_of codes column n in
+        let at_i = kept_by_filter has (all_columns n) i (in_all_columns n i (omega arith)) a in
+        let at_j = kept_by_filter has (all_columns n) j (in_all_columns n j within) b in
+        let k = at_i.0 in
+        let l = at_j.0 in
+        let i_is : get_or places k 0 ≡ i = sym (get_or_default places k i 0 at_i.1) ∙ at_i.2 in
+        let j_is : get_or places l 0 ≡ j = sym (get_or_default places l j 0 at_j.1) ∙ at_j.2 in
+        elim (cases_lt k l) [
+          | inl below ↦ subst (P i) j_is (subst (λ x. P x (get_or places l 0)) i_is (holds k l (below, at_j.1)))
+          | inr le ↦ elim (cases_eq k l) [
+            | inl e ↦ absurd (let same = ap (λ x. get_or places x 0) e in omega arith)
+            | inr other ↦ absurd (let above = holders_rise l k 0 (omega arith) at_i.1 in omega arith)
+          ]
+        ]

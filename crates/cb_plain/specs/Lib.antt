@@ -1,5 +1,4 @@
 pub mod Closest
-pub mod Holders
 pub mod AtDistance
 pub mod Finds
 pub mod Grouped

@@ -1,12 +1,11 @@
 //! The closest pair of codes.
-ghost use Rattle.std.specs.Prelude.{◌≡◌, ◌<◌, ◌≤◌, ◌^◌, ◌↔◌, ℕ, length, IsTrue, IfOk, slice_index_or};
-ghost use Rattle.std.specs.List.{Contains};
+ghost use Rattle.std.specs.Prelude.{◌≡◌, ◌<◌, ◌^◌, ℕ, length, IsTrue, IfOk, slice_index_or};
+ghost use Rattle.std.specs.List.{All, AllPairs};
 ghost use Rattle.cb_coding.specs.Distance.{HaveWidth};
-ghost use Rattle.cb_coding.specs.Pairs.{IsPair, ComesBefore, IsLeast};
-ghost use Rattle.cb_plain.specs.Closest.{AreFromFirst, AreCompared, ArePlaces, IsTold, Beats, Improves, IsBetter, StartsWithZero, IsPairOf};
+ghost use Rattle.cb_coding.specs.Pairs.{IsPair, IsLeast};
+ghost use Rattle.cb_plain.specs.Closest.{AreFromFirst, IsTold, Beats, Improves, limit_of, is_before, StartsWithZero, IsPairOf, holders_of};
 
-use crate::holders::holders_by_column;
-use crate::measure::{distance, distance_below};
+use crate::measure::{bit, distance, distance_below};
 use cb_bits::Row;
 use cb_coding::Pair;
 use cb_model::List;
@@ -20,7 +19,7 @@ pub fn least(alloc: Global, codes: &List<Row>, width: usize) -> Result<Option<Pa
     ensures { IfOk result (IsLeast width codes.now) }
 {
     let far = from_first(alloc, codes, width)?;
-    if starts_with_zero(codes) && are_sparse(&far, width) {
+    if starts_with_zero(codes) && are_sparse(codes, width) {
         least_of_sharing(alloc, codes, &far, width)
     } else {
         Ok(least_of_all(codes, &far, width))
@@ -48,20 +47,22 @@ fn starts_with_zero(codes: &List<Row>) -> bool
     codes.len() > 0 && codes.at(0).ones() == 0
 }
 
-// Whether codes have so few symptoms on average, told by how far each is from the zero code, that it is quicker to try
-// those pairs alone which share a column.
-fn are_sparse(far: &List<u32>, width: usize) -> bool {
-    let mut symptoms: usize = 0;
-    for distance in far.as_slice() {
-        symptoms = symptoms.saturating_add(*distance as usize);
+// Whether so few codes have a column that it is quicker to try those pairs alone which share one.
+fn are_sparse(codes: &List<Row>, width: usize) -> bool {
+    let mut ones: usize = 0;
+    for code in codes.as_slice() {
+        ones = ones.saturating_add(code.ones());
     }
-    let mean = symptoms / far.len().max(1);
+    let mean = ones / codes.len().max(1);
     mean.saturating_mul(mean) < width
 }
 
 // The closest pair, found among all.
 fn least_of_all(codes: &List<Row>, far: &List<u32>, width: usize) -> Option<Pair>
-    requires compared { AreCompared width codes.now far.now }
+    requires have_width { HaveWidth width codes.now }
+    requires far { AreFromFirst width codes.now far.now }
+    requires places_fit { length codes.now < 2 ^ 32 }
+    requires columns_fit { width < 2 ^ 32 }
     ensures { IsLeast width codes.now result }
 {
     let mut best = None;
@@ -71,24 +72,40 @@ fn least_of_all(codes: &List<Row>, far: &List<u32>, width: usize) -> Option<Pair
     best
 }
 
-// The closest pair, found among those with the zero code and those that share a column: two other codes are as far
-// apart as both are from the zero code together.
+// The closest pair, found among those with the zero code and those that share a column: two other codes are farther
+// apart than the one with fewer symptoms is from the zero code.
 fn least_of_sharing(
     alloc: Global,
     codes: &List<Row>,
     far: &List<u32>,
     width: usize,
 ) -> Result<Option<Pair>, AllocError>
-    requires compared { AreCompared width codes.now far.now }
+    requires have_width { HaveWidth width codes.now }
+    requires far { AreFromFirst width codes.now far.now }
+    requires places_fit { length codes.now < 2 ^ 32 }
+    requires columns_fit { width < 2 ^ 32 }
     requires zero { StartsWithZero codes.now }
     ensures { IfOk result (IsLeast width codes.now) }
 {
     let mut best = closest_from(codes, far, width, 0, None);
-    let lists = holders_by_column(alloc, codes, width)?;
-    for places in &lists {
+    for column in 0..width as u32 {
+        let places = holders(alloc, codes, column)?;
         best = closest_among(codes, far, width, places.as_slice(), best);
     }
     Ok(best)
+}
+
+// The places of the codes that have a column, in order.
+fn holders(alloc: Global, codes: &List<Row>, column: u32) -> Result<List<usize>, AllocError>
+    ensures { IfOk result (λ places. places ≡ holders_of codes.now column (length codes.now)) }
+{
+    let mut places = List::new(alloc);
+    for i in 0..codes.len() {
+        if bit(codes.at(i), column) {
+            places.push(i)?;
+        }
+    }
+    Ok(places)
 }
 
 // The best of the pairs of these places, and of the best so far.
@@ -96,14 +113,18 @@ fn closest_among(
     codes: &List<Row>,
     far: &List<u32>,
     width: usize,
-    places: &[u32],
+    places: &[usize],
     mut best: Option<Pair>,
 ) -> Option<Pair>
-    requires compared { AreCompared width codes.now far.now }
-    requires places { ArePlaces (length codes.now) places.now }
+    requires have_width { HaveWidth width codes.now }
+    requires far { AreFromFirst width codes.now far.now }
+    requires places_fit { length codes.now < 2 ^ 32 }
+    requires columns_fit { width < 2 ^ 32 }
+    requires rise { AllPairs (λ i j. i < j) places.now }
+    requires within { All (λ i. i < length codes.now) places.now }
     requires told { IsTold width codes.now best }
     ensures improves { Improves width codes.now best result }
-    ensures beats { (i j : ℕ) → i < j → Contains places.now i → Contains places.now j → Beats width codes.now result i j }
+    ensures beats { (k l : ℕ) → IsPairOf places.now k l → Beats width codes.now result (slice_index_or places.now k 0) (slice_index_or places.now l 0) }
 {
     for k in 0..places.len() {
         best = closest_after(codes, far, width, places, k, best);
@@ -116,26 +137,23 @@ fn closest_after(
     codes: &List<Row>,
     far: &List<u32>,
     width: usize,
-    places: &[u32],
+    places: &[usize],
     k: usize,
     mut best: Option<Pair>,
 ) -> Option<Pair>
-    requires compared { AreCompared width codes.now far.now }
-    requires places { ArePlaces (length codes.now) places.now }
+    requires have_width { HaveWidth width codes.now }
+    requires far { AreFromFirst width codes.now far.now }
+    requires places_fit { length codes.now < 2 ^ 32 }
+    requires columns_fit { width < 2 ^ 32 }
+    requires rise { AllPairs (λ i j. i < j) places.now }
+    requires within { All (λ i. i < length codes.now) places.now }
     requires told { IsTold width codes.now best }
     requires place { k < length places.now }
     ensures improves { Improves width codes.now best result }
     ensures beats { (l : ℕ) → IsPairOf places.now k l → Beats width codes.now result (slice_index_or places.now k 0) (slice_index_or places.now l 0) }
 {
     for l in k + 1..places.len() {
-        best = closer(
-            codes,
-            far,
-            width,
-            places[k] as usize,
-            places[l] as usize,
-            best,
-        );
+        best = closer(codes, far, width, places[k], places[l], best);
     }
     best
 }
@@ -148,7 +166,10 @@ fn closest_from(
     first: usize,
     mut best: Option<Pair>,
 ) -> Option<Pair>
-    requires compared { AreCompared width codes.now far.now }
+    requires have_width { HaveWidth width codes.now }
+    requires far { AreFromFirst width codes.now far.now }
+    requires places_fit { length codes.now < 2 ^ 32 }
+    requires columns_fit { width < 2 ^ 32 }
     requires within { first < length codes.now }
     requires told { IsTold width codes.now best }
     ensures improves { Improves width codes.now best result }
@@ -160,7 +181,7 @@ fn closest_from(
     best
 }
 
-// The better of this pair and the best so far. Codes whose distances from the first are too different aren't looked at.
+// The better of this pair and the best so far.
 fn closer(
     codes: &List<Row>,
     far: &List<u32>,
@@ -169,7 +190,10 @@ fn closer(
     second: usize,
     best: Option<Pair>,
 ) -> Option<Pair>
-    requires compared { AreCompared width codes.now far.now }
+    requires have_width { HaveWidth width codes.now }
+    requires far { AreFromFirst width codes.now far.now }
+    requires places_fit { length codes.now < 2 ^ 32 }
+    requires columns_fit { width < 2 ^ 32 }
     requires pair { IsPair codes.now first second }
     requires told { IsTold width codes.now best }
     ensures improves { Improves width codes.now best result }
@@ -190,10 +214,10 @@ fn closer(
     }
 }
 
-// What the distance of this pair has to stay below for it to be better than the best so far.
+// What this pair has to stay below to be better than the best so far.
 fn limit(width: usize, first: usize, second: usize, best: Option<Pair>) -> usize
     requires { width < 2 ^ 32 }
-    ensures { (d : ℕ) → d ≤ width → d < result ↔ IsBetter first second d best }
+    ensures { result ≡ limit_of width first second best }
 {
     match best {
         None => width + 1,
@@ -204,7 +228,7 @@ fn limit(width: usize, first: usize, second: usize, best: Option<Pair>) -> usize
 
 // Whether the pair comes before the best so far.
 fn comes_before(first: usize, second: usize, pair: Pair) -> bool
-    ensures { IsTrue result ↔ ComesBefore first second pair.first pair.second }
+    ensures { result ≡ is_before first second pair }
 {
     first < pair.first as usize || first == pair.first as usize && second < pair.second as usize
 }

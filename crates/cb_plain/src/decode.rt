@@ -1,6 +1,6 @@
 //! Decoding: the groups whose codes are nearest to a word.
 ghost use Rattle.std.specs.Prelude.{◌≡◌, ◌<◌, ◌≤◌, ◌^◌, ℕ, length, IfOk};
-ghost use Rattle.cb_coding.specs.Answers.{IsAnswer, from_word, radius as radius_of};
+ghost use Rattle.cb_coding.specs.Answers.{IsAnswer, from_word};
 ghost use Rattle.cb_plain.specs.AtDistance.{places_at};
 
 use crate::measure::{are_all, distance_from};
@@ -23,18 +23,12 @@ pub fn nearest(
 {
     let distance = least_distance(codes, &book.columns, word);
     let groups = all_at(alloc, codes, &book.columns, word, distance)?;
+    let radius = book.distance.saturating_sub(1) / 2;
     Ok(Answer {
         distance,
         groups,
-        sure: distance <= radius(book.distance),
+        sure: distance <= radius,
     })
-}
-
-// How many lost or spurious symptoms codes that are so far apart put up with.
-pub(crate) fn radius(distance: u32) -> u32
-    ensures { result ≡ radius_of distance }
-{
-    distance.saturating_sub(1) / 2
 }
 
 // The least distance from the word to a code.

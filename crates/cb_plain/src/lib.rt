@@ -5,7 +5,6 @@ mod closest;
 mod decode;
 mod finding;
 mod grouping;
-mod holders;
 mod measure;
 mod reduce;
 

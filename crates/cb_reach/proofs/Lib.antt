@@ -1,3 +1,4 @@
+pub mod Firsts
 pub mod Sought
 pub mod Chains
 pub mod Marks

@@ -1,10 +1,13 @@
 -- What the rules ask of a directory.
-use Rattle.std.specs.Prelude.{◌≡◌, ℕ, ◌<◌, List, Bool, false}
+use Rattle.std.specs.Prelude.{◌≡◌, ℕ, suc, ◌<◌, List, Some, take, slice_get, Bool, false}
+use Rattle.cb_grammar.specs.declared.tree.Token.{Token}
 use Rattle.cb_grammar.specs.declared.tree.Tree.{Tree}
 use Rattle.cb_grammar.specs.declared.tree.Member.{Member}
 use Rattle.cb_grammar.specs.declared.tree.Member.TheVariants.{Event, Relation}
 use Rattle.cb_model.specs.declared.limits.TheConstants.{MOST_ANCESTORS}
-use Rattle.cb_rules.specs.Classes.{IsNamed, IsAbove, Has, IsRelationTo}
+use Rattle.cb_grammar.specs.declared.tree.ClassDecl.{ClassDecl}
+use Rattle.cb_rules.specs.Classes.{ClassAt, IsNamed, IsAbove, MemberAt, Has, Declares, IsEventNamed, IsRelationTo, IsRelationNamed, IsRelationBack, Leads}
+use Rattle.cb_rules.specs.Rules.{Owns}
 
 -- whether a member is an event marked symptom
 abbrev pub is_symptom : Member → Bool

@@ -1,4 +1,3 @@
 pub mod WordLemmas
 pub mod Cuts
 pub mod LineLemmas
-pub mod LinesRead

@@ -28,10 +28,10 @@ use Rattle.cb_top.specs.Run.{Shows, Concludes}
 lists_the_nearest : (t : Topology) (raised : List NodeName) (finding : Finding) (burst : IsBurst t raised finding) → ListsTheNearest t raised finding burst
 lists_the_nearest t raised finding burst =
     let answered = burst.found.answered in
-    let wide = length-map burst.groups (λ (g : Group). g.code) in record {
-      places = burst.found.answer.groups;
-      rise = answered.rise;
-      nearest = λ i. (
+    let wide = length-map burst.groups (λ (g : Group). g.code) in (
+      burst.found.answer.groups,
+      burst.found.groups_are,
+      λ i. (
         λ listed.
             let (within, is) = (answered.nearest i).0 listed in
             (omega (arith, within, wide), λ j lt. let least = answered.least j (omega (arith, wide)) in omega arith),
@@ -40,9 +40,8 @@ lists_the_nearest t raised finding burst =
             let near = none_nearer k (omega (arith, wide)) in
             let far = answered.least i (omega (arith, wide)) in
             (answered.nearest i).1 (omega (arith, wide), omega arith),
-      );
-      listed = burst.found.groups_are;
-    }
+      ),
+    )
 
 not_done : (bytes : List ℕ) (status : Status) (line : List ℕ) → status ≢ Done → done bytes ≡ nothing status line → ⊥
 not_done bytes status line other e = other (sym (ap (λ (o : Outcome). o.status) e))

@@ -9,5 +9,4 @@ pub mod Texts
 pub mod Bursts
 pub mod Shown
 pub mod Outcomes
-pub mod Ends
 pub mod Cause

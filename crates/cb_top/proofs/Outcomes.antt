@@ -1,6 +1,6 @@
 -- The outcome of the words and the files is one, and a run answers it.
 use Rattle.std.proofs.Common.{◌≡◌, ◌+◌, ℕ, suc, List, [], ◌∷◌, Bool, true, false, refl, sym, ◌∙◌, subst, inl, inr, arith, Result, Ok, Err, Vec, slice_get, Some}
-use Rattle.std.specs.Prelude.{codes, MatchBool, if◌then◌else◌, Option, IfSome, IfErr}
+use Rattle.std.specs.Prelude.{codes, MatchBool, if◌then◌else◌, Option, IfSome}
 use Rattle.std.specs.Str.{bytes_eq}
 use Rattle.std.specs.declared.alloc.Global.{Global}
 use Rattle.cb_io.specs.Outside.{SinkTold, FilesTold}
@@ -12,7 +12,7 @@ use Rattle.cb_top.specs.Status.{OnAnswer, OnDone, OnNoOutput, OnReadFault, OnWri
 use Rattle.cb_top.specs.Faults.{limit_line, long_line, read_line}
 use Rattle.cb_top.specs.Halts.{status_of}
 use Rattle.cb_top.specs.Outcome.{Outcome, IsOutcome, ModelAnswers, BurstAnswers, UnreadGives, file_after, file_words, done, usage, faulty, wrong_lined, bad_named, too_long, long_lined, not_built}
-use Rattle.cb_top.specs.Run.{Shows, HaltShows, Explains, Concludes, IsLastRead, OnFileFault, OnStop, StopsAt, Answers, BlamesFile, TakesFront, TakesNothing, Says, SaysWhy}
+use Rattle.cb_top.specs.Run.{Shows, HaltShows, Explains, Concludes, OnFileFault, OnStop, StopsAt, Answers, BlamesFile, TakesFront, TakesNothing, Says, SaysWhy}
 use Rattle.cb_top.proofs.Texts.{model_gives_one}
 use Rattle.cb_top.proofs.Bursts.{burst_gives_one}
 use Rattle.cb_top.proofs.Reading.{if_some}
@@ -75,13 +75,12 @@ no_output words (Ok bytes) status out out' err err' ends = absurd ends
 no_output words (Err halt) status out out' err err' ends = on_no_output status (TakesNothing out out') ends.0
 
 -- where there is no output, the line tells why
-pub says_why : (words : List (List ℕ)) (old new : FilesTold) (answer : Result (Vec ℕ Global) Halt) (status : Status) (out out' err err' : SinkTold)
-    → IfErr answer (IsLastRead (file_words words) old new) → Concludes words answer status out out' err err' → OnNoOutput status (SaysWhy words status old new err err')
-says_why words old new (Ok bytes) Done out out' err err' last ends = tt
-says_why words old new (Ok bytes) WriteFault out out' err err' last ends = tt
-says_why words old new (Ok bytes) status out out' err err' last ends = absurd ends
-says_why words old new (Err halt) status out out' err err' last ends =
-    on_no_output status (SaysWhy words status old new err err') (record { halt = halt; status_is = sym ends.1; says = ends.2; last = last })
+pub says_why : (words : List (List ℕ)) (answer : Result (Vec ℕ Global) Halt) (status : Status) (out out' err err' : SinkTold)
+    → Concludes words answer status out out' err err' → OnNoOutput status (SaysWhy words status err err')
+says_why words (Ok bytes) Done out out' err err' ends = tt
+says_why words (Ok bytes) WriteFault out out' err err' ends = tt
+says_why words (Ok bytes) status out out' err err' ends = absurd ends
+says_why words (Err halt) status out out' err err' ends = on_no_output status (SaysWhy words status err err') (halt, sym ends.1, ends.2)
 
 -- where the output is whole, no line was written
 pub no_line : (words : List (List ℕ)) (answer : Result (Vec ℕ Global) Halt) (status : Status) (out out' err err' : SinkTold)
@@ -176,7 +175,7 @@ module _ (words : List (List ℕ)) (old new : FilesTold) (err err' : SinkTold) w
   blames_halt (halts.ReadFault place) stops (line, (other, at, is), says) = record {
     place = place;
     stops = stops;
-    says = subst (λ n. Says err err' (read_line n)) (same_name words place stops.last.name other stops.last.is at) (subst (λ l. Says err err' l) is says);
+    says = subst (λ n. Says err err' (read_line n)) (same_name words place stops.name other stops.is at) (subst (λ l. Says err err' l) is says);
   }
   blames_halt halts.Usage stops explains = tt
   blames_halt (halts.Model fault) stops explains = tt

@@ -2,7 +2,6 @@
 use Rattle.std.specs.Str.{bytes_eq}
 use Rattle.std.specs.Prelude.{MatchBool, codes, ◌≡◌, ◌<◌, ◌≤◌, ◌↔◌, ℕ, List, [], ◌∷◌, length, IsTrue}
 use Rattle.std.specs.List.{Contains}
-use Rattle.std.specs.List.Sorted.{IsStrictlyIncreasing}
 use Rattle.cb_model.specs.declared.node.NodeName.{NodeName}
 use Rattle.cb_coding.specs.Distance.{all_columns}
 use Rattle.cb_coding.specs.Groups.{codes_of}
@@ -19,16 +18,10 @@ use Rattle.cb_io.specs.Outside.{contents}
 abbrev pub off_by : (t : Topology) (raised : List NodeName) (finding : Finding) → IsBurst t raised finding → ℕ → ℕ
 off_by t raised finding burst i = from_word (all_columns (length burst.columns)) (codes_of burst.groups) (word_of burst.columns raised) i
 
--- no group is nearer to what is raised than the one at a place
-abbrev pub IsNearest : (t : Topology) (raised : List NodeName) (finding : Finding) → IsBurst t raised finding → ℕ → Type 0
-IsNearest t raised finding burst i = (i < length burst.groups) × ((j : ℕ) → j < length burst.groups → off_by t raised finding burst i ≤ off_by t raised finding burst j)
-
--- a group is listed exactly where none is nearer to what is raised, and each once, in the order of all groups
-pub record ListsTheNearest (t : Topology) (raised : List NodeName) (finding : Finding) (burst : IsBurst t raised finding) : Type 0 where
-  pub places : List ℕ
-  pub rise : IsStrictlyIncreasing places
-  pub nearest : (i : ℕ) → Contains places i ↔ IsNearest t raised finding burst i
-  pub listed : finding.groups ≡ named_groups burst.groups places
+-- a group is listed exactly where no group is nearer to what is raised
+abbrev pub ListsTheNearest : (t : Topology) (raised : List NodeName) (finding : Finding) → IsBurst t raised finding → Type 0
+ListsTheNearest t raised finding burst = (places : List ℕ) × (finding.groups ≡ named_groups burst.groups places)
+    × ((i : ℕ) → Contains places i ↔ ((i < length burst.groups) × ((j : ℕ) → j < length burst.groups → off_by t raised finding burst i ≤ off_by t raised finding burst j)))
 
 -- where no more symptoms of a group are lost or spurious than the radius says, that group alone is listed, and it is sure
 abbrev pub NamesItAlone : (t : Topology) (raised : List NodeName) (finding : Finding) → IsBurst t raised finding → Type 0

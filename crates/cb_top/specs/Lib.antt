@@ -7,6 +7,5 @@ pub mod Halts
 pub mod Judged
 pub mod Outcome
 pub mod Run
-pub mod Ends
 pub mod Cause
 pub mod Laws

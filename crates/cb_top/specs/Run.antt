@@ -1,5 +1,5 @@
 -- What the clauses of a run say. `old` is told before the run, `new` after it.
-use Rattle.std.specs.Prelude.{◌≡◌, ◌≢◌, ◌⊎◌, ℕ, List, [], ◌+◌, ◌++◌, take, slice_get, Option, IfSome, Some, Result, Ok, Err, Vec}
+use Rattle.std.specs.Prelude.{◌≡◌, ◌≢◌, ◌⊎◌, ℕ, List, [], ◌+◌, take, slice_get, IfSome, Some, Result, Ok, Err, Vec}
 use Rattle.std.specs.declared.alloc.Global.{Global}
 use Rattle.cb_io.specs.Outside.{FilesTold, SinkTold, left_of, ReadFailed, WritesAll, WritesFront, WriteFailed}
 use Rattle.cb_top.specs.declared.status.Status.{Status}
@@ -7,7 +7,7 @@ use Rattle.cb_top.specs.declared.status.Status.TheVariants.{Done, WriteFault}
 use Rattle.cb_top.specs.declared.halt.Halt.{Halt}
 use Rattle.cb_top.specs.declared.halt.Halt.TheVariants as halts
 use Rattle.cb_top.specs.Faults.{usage_line, model_line, topology_line, symptom_line, limit_line, long_line, read_line, write_line, memory_line, not_built_line}
-use Rattle.cb_top.specs.Halts.{OnFile, status_of}
+use Rattle.cb_top.specs.Halts.{status_of}
 use Rattle.cb_top.specs.Outcome.{Outcome, IsOutcome, file_words, done, usage, faulty, wrong_lined, bad_named, too_long, long_lined, not_built}
 use Rattle.cb_io.specs.Outside.{contents}
 
@@ -19,28 +19,19 @@ Says old new line = WritesAll old new line ⊎ (WritesFront old new line × Writ
 abbrev pub TakesNothing : SinkTold → SinkTold → Type 0
 TakesNothing old new = WritesAll old new []
 
--- a front of these bytes was taken, and the rest is left
-abbrev pub LeavesRest : List ℕ → Option (List ℕ) → Type 0
-LeavesRest bytes left = (front : List ℕ) × (rest : List ℕ) × (bytes ≡ front ++ rest) × (left ≡ Some rest)
-
--- The file word at a place is the last that was read. Those before it were read whole, a front was taken of what they left of
--- its name, and of every other name there is left what they left of it: nothing, where it is one of them, and else all.
-pub record ReadsUpTo (names : List (List ℕ)) (place : ℕ) (old new : FilesTold) : Type 0 where
+-- A read of the file word at a place failed. The file words before it were read whole, and all names but that one and
+-- those have left what they had.
+pub record StopsAt (names : List (List ℕ)) (place : ℕ) (old new : FilesTold) : Type 0 where
   pub name : List ℕ
   pub is : slice_get names place ≡ Some name
-  pub front : IfSome old.left (λ left. LeavesRest (contents left (take place names) name) (left_of new name))
+  pub failed : ReadFailed old new name
   pub others : IfSome old.left (λ left. (other : List ℕ) → other ≢ name → left_of new other ≡ Some (contents left (take place names) other))
-
--- a read of the file word at a place failed, and no later one was read
-pub record StopsAt (names : List (List ℕ)) (place : ℕ) (old new : FilesTold) : Type 0 where
-  pub last : ReadsUpTo names place old new
-  pub failed : ReadFailed old new last.name
 
 -- a file word stopped the run, and the line names it
 pub record BlamesFile (words : List (List ℕ)) (old new : FilesTold) (err_old err_new : SinkTold) : Type 0 where
   pub place : ℕ
   pub stops : StopsAt (file_words words) place old new
-  pub says : Says err_old err_new (read_line stops.last.name)
+  pub says : Says err_old err_new (read_line stops.name)
 
 -- a write failed, and the line says so
 pub record BlamesOut (old new err_old err_new : SinkTold) : Type 0 where
@@ -112,13 +103,6 @@ abbrev pub Concludes : List (List ℕ) → Result (Vec ℕ Global) Halt → Stat
 Concludes words (Ok bytes) status out out' err err' = Delivers bytes.items status out out' err err'
 Concludes words (Err halt) status out out' err err' = TakesNothing out out' × (status ≡ status_of halt) × Explains words halt err err'
 
--- the file that a halt tells, if it tells one, is the last that was read
-abbrev pub IsLastRead : List (List ℕ) → FilesTold → FilesTold → Halt → Type 0
-IsLastRead names old new halt = OnFile halt (λ place. ReadsUpTo names place old new)
-
--- the error sink was given the line of a halt that a run of this status may have, and no file was read after the one it tells
-pub record SaysWhy (words : List (List ℕ)) (status : Status) (old new : FilesTold) (err_old err_new : SinkTold) : Type 0 where
-  pub halt : Halt
-  pub status_is : status_of halt ≡ status
-  pub says : Explains words halt err_old err_new
-  pub last : IsLastRead (file_words words) old new halt
+-- the error sink was given the line of a halt that a run of this status may have
+abbrev pub SaysWhy : List (List ℕ) → Status → SinkTold → SinkTold → Type 0
+SaysWhy words status old new = (halt : Halt) × (status_of halt ≡ status) × Explains words halt old new

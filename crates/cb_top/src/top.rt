@@ -1,14 +1,13 @@
 //! The top call.
 ghost use Rattle.std.specs.Prelude.{◌≡◌, OnOk, IfErr, IfSome};
 ghost use Rattle.cb_top.specs.Status.{OnAnswer, OnDone, OnNoOutput, OnReadFault, OnWriteFault, OnMemory};
-ghost use Rattle.cb_top.specs.Commands.{IsBuilt, IsInTable, IsUnbuilt, AskForBurst};
+ghost use Rattle.cb_top.specs.Commands.{IsInTable, IsUnbuilt, AskForBurst};
 ghost use Rattle.cb_top.specs.Faults.{memory_line};
 ghost use Rattle.cb_top.specs.Halts.{IsPlaced};
 ghost use Rattle.cb_top.specs.Outcome.{texts, file_words, IsOutcome};
 ghost use Rattle.cb_top.specs.Cause.{FindsTheCause};
-ghost use Rattle.cb_top.specs.Ends.{MayEnd, MayGive};
 ghost use Rattle.cb_io.specs.Outside.{ReadsEach};
-ghost use Rattle.cb_top.specs.Run.{Answers, TakesFront, TakesNothing, BlamesFile, BlamesOut, IsLastRead, Says, SaysWhy, StopsAt, Shows, OnStop};
+ghost use Rattle.cb_top.specs.Run.{Answers, TakesFront, TakesNothing, BlamesFile, BlamesOut, Says, SaysWhy, StopsAt, Shows, OnStop};
 
 use crate::burst::burst;
 use crate::command::Command;
@@ -38,10 +37,7 @@ pub fn run<F: Files, O: Sink, E: Sink, L: Ledger>(
     ensures front { OnWriteFault result (IfSome (F.tells files.old).left (λ left. TakesFront (texts words.now) left (O.tells out.old) (O.tells out.new))) }
     ensures no_output { OnNoOutput result (TakesNothing (O.tells out.old) (O.tells out.new)) }
     ensures no_line { OnDone result (TakesNothing (E.tells err.old) (E.tells err.new)) }
-    // Which words end how, whatever the files tell: 2 comes exactly where they are none of the table, 11 exactly where they are
-    // those of a command that isn't built, 4 for `burst` alone, and nothing is read but for a command that is built.
-    ensures ends { MayEnd (texts words.now) result }
-    ensures unread { (¬ IsBuilt (texts words.now)) → files.new ≡ files.old }
+    // Where the words are none of the table, or those of a command that isn't built, nothing else matters.
     ensures usage { (¬ IsInTable (texts words.now)) → result ≡ Status.Usage }
     ensures unbuilt { IsUnbuilt (texts words.now) → result ≡ Status.NotBuilt }
     // The headline: what `burst` prints are exactly the groups nearest to what is raised, by codes from what causes what; and
@@ -51,9 +47,8 @@ pub fn run<F: Files, O: Sink, E: Sink, L: Ledger>(
     ensures read_whole { OnDone result (ReadsEach (F.tells files.old) (F.tells files.new) (file_words (texts words.now))) }
     ensures read_fault { OnReadFault result (BlamesFile (texts words.now) (F.tells files.old) (F.tells files.new) (E.tells err.old) (E.tells err.new)) }
     ensures write_fault { OnWriteFault result (BlamesOut (O.tells out.old) (O.tells out.new) (E.tells err.old) (E.tells err.new)) }
-    // At each other status but 0 the line tells why there is no output, and no file was read after the one that it tells: one
-    // that is refused is refused before the next one is read.
-    ensures line { OnNoOutput result (SaysWhy (texts words.now) result (F.tells files.old) (F.tells files.new) (E.tells err.old) (E.tells err.new)) }
+    // At each other status but 0 the line tells why there is no output.
+    ensures line { OnNoOutput result (SaysWhy (texts words.now) result (E.tells err.old) (E.tells err.new)) }
     ensures memory { OnMemory result (Says (E.tells err.old) (E.tells err.new) memory_line) }
     ensures steps { (¬ AskForBurst (texts words.now)) → steps.new ≡ steps.old }
 {
@@ -71,10 +66,7 @@ fn answer<F: Files, L: Ledger>(
     ensures answer { IfSome (F.tells files.old).left (λ left. Shows (file_words (texts words.now)) result (IsOutcome (texts words.now) left)) }
     ensures read { OnOk result (ReadsEach (F.tells files.old) (F.tells files.new) (file_words (texts words.now))) }
     ensures stop { OnStop result (λ place. StopsAt (file_words (texts words.now)) place (F.tells files.old) (F.tells files.new)) }
-    ensures last { IfErr result (IsLastRead (file_words (texts words.now)) (F.tells files.old) (F.tells files.new)) }
     ensures placed { IfErr result (IsPlaced (file_words (texts words.now))) }
-    ensures ends { MayGive (texts words.now) result }
-    ensures unread { (¬ IsBuilt (texts words.now)) → files.new ≡ files.old }
     ensures usage { (¬ IsInTable (texts words.now)) → result ≡ Err Halt.Usage }
     ensures unbuilt { IsUnbuilt (texts words.now) → result ≡ Err Halt.NotBuilt }
     ensures steps { (¬ AskForBurst (texts words.now)) → steps.new ≡ steps.old }

@@ -2,7 +2,6 @@ use Rattle.std.proofs.Common.{◌≡◌, slice_index_or, subst, inl, inr, arith}
 use Rattle.std.proofs.lemmas.Bool.{cases_lt}
 use Rattle.cb_plain.specs.Closest.{Beats, IsPairOf}
 use Rattle.cb_plain.proofs.Best.{no_worse, improves_on}
-use Rattle.cb_plain.proofs.Sparse.{pair_of_places}
 use Rattle.cb_plain.proofs.closest.closest_among.Goals as goal
 
 pub loop-k-init : goal.loop-k-init
@@ -26,6 +25,4 @@ loop-k-preserved c =
     }
 
 pub returns-clause-beats : goal.returns-clause-beats
-returns-clause-beats c =
-    pair_of_places c.args.places.now c.requires.places.rise (Beats c.args.width c.args.codes.now c.loop-k.best)
-    (λ k l pair. c.loop-k.invariant.beats k l (let end = c.loop-k-test.false in omega (arith, pair.0, pair.1)) pair)
+returns-clause-beats c k l pair = c.loop-k.invariant.beats k l (let end = c.loop-k-test.false in omega arith) pair

@@ -1,5 +1,5 @@
 -- What each part of `burst` shows.
-use Rattle.std.proofs.Common.{◌<◌, List, ℕ, [], ◌∷◌, refl, ap, subst, inr, arith}
+use Rattle.std.proofs.Common.{List, ℕ, [], ◌∷◌, refl, ap, subst, inr, arith}
 use Rattle.cb_model.specs.declared.tables.Tables.{Tables}
 use Rattle.cb_network.specs.Topology.{Topology}
 use Rattle.cb_topo.specs.Numbered.{topology_of}
@@ -10,7 +10,7 @@ use Rattle.cb_top.specs.Model.{IsModelText}
 use Rattle.cb_top.specs.Burst.{IsTopologyText, IsSymptomText}
 use Rattle.cb_top.specs.Halts.{JudgesModel, JudgesTopology, JudgesSymptoms}
 use Rattle.cb_top.specs.Outcome.{BurstAnswers, file_after, done}
-use Rattle.cb_top.proofs.Reading.{counts_stay, if_some, if_some2, if_some3, of_any, of_all, halt_shows, last_read, on_file, stops_at, err_is}
+use Rattle.cb_top.proofs.Reading.{if_some, if_some2, if_some3, of_any, of_all, halt_shows, placed, stops_at, err_is}
 use Rattle.cb_top.proofs.Shown.{refused_for_burst, topology_refused_for_burst, symptoms_refused_for_burst}
 use Rattle.cb_top.proofs.burst.burst.Goals as goal
 
@@ -53,7 +53,7 @@ returns-in_err-topology-clause-stop g c =
     let tables : Tables = c.in_ok-model.model in
     rw (err_is _ _ c.from_residual-in_err-topology.ensures.1)
     (stops_at (m ∷ t ∷ s ∷ []) (m ∷ []) t TOPOLOGY (JudgesTopology tables) refl old one (g.F.Files.tells c.read_topology_file.new.files) first c.in_err-topology.field-0.0 refl
-    c.in_ok-model.ensures.counts c.in_err-topology.ensures.others c.in_err-topology.ensures.front c.in_err-topology.ensures.halt)
+    c.in_ok-model.ensures.counts c.in_err-topology.ensures.others c.in_err-topology.ensures.halt)
 
 pub returns-in_err-raised-clause-answer : goal.returns-in_err-raised-clause-answer
 returns-in_err-raised-clause-answer g c =
@@ -96,81 +96,17 @@ returns-in_err-raised-clause-stop g c =
     let counts = NoCountFalls-trans old one two c.in_ok-model.ensures.counts c.in_ok-topology.ensures.counts in
     rw (err_is _ _ c.from_residual-in_err-raised.ensures.1)
     (stops_at (m ∷ t ∷ s ∷ []) (m ∷ t ∷ []) s SYMPTOMS JudgesSymptoms refl old two (g.F.Files.tells c.read_symptom_file.new.files) second c.in_err-raised.field-0.0 refl
-    counts c.in_err-raised.ensures.others c.in_err-raised.ensures.front c.in_err-raised.ensures.halt)
-
-pub returns-in_err-model-clause-placed : goal.returns-in_err-model-clause-placed
-returns-in_err-model-clause-placed g c =
-    rw (err_is _ _ c.from_residual.ensures.1) (on_file MODEL (λ at. at < 3) c.in_err-model.field-0.0 c.in_err-model.ensures.halt.placed (omega arith))
-
-pub returns-in_err-model-clause-of_files : goal.returns-in_err-model-clause-of_files
-returns-in_err-model-clause-of_files g c =
-    rw (err_is _ _ c.from_residual.ensures.1) c.in_err-model.ensures.halt.of_files
-
-pub returns-in_err-topology-clause-placed : goal.returns-in_err-topology-clause-placed
-returns-in_err-topology-clause-placed g c =
-    rw (err_is _ _ c.from_residual-in_err-topology.ensures.1) (on_file TOPOLOGY (λ at. at < 3) c.in_err-topology.field-0.0 c.in_err-topology.ensures.halt.placed (omega arith))
-
-pub returns-in_err-topology-clause-of_files : goal.returns-in_err-topology-clause-of_files
-returns-in_err-topology-clause-of_files g c =
-    rw (err_is _ _ c.from_residual-in_err-topology.ensures.1) c.in_err-topology.ensures.halt.of_files
+    counts c.in_err-raised.ensures.others c.in_err-raised.ensures.halt)
 
 pub returns-in_err-raised-clause-placed : goal.returns-in_err-raised-clause-placed
 returns-in_err-raised-clause-placed g c =
-    rw (err_is _ _ c.from_residual-in_err-raised.ensures.1) (on_file SYMPTOMS (λ at. at < 3) c.in_err-raised.field-0.0 c.in_err-raised.ensures.halt.placed (omega arith))
-
-pub returns-in_err-raised-clause-of_files : goal.returns-in_err-raised-clause-of_files
-returns-in_err-raised-clause-of_files g c =
-    rw (err_is _ _ c.from_residual-in_err-raised.ensures.1) c.in_err-raised.ensures.halt.of_files
-
-pub returns-in_err-model-clause-last : goal.returns-in_err-model-clause-last
-returns-in_err-model-clause-last g c =
     let old = g.F.Files.tells c.args.files.now in
     let m = c.args.model.now in
     let t = c.args.topology.now in
     let s = c.args.symptoms.now in
-    rw (err_is _ _ c.from_residual.ensures.1)
-    (last_read (m ∷ t ∷ s ∷ []) [] m MODEL JudgesModel refl old old (g.F.Files.tells c.read_model.new.files) (ReadsEach-nil old) c.in_err-model.field-0.0 refl
-    c.in_err-model.ensures.others c.in_err-model.ensures.front c.in_err-model.ensures.halt)
-
-pub returns-in_err-model-clause-stop : goal.returns-in_err-model-clause-stop
-returns-in_err-model-clause-stop g c =
-    let old = g.F.Files.tells c.args.files.now in
-    let m = c.args.model.now in
-    let t = c.args.topology.now in
-    let s = c.args.symptoms.now in
-    rw (err_is _ _ c.from_residual.ensures.1)
-    (stops_at (m ∷ t ∷ s ∷ []) [] m MODEL JudgesModel refl old old (g.F.Files.tells c.read_model.new.files) (ReadsEach-nil old) c.in_err-model.field-0.0 refl
-    (counts_stay old) c.in_err-model.ensures.others c.in_err-model.ensures.front c.in_err-model.ensures.halt)
-
-pub returns-in_err-topology-clause-last : goal.returns-in_err-topology-clause-last
-returns-in_err-topology-clause-last g c =
-    let old = g.F.Files.tells c.args.files.now in
-    let m = c.args.model.now in
-    let t = c.args.topology.now in
-    let s = c.args.symptoms.now in
-    let one = g.F.Files.tells c.read_model.new.files in
-    let model_text = c.in_ok-model.ensures.model in
-    let first = ReadsEach-next old old one [] m model_text.0 (ReadsEach-nil old) c.in_ok-model.ensures.others model_text.1 in
-    let tables : Tables = c.in_ok-model.model in
-    rw (err_is _ _ c.from_residual-in_err-topology.ensures.1)
-    (last_read (m ∷ t ∷ s ∷ []) (m ∷ []) t TOPOLOGY (JudgesTopology tables) refl old one (g.F.Files.tells c.read_topology_file.new.files) first c.in_err-topology.field-0.0 refl
-    c.in_err-topology.ensures.others c.in_err-topology.ensures.front c.in_err-topology.ensures.halt)
-
-pub returns-in_err-raised-clause-last : goal.returns-in_err-raised-clause-last
-returns-in_err-raised-clause-last g c =
-    let old = g.F.Files.tells c.args.files.now in
-    let m = c.args.model.now in
-    let t = c.args.topology.now in
-    let s = c.args.symptoms.now in
-    let one = g.F.Files.tells c.read_model.new.files in
-    let model_text = c.in_ok-model.ensures.model in
-    let first = ReadsEach-next old old one [] m model_text.0 (ReadsEach-nil old) c.in_ok-model.ensures.others model_text.1 in
-    let two = g.F.Files.tells c.read_topology_file.new.files in
-    let topology_text = c.in_ok-topology.ensures.topology in
-    let second = ReadsEach-next old one two (m ∷ []) t topology_text.0 first c.in_ok-topology.ensures.others topology_text.1 in
     rw (err_is _ _ c.from_residual-in_err-raised.ensures.1)
-    (last_read (m ∷ t ∷ s ∷ []) (m ∷ t ∷ []) s SYMPTOMS JudgesSymptoms refl old two (g.F.Files.tells c.read_symptom_file.new.files) second c.in_err-raised.field-0.0 refl
-    c.in_err-raised.ensures.others c.in_err-raised.ensures.front c.in_err-raised.ensures.halt)
+    (placed (m ∷ t ∷ s ∷ []) (m ∷ t ∷ []) s SYMPTOMS JudgesSymptoms refl (g.F.Files.tells c.read_topology_file.new.files) (g.F.Files.tells c.read_symptom_file.new.files)
+    c.in_err-raised.field-0.0 (omega arith) c.in_err-raised.ensures.halt)
 
 pub returns-clause-read : goal.returns-clause-read
 returns-clause-read g c =
@@ -235,12 +171,4 @@ returns-in_err-lines_of_burst-clause-stop g c =
 
 pub returns-in_err-lines_of_burst-clause-placed : goal.returns-in_err-lines_of_burst-clause-placed
 returns-in_err-lines_of_burst-clause-placed g c =
-    rw (err_is c.from_residual-in_err-lines_of_burst.result Memory c.from_residual-in_err-lines_of_burst.ensures.1) tt
-
-pub returns-in_err-lines_of_burst-clause-last : goal.returns-in_err-lines_of_burst-clause-last
-returns-in_err-lines_of_burst-clause-last g c =
-    rw (err_is c.from_residual-in_err-lines_of_burst.result Memory c.from_residual-in_err-lines_of_burst.ensures.1) tt
-
-pub returns-in_err-lines_of_burst-clause-of_files : goal.returns-in_err-lines_of_burst-clause-of_files
-returns-in_err-lines_of_burst-clause-of_files g c =
     rw (err_is c.from_residual-in_err-lines_of_burst.result Memory c.from_residual-in_err-lines_of_burst.ensures.1) tt

@@ -1,7 +1,6 @@
 use Rattle.cb_top.specs.Outcome.{texts, file_words}
 use Rattle.cb_top.proofs.Cause.{names_the_cause}
 use Rattle.cb_top.proofs.Outcomes.{answers, takes_front, no_output, no_line, says_why, blames_file}
-use Rattle.cb_top.proofs.Ends.{may_end}
 use Rattle.cb_top.proofs.top.run.Goals as goal
 
 pub returns-clause-answer : goal.returns-clause-answer
@@ -19,10 +18,7 @@ pub returns-clause-no_line : goal.returns-clause-no_line
 returns-clause-no_line g c = no_line (texts c.args.words.now) c.answer-answer.result c.conclude.result _ _ _ _ c.conclude.ensures
 
 pub returns-clause-line : goal.returns-clause-line
-returns-clause-line g c = says_why (texts c.args.words.now) _ _ c.answer-answer.result c.conclude.result _ _ _ _ c.answer-answer.ensures.last c.conclude.ensures
-
-pub returns-clause-ends : goal.returns-clause-ends
-returns-clause-ends g c = may_end (texts c.args.words.now) c.answer-answer.result c.conclude.result _ _ _ _ c.answer-answer.ensures.ends c.conclude.ensures
+returns-clause-line g c = says_why (texts c.args.words.now) c.answer-answer.result c.conclude.result _ _ _ _ c.conclude.ensures
 
 pub returns-clause-read_fault : goal.returns-clause-read_fault
 returns-clause-read_fault g c = blames_file (texts c.args.words.now) _ _ _ _ c.answer-answer.result c.conclude.result _ _ c.answer-answer.ensures.stop c.conclude.ensures
