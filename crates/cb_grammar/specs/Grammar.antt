@@ -2,7 +2,6 @@
 use Rattle.std.specs.Prelude.{◌≡◌, ◌≤◌, length, true, false, List, [], ◌∷◌, ◌++◌, Option, None, Some}
 use Rattle.std.specs.List.{flat_map, All}
 use Rattle.cb_text.specs.Names.{IsName}
-use Rattle.cb_grammar.specs.declared.tree.TheConstants.{LONGEST_PATH}
 use Rattle.cb_grammar.specs.declared.tree.Token.{Token}
 use Rattle.cb_grammar.specs.declared.tree.Member.{Member}
 use Rattle.cb_grammar.specs.declared.tree.Member.TheVariants as members
@@ -42,7 +41,7 @@ tree_tokens tree = flat_map class_tokens tree.classes
 
 -- a rule's path has at most 4 relations
 abbrev pub PathFits : Member → Type 0
-PathFits (members.Rule n c path e) = length path ≤ LONGEST_PATH
+PathFits (members.Rule n c path e) = length path ≤ 4
 PathFits m = Unit {0}
 
 -- each path of a class has at most 4 relations

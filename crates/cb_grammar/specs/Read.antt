@@ -1,7 +1,6 @@
 -- What a state has read.
 use Rattle.std.specs.Prelude.{true, false, List, [], ◌∷◌, ◌++◌, length, ◌≤◌, ◌<◌}
 use Rattle.std.specs.List.{flat_map, All}
-use Rattle.cb_grammar.specs.declared.tree.TheConstants.{LONGEST_PATH}
 use Rattle.cb_grammar.specs.declared.lexeme.Lexeme.{Lexeme}
 use Rattle.cb_grammar.specs.declared.lexeme.Lexeme.TheVariants as lexemes
 use Rattle.cb_grammar.specs.declared.place.EventPlace.{EventPlace}
@@ -77,8 +76,8 @@ so_far s = flat_map class_tokens s.classes ++ in_part s.part
 
 -- a path has at most 4 relations, and before a dot at least one
 abbrev pub RuleSound : RulePlace → Type 0
-RuleSound (rules.Effect n c path e) = length path ≤ LONGEST_PATH
-RuleSound (rules.Dot n c path) = (0 < length path) × (length path ≤ LONGEST_PATH)
+RuleSound (rules.Effect n c path e) = length path ≤ 4
+RuleSound (rules.Dot n c path) = (0 < length path) × (length path ≤ 4)
 RuleSound p = Unit {0}
 
 -- so for the rule that is being read

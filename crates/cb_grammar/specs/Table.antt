@@ -1,6 +1,5 @@
 -- The machine's table: the state after one token more.
 use Rattle.std.specs.Prelude.{true, false, List, [], ◌∷◌, ◌++◌, Option, None, Some, if◌then◌else◌, nat_lt, length}
-use Rattle.cb_grammar.specs.declared.tree.TheConstants.{LONGEST_PATH}
 use Rattle.cb_grammar.specs.declared.tree.Token.{Token}
 use Rattle.cb_grammar.specs.declared.tree.Member.TheVariants as members
 use Rattle.cb_grammar.specs.declared.tree.ClassDecl.{ClassDecl}
@@ -61,7 +60,7 @@ next_rule (rules.Colon n) (lexemes.Name t) = More (places.Rule (rules.Cause n t)
 next_rule (rules.Cause n c) lexemes.Arrow = More (places.Rule (rules.Arrow n c))
 next_rule (rules.Arrow n c) (lexemes.Name t) = More (places.Rule (rules.Effect n c [] t))
 next_rule (rules.Effect n c path e) lexemes.Semicolon = Whole (members.Rule n c path e)
-next_rule (rules.Effect n c path e) lexemes.Dot = if nat_lt (length path) LONGEST_PATH then More (places.Rule (rules.Dot n c (path ++ e ∷ []))) else Wrong
+next_rule (rules.Effect n c path e) lexemes.Dot = if nat_lt (length path) 4 then More (places.Rule (rules.Dot n c (path ++ e ∷ []))) else Wrong
 next_rule (rules.Dot n c path) (lexemes.Name t) = More (places.Rule (rules.Effect n c path t))
 next_rule p k = Wrong
 

@@ -1,7 +1,6 @@
 -- The lines of a text.
 use Rattle.std.specs.Prelude.{◌≡◌, ℕ, ◌+◌, ◌<◌, ◌≤◌, ◌↔◌, ◌⊎◌, ◌==◌, List, [], ◌∷◌, ◌++◌, length, Some, slice_get, slice_range}
 use Rattle.std.specs.List.{All, Contains, slice_split, enumerate_from}
-use Rattle.cb_text.specs.declared.limits.TheConstants.{LONGEST_LINE}
 use Rattle.cb_text.specs.declared.line.LineAt.{LineAt}
 
 -- what follows the last LF is a line where it has a byte
@@ -46,9 +45,13 @@ MeetsFrom text from number (met ∷ later) =
 abbrev pub LinesAreMet : Type 0
 LinesAreMet = (text : List ℕ) (met : List (ℕ × List ℕ)) → MeetsFrom text 0 1 met ↔ (met ≡ numbered_lines text)
 
+-- a line has at most so many bytes, without its LF
+abbrev pub longest_line : ℕ
+longest_line = 4096
+
 -- the line has no byte too many
 abbrev pub IsShort : List ℕ → Type 0
-IsShort line = length line ≤ LONGEST_LINE
+IsShort line = length line ≤ longest_line
 
 -- no line of the text is too long
 abbrev pub HasShortLines : List ℕ → Type 0
@@ -66,4 +69,4 @@ pub record IsFirstLong (text : List ℕ) (number : ℕ) : Type 0 where
   pub line : List ℕ
   pub is : IsLineOf text number before line
   pub short : All IsShort before
-  pub long : LONGEST_LINE < length line
+  pub long : longest_line < length line

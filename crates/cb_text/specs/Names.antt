@@ -2,7 +2,10 @@
 use Rattle.std.specs.Prelude.{◌≡◌, ◌≢◌, ℕ, ◌≤◌, ◌++◌, List, [], ◌∷◌, length, Bool, ◌||◌, ◌==◌, IsTrue, codes}
 use Rattle.std.specs.List.{All, Contains}
 use Rattle.std.specs.Int.{is_in_range}
-use Rattle.cb_text.specs.declared.limits.TheConstants.{LONGEST_NAME}
+
+-- a name has at most so many bytes, be it of an instance or of anything else
+abbrev pub longest_name : ℕ
+longest_name = 63
 
 -- an ASCII letter
 abbrev pub is_letter : ℕ → Bool
@@ -30,13 +33,13 @@ IsRun (b ∷ bs) = IsTrue (is_letter b) × All (λ c. IsTrue (is_name_byte c)) b
 -- the name of a class, an event, a relation or a rule
 pub record IsName (bytes : List ℕ) : Type 0 where
   pub run : IsRun bytes
-  pub short : length bytes ≤ LONGEST_NAME
+  pub short : length bytes ≤ longest_name
   pub free : ¬ Contains reserved_words bytes
 
 -- the name of an instance or of a source
 pub record IsInstance (bytes : List ℕ) : Type 0 where
   pub some : bytes ≢ []
-  pub short : length bytes ≤ LONGEST_NAME
+  pub short : length bytes ≤ longest_name
   pub bytes_are : All (λ b. IsTrue (is_instance_byte b)) bytes
 
 -- a node, written `event@instance`
