@@ -2,7 +2,7 @@
 use Rattle.std.specs.Prelude.{◌≡◌, ◌≢◌, ℕ, suc, ◌<◌, ◌≤◌, List, [], ◌∷◌, length, Some, None, slice_get, IfSome, true}
 use Rattle.std.specs.List.{All, AllPairs}
 use Rattle.cb_text.specs.Names.{IsName}
-use Rattle.cb_model.specs.declared.limits.TheConstants.{MOST_CLASSES, MOST_ANCESTORS, MOST_EVENTS, MOST_RELATIONS, MOST_RULES}
+use Rattle.cb_model.specs.Limits.{class_limit, ancestor_limit, event_limit, relation_limit, rule_limit}
 use Rattle.cb_model.specs.declared.id.ClassId.{ClassId}
 use Rattle.cb_model.specs.declared.id.EventId.{EventId}
 use Rattle.cb_model.specs.declared.id.RelId.{RelId}
@@ -78,7 +78,7 @@ pub record KeepsTypeRules (t : Tables) : Type 0 where
   -- no class is its own ancestor
   pub no_loop : (c : ClassId) (n : ℕ) → ancestor t c (suc n) ≢ Some c
   -- each class has few ancestors
-  pub depth : (c : ClassId) → ancestor t c (suc MOST_ANCESTORS) ≡ None
+  pub depth : (c : ClassId) → ancestor t c (suc ancestor_limit) ≡ None
   -- in a class and its ancestors no name is declared twice
   pub member_names : (c d : ClassId) (one other : Member) (name : List ℕ) → IsA t c d → Declares t c one name → Declares t d other name → one ≡ other
   -- the inverse of each relation leads back to it
@@ -92,11 +92,11 @@ pub record KeepsTypeRules (t : Tables) : Type 0 where
   -- a class hides only events that it has, and that are marked symptom
   pub hidden : All (λ row. (has : HasEvent t row.class row.event) × (has.row.symptom ≡ true)) t.hides
   -- there are few classes
-  pub few_classes : length t.classes ≤ MOST_CLASSES
+  pub few_classes : length t.classes ≤ class_limit
   -- each class has few events, few relations, and few rules with those that it blocks
-  pub few_events : (c : ClassId) → AtMost MOST_EVENTS (HasEvent t c)
-  pub few_relations : (c : ClassId) → AtMost MOST_RELATIONS (HasRelation t c)
-  pub few_rules : (c : ClassId) → AtMost MOST_RULES (InheritsRule t c)
+  pub few_events : (c : ClassId) → AtMost event_limit (HasEvent t c)
+  pub few_relations : (c : ClassId) → AtMost relation_limit (HasRelation t c)
+  pub few_rules : (c : ClassId) → AtMost rule_limit (InheritsRule t c)
 
 -- the tables are those of a model
 pub record WellTyped (t : Tables) : Type 0 where

@@ -46,12 +46,12 @@ abbrev pub LinesAreMet : Type 0
 LinesAreMet = (text : List ℕ) (met : List (ℕ × List ℕ)) → MeetsFrom text 0 1 met ↔ (met ≡ numbered_lines text)
 
 -- a line has at most so many bytes, without its LF
-abbrev pub longest_line : ℕ
-longest_line = 4096
+abbrev pub line_limit : ℕ
+line_limit = 4096
 
 -- the line has no byte too many
 abbrev pub IsShort : List ℕ → Type 0
-IsShort line = length line ≤ longest_line
+IsShort line = length line ≤ line_limit
 
 -- no line of the text is too long
 abbrev pub HasShortLines : List ℕ → Type 0
@@ -69,4 +69,4 @@ pub record IsFirstLong (text : List ℕ) (number : ℕ) : Type 0 where
   pub line : List ℕ
   pub is : IsLineOf text number before line
   pub short : All IsShort before
-  pub long : longest_line < length line
+  pub long : line_limit < length line
