@@ -25,7 +25,7 @@ use Rattle.cb_graph.specs.Edges.{EdgeAt, number}
 use Rattle.cb_graph.proofs.Chains.{named_once, lead_to_caused}
 use Rattle.cb_matrix.specs.Codes.{IsOnce, IsBelow, IsCodeOf}
 use Rattle.cb_matrix.specs.Searched.{IsCodeFrom, AreProblemsAt, HaveRows}
-use Rattle.cb_matrix.specs.Fits.{IsMatrixOf}
+use Rattle.cb_matrix.specs.Matrix.{IsMatrixOf}
 use Rattle.cb_matrix.specs.declared.matrix.Matrix.{Matrix}
 
 -- a set's code is a search's, where the set is what was found
@@ -197,7 +197,3 @@ no_rows n rows room are is = subst (HaveRows n) (sym are) (record {
   room = length-replicate room None ∙ is;
   finished = none_finished (EdgeAt n) (length n.nodes) room;
 })
-
--- what holds of all holds at each place
-pub all_at : {X : Type 0} (P : X → Type 0) (xs : List X) (i : ℕ) (x : X) → All P xs → slice_get xs i ≡ Some x → P x
-all_at P xs i x all at = subst P (get_or_from_slice_get xs i x x at) (all i x (slice_get_within xs i x at))

@@ -94,12 +94,6 @@ module _ (columns : List NodeId) (reached : List Bool) (to : ℕ) (code : List B
     pub coded_on : slice_get places node ≡ Some None → IsCodedTo columns reached (node + 1) code
     coded_on at = coded_past (λ k is. let both : Some (Some k) ≡ Some None = sym (are.all node k is) ∙ at in absurd (cc))
 
-pub has_within : (row : List Bool) (k : ℕ) → Has row k → k < length row
-has_within row k has = elim (cases_lt k (length row)) [
-  | inl low ↦ low
-  | inr high ↦ absurd (let e = get_or_past row k false high in cc)
-]
-
 pub all_coded : (columns : List NodeId) (reached : List Bool) (to : ℕ) (code : List Bool) → IsCodedTo columns reached to code → HasNoneFrom reached to
     → IsCodeOf columns reached code
 all_coded columns reached to code old none = record {

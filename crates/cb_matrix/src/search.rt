@@ -53,8 +53,8 @@ pub fn coded<L: Ledger>(
 }
 
 // The rows of every sixteenth problem, where it causes much, at their numbers. A later search along a chain soon meets one of
-// them, whichever way it runs. The problems are taken by their places with the bits reversed, so that these searches too soon
-// meet one another's rows.
+// them, whichever way it runs. The problems are taken by their places with the bits reversed, so that these searches, too, meet
+// one another's rows early.
 fn rows_ahead<L: Ledger>(
     alloc: Global,
     graph: &mut Graph,
@@ -68,7 +68,7 @@ fn rows_ahead<L: Ledger>(
     let room = graph.topology().node_room();
     let mut finished = no_rows(alloc, room)?;
     let mut done = Row::zeroed(alloc, room)?;
-    for k in 0..u16::MAX / 16 {
+    for k in 0..4_096_u16 {
         let place = k.reverse_bits() as usize;
         if place < nodes.len() {
             let node = *nodes.at(place);

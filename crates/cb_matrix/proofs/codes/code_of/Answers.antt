@@ -1,6 +1,7 @@
 use Rattle.std.proofs.Common.{◌≡◌, ◌<◌, length, Some, refl, ap, ◌∙◌, arith}
 use Rattle.std.proofs.lemmas.Option.{slice_get_read}
-use Rattle.cb_matrix.proofs.Passed.{coded_here, coded_on, place_low, has_within}
+use Rattle.cb_graph.proofs.Listing.{has_within}
+use Rattle.cb_matrix.proofs.Passed.{coded_here, coded_on, place_low}
 use Rattle.cb_matrix.proofs.codes.code_of.Goals as goal
 use Rattle.cb_matrix.proofs.codes.code_of.Goals.{in-Some-index, in_default-index}
 
