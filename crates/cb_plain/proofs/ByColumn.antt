@@ -7,7 +7,7 @@ use Rattle.std.proofs.lemmas.Option.{get_or_from_slice_get}
 use Rattle.cb_bits.specs.Bits.{IsNextOne, HasNoneFrom}
 use Rattle.cb_coding.specs.Distance.{bit, code_at}
 use Rattle.cb_plain.specs.Holders.{AreHolders, AddsPlace}
-use Rattle.cb_plain.proofs.Sparse.{one_more_passes, one_more_fails}
+use Rattle.cb_plain.proofs.Passing.{one_more_passes, one_more_fails}
 
 -- what a code has is below its width
 pub had_within : (code : List Bool) (column : ℕ) → bit code column ≡ true → column < length code

@@ -18,7 +18,7 @@ use Rattle.cb_plain.specs.Closest.{Beats, Improves}
 use Rattle.cb_plain.specs.Holders.{AreHolders, holders_of}
 use Rattle.cb_plain.specs.Sharing.{shared, columns_of, times, AreTimes, AreSharing}
 use Rattle.cb_plain.proofs.Places.{code_at_is}
-use Rattle.cb_plain.proofs.Sparse.{passing, passing_more, one_more_passes, one_more_fails}
+use Rattle.cb_plain.proofs.Passing.{passing, passing_more, one_more_passes, none_further}
 
 -- what an item adds to a count
 abbrev once : Bool → ℕ
@@ -62,14 +62,6 @@ module _ (passes : ℕ → Bool) where
             let here = another i n (λ e. other (sym e)) in
             omega arith
       ]
-
-  -- none passes from a number on
-  stays : (from n to : ℕ) → from + n ≡ to → ((k : ℕ) → from ≤ k → k < to → passes k ≡ false) → passing passes to ≡ passing passes from
-  stays from zero to e none = ap (passing passes) (let same : to ≡ from = omega arith in same)
-  stays from (suc n) to e none =
-      let last : to ≡ from + n + 1 = omega arith in
-      ap (passing passes) last ∙ sym (one_more_fails passes (from + n) (none (from + n) (omega arith) (omega arith)))
-      ∙ stays from n (from + n) refl (λ k le lt. none k le (omega arith))
 
 -- a place stands there where it is found
 pub stands : (places : List ℕ) (k d : ℕ) → k < length places → 0 < times (get_or places k d) places
@@ -177,14 +169,14 @@ module _ (code : List Bool) (list : ℕ → List ℕ) where
   joined_next from column next =
       let on = next.on in
       let gap : from + (column - from) ≡ column = omega arith in
-      let before = stays (bit code) from (column - from) column gap next.first in
+      let before = none_further (bit code) from (column - from) column gap next.first in
       sym (ap (flat_map list) (sym (one_more_passes (bit code) column next.is) ∙ ap (λ ks. ks ++ column ∷ []) before)
       ∙ flat_map-append list (passing (bit code) from) (column ∷ []) ∙ ap (λ ks. joined_below code list from ++ ks) (append-nil (list column)))
 
   pub joined_last : (from : ℕ) → from ≤ length code → HasNoneFrom code from → joined_below code list from ≡ flat_map list (columns_of code)
   joined_last from le none =
       let gap : from + (length code - from) ≡ length code = omega arith in
-      ap (flat_map list) (sym (stays (bit code) from (length code - from) (length code) gap (λ k late lt. none k late)))
+      ap (flat_map list) (sym (none_further (bit code) from (length code - from) (length code) gap (λ k late lt. none k late)))
 
 -- the place is still to come and has its count, or its pair is beaten and its count is 0
 abbrev pub IsInTurn : ℕ → List (List Bool) → Option Pair → ℕ → List ℕ → ℕ → List ℕ → ℕ → Type 0

@@ -1,14 +1,11 @@
 -- Codes after a zero code, by the columns that they share.
-use Rattle.std.proofs.Common.{◌≡◌, ℕ, zero, suc, ◌+◌, ◌*◌, ◌<◌, List, [], ◌∷◌, ◌++◌, length, slice_get, filter, Some, Option, Bool, true, false, ◌&&◌, cond, refl, ap, subst, ◌∙◌, inl, inr, arith}
+use Rattle.std.proofs.Common.{◌≡◌, ℕ, zero, suc, ◌+◌, ◌*◌, ◌<◌, List, [], ◌∷◌, length, slice_get, Some, Option, Bool, true, false, ◌&&◌, cond, refl, ap, subst, ◌∙◌, inl, inr, arith}
 use Rattle.std.specs.List.{count_by}
 use Rattle.std.proofs.lemmas.Bool.{cases_lt, cases_eq}
 use Rattle.std.proofs.lemmas.List.Sums.{sum_by-cons}
-use Rattle.std.proofs.lemmas.List.Elements.{filter-append}
-use Rattle.std.proofs.lemmas.List.{append-nil}
 use Rattle.cb_coding.specs.declared.book.Pair.{Pair}
 use Rattle.cb_coding.specs.Distance.{distance, differ, bit, apart, all_columns, code_at}
 use Rattle.cb_coding.specs.Pairs.{IsPair, ComesBefore}
-use Rattle.cb_coding.proofs.Distances.{all_columns_more}
 use Rattle.cb_plain.specs.Closest.{AreFromFirst, Beats, StartsWithZero}
 use Rattle.cb_plain.specs.Sharing.{shared, BeatsSharing}
 
@@ -105,17 +102,3 @@ module _ (width : ℕ) (codes : List (List Bool)) (starts : StartsWithZero codes
       | inr none ↦ beats_apart best quiet i j (omega arith) pair (omega arith)
     ]
   ]
-
--- the numbers below one that pass a test
-module _ (passes : ℕ → Bool) where
-  abbrev pub passing : ℕ → List ℕ
-  passing n = filter passes (all_columns n)
-
-  pub passing_more : (n : ℕ) → passing (n + 1) ≡ passing n ++ filter passes (n ∷ [])
-  passing_more n = ap (filter passes) (all_columns_more n) ∙ filter-append passes (all_columns n) (n ∷ [])
-
-  pub one_more_passes : (n : ℕ) → passes n ≡ true → passing n ++ n ∷ [] ≡ passing (n + 1)
-  one_more_passes n is = rw (passing_more n, is) refl
-
-  pub one_more_fails : (n : ℕ) → passes n ≡ false → passing n ≡ passing (n + 1)
-  one_more_fails n isnt = rw (passing_more n, isnt, append-nil) refl

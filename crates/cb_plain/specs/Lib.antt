@@ -1,6 +1,5 @@
 pub mod Closest
 pub mod Holders
 pub mod Sharing
-pub mod AtDistance
 pub mod Finds
 pub mod Grouped
