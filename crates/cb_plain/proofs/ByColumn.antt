@@ -1,13 +1,13 @@
--- Lists of the codes that have a column, one code further, and column by column.
+-- Lists of the codes that have a column, one code further.
 use Rattle.std.proofs.Common.{◌≡◌, ℕ, ◌+◌, ◌<◌, List, [], ◌∷◌, ◌++◌, length, slice_index_or, slice_get, slice_set, replicate, Some, Bool, true, false, refl, sym, ap, ◌∙◌, inl, inr, arith}
 use Rattle.std.proofs.lemmas.Bool.{cases_lt, cases_eq, cases_Bool, both_ways}
 use Rattle.std.proofs.lemmas.Grind.{get_or-set_at}
-use Rattle.std.proofs.lemmas.List.{get_or_past, get_or_default, get_or-replicate, get_or-set_other, length-set, length-replicate}
+use Rattle.std.proofs.lemmas.List.{get_or_past, get_or-replicate, get_or-set_other, length-set, length-replicate}
 use Rattle.std.proofs.lemmas.Option.{get_or_from_slice_get}
 use Rattle.cb_bits.specs.Bits.{IsNextOne, HasNoneFrom}
 use Rattle.cb_coding.specs.Distance.{bit, code_at}
-use Rattle.cb_plain.specs.Holders.{holders_of, AreHolders, AddsPlace}
-use Rattle.cb_plain.proofs.Sparse.{one_more_holder, no_more_holder}
+use Rattle.cb_plain.specs.Holders.{AreHolders, AddsPlace}
+use Rattle.cb_plain.proofs.Passing.{one_more_passes, one_more_fails}
 
 -- what a code has is below its width
 pub had_within : (code : List Bool) (column : ℕ) → bit code column ≡ true → column < length code
@@ -77,15 +77,7 @@ module _ (width : ℕ) (codes : List (List Bool)) where
   more_holders n old new holders adds = record {
     all = adds.all ∙ holders.all;
     each = λ column lt. elim (cases_Bool (bit (code_at codes n) column)) [
-      | inl is ↦ adds.has column is ∙ ap (λ places. places ++ n ∷ []) (holders.each column lt) ∙ one_more_holder codes column n is
-      | inr isnt ↦ adds.hasnt column isnt ∙ holders.each column lt ∙ no_more_holder codes column n isnt
+      | inl is ↦ adds.has column is ∙ ap (λ places. places ++ n ∷ []) (holders.each column lt) ∙ one_more_passes (λ i. bit (code_at codes i) column) n is
+      | inr isnt ↦ adds.hasnt column isnt ∙ holders.each column lt ∙ one_more_fails (λ i. bit (code_at codes i) column) n isnt
     ];
   }
-
-  -- the list of a column, where all are gone over in turn
-  pub list_is : (n : ℕ) (lists items : List (List ℕ)) → AreHolders width codes n lists → items ≡ lists → (column : ℕ) → column < length items
-      → (list places : List ℕ) → list ≡ slice_index_or items column list → places ≡ list → places ≡ holders_of codes column n
-  list_is n lists items holders same column lt list places at is =
-      let all = holders.all in
-      let long = ap length same in
-      is ∙ at ∙ get_or_default items column list [] lt ∙ ap (λ ls. slice_index_or ls column []) same ∙ holders.each column (omega arith)

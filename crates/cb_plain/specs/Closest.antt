@@ -1,7 +1,6 @@
 -- The best of the pairs that were tried, in any order.
 use Rattle.std.specs.Prelude.{◌≡◌, ℕ, false, length, ◌<◌, ◌≤◌, ◌^◌, ◌⊎◌, List, Bool, Option, None, Some, slice_get, ⊤}
 use Rattle.cb_coding.specs.declared.book.Pair.{Pair}
-use Rattle.std.specs.List.{All, AllPairs}
 use Rattle.cb_coding.specs.Distance.{apart, all_columns, code_at, bit, HaveWidth}
 use Rattle.cb_coding.specs.Pairs.{IsPair, ComesBefore}
 
@@ -16,11 +15,6 @@ pub record AreCompared (width : ℕ) (codes : List (List Bool)) (far : List ℕ)
   pub places_fit : length codes < 2 ^ 32
   pub columns_fit : width < 2 ^ 32
   pub from_first : AreFromFirst width codes far
-
--- places of so many codes, in order
-pub record ArePlaces (count : ℕ) (places : List ℕ) : Type 0 where
-  pub rise : AllPairs (λ i j. i < j) places
-  pub within : All (λ i. i < count) places
 
 -- what is told of the pair is so
 abbrev pub IsTold : ℕ → List (List Bool) → Option Pair → Type 0
@@ -46,7 +40,3 @@ IsBetter i j d (Some pair) = (d < pair.distance) ⊎ ((d ≡ pair.distance) × C
 -- the first code has no symptom
 abbrev pub StartsWithZero : List (List Bool) → Type 0
 StartsWithZero codes = (0 < length codes) × ((column : ℕ) → bit (code_at codes 0) column ≡ false)
-
--- two different indices of places, the lesser first
-abbrev pub IsPairOf : List ℕ → ℕ → ℕ → Type 0
-IsPairOf places k l = (k < l) × (l < length places)

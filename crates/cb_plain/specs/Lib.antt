@@ -1,5 +1,5 @@
 pub mod Closest
 pub mod Holders
-pub mod AtDistance
+pub mod Sharing
 pub mod Finds
 pub mod Grouped

@@ -1,12 +1,11 @@
 //! The closest pair of codes.
-ghost use Rattle.std.specs.Prelude.{◌≡◌, ◌<◌, ◌≤◌, ◌^◌, ◌↔◌, ℕ, length, IsTrue, IfOk, slice_index_or};
-ghost use Rattle.std.specs.List.{Contains};
+ghost use Rattle.std.specs.Prelude.{◌≡◌, ◌<◌, ◌≤◌, ◌^◌, ◌↔◌, ℕ, length, IsTrue, IfOk};
 ghost use Rattle.cb_coding.specs.Distance.{HaveWidth};
 ghost use Rattle.cb_coding.specs.Pairs.{IsPair, ComesBefore, IsLeast};
-ghost use Rattle.cb_plain.specs.Closest.{AreFromFirst, AreCompared, ArePlaces, IsTold, Beats, Improves, IsBetter, StartsWithZero, IsPairOf};
+ghost use Rattle.cb_plain.specs.Closest.{AreFromFirst, AreCompared, IsTold, Beats, Improves, IsBetter, StartsWithZero};
 
-use crate::holders::holders_by_column;
 use crate::measure::{distance, distance_below};
+use crate::sharing::least_of_sharing;
 use cb_bits::Row;
 use cb_coding::Pair;
 use cb_model::List;
@@ -48,15 +47,17 @@ fn starts_with_zero(codes: &List<Row>) -> bool
     codes.len() > 0 && codes.at(0).ones() == 0
 }
 
-// Whether codes have so few symptoms on average, told by how far each is from the zero code, that it is quicker to try
-// those pairs alone which share a column.
+// Whether codes have so few symptoms on average, told by how far each is from the zero code, that it is quicker to count
+// what they share. That takes a step for each column that a pair shares, mean * mean / width on average. To compare the
+// pair takes between one step and one for each word; the rule is right in the middle, where that is a product.
 fn are_sparse(far: &List<u32>, width: usize) -> bool {
     let mut symptoms: usize = 0;
     for distance in far.as_slice() {
         symptoms = symptoms.saturating_add(*distance as usize);
     }
     let mean = symptoms / far.len().max(1);
-    mean.saturating_mul(mean) < width
+    let shared = mean.saturating_mul(mean) / width.max(1);
+    shared.saturating_mul(shared) < (width / 64).max(1)
 }
 
 // The closest pair, found among all.
@@ -71,77 +72,8 @@ fn least_of_all(codes: &List<Row>, far: &List<u32>, width: usize) -> Option<Pair
     best
 }
 
-// The closest pair, found among those with the zero code and those that share a column: two other codes are as far
-// apart as both are from the zero code together.
-fn least_of_sharing(
-    alloc: Global,
-    codes: &List<Row>,
-    far: &List<u32>,
-    width: usize,
-) -> Result<Option<Pair>, AllocError>
-    requires compared { AreCompared width codes.now far.now }
-    requires zero { StartsWithZero codes.now }
-    ensures { IfOk result (IsLeast width codes.now) }
-{
-    let mut best = closest_from(codes, far, width, 0, None);
-    let lists = holders_by_column(alloc, codes, width)?;
-    for places in &lists {
-        best = closest_among(codes, far, width, places.as_slice(), best);
-    }
-    Ok(best)
-}
-
-// The best of the pairs of these places, and of the best so far.
-fn closest_among(
-    codes: &List<Row>,
-    far: &List<u32>,
-    width: usize,
-    places: &[u32],
-    mut best: Option<Pair>,
-) -> Option<Pair>
-    requires compared { AreCompared width codes.now far.now }
-    requires places { ArePlaces (length codes.now) places.now }
-    requires told { IsTold width codes.now best }
-    ensures improves { Improves width codes.now best result }
-    ensures beats { (i j : ℕ) → i < j → Contains places.now i → Contains places.now j → Beats width codes.now result i j }
-{
-    for k in 0..places.len() {
-        best = closest_after(codes, far, width, places, k, best);
-    }
-    best
-}
-
-// The best of the pairs of one of these places with those after it, and of the best so far.
-fn closest_after(
-    codes: &List<Row>,
-    far: &List<u32>,
-    width: usize,
-    places: &[u32],
-    k: usize,
-    mut best: Option<Pair>,
-) -> Option<Pair>
-    requires compared { AreCompared width codes.now far.now }
-    requires places { ArePlaces (length codes.now) places.now }
-    requires told { IsTold width codes.now best }
-    requires place { k < length places.now }
-    ensures improves { Improves width codes.now best result }
-    ensures beats { (l : ℕ) → IsPairOf places.now k l → Beats width codes.now result (slice_index_or places.now k 0) (slice_index_or places.now l 0) }
-{
-    for l in k + 1..places.len() {
-        best = closer(
-            codes,
-            far,
-            width,
-            places[k] as usize,
-            places[l] as usize,
-            best,
-        );
-    }
-    best
-}
-
 // The best of the pairs that have this first place, and of the best so far.
-fn closest_from(
+pub(crate) fn closest_from(
     codes: &List<Row>,
     far: &List<u32>,
     width: usize,
@@ -191,7 +123,7 @@ fn closer(
 }
 
 // What the distance of this pair has to stay below for it to be better than the best so far.
-fn limit(width: usize, first: usize, second: usize, best: Option<Pair>) -> usize
+pub(crate) fn limit(width: usize, first: usize, second: usize, best: Option<Pair>) -> usize
     requires { width < 2 ^ 32 }
     ensures { (d : ℕ) → d ≤ width → d < result ↔ IsBetter first second d best }
 {

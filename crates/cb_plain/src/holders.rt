@@ -1,31 +1,13 @@
 //! Which codes have a column, for all columns at once.
-ghost use Rattle.std.specs.Prelude.{◌≡◌, ◌<◌, ◌^◌, [], length, replicate, IfOk, OnOk};
-ghost use Rattle.cb_coding.specs.Distance.{HaveWidth};
-ghost use Rattle.cb_plain.specs.Holders.{AreHolders, AddsPlace};
+ghost use Rattle.std.specs.Prelude.{◌≡◌, [], length, replicate, IfOk, OnOk};
+ghost use Rattle.cb_plain.specs.Holders.{AddsPlace};
 
 use cb_bits::Row;
 use cb_model::List;
 use std::alloc::{AllocError, Global};
 
-/// For each column, the places of the codes that have it, in order. Only what a code has is looked at.
-pub fn holders_by_column(
-    alloc: Global,
-    codes: &List<Row>,
-    width: usize,
-) -> Result<Vec<List<u32>>, AllocError>
-    requires have_width { HaveWidth width codes.now }
-    requires places_fit { length codes.now < 2 ^ 32 }
-    ensures { IfOk result (λ lists. AreHolders width codes.now (length codes.now) lists.items) }
-{
-    let mut lists = empty_lists(alloc, width)?;
-    for i in 0..codes.len() {
-        add_place(&mut lists, codes.at(i), i as u32)?;
-    }
-    Ok(lists)
-}
-
-// So many empty lists.
-fn empty_lists(alloc: Global, count: usize) -> Result<Vec<List<u32>>, AllocError>
+/// So many empty lists.
+pub fn empty_lists(alloc: Global, count: usize) -> Result<Vec<List<u32>>, AllocError>
     ensures { IfOk result (λ lists. lists.items ≡ replicate count []) }
 {
     let mut lists = Vec::new(alloc);
@@ -35,8 +17,8 @@ fn empty_lists(alloc: Global, count: usize) -> Result<Vec<List<u32>>, AllocError
     Ok(lists)
 }
 
-// Adds the place of a code to the lists of the columns that it has.
-fn add_place(lists: &mut Vec<List<u32>>, code: &Row, place: u32) -> Result<(), AllocError>
+/// Adds the place of a code to the lists of the columns that it has.
+pub fn add_place(lists: &mut Vec<List<u32>>, code: &Row, place: u32) -> Result<(), AllocError>
     requires { length code.now ≡ length lists.old.items }
     ensures { OnOk result (AddsPlace code.now place lists.old.items lists.new.items) }
 {

@@ -8,6 +8,7 @@ mod grouping;
 mod holders;
 mod measure;
 mod reduce;
+mod sharing;
 
 pub use closest::least;
 pub use decode::nearest;
