@@ -1,23 +1,20 @@
 -- How often places stand in the lists of a code's columns.
-use Rattle.std.proofs.Common.{◌≡◌, ℕ, zero, suc, ◌+◌, ◌-◌, ◌<◌, ◌≤◌, List, [], ◌∷◌, ◌++◌, length, get_or, take, set, replicate, slice_get, filter, Option, Some, Bool, true, false, ◌&&◌, ◌==◌, cond, refl, sym, ap, subst, ◌∙◌, inl, inr, ◌⊎◌, arith}
+use Rattle.std.proofs.Common.{◌≡◌, ℕ, zero, suc, ◌+◌, ◌-◌, ◌<◌, ◌≤◌, List, [], ◌∷◌, ◌++◌, length, get_or, take, replicate, slice_get, filter, Some, Bool, true, false, ◌&&◌, ◌==◌, cond, refl, sym, ap, subst, ◌∙◌, inl, inr, arith}
 use Rattle.std.specs.List.{Contains, All, count_by, flat_map}
 use Rattle.std.proofs.lemmas.Bool.{cases_lt, cases_eq, cases_Bool, eq-eqb, ne_eqb}
-use Rattle.std.proofs.lemmas.List.{append-nil, get_or-replicate, get_or-set_other, ext_get_or, length-set, length-replicate, take_all, take-append-le}
-use Rattle.std.proofs.lemmas.List.Sums.{sum_by-cons, sum_by-append, get_or-le-sum_by, count_by-le-length, count_by_more_no}
+use Rattle.std.proofs.lemmas.List.{append-nil, length-replicate, take_all, take-append-le}
+use Rattle.std.proofs.lemmas.List.Sums.{sum_by-cons, sum_by-append, get_or-le-sum_by, count_by-le-length}
 use Rattle.std.proofs.lemmas.List.Elements.{All-head, All-tail}
 use Rattle.std.proofs.lemmas.List.FromFn.{length-range_with_len}
 use Rattle.std.proofs.lemmas.Option.{slice_get_within}
 use Rattle.std.proofs.lemmas.List.Concat.{flat_map-append}
-use Rattle.std.proofs.lemmas.Grind.{get_or-set_at}
 use Rattle.cb_bits.specs.Bits.{IsNextOne, HasNoneFrom}
 use Rattle.cb_model.proofs.Rising.{contains_head, contains_tail}
-use Rattle.cb_coding.specs.declared.book.Pair.{Pair}
 use Rattle.cb_coding.specs.Distance.{HaveWidth, bit, all_columns, code_at}
 use Rattle.cb_coding.proofs.Distances.{below_from_all_columns}
-use Rattle.cb_plain.specs.Closest.{Beats, Improves}
-use Rattle.cb_plain.specs.Holders.{AreHolders, holders_of}
-use Rattle.cb_plain.specs.Sharing.{shared, columns_of, times, AreTimes, AreSharing}
+use Rattle.cb_plain.specs.Sharing.{shared, columns_of, times, AreSharing}
 use Rattle.cb_plain.proofs.Places.{code_at_is}
+use Rattle.cb_plain.proofs.ByColumn.{holders_of, AreHolders}
 use Rattle.cb_plain.proofs.Passing.{passing, passing_more, one_more_passes, none_further}
 
 -- what an item adds to a count
@@ -177,80 +174,6 @@ module _ (code : List Bool) (list : ℕ → List ℕ) where
   joined_last from le none =
       let gap : from + (length code - from) ≡ length code = omega arith in
       ap (flat_map list) (sym (none_further (bit code) from (length code - from) (length code) gap (λ k late lt. none k late)))
-
--- the place is still to come and has its count, or its pair is beaten and its count is 0
-abbrev pub IsInTurn : ℕ → List (List Bool) → Option Pair → ℕ → List ℕ → ℕ → List ℕ → ℕ → Type 0
-IsInTurn width codes best second places n counts i =
-    ((times i (take n places) ≡ 0) × (get_or counts i 0 ≡ times i places)) ⊎ ((get_or counts i 0 ≡ 0) × Beats width codes best i second)
-
-module _ (width : ℕ) (codes : List (List Bool)) (second : ℕ) (places : List ℕ) where
-  abbrev pub AreInTurn : Option Pair → ℕ → List ℕ → Type 0
-  AreInTurn best n counts = (i : ℕ) → i < length counts → IsInTurn width codes best second places n counts i
-
-  pub all_to_come : (best : Option Pair) (counts : List ℕ) → AreTimes places counts → AreInTurn best 0 counts
-  all_to_come best counts counted i lt = inl (refl, counted i lt)
-
-  -- at the place that is next
-  module _ (n : ℕ) (lt : n < length places) (counts : List ℕ) where
-    abbrev next : ℕ
-    next = get_or places n 0
-
-    not_yet : (i : ℕ) → (next ≡ i → ⊥) → times i (take n places) ≡ 0 → times i (take (n + 1) places) ≡ 0
-    not_yet i other none = count_by_more_no (λ k. k == i) places n 0 lt (ne_eqb next i other) ∙ none
-
-    -- a place whose count is 0 is beaten already
-    pub was_beaten : (best : Option Pair) → AreInTurn best n counts → get_or counts next 0 ≡ 0 → AreInTurn best (n + 1) counts
-    was_beaten best turn zeroed i within = elim (turn i within) [
-      | inl (none, count) ↦ inl (
-        not_yet i (λ e. let some = stands places n 0 lt in let same = ap (λ k. times k places) e in let at = ap (λ k. get_or counts k 0) e in omega arith) none,
-        count,
-      )
-      | inr beaten ↦ inr beaten
-    ]
-
-    -- and one that has a count is to come
-    pub has_count : (best : Option Pair) → AreInTurn best n counts → next < length counts → 0 < get_or counts next 0 → get_or counts next 0 ≡ times next places
-    has_count best turn within some = elim (turn next within) [
-      | inl (none, count) ↦ count
-      | inr (zeroed, beats) ↦ absurd (omega arith)
-    ]
-
-    pub now_beaten : (old new : Option Pair) → AreInTurn old n counts → Improves width codes old new → Beats width codes new next second
-        → AreInTurn new (n + 1) (set counts next 0)
-    now_beaten old new turn improves beats i within =
-        let long = length-set counts next 0 in
-        elim (cases_eq i next) [
-          | inl e ↦ inr (get_or-set_at counts next i 0 0 e (omega arith), subst (λ k. Beats width codes new k second) (sym e) beats)
-          | inr other ↦
-              let same = get_or-set_other counts next i 0 0 other in
-              elim (turn i (omega arith)) [
-                | inl (none, count) ↦ inl (not_yet i (λ e. other (sym e)) none, same ∙ count)
-                | inr (zeroed, beaten) ↦ inr (same ∙ zeroed, improves.no_less i second beaten)
-              ]
-        ]
-
-  -- behind the last place all counts are 0, and all places are beaten
-  module _ (best : Option Pair) (n : ℕ) (counts : List ℕ) (end : length places ≤ n) (turn : AreInTurn best n counts) where
-    no_count : (i : ℕ) → i < length counts → get_or counts i 0 ≡ 0
-    no_count i lt =
-        let all = ap (times i) (take_all n places end) in
-        elim (turn i lt) [
-          | inl (none, is) ↦ omega arith
-          | inr (zeroed, beats) ↦ zeroed
-        ]
-
-    pub no_counts : (count : ℕ) → length counts ≡ count → counts ≡ replicate count 0
-    no_counts count long =
-        ext_get_or 0 counts (replicate count 0) (long ∙ sym (length-replicate count 0))
-        (λ i lt. no_count i lt ∙ sym (get_or-replicate count i 0 0 (omega arith)))
-
-    pub all_beaten : (i : ℕ) → i < length counts → 0 < times i places → Beats width codes best i second
-    all_beaten i lt some =
-        let all = ap (times i) (take_all n places end) in
-        elim (turn i lt) [
-          | inl (none, is) ↦ absurd (omega arith)
-          | inr (zeroed, beats) ↦ beats
-        ]
 
 -- so many zeros, and a slice of them that was written through
 pub zeros_long : (n : ℕ) (counts : List ℕ) → counts ≡ replicate n 0 → length counts ≡ n

@@ -1,16 +1,6 @@
 -- Which codes have which columns.
-use Rattle.std.specs.Prelude.{◌≡◌, ℕ, ◌<◌, List, [], ◌∷◌, ◌++◌, length, Bool, true, false, slice_index_or}
-use Rattle.std.specs.List.{filter, range_with_len}
-use Rattle.cb_coding.specs.Distance.{bit, code_at}
-
--- which of the first n codes have the column, in order
-abbrev pub holders_of : List (List Bool) → ℕ → ℕ → List ℕ
-holders_of codes column n = filter (λ i. bit (code_at codes i) column) (range_with_len 0 n)
-
--- a list for each column: which of the first n codes have it
-pub record AreHolders (width : ℕ) (codes : List (List Bool)) (n : ℕ) (lists : List (List ℕ)) : Type 0 where
-  pub all : length lists ≡ width
-  pub each : (column : ℕ) → column < width → slice_index_or lists column [] ≡ holders_of codes column n
+use Rattle.std.specs.Prelude.{◌≡◌, ℕ, List, [], ◌∷◌, ◌++◌, length, Bool, true, false, slice_index_or}
+use Rattle.cb_coding.specs.Distance.{bit}
 
 -- the place comes last in the lists of the columns that the code has, and the others are as they were
 pub record AddsPlace (code : List Bool) (place : ℕ) (old new : List (List ℕ)) : Type 0 where

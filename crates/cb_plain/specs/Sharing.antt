@@ -18,8 +18,8 @@ abbrev pub times : ℕ → List ℕ → ℕ
 times i places = count_by (λ k. k == i) places
 
 -- each count says how often its place stands among these
-abbrev pub AreTimes : List ℕ → List ℕ → Type 0
-AreTimes places counts = (i : ℕ) → i < length counts → slice_index_or counts i 0 ≡ times i places
+abbrev pub AreCounts : List ℕ → List ℕ → Type 0
+AreCounts places counts = (i : ℕ) → i < length counts → slice_index_or counts i 0 ≡ times i places
 
 -- places of codes before this one, each as often as the two share a column
 pub record AreSharing (width : ℕ) (codes : List (List Bool)) (second : ℕ) (places : List ℕ) : Type 0 where

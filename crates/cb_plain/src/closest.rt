@@ -47,17 +47,15 @@ fn starts_with_zero(codes: &List<Row>) -> bool
     codes.len() > 0 && codes.at(0).ones() == 0
 }
 
-// Whether codes have so few symptoms on average, told by how far each is from the zero code, that it is quicker to count
-// what they share. That takes a step for each column that a pair shares, mean * mean / width on average. To compare the
-// pair takes between one step and one for each word; the rule is right in the middle, where that is a product.
+// Whether codes have so few symptoms on average, told by how far each is from the zero code, that two of them share less
+// than one column where no column is more frequent than another. Then it is quicker to count than to compare words.
 fn are_sparse(far: &List<u32>, width: usize) -> bool {
     let mut symptoms: usize = 0;
     for distance in far.as_slice() {
         symptoms = symptoms.saturating_add(*distance as usize);
     }
     let mean = symptoms / far.len().max(1);
-    let shared = mean.saturating_mul(mean) / width.max(1);
-    shared.saturating_mul(shared) < (width / 64).max(1)
+    mean.saturating_mul(mean) < width
 }
 
 // The closest pair, found among all.

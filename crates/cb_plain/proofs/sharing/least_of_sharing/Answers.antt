@@ -30,8 +30,8 @@ count-requires-clause-fits c =
     let narrow = c.requires.compared.columns_fit in
     λ i. let few = seldom c.args.width codes c.loop-second.second places sharing i in omega arith
 
-pub closest_counted-best-requires-clause-sharing : goal.closest_counted-best-requires-clause-sharing
-closest_counted-best-requires-clause-sharing c =
+pub closest_before-best-requires-clause-sharing : goal.closest_before-best-requires-clause-sharing
+closest_before-best-requires-clause-sharing c =
     are_sharing c.args.width c.args.codes.now c.loop-second.second c.at.result.now c.loop-second.holders.items c.deref.result.now
     c.in_ok-places.places.items c.deref-in-loop-second-2.result.now c.requires.compared.have_width c.at.ensures c.loop-second.invariant.holders
     c.deref.ensures.value c.in_ok-places.ensures c.deref-in-loop-second-2.ensures.value
@@ -52,18 +52,18 @@ loop-second-preserved c =
     let old = c.loop-second.holders.items in
     let new = c.add_place.new.lists.items in
     let invariant = c.loop-second.invariant in
-    let best = c.closest_counted-best.result in
-    let improves = c.closest_counted-best.ensures.improves in
+    let best = c.closest_before-best.result in
+    let improves = c.closest_before-best.ensures.improves in
     let all = zeros_long (length codes) c.loop-second.counts.items invariant.counts in
     let code_is = code_at_is codes second c.at-in-loop-second.result.now c.at-in-loop-second.ensures in
     record {
       told = improves.told;
       zero = λ j pair. improves.no_less 0 j (invariant.zero j pair);
       sharing = below_more (BeatsSharing c.args.width codes best) second
-          (λ j lt i before some. improves.no_less i j (invariant.sharing j lt i before some)) c.closest_counted-best.ensures.beats;
+          (λ j lt i before some. improves.no_less i j (invariant.sharing j lt i before some)) c.closest_before-best.ensures.beats;
       holders = more_holders c.args.width codes second old new invariant.holders (subst (λ code. AddsPlace code second old new) (sym code_is) c.in_ok-add_place.ensures);
-      counts = zeros_written (length c.deref_mut-in-loop-second.result.now) c.loop-second.counts.len (length codes) c.closest_counted-best.new.counts _
-          c.closest_counted-best.ensures.none c.deref_mut-in-loop-second.ensures.len (omega arith);
+      counts = zeros_written (length c.deref_mut-in-loop-second.result.now) c.loop-second.counts.len (length codes) c.closest_before-best.new.counts _
+          c.closest_before-best.ensures.none c.deref_mut-in-loop-second.ensures.len (omega arith);
     }
 
 pub returns : goal.returns

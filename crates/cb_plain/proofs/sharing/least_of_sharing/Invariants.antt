@@ -1,8 +1,8 @@
 use Rattle.std.proofs.Common.{◌≡◌, ◌<◌, ℕ, length, replicate}
 use Rattle.cb_coding.specs.Pairs.{IsPair}
 use Rattle.cb_plain.specs.Closest.{IsTold, Beats}
-use Rattle.cb_plain.specs.Holders.{AreHolders}
 use Rattle.cb_plain.specs.Sharing.{BeatsSharing}
+use Rattle.cb_plain.proofs.ByColumn.{AreHolders}
 use Rattle.cb_plain.proofs.sharing.least_of_sharing.Given as goal
 
 abbrev pub invariant-loop-second : goal.invariant-loop-second

@@ -1,6 +1,6 @@
 use Rattle.std.proofs.Common.{◌≡◌, ◌≤◌, ◌-◌, [], length, get_or}
 use Rattle.cb_plain.proofs.Counted.{joined_below}
-use Rattle.cb_plain.proofs.sharing.joined.Given as goal
+use Rattle.cb_plain.proofs.sharing.joined_lists.Given as goal
 
 abbrev pub invariant-loop-column : goal.invariant-loop-column
 invariant-loop-column l = record {

@@ -1,6 +1,6 @@
 use Rattle.std.proofs.Common.{length, arith}
-use Rattle.cb_plain.proofs.Counted.{all_beaten, no_counts}
-use Rattle.cb_plain.proofs.sharing.closest_counted.Goals as goal
+use Rattle.cb_plain.proofs.Turns.{all_beaten, no_counts}
+use Rattle.cb_plain.proofs.sharing.closest_before.Goals as goal
 
 pub returns-clause-beats : goal.returns-clause-beats
 returns-clause-beats c = λ i before some.

@@ -2,7 +2,7 @@ use Rattle.std.proofs.Common.{◌++◌, [], List, ℕ, get_or, ap, ◌∙◌, ar
 use Rattle.std.proofs.lemmas.List.{get_or_default}
 use Rattle.cb_plain.proofs.ByColumn.{had_within}
 use Rattle.cb_plain.proofs.Counted.{joined_below, joined_next, joined_last}
-use Rattle.cb_plain.proofs.sharing.joined.Goals as goal
+use Rattle.cb_plain.proofs.sharing.joined_lists.Goals as goal
 
 pub loop-column-preserved : goal.loop-column-preserved
 loop-column-preserved c =

@@ -1,6 +1,6 @@
 use Rattle.cb_plain.specs.Closest.{Improves}
-use Rattle.cb_plain.proofs.Counted.{AreInTurn}
-use Rattle.cb_plain.proofs.sharing.closest_counted.Given as goal
+use Rattle.cb_plain.proofs.Turns.{AreInTurn}
+use Rattle.cb_plain.proofs.sharing.closest_before.Given as goal
 
 abbrev pub invariant-loop-place : goal.invariant-loop-place
 invariant-loop-place l = record {

@@ -3,7 +3,7 @@ use Rattle.cb_coding.specs.Distance.{all_columns, apart, code_at}
 use Rattle.cb_plain.proofs.Places.{at_most_all}
 use Rattle.cb_plain.proofs.Sparse.{apart_by_far}
 use Rattle.cb_plain.proofs.Best.{no_worse, stays, takes, beats_itself}
-use Rattle.cb_plain.proofs.sharing.closer_sharing.Goals as goal
+use Rattle.cb_plain.proofs.sharing.closer_by_count.Goals as goal
 
 pub overflow_sub-distance : goal.overflow_sub-distance
 overflow_sub-distance c =
