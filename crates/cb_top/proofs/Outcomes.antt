@@ -76,12 +76,13 @@ no_output words (Err halt) status out out' err err' ends = on_no_output status (
 
 -- where there is no output, the line tells why
 pub says_why : (words : List (List ℕ)) (old new : FilesTold) (answer : Result (Vec ℕ Global) Halt) (status : Status) (out out' err err' : SinkTold)
-    → IfErr answer (IsLastRead (file_words words) old new) → Concludes words answer status out out' err err' → OnNoOutput status (SaysWhy words status old new err err')
-says_why words old new (Ok bytes) Done out out' err err' last ends = tt
-says_why words old new (Ok bytes) WriteFault out out' err err' last ends = tt
-says_why words old new (Ok bytes) status out out' err err' last ends = absurd ends
-says_why words old new (Err halt) status out out' err err' last ends =
-    on_no_output status (SaysWhy words status old new err err') (record { halt = halt; status_is = sym ends.1; says = ends.2; last = last })
+    → IfSome old.left (λ left. Shows (file_words words) answer (IsOutcome words left)) → IfErr answer (IsLastRead (file_words words) old new)
+    → Concludes words answer status out out' err err' → OnNoOutput status (SaysWhy words status old new err err')
+says_why words old new (Ok bytes) Done out out' err err' shown last ends = tt
+says_why words old new (Ok bytes) WriteFault out out' err err' shown last ends = tt
+says_why words old new (Ok bytes) status out out' err err' shown last ends = absurd ends
+says_why words old new (Err halt) status out out' err err' shown last ends =
+    on_no_output status (SaysWhy words status old new err err') (record { halt = halt; status_is = sym ends.1; shows = shown; says = ends.2; last = last })
 
 -- where the output is whole, no line was written
 pub no_line : (words : List (List ℕ)) (answer : Result (Vec ℕ Global) Halt) (status : Status) (out out' err err' : SinkTold)

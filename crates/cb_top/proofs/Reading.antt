@@ -14,7 +14,7 @@ use Rattle.cb_top.specs.declared.halt.Halt.TheVariants as halts
 use Rattle.cb_top.specs.Halts.{OnFile, StopsFile}
 use Rattle.cb_io.specs.Outside.{ReadsEach}
 use Rattle.cb_io.proofs.Told.{ReadsEach-others}
-use Rattle.cb_top.specs.Run.{LeavesRest, ReadsUpTo, IsLastRead, StopsAt, OnFileFault, HaltShows}
+use Rattle.cb_top.specs.Run.{LeavesRest, ReadsUpTo, IsLastRead, HavePassed, StopsAt, OnFileFault, HaltShows}
 
 -- no count falls where nothing is done
 pub counts_stay : (a : FilesTold) → NoCountFalls a a
@@ -105,13 +105,17 @@ module _ (names earlier : List (List ℕ)) (name : List ℕ) (place : ℕ) (Judg
     last_read halt first others front stops = on_file place (λ at. ReadsUpTo names at old new) halt stops.placed (reads_up_to first others front)
 
     -- a run stops at the file word that couldn't be read
-    pub stops_at : (halt : Halt) → take place names ≡ earlier → NoCountFalls old now → KeepsOthers now new name → ReadsFront now new name
-        → StopsFile place name Judges now new halt → OnFileFault halt (λ at. StopsAt names at old new)
+    pub stops_at : (halt : Halt) → take place names ≡ earlier → IfSome old.left (λ left. HavePassed left earlier) → NoCountFalls old now → KeepsOthers now new name
+        → ReadsFront now new name → StopsFile place name Judges now new halt → OnFileFault halt (λ at. StopsAt names at old new)
     unfolding reads_up_to
-    stops_at (halts.ReadFault at) first counts others front stops =
+    stops_at (halts.ReadFault at) first passed counts others front stops =
         subst (λ i. StopsAt names i old new) (sym stops.placed)
-        (record { last = reads_up_to first others front; failed = ReadFailed-after old now new name counts stops.cause })
-    stops_at halt first counts others front stops = tt
+        (record {
+          last = reads_up_to first others front;
+          failed = ReadFailed-after old now new name counts stops.cause;
+          passed = rw first passed;
+        })
+    stops_at halt first passed counts others front stops = tt
 
     -- what the halt shows is what the file's text is judged to give
     pub halt_shows : (IsIt : List (List ℕ × List ℕ) → Outcome → Type 0) (halt : Halt)

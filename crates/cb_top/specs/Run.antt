@@ -1,7 +1,11 @@
 -- What the clauses of a run say. `old` is told before the run, `new` after it.
-use Rattle.std.specs.Prelude.{◌≡◌, ◌≢◌, ◌⊎◌, ℕ, List, [], ◌+◌, ◌++◌, take, slice_get, Option, IfSome, Some, Result, Ok, Err, Vec}
+use Rattle.std.specs.Prelude.{◌≡◌, ◌≢◌, ◌⊎◌, ℕ, List, [], ◌∷◌, ◌+◌, ◌++◌, take, slice_get, Option, IfSome, Some, Result, Ok, Err, Vec}
 use Rattle.std.specs.declared.alloc.Global.{Global}
-use Rattle.cb_io.specs.Outside.{FilesTold, SinkTold, left_of, ReadFailed, WritesAll, WritesFront, WriteFailed}
+use Rattle.cb_io.specs.Outside.{FilesTold, SinkTold, contents, left_of, ReadFailed, WritesAll, WritesFront, WriteFailed}
+use Rattle.cb_model.specs.declared.tables.Tables.{Tables}
+use Rattle.cb_network.specs.Topology.{Topology}
+use Rattle.cb_top.specs.Model.{IsModelText}
+use Rattle.cb_top.specs.Burst.{IsTopologyText}
 use Rattle.cb_top.specs.declared.status.Status.{Status}
 use Rattle.cb_top.specs.declared.status.Status.TheVariants.{Done, WriteFault}
 use Rattle.cb_top.specs.declared.halt.Halt.{Halt}
@@ -9,7 +13,6 @@ use Rattle.cb_top.specs.declared.halt.Halt.TheVariants as halts
 use Rattle.cb_top.specs.Faults.{usage_line, model_line, topology_line, symptom_line, limit_line, long_line, read_line, write_line, memory_line, not_built_line}
 use Rattle.cb_top.specs.Halts.{OnFile, status_of}
 use Rattle.cb_top.specs.Outcome.{Outcome, IsOutcome, file_words, done, usage, faulty, wrong_lined, bad_named, too_long, long_lined, not_built}
-use Rattle.cb_io.specs.Outside.{contents}
 
 -- the sink took the line, or a front of it where a write failed
 abbrev pub Says : SinkTold → SinkTold → List ℕ → Type 0
@@ -31,10 +34,23 @@ pub record ReadsUpTo (names : List (List ℕ)) (place : ℕ) (old new : FilesTol
   pub front : IfSome old.left (λ left. LeavesRest (contents left (take place names) name) (left_of new name))
   pub others : IfSome old.left (λ left. (other : List ℕ) → other ≢ name → left_of new other ≡ Some (contents left (take place names) other))
 
--- a read of the file word at a place failed, and no later one was read
+-- The files of these names, in the order in which they are read, have passed: the first says a model, and the second a topology of
+-- it. No more than two stand before another.
+abbrev pub HavePassed : List (List ℕ × List ℕ) → List (List ℕ) → Type 0
+HavePassed left [] = Unit {0}
+HavePassed left (model ∷ []) = (tables : Tables) × IsModelText (contents left [] model) tables
+HavePassed left (model ∷ topology ∷ []) =
+    (tables : Tables)
+    × IsModelText (contents left [] model) tables
+    × (network : Topology)
+    × IsTopologyText tables (contents left (model ∷ []) topology) network
+HavePassed left names = ⊥
+
+-- a read of the file word at a place failed, no later one was read, and those before it have passed
 pub record StopsAt (names : List (List ℕ)) (place : ℕ) (old new : FilesTold) : Type 0 where
   pub last : ReadsUpTo names place old new
   pub failed : ReadFailed old new last.name
+  pub passed : IfSome old.left (λ left. HavePassed left (take place names))
 
 -- a file word stopped the run, and the line names it
 pub record BlamesFile (words : List (List ℕ)) (old new : FilesTold) (err_old err_new : SinkTold) : Type 0 where
@@ -116,9 +132,11 @@ Concludes words (Err halt) status out out' err err' = TakesNothing out out' × (
 abbrev pub IsLastRead : List (List ℕ) → FilesTold → FilesTold → Halt → Type 0
 IsLastRead names old new halt = OnFile halt (λ place. ReadsUpTo names place old new)
 
--- the error sink was given the line of a halt that a run of this status may have, and no file was read after the one it tells
+-- One halt kept the run from its output: the status is that of the halt, the outcome is the one that it shows, the error sink was
+-- given its line, and no file was read after the one it tells.
 pub record SaysWhy (words : List (List ℕ)) (status : Status) (old new : FilesTold) (err_old err_new : SinkTold) : Type 0 where
   pub halt : Halt
   pub status_is : status_of halt ≡ status
+  pub shows : IfSome old.left (λ left. HaltShows (file_words words) halt (IsOutcome words left))
   pub says : Explains words halt err_old err_new
   pub last : IsLastRead (file_words words) old new halt

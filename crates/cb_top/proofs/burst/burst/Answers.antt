@@ -53,6 +53,7 @@ returns-in_err-topology-clause-stop g c =
     let tables : Tables = c.in_ok-model.model in
     rw (err_is _ _ c.from_residual-in_err-topology.ensures.1)
     (stops_at (m ∷ t ∷ s ∷ []) (m ∷ []) t TOPOLOGY (JudgesTopology tables) refl old one (g.F.Files.tells c.read_topology_file.new.files) first c.in_err-topology.field-0.0 refl
+    (if_some old.left _ _ (λ left is. (tables, subst (λ (x : List ℕ). IsModelText x tables) is model_text.2)) model_is)
     c.in_ok-model.ensures.counts c.in_err-topology.ensures.others c.in_err-topology.ensures.front c.in_err-topology.ensures.halt)
 
 pub returns-in_err-raised-clause-answer : goal.returns-in_err-raised-clause-answer
@@ -96,7 +97,12 @@ returns-in_err-raised-clause-stop g c =
     let counts = NoCountFalls-trans old one two c.in_ok-model.ensures.counts c.in_ok-topology.ensures.counts in
     rw (err_is _ _ c.from_residual-in_err-raised.ensures.1)
     (stops_at (m ∷ t ∷ s ∷ []) (m ∷ t ∷ []) s SYMPTOMS JudgesSymptoms refl old two (g.F.Files.tells c.read_symptom_file.new.files) second c.in_err-raised.field-0.0 refl
-    counts c.in_err-raised.ensures.others c.in_err-raised.ensures.front c.in_err-raised.ensures.halt)
+    (if_some2 old.left _ _ _ (λ left is_m is_t. (
+      tables,
+      subst (λ (x : List ℕ). IsModelText x tables) is_m model_text.2,
+      network,
+      subst (λ (x : List ℕ). IsTopologyText tables x network) is_t topology_text.2,
+    )) model_is topology_is) counts c.in_err-raised.ensures.others c.in_err-raised.ensures.front c.in_err-raised.ensures.halt)
 
 pub returns-in_err-model-clause-placed : goal.returns-in_err-model-clause-placed
 returns-in_err-model-clause-placed g c =
@@ -140,7 +146,7 @@ returns-in_err-model-clause-stop g c =
     let s = c.args.symptoms.now in
     rw (err_is _ _ c.from_residual.ensures.1)
     (stops_at (m ∷ t ∷ s ∷ []) [] m MODEL JudgesModel refl old old (g.F.Files.tells c.read_model.new.files) (ReadsEach-nil old) c.in_err-model.field-0.0 refl
-    (counts_stay old) c.in_err-model.ensures.others c.in_err-model.ensures.front c.in_err-model.ensures.halt)
+    (of_any old.left) (counts_stay old) c.in_err-model.ensures.others c.in_err-model.ensures.front c.in_err-model.ensures.halt)
 
 pub returns-in_err-topology-clause-last : goal.returns-in_err-topology-clause-last
 returns-in_err-topology-clause-last g c =

@@ -4,7 +4,7 @@ use Rattle.cb_top.specs.declared.files.TheConstants.{MODEL}
 use Rattle.cb_top.specs.Outcome.{ModelGives, ModelAnswers, file_after}
 use Rattle.cb_top.specs.Run.{ReadsUpTo, Shows}
 use Rattle.cb_top.proofs.Judged.{if_err_more, model_is_at, unread}
-use Rattle.cb_top.proofs.Reading.{counts_stay, if_some, of_all, halt_shows, last_read, on_file, reads_up_to, stops_at, err_is}
+use Rattle.cb_top.proofs.Reading.{counts_stay, if_some, of_all, of_any, halt_shows, last_read, on_file, reads_up_to, stops_at, err_is}
 use Rattle.cb_io.proofs.Told.{ReadsEach-nil, ReadsEach-gives}
 use Rattle.cb_top.proofs.Shown.{refused_for_model, model_shows}
 use Rattle.cb_top.proofs.model.model.Goals as goal
@@ -36,7 +36,7 @@ returns-in_err-text-clause-stop g c =
     let name = c.args.name.now in
     rw (err_is _ _ c.from_residual.ensures.1)
     (stops_at (name ∷ []) [] name MODEL JudgesLength refl old old (g.F.Files.tells c.read_file.new.files) (ReadsEach-nil old) c.in_err-text.field-0.0 refl
-    (counts_stay old) c.in_err-text.ensures.others c.in_err-text.ensures.front c.in_err-text.ensures.halt)
+    (of_any old.left) (counts_stay old) c.in_err-text.ensures.others c.in_err-text.ensures.front c.in_err-text.ensures.halt)
 
 pub returns-in_err-text-clause-last : goal.returns-in_err-text-clause-last
 returns-in_err-text-clause-last g c =

@@ -19,7 +19,9 @@ pub returns-clause-no_line : goal.returns-clause-no_line
 returns-clause-no_line g c = no_line (texts c.args.words.now) c.answer-answer.result c.conclude.result _ _ _ _ c.conclude.ensures
 
 pub returns-clause-line : goal.returns-clause-line
-returns-clause-line g c = says_why (texts c.args.words.now) _ _ c.answer-answer.result c.conclude.result _ _ _ _ c.answer-answer.ensures.last c.conclude.ensures
+returns-clause-line g c =
+    says_why (texts c.args.words.now) (g.F.Files.tells c.args.files.now) (g.F.Files.tells c.answer-answer.new.files) c.answer-answer.result c.conclude.result _ _ _ _
+    c.answer-answer.ensures.answer c.answer-answer.ensures.last c.conclude.ensures
 
 pub returns-clause-ends : goal.returns-clause-ends
 returns-clause-ends g c = may_end (texts c.args.words.now) c.answer-answer.result c.conclude.result _ _ _ _ c.answer-answer.ensures.ends c.conclude.ensures
