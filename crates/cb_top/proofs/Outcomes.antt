@@ -45,7 +45,7 @@ pub takes_front : (words : List (List ℕ)) (o : Option (List (List ℕ × List 
     → IfSome o (λ left. Shows names answer (IsOutcome words left)) → Concludes words answer status out out' err err'
     → OnWriteFault status (IfSome o (λ left. TakesFront words left out out'))
 takes_front words o names (Ok bytes) Done out out' err err' shown ends = tt
-takes_front words o names (Ok bytes) WriteFault out out' err err' shown ends = if_some o _ _ (λ left is. (done bytes.items, is, ends.0)) shown
+takes_front words o names (Ok bytes) WriteFault out out' err err' shown ends = if_some o _ _ (λ left is. (bytes.items, is, ends.0)) shown
 takes_front words o names (Ok bytes) status out out' err err' shown ends = absurd ends
 takes_front words o names (Err halt) status out out' err err' shown ends =
     subst (λ (s : Status). OnWriteFault s (IfSome o (λ left. TakesFront words left out out'))) (sym ends.1) (not_at_a_halt halt)

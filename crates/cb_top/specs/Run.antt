@@ -71,9 +71,9 @@ pub record Answers (words : List (List ℕ)) (left : List (List ℕ × List ℕ)
   pub output : WritesAll out_old out_new outcome.out
   pub says : Says err_old err_new outcome.line
 
--- the output took a front of the outcome's bytes
+-- the outcome is a whole output, and the sink took a front of it
 abbrev pub TakesFront : List (List ℕ) → List (List ℕ × List ℕ) → SinkTold → SinkTold → Type 0
-TakesFront words left old new = (outcome : Outcome) × IsOutcome words left outcome × WritesFront old new outcome.out
+TakesFront words left old new = (bytes : List ℕ) × IsOutcome words left (done bytes) × WritesFront old new bytes
 
 -- a fact where a file word couldn't be read, of its place
 abbrev pub OnFileFault : Halt → (ℕ → Type 0) → Type 0

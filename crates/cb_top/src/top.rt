@@ -34,7 +34,7 @@ pub fn run<F: Files, O: Sink, E: Sink, L: Ledger>(
     // Status, output and line are those of the outcome, unless a read or a write failed or memory ran out.
     ensures answer { OnAnswer result (IfSome (F.tells files.old).left (λ left.
         Answers (texts words.now) left result (O.tells out.old) (O.tells out.new) (E.tells err.old) (E.tells err.new))) }
-    // Where a write failed, the output is the outcome's up to some byte; at each other status but 0 there is none.
+    // Where a write failed, the outcome is a whole output, of which a front was written; at each other status but 0 there is none.
     ensures front { OnWriteFault result (IfSome (F.tells files.old).left (λ left. TakesFront (texts words.now) left (O.tells out.old) (O.tells out.new))) }
     ensures no_output { OnNoOutput result (TakesNothing (O.tells out.old) (O.tells out.new)) }
     ensures no_line { OnDone result (TakesNothing (E.tells err.old) (E.tells err.new)) }
