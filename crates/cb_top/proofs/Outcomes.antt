@@ -1,7 +1,6 @@
 -- The outcome of the words and the files is one, and a run answers it.
-use Rattle.std.proofs.Common.{◌≡◌, ◌+◌, ℕ, suc, List, [], ◌∷◌, Bool, true, false, refl, sym, ◌∙◌, subst, inl, inr, arith, Result, Ok, Err, Vec, slice_get, Some}
-use Rattle.std.specs.Prelude.{codes, MatchBool, if◌then◌else◌, Option, IfSome, IfErr}
-use Rattle.std.specs.Str.{bytes_eq}
+use Rattle.std.proofs.Common.{◌≡◌, ◌+◌, ℕ, suc, List, [], ◌∷◌, refl, sym, ◌∙◌, subst, inl, inr, arith, Result, Ok, Err, Vec, slice_get, Some}
+use Rattle.std.specs.Prelude.{Option, IfSome, IfErr}
 use Rattle.std.specs.declared.alloc.Global.{Global}
 use Rattle.cb_io.specs.Outside.{SinkTold, FilesTold}
 use Rattle.cb_top.specs.declared.halt.Halt.{Halt}
@@ -9,10 +8,12 @@ use Rattle.cb_top.specs.declared.halt.Halt.TheVariants as halts
 use Rattle.cb_top.specs.declared.status.Status.{Status}
 use Rattle.cb_top.specs.declared.status.Status.TheVariants.{Done, WriteFault}
 use Rattle.cb_top.specs.Status.{OnAnswer, OnDone, OnNoOutput, OnReadFault, OnWriteFault}
+use Rattle.cb_top.specs.Asked.{Asked, asked}
 use Rattle.cb_top.specs.Faults.{limit_line, long_line, read_line}
 use Rattle.cb_top.specs.Halts.{status_of}
-use Rattle.cb_top.specs.Outcome.{Outcome, IsOutcome, ModelAnswers, BurstAnswers, UnreadGives, file_after, file_words, done, usage, faulty, wrong_lined, bad_named, too_long, long_lined, not_built}
+use Rattle.cb_top.specs.Outcome.{Outcome, IsOutcome, AskGives, UnreadGives, file_after, file_words, done, usage, faulty, wrong_lined, bad_named, too_long, long_lined, not_built}
 use Rattle.cb_top.specs.Run.{Shows, HaltShows, Explains, Concludes, IsLastRead, OnFileFault, OnStop, StopsAt, Answers, BlamesFile, TakesFront, TakesNothing, Says, SaysWhy}
+use Rattle.cb_top.proofs.Asked.{file_word_at}
 use Rattle.cb_top.proofs.Texts.{model_gives_one}
 use Rattle.cb_top.proofs.Bursts.{burst_gives_one}
 use Rattle.cb_top.proofs.Reading.{if_some}
@@ -23,22 +24,13 @@ unread_one words a b (inl (u, e)) (inr (n, h)) = absurd (n u)
 unread_one words a b (inr (n, e)) (inl (v, h)) = absurd (n v)
 unread_one words a b (inr (n, e)) (inr (m, h)) = e ∙ sym h
 
--- of two facts by a test, each is of one value
-by_test : (t : Bool) (P Q : Outcome → Type 0) (a b : Outcome) → (P a → P b → a ≡ b) → (Q a → Q b → a ≡ b) → MatchBool t (P a) (Q a) → MatchBool t (P b) (Q b) → a ≡ b
-by_test true P Q a b one other p q = one p q
-by_test false P Q a b one other p q = other p q
+asked_one : (ask : Asked) (words : List (List ℕ)) (left : List (List ℕ × List ℕ)) (a b : Outcome) → AskGives ask words left a → AskGives ask words left b → a ≡ b
+asked_one (Asked.burst m t s) words left a b p q = burst_gives_one (file_after left [] m) (file_after left (m ∷ []) t) (file_after left (m ∷ t ∷ []) s) a b p q
+asked_one (Asked.model m) words left a b p q = model_gives_one (file_after left [] m) a b p q
+asked_one Asked.other words left a b p q = unread_one words a b p q
 
 pub outcome_is_one : (words : List (List ℕ)) (left : List (List ℕ × List ℕ)) (a b : Outcome) → IsOutcome words left a → IsOutcome words left b → a ≡ b
-outcome_is_one [] left a b p q = unread_one [] a b p q
-outcome_is_one (c ∷ []) left a b p q = unread_one (c ∷ []) a b p q
-outcome_is_one (c ∷ m ∷ []) left a b p q =
-    by_test (bytes_eq c (codes "model")) (ModelAnswers left m) (UnreadGives (c ∷ m ∷ [])) a b
-    (model_gives_one (file_after left [] m) a b) (unread_one (c ∷ m ∷ []) a b) p q
-outcome_is_one (c ∷ m ∷ t ∷ []) left a b p q = unread_one (c ∷ m ∷ t ∷ []) a b p q
-outcome_is_one (c ∷ m ∷ t ∷ s ∷ []) left a b p q =
-    by_test (bytes_eq c (codes "burst")) (BurstAnswers left m t s) (UnreadGives (c ∷ m ∷ t ∷ s ∷ [])) a b
-    (burst_gives_one (file_after left [] m) (file_after left (m ∷ []) t) (file_after left (m ∷ t ∷ []) s) a b) (unread_one (c ∷ m ∷ t ∷ s ∷ []) a b) p q
-outcome_is_one (c ∷ m ∷ t ∷ s ∷ x ∷ xs) left a b p q = unread_one (c ∷ m ∷ t ∷ s ∷ x ∷ xs) a b p q
+outcome_is_one words left a b p q = asked_one (asked words) words left a b p q
 
 -- where a write failed, the output is a front of the outcome's
 pub takes_front : (words : List (List ℕ)) (o : Option (List (List ℕ × List ℕ))) (names : List (List ℕ)) (answer : Result (Vec ℕ Global) Halt) (status : Status) (out out' err err' : SinkTold)
@@ -103,23 +95,6 @@ no_line words (Err halt) status out out' err err' ends =
     not_at_a_halt (halts.ReadFault place) = tt
     not_at_a_halt halts.Memory = tt
     not_at_a_halt halts.NotBuilt = tt
-
--- a file word stands one place behind its place among the file words
-file_word_at : (words : List (List ℕ)) (place : ℕ) (name : List ℕ) → slice_get (file_words words) place ≡ Some name → slice_get words (suc place) ≡ Some name
-file_word_at [] place name e = absurd (cc)
-file_word_at (c ∷ []) place name e = absurd (cc)
-file_word_at (c ∷ m ∷ []) place name e = at (bytes_eq c (codes "model")) e
-  where
-    at : (is_model : Bool) → slice_get (if is_model then m ∷ [] else []) place ≡ Some name → slice_get (m ∷ []) place ≡ Some name
-    at true h = h
-    at false h = absurd (cc)
-file_word_at (c ∷ m ∷ t ∷ []) place name e = absurd (cc)
-file_word_at (c ∷ m ∷ t ∷ s ∷ []) place name e = at (bytes_eq c (codes "burst")) e
-  where
-    at : (is_burst : Bool) → slice_get (if is_burst then m ∷ t ∷ s ∷ [] else []) place ≡ Some name → slice_get (m ∷ t ∷ s ∷ []) place ≡ Some name
-    at true h = h
-    at false h = absurd (cc)
-file_word_at (c ∷ m ∷ t ∷ s ∷ x ∷ xs) place name e = absurd (cc)
 
 -- the word behind the place of a file word is its name
 same_name : (words : List (List ℕ)) (place : ℕ) (name other : List ℕ) → slice_get (file_words words) place ≡ Some name → slice_get words (place + 1) ≡ Some other → other ≡ name
