@@ -1,10 +1,15 @@
 -- What the words ask for.
-use Rattle.std.proofs.Common.{◌≡◌, ℕ, suc, List, [], ◌∷◌, Bool, true, false, refl, ap, ◌<◌, ◌+◌, length, slice_get, Some, arith}
+use Rattle.std.proofs.Common.{◌≡◌, ℕ, suc, List, [], ◌∷◌, Bool, true, false, refl, ap, inl, inr, ◌<◌, ◌+◌, length, slice_get, Some, Err, arith}
 use Rattle.std.proofs.lemmas.Slice.Eq.{bytes_eq-Decides}
 use Rattle.std.specs.Prelude.{codes, if◌then◌else◌}
 use Rattle.std.specs.Str.{bytes_eq}
-use Rattle.cb_top.specs.Asked.{Asked, asked, files_of}
-use Rattle.cb_top.specs.Outcome.{file_words}
+use Rattle.cb_io.specs.Outside.{FilesTold}
+use Rattle.cb_top.specs.Asked.{Asked, asked, files_of, IsForBuilt}
+use Rattle.cb_top.specs.Commands.{IsInTable, IsUnbuilt}
+use Rattle.cb_top.specs.declared.halt.Halt.TheVariants as halts
+use Rattle.cb_top.specs.Outcome.{AskGives, IsOutcome, file_words, usage}
+use Rattle.cb_top.specs.Run.{ReadsAndJudges}
+use Rattle.cb_top.proofs.Reading.{of_all}
 
 -- the words are those that ask for it
 abbrev pub AreFor : Asked → List (List ℕ) → Type 0
@@ -45,3 +50,41 @@ file_word_at words place name h = at (asked words) (words_are words) h
     at (Asked.burst m t s) e h = rw e h
     at (Asked.model m) e h = rw e h
     at Asked.other e h = absurd (cc)
+
+-- the words of a command that isn't built ask for none that is
+unbuilt_is_other : (words : List (List ℕ)) → IsUnbuilt words → asked words ≡ Asked.other
+unbuilt_is_other [] u = absurd u
+unbuilt_is_other (c ∷ []) u = absurd u
+unbuilt_is_other (c ∷ m ∷ []) u = absurd u
+unbuilt_is_other (c ∷ m ∷ t ∷ []) u = refl
+unbuilt_is_other (c ∷ m ∷ t ∷ s ∷ []) (inl (e, d)) = rw e refl
+unbuilt_is_other (c ∷ m ∷ t ∷ s ∷ []) (inr e) = rw e refl
+unbuilt_is_other (c ∷ m ∷ t ∷ s ∷ x ∷ []) u = absurd u
+unbuilt_is_other (c ∷ m ∷ t ∷ s ∷ x ∷ y ∷ []) u = refl
+unbuilt_is_other (c ∷ m ∷ t ∷ s ∷ x ∷ y ∷ z ∷ zs) u = absurd u
+
+module _ (words : List (List ℕ)) (told : FilesTold) where
+  -- no file is read for a command that isn't built
+  pub unbuilt_ends : IsUnbuilt words → ReadsAndJudges (file_words words) (IsOutcome words) told told (Err halts.NotBuilt)
+  unbuilt_ends u = record {
+    shows = of_all told.left _ (λ left. rw (unbuilt_is_other words u) (inl (u, refl)));
+    read = tt;
+    placed = tt;
+    last = tt;
+    failed = tt;
+  }
+
+  usage_gives : (ask : Asked) (left : List (List ℕ × List ℕ)) → ¬ IsForBuilt ask → ¬ IsUnbuilt words → AskGives ask words left usage
+  usage_gives (Asked.burst m t s) left none not_unbuilt = absurd (none tt)
+  usage_gives (Asked.model m) left none not_unbuilt = absurd (none tt)
+  usage_gives Asked.other left none not_unbuilt = inr (not_unbuilt, refl)
+
+  -- nor for words that are no command
+  pub usage_ends : ¬ IsInTable words → ReadsAndJudges (file_words words) (IsOutcome words) told told (Err halts.Usage)
+  usage_ends none = record {
+    shows = of_all told.left _ (λ left. usage_gives (asked words) left (λ b. none (inl b)) (λ u. none (inr u)));
+    read = tt;
+    placed = tt;
+    last = tt;
+    failed = tt;
+  }

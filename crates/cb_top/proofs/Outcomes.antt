@@ -12,7 +12,7 @@ use Rattle.cb_top.specs.Asked.{Asked, asked}
 use Rattle.cb_top.specs.Faults.{limit_line, long_line, read_line}
 use Rattle.cb_top.specs.Halts.{status_of}
 use Rattle.cb_top.specs.Outcome.{Outcome, IsOutcome, AskGives, UnreadGives, file_after, file_words, done, usage, faulty, wrong_lined, bad_named, too_long, long_lined, not_built}
-use Rattle.cb_top.specs.Run.{Shows, HaltShows, Explains, Concludes, IsLastRead, OnFileFault, OnStop, StopsAt, Answers, BlamesFile, TakesFront, TakesNothing, Says, SaysWhy}
+use Rattle.cb_top.specs.Run.{Shows, HaltShows, Explains, Concludes, IsLastRead, IsFailedRead, Answers, BlamesFile, TakesFront, TakesNothing, Says, SaysWhy}
 use Rattle.cb_top.proofs.Asked.{file_word_at}
 use Rattle.cb_top.proofs.Texts.{model_gives_one}
 use Rattle.cb_top.proofs.Bursts.{burst_gives_one}
@@ -147,27 +147,27 @@ module _ (words : List (List ℕ)) (o : Option (List (List ℕ × List ℕ))) (o
       subst (λ (s : Status). OnAnswer s (IfSome o (λ left. Answers words left s out out' err err'))) (sym ends.1) (answers_halt halt shown ends.0 ends.2)
 
 module _ (words : List (List ℕ)) (old new : FilesTold) (err err' : SinkTold) where
-  blames_halt : (halt : Halt) → OnFileFault halt (λ place. StopsAt (file_words words) place old new) → Explains words halt err err'
+  blames_halt : (halt : Halt) → IsFailedRead (file_words words) old new halt → Explains words halt err err'
       → OnReadFault (status_of halt) (BlamesFile words old new err err')
-  blames_halt (halts.ReadFault place) stops (line, (other, at, is), says) = record {
+  blames_halt (halts.ReadFault place) fails (line, (other, at, is), says) = record {
     place = place;
-    stops = stops;
-    says = subst (λ n. Says err err' (read_line n)) (same_name words place stops.last.name other stops.last.is at) (subst (λ l. Says err err' l) is says);
+    fails = fails;
+    says = subst (λ n. Says err err' (read_line n)) (same_name words place fails.last.name other fails.last.is at) (subst (λ l. Says err err' l) is says);
   }
-  blames_halt halts.Usage stops explains = tt
-  blames_halt (halts.Model fault) stops explains = tt
-  blames_halt (halts.Topology line fault) stops explains = tt
-  blames_halt (halts.Symptoms line) stops explains = tt
-  blames_halt (halts.TooLong place) stops explains = tt
-  blames_halt (halts.LongLine place line) stops explains = tt
-  blames_halt halts.Memory stops explains = tt
-  blames_halt halts.NotBuilt stops explains = tt
+  blames_halt halts.Usage fails explains = tt
+  blames_halt (halts.Model fault) fails explains = tt
+  blames_halt (halts.Topology line fault) fails explains = tt
+  blames_halt (halts.Symptoms line) fails explains = tt
+  blames_halt (halts.TooLong place) fails explains = tt
+  blames_halt (halts.LongLine place line) fails explains = tt
+  blames_halt halts.Memory fails explains = tt
+  blames_halt halts.NotBuilt fails explains = tt
 
-  -- a run that stopped at a file word blames it
+  -- a run in which a read failed blames the file
   pub blames_file : (answer : Result (Vec ℕ Global) Halt) (status : Status) (out out' : SinkTold)
-      → OnStop answer (λ place. StopsAt (file_words words) place old new) → Concludes words answer status out out' err err'
+      → IfErr answer (IsFailedRead (file_words words) old new) → Concludes words answer status out out' err err'
       → OnReadFault status (BlamesFile words old new err err')
-  blames_file (Ok bytes) Done out out' stops ends = tt
-  blames_file (Ok bytes) WriteFault out out' stops ends = tt
-  blames_file (Ok bytes) status out out' stops ends = absurd ends
-  blames_file (Err halt) status out out' stops ends = subst (λ (s : Status). OnReadFault s (BlamesFile words old new err err')) (sym ends.1) (blames_halt halt stops ends.2)
+  blames_file (Ok bytes) Done out out' fails ends = tt
+  blames_file (Ok bytes) WriteFault out out' fails ends = tt
+  blames_file (Ok bytes) status out out' fails ends = absurd ends
+  blames_file (Err halt) status out out' fails ends = subst (λ (s : Status). OnReadFault s (BlamesFile words old new err err')) (sym ends.1) (blames_halt halt fails ends.2)

@@ -1,7 +1,7 @@
 -- What the clauses of a run say. `old` is told before the run, `new` after it.
-use Rattle.std.specs.Prelude.{◌≡◌, ◌≢◌, ◌⊎◌, ℕ, List, [], ◌∷◌, ◌+◌, ◌++◌, take, slice_get, Option, IfSome, Some, Result, Ok, Err, Vec}
+use Rattle.std.specs.Prelude.{◌≡◌, ◌≢◌, ◌⊎◌, ℕ, List, [], ◌∷◌, ◌+◌, ◌++◌, take, slice_get, Option, IfSome, Some, Result, OnOk, IfErr, Ok, Err, Vec}
 use Rattle.std.specs.declared.alloc.Global.{Global}
-use Rattle.cb_io.specs.Outside.{FilesTold, SinkTold, contents, left_of, ReadFailed, WritesAll, WritesFront, WriteFailed}
+use Rattle.cb_io.specs.Outside.{FilesTold, SinkTold, contents, left_of, ReadsEach, ReadFailed, WritesAll, WritesFront, WriteFailed}
 use Rattle.cb_model.specs.declared.tables.Tables.{Tables}
 use Rattle.cb_network.specs.Topology.{Topology}
 use Rattle.cb_top.specs.Model.{IsModelText}
@@ -11,7 +11,7 @@ use Rattle.cb_top.specs.declared.status.Status.TheVariants.{Done, WriteFault}
 use Rattle.cb_top.specs.declared.halt.Halt.{Halt}
 use Rattle.cb_top.specs.declared.halt.Halt.TheVariants as halts
 use Rattle.cb_top.specs.Faults.{usage_line, model_line, topology_line, symptom_line, limit_line, long_line, read_line, write_line, memory_line, not_built_line}
-use Rattle.cb_top.specs.Halts.{OnFile, status_of}
+use Rattle.cb_top.specs.Halts.{OnFile, IsPlaced, status_of}
 use Rattle.cb_top.specs.Outcome.{Outcome, IsOutcome, file_words, done, usage, faulty, wrong_lined, bad_named, too_long, long_lined, not_built}
 
 -- the sink took the line, or a front of it where a write failed
@@ -47,16 +47,16 @@ HavePassed left (model ∷ topology ∷ []) =
 HavePassed left names = ⊥
 
 -- a read of the file word at a place failed, no later one was read, and those before it have passed
-pub record StopsAt (names : List (List ℕ)) (place : ℕ) (old new : FilesTold) : Type 0 where
+pub record FailsAt (names : List (List ℕ)) (place : ℕ) (old new : FilesTold) : Type 0 where
   pub last : ReadsUpTo names place old new
   pub failed : ReadFailed old new last.name
   pub passed : IfSome old.left (λ left. HavePassed left (take place names))
 
--- a file word stopped the run, and the line names it
+-- a read of a file word failed, and the line names it
 pub record BlamesFile (words : List (List ℕ)) (old new : FilesTold) (err_old err_new : SinkTold) : Type 0 where
   pub place : ℕ
-  pub stops : StopsAt (file_words words) place old new
-  pub says : Says err_old err_new (read_line stops.last.name)
+  pub fails : FailsAt (file_words words) place old new
+  pub says : Says err_old err_new (read_line fails.last.name)
 
 -- a write failed, and the line says so
 pub record BlamesOut (old new err_old err_new : SinkTold) : Type 0 where
@@ -75,16 +75,6 @@ pub record Answers (words : List (List ℕ)) (left : List (List ℕ × List ℕ)
 abbrev pub TakesFront : List (List ℕ) → List (List ℕ × List ℕ) → SinkTold → SinkTold → Type 0
 TakesFront words left old new = (bytes : List ℕ) × IsOutcome words left (done bytes) × WritesFront old new bytes
 
--- a fact where a file word couldn't be read, of its place
-abbrev pub OnFileFault : Halt → (ℕ → Type 0) → Type 0
-OnFileFault (halts.ReadFault place) P = P place
-OnFileFault halt P = Unit {0}
-
--- the same, where a result may be such a halt
-abbrev pub OnStop : {T : Type 0} → Result T Halt → (ℕ → Type 0) → Type 0
-OnStop (Ok value) P = Unit {0}
-OnStop (Err halt) P = OnFileFault halt P
-
 -- what a halt shows of the outcome, by the names of the files
 abbrev pub HaltShows : List (List ℕ) → Halt → (Outcome → Type 0) → Type 0
 HaltShows names halts.Usage IsIt = IsIt usage
@@ -100,6 +90,24 @@ HaltShows names halt IsIt = Unit {0}
 abbrev pub Shows : List (List ℕ) → Result (Vec ℕ Global) Halt → (Outcome → Type 0) → Type 0
 Shows names (Ok bytes) IsIt = IsIt (done bytes.items)
 Shows names (Err halt) IsIt = HaltShows names halt IsIt
+
+-- the file that a halt tells, if it tells one, is the last that was read
+abbrev pub IsLastRead : List (List ℕ) → FilesTold → FilesTold → Halt → Type 0
+IsLastRead names old new halt = OnFile halt (λ place. ReadsUpTo names place old new)
+
+-- where the halt is that a file word couldn't be read, a read of it failed
+abbrev pub IsFailedRead : List (List ℕ) → FilesTold → FilesTold → Halt → Type 0
+IsFailedRead names old new (halts.ReadFault place) = FailsAt names place old new
+IsFailedRead names old new halt = Unit {0}
+
+-- The files of these names were read and judged, one after the other. With a value all were read, and it is the outcome's output.
+-- With a halt, the outcome is the one that it shows, and the file that it tells is one of these, and the last that was read.
+pub record ReadsAndJudges (names : List (List ℕ)) (IsIt : List (List ℕ × List ℕ) → Outcome → Type 0) (old new : FilesTold) (result : Result (Vec ℕ Global) Halt) : Type 0 where
+  pub shows : IfSome old.left (λ left. Shows names result (IsIt left))
+  pub read : OnOk result (ReadsEach old new names)
+  pub placed : IfErr result (IsPlaced names)
+  pub last : IfErr result (IsLastRead names old new)
+  pub failed : IfErr result (IsFailedRead names old new)
 
 -- the line that tells why there is no output, by the words: the first file word stands right behind the command
 abbrev pub IsLine : List (List ℕ) → Halt → List ℕ → Type 0
@@ -127,10 +135,6 @@ Delivers bytes status out out' err err' = ⊥
 abbrev pub Concludes : List (List ℕ) → Result (Vec ℕ Global) Halt → Status → SinkTold → SinkTold → SinkTold → SinkTold → Type 0
 Concludes words (Ok bytes) status out out' err err' = Delivers bytes.items status out out' err err'
 Concludes words (Err halt) status out out' err err' = TakesNothing out out' × (status ≡ status_of halt) × Explains words halt err err'
-
--- the file that a halt tells, if it tells one, is the last that was read
-abbrev pub IsLastRead : List (List ℕ) → FilesTold → FilesTold → Halt → Type 0
-IsLastRead names old new halt = OnFile halt (λ place. ReadsUpTo names place old new)
 
 -- One halt kept the run from its output: the status is that of the halt, the outcome is the one that it shows, the error sink was
 -- given its line, and no file was read after the one it tells.

@@ -1,14 +1,13 @@
 //! The top call.
-ghost use Rattle.std.specs.Prelude.{◌≡◌, OnOk, IfErr, IfSome};
+ghost use Rattle.std.specs.Prelude.{◌≡◌, IfSome};
 ghost use Rattle.cb_top.specs.Status.{OnAnswer, OnDone, OnNoOutput, OnReadFault, OnWriteFault, OnMemory};
 ghost use Rattle.cb_top.specs.Commands.{IsBuilt, IsInTable, IsUnbuilt, AskForBurst};
 ghost use Rattle.cb_top.specs.Faults.{memory_line};
-ghost use Rattle.cb_top.specs.Halts.{IsPlaced};
 ghost use Rattle.cb_top.specs.Outcome.{texts, file_words, IsOutcome};
 ghost use Rattle.cb_top.specs.Cause.{FindsTheCause};
 ghost use Rattle.cb_top.specs.Ends.{MayEnd, MayGive};
 ghost use Rattle.cb_io.specs.Outside.{ReadsEach};
-ghost use Rattle.cb_top.specs.Run.{Answers, TakesFront, TakesNothing, BlamesFile, BlamesOut, IsLastRead, Says, SaysWhy, StopsAt, Shows, OnStop};
+ghost use Rattle.cb_top.specs.Run.{Answers, TakesFront, TakesNothing, BlamesFile, BlamesOut, ReadsAndJudges, Says, SaysWhy};
 
 use crate::burst::burst;
 use crate::command::Command;
@@ -69,11 +68,7 @@ fn answer<F: Files, L: Ledger>(
     files: &mut F,
     steps: &mut Steps<L>,
 ) -> Result<Vec<u8>, Halt>
-    ensures answer { IfSome (F.tells files.old).left (λ left. Shows (file_words (texts words.now)) result (IsOutcome (texts words.now) left)) }
-    ensures read { OnOk result (ReadsEach (F.tells files.old) (F.tells files.new) (file_words (texts words.now))) }
-    ensures stop { OnStop result (λ place. StopsAt (file_words (texts words.now)) place (F.tells files.old) (F.tells files.new)) }
-    ensures last { IfErr result (IsLastRead (file_words (texts words.now)) (F.tells files.old) (F.tells files.new)) }
-    ensures placed { IfErr result (IsPlaced (file_words (texts words.now))) }
+    ensures judged { ReadsAndJudges (file_words (texts words.now)) (IsOutcome (texts words.now)) (F.tells files.old) (F.tells files.new) result }
     ensures ends { MayGive (texts words.now) result }
     ensures unread { (¬ IsBuilt (texts words.now)) → files.new ≡ files.old }
     ensures usage { (¬ IsInTable (texts words.now)) → result ≡ Err Halt.Usage }
