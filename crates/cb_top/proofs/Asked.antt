@@ -1,5 +1,5 @@
 -- What the words ask for.
-use Rattle.std.proofs.Common.{◌≡◌, ℕ, suc, List, [], ◌∷◌, Bool, true, false, refl, ap, inl, inr, ◌<◌, ◌+◌, length, slice_get, Some, Err, arith}
+use Rattle.std.proofs.Common.{◌≡◌, ℕ, suc, List, [], ◌∷◌, Bool, true, false, refl, ap, inl, inr, ◌<◌, ◌+◌, length, slice_get, subst, Err, arith}
 use Rattle.std.proofs.lemmas.Slice.Eq.{bytes_eq-Decides}
 use Rattle.std.specs.Prelude.{codes, if◌then◌else◌}
 use Rattle.std.specs.Str.{bytes_eq}
@@ -42,14 +42,16 @@ word_behind words place lt = behind (asked words) (words_are words) lt
     behind (Asked.model m) e lt = rw e (omega arith)
     behind Asked.other e lt = absurd (omega arith)
 
--- a file word stands one place behind its place among the file words
-pub file_word_at : (words : List (List ℕ)) (place : ℕ) (name : List ℕ) → slice_get (file_words words) place ≡ Some name → slice_get words (suc place) ≡ Some name
-file_word_at words place name h = at (asked words) (words_are words) h
+-- and stands one place behind its place among the file words
+pub file_word_is : (words : List (List ℕ)) (place : ℕ) → place < length (file_words words) → slice_get (file_words words) place ≡ slice_get words (place + 1)
+file_word_is words place lt =
+    let next : suc place ≡ place + 1 = omega arith in
+    subst (λ i. slice_get (file_words words) place ≡ slice_get words i) next (at (asked words) (words_are words) lt)
   where
-    at : (ask : Asked) → AreFor ask words → slice_get (files_of ask) place ≡ Some name → slice_get words (suc place) ≡ Some name
-    at (Asked.burst m t s) e h = rw e h
-    at (Asked.model m) e h = rw e h
-    at Asked.other e h = absurd (cc)
+    at : (ask : Asked) → AreFor ask words → place < length (files_of ask) → slice_get (files_of ask) place ≡ slice_get words (suc place)
+    at (Asked.burst m t s) e lt = rw e refl
+    at (Asked.model m) e lt = rw e refl
+    at Asked.other e lt = absurd (omega arith)
 
 -- the words of a command that isn't built ask for none that is
 unbuilt_is_other : (words : List (List ℕ)) → IsUnbuilt words → asked words ≡ Asked.other

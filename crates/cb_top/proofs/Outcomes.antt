@@ -1,5 +1,5 @@
 -- The outcome of the words and the files is one, and a run answers it.
-use Rattle.std.proofs.Common.{◌≡◌, ◌+◌, ℕ, suc, List, [], ◌∷◌, refl, sym, ◌∙◌, subst, inl, inr, arith, Result, Ok, Err, Vec, slice_get, Some}
+use Rattle.std.proofs.Common.{◌≡◌, ℕ, List, [], ◌∷◌, refl, sym, ◌∙◌, subst, inl, inr, Result, Ok, Err, Vec, slice_get, Some}
 use Rattle.std.specs.Prelude.{Option, IfSome, IfErr}
 use Rattle.std.specs.declared.alloc.Global.{Global}
 use Rattle.cb_io.specs.Outside.{SinkTold, FilesTold}
@@ -13,7 +13,6 @@ use Rattle.cb_top.specs.Faults.{limit_line, long_line, read_line}
 use Rattle.cb_top.specs.Halts.{status_of}
 use Rattle.cb_top.specs.Outcome.{Outcome, IsOutcome, AskGives, UnreadGives, file_after, file_words, done, usage, faulty, wrong_lined, bad_named, too_long, long_lined, not_built}
 use Rattle.cb_top.specs.Run.{Shows, HaltShows, Explains, Concludes, IsLastRead, IsFailedRead, Answers, BlamesFile, TakesFront, TakesNothing, Says, SaysWhy}
-use Rattle.cb_top.proofs.Asked.{file_word_at}
 use Rattle.cb_top.proofs.Texts.{model_gives_one}
 use Rattle.cb_top.proofs.Bursts.{burst_gives_one}
 use Rattle.cb_top.proofs.Reading.{if_some}
@@ -96,16 +95,13 @@ no_line words (Err halt) status out out' err err' ends =
     not_at_a_halt halts.Memory = tt
     not_at_a_halt halts.NotBuilt = tt
 
--- the word behind the place of a file word is its name
-same_name : (words : List (List ℕ)) (place : ℕ) (name other : List ℕ) → slice_get (file_words words) place ≡ Some name → slice_get words (place + 1) ≡ Some other → other ≡ name
-same_name words place name other e h =
-    let next : suc place ≡ place + 1 = omega arith in
-    let follows = subst (λ i. slice_get words i ≡ Some name) next (file_word_at words place name e) in
-    cc
+-- at a place stands one name
+same_name : (names : List (List ℕ)) (place : ℕ) (name other : List ℕ) → slice_get names place ≡ Some name → slice_get names place ≡ Some other → other ≡ name
+same_name names place name other e h = cc
 
 module _ (words : List (List ℕ)) (o : Option (List (List ℕ × List ℕ))) (out out' err err' : SinkTold) where
   -- a run that halts answers the outcome
-  answers_halt : (halt : Halt) → IfSome o (λ left. HaltShows (file_words words) halt (IsOutcome words left)) → TakesNothing out out' → Explains words halt err err'
+  answers_halt : (halt : Halt) → IfSome o (λ left. HaltShows (file_words words) halt (IsOutcome words left)) → TakesNothing out out' → Explains (file_words words) halt err err'
       → OnAnswer (status_of halt) (IfSome o (λ left. Answers words left (status_of halt) out out' err err'))
   answers_halt halts.Usage shown none (line, is, says) =
       if_some o _ _ (λ left it. record { outcome = usage; is = it; status_is = refl; output = none; says = subst (λ l. Says err err' l) is says }) shown
@@ -121,7 +117,7 @@ module _ (words : List (List ℕ)) (o : Option (List (List ℕ × List ℕ))) (o
         is = it;
         status_is = refl;
         output = none;
-        says = subst (λ n. Says err err' (long_line n number)) (same_name words place name other named at) (subst (λ l. Says err err' l) is says);
+        says = subst (λ n. Says err err' (long_line n number)) (same_name (file_words words) place name other named at) (subst (λ l. Says err err' l) is says);
       }) shown
   answers_halt (halts.TooLong place) shown none (line, (other, at, is), says) =
       if_some o _ _ (λ left (name, named, it). record {
@@ -129,7 +125,7 @@ module _ (words : List (List ℕ)) (o : Option (List (List ℕ × List ℕ))) (o
         is = it;
         status_is = refl;
         output = none;
-        says = subst (λ n. Says err err' (limit_line n)) (same_name words place name other named at) (subst (λ l. Says err err' l) is says);
+        says = subst (λ n. Says err err' (limit_line n)) (same_name (file_words words) place name other named at) (subst (λ l. Says err err' l) is says);
       }) shown
   answers_halt (halts.ReadFault place) shown none explains = tt
   answers_halt halts.Memory shown none explains = tt
@@ -147,12 +143,12 @@ module _ (words : List (List ℕ)) (o : Option (List (List ℕ × List ℕ))) (o
       subst (λ (s : Status). OnAnswer s (IfSome o (λ left. Answers words left s out out' err err'))) (sym ends.1) (answers_halt halt shown ends.0 ends.2)
 
 module _ (words : List (List ℕ)) (old new : FilesTold) (err err' : SinkTold) where
-  blames_halt : (halt : Halt) → IsFailedRead (file_words words) old new halt → Explains words halt err err'
+  blames_halt : (halt : Halt) → IsFailedRead (file_words words) old new halt → Explains (file_words words) halt err err'
       → OnReadFault (status_of halt) (BlamesFile words old new err err')
   blames_halt (halts.ReadFault place) fails (line, (other, at, is), says) = record {
     place = place;
     fails = fails;
-    says = subst (λ n. Says err err' (read_line n)) (same_name words place fails.last.name other fails.last.is at) (subst (λ l. Says err err' l) is says);
+    says = subst (λ n. Says err err' (read_line n)) (same_name (file_words words) place fails.last.name other fails.last.is at) (subst (λ l. Says err err' l) is says);
   }
   blames_halt halts.Usage fails explains = tt
   blames_halt (halts.Model fault) fails explains = tt

@@ -1,5 +1,5 @@
 -- What the clauses of a run say. `old` is told before the run, `new` after it.
-use Rattle.std.specs.Prelude.{◌≡◌, ◌≢◌, ◌⊎◌, ℕ, List, [], ◌∷◌, ◌+◌, ◌++◌, take, slice_get, Option, IfSome, Some, Result, OnOk, IfErr, Ok, Err, Vec}
+use Rattle.std.specs.Prelude.{◌≡◌, ◌≢◌, ◌⊎◌, ℕ, List, [], ◌∷◌, ◌++◌, take, slice_get, Option, IfSome, Some, Result, OnOk, IfErr, Ok, Err, Vec}
 use Rattle.std.specs.declared.alloc.Global.{Global}
 use Rattle.cb_io.specs.Outside.{FilesTold, SinkTold, contents, left_of, ReadsEach, ReadFailed, WritesAll, WritesFront, WriteFailed}
 use Rattle.cb_model.specs.declared.tables.Tables.{Tables}
@@ -109,21 +109,21 @@ pub record ReadsAndJudges (names : List (List ℕ)) (IsIt : List (List ℕ × Li
   pub last : IfErr result (IsLastRead names old new)
   pub failed : IfErr result (IsFailedRead names old new)
 
--- the line that tells why there is no output, by the words: the first file word stands right behind the command
+-- the line that tells why there is no output, by the names of the files
 abbrev pub IsLine : List (List ℕ) → Halt → List ℕ → Type 0
-IsLine words halts.Usage line = line ≡ usage_line
-IsLine words (halts.Model fault) line = line ≡ model_line fault
-IsLine words (halts.Topology number fault) line = line ≡ topology_line number fault
-IsLine words (halts.Symptoms number) line = line ≡ symptom_line number
-IsLine words (halts.TooLong place) line = (name : List ℕ) × (slice_get words (place + 1) ≡ Some name) × (line ≡ limit_line name)
-IsLine words (halts.LongLine place number) line = (name : List ℕ) × (slice_get words (place + 1) ≡ Some name) × (line ≡ long_line name number)
-IsLine words (halts.ReadFault place) line = (name : List ℕ) × (slice_get words (place + 1) ≡ Some name) × (line ≡ read_line name)
-IsLine words halts.Memory line = line ≡ memory_line
-IsLine words halts.NotBuilt line = line ≡ not_built_line
+IsLine names halts.Usage line = line ≡ usage_line
+IsLine names (halts.Model fault) line = line ≡ model_line fault
+IsLine names (halts.Topology number fault) line = line ≡ topology_line number fault
+IsLine names (halts.Symptoms number) line = line ≡ symptom_line number
+IsLine names (halts.TooLong place) line = (name : List ℕ) × (slice_get names place ≡ Some name) × (line ≡ limit_line name)
+IsLine names (halts.LongLine place number) line = (name : List ℕ) × (slice_get names place ≡ Some name) × (line ≡ long_line name number)
+IsLine names (halts.ReadFault place) line = (name : List ℕ) × (slice_get names place ≡ Some name) × (line ≡ read_line name)
+IsLine names halts.Memory line = line ≡ memory_line
+IsLine names halts.NotBuilt line = line ≡ not_built_line
 
 -- the error sink was given the line that tells why
 abbrev pub Explains : List (List ℕ) → Halt → SinkTold → SinkTold → Type 0
-Explains words halt old new = (line : List ℕ) × IsLine words halt line × Says old new line
+Explains names halt old new = (line : List ℕ) × IsLine names halt line × Says old new line
 
 -- how the bytes of the output are written
 abbrev pub Delivers : List ℕ → Status → SinkTold → SinkTold → SinkTold → SinkTold → Type 0
@@ -134,7 +134,7 @@ Delivers bytes status out out' err err' = ⊥
 -- how a run ends, once the files were read and judged
 abbrev pub Concludes : List (List ℕ) → Result (Vec ℕ Global) Halt → Status → SinkTold → SinkTold → SinkTold → SinkTold → Type 0
 Concludes words (Ok bytes) status out out' err err' = Delivers bytes.items status out out' err err'
-Concludes words (Err halt) status out out' err err' = TakesNothing out out' × (status ≡ status_of halt) × Explains words halt err err'
+Concludes words (Err halt) status out out' err err' = TakesNothing out out' × (status ≡ status_of halt) × Explains (file_words words) halt err err'
 
 -- One halt kept the run from its output: the status is that of the halt, the outcome is the one that it shows, the error sink was
 -- given its line, and no file was read after the one it tells.
@@ -142,5 +142,5 @@ pub record SaysWhy (words : List (List ℕ)) (status : Status) (old new : FilesT
   pub halt : Halt
   pub status_is : status_of halt ≡ status
   pub shows : IfSome old.left (λ left. HaltShows (file_words words) halt (IsOutcome words left))
-  pub says : Explains words halt err_old err_new
+  pub says : Explains (file_words words) halt err_old err_new
   pub last : IsLastRead (file_words words) old new halt
