@@ -12,7 +12,7 @@ use Rattle.cb_top.specs.Asked.{Asked, asked}
 use Rattle.cb_top.specs.Faults.{limit_line, long_line, read_line}
 use Rattle.cb_top.specs.Halts.{status_of}
 use Rattle.cb_top.specs.Outcome.{Outcome, IsOutcome, AskGives, UnreadGives, file_after, file_words, done, usage, faulty, wrong_lined, bad_named, too_long, long_lined, not_built}
-use Rattle.cb_top.specs.Run.{Shows, HaltShows, Explains, Concludes, IsLastRead, IsFailedRead, Answers, BlamesFile, TakesFront, TakesNothing, Says, SaysWhy}
+use Rattle.cb_top.specs.Run.{Shows, HaltShows, Explains, Concludes, IsFailedRead, ReadsAndJudges, Answers, BlamesFile, TakesFront, TakesNothing, Says, SaysWhy}
 use Rattle.cb_top.proofs.Texts.{model_gives_one}
 use Rattle.cb_top.proofs.Bursts.{burst_gives_one}
 use Rattle.cb_top.proofs.Reading.{if_some}
@@ -67,13 +67,14 @@ no_output words (Err halt) status out out' err err' ends = on_no_output status (
 
 -- where there is no output, the line tells why
 pub says_why : (words : List (List ℕ)) (old new : FilesTold) (answer : Result (Vec ℕ Global) Halt) (status : Status) (out out' err err' : SinkTold)
-    → IfSome old.left (λ left. Shows (file_words words) answer (IsOutcome words left)) → IfErr answer (IsLastRead (file_words words) old new)
-    → Concludes words answer status out out' err err' → OnNoOutput status (SaysWhy words status old new err err')
-says_why words old new (Ok bytes) Done out out' err err' shown last ends = tt
-says_why words old new (Ok bytes) WriteFault out out' err err' shown last ends = tt
-says_why words old new (Ok bytes) status out out' err err' shown last ends = absurd ends
-says_why words old new (Err halt) status out out' err err' shown last ends =
-    on_no_output status (SaysWhy words status old new err err') (record { halt = halt; status_is = sym ends.1; shows = shown; says = ends.2; last = last })
+    → ReadsAndJudges (file_words words) (IsOutcome words) old new answer → Concludes words answer status out out' err err'
+    → OnNoOutput status (SaysWhy words status old new err err')
+says_why words old new (Ok bytes) Done out out' err err' judged ends = tt
+says_why words old new (Ok bytes) WriteFault out out' err err' judged ends = tt
+says_why words old new (Ok bytes) status out out' err err' judged ends = absurd ends
+says_why words old new (Err halt) status out out' err err' judged ends =
+    on_no_output status (SaysWhy words status old new err err')
+    (record { halt = halt; status_is = sym ends.1; shows = judged.shows; says = ends.2; last = judged.last; failed = judged.failed })
 
 -- where the output is whole, no line was written
 pub no_line : (words : List (List ℕ)) (answer : Result (Vec ℕ Global) Halt) (status : Status) (out out' err err' : SinkTold)

@@ -95,13 +95,14 @@ Shows names (Err halt) IsIt = HaltShows names halt IsIt
 abbrev pub IsLastRead : List (List ℕ) → FilesTold → FilesTold → Halt → Type 0
 IsLastRead names old new halt = OnFile halt (λ place. ReadsUpTo names place old new)
 
--- where the halt is that a file word couldn't be read, a read of it failed
+-- where the halt is that a file couldn't be read, a read of it failed, and those before it have passed
 abbrev pub IsFailedRead : List (List ℕ) → FilesTold → FilesTold → Halt → Type 0
 IsFailedRead names old new (halts.ReadFault place) = FailsAt names place old new
 IsFailedRead names old new halt = Unit {0}
 
 -- The files of these names were read and judged, one after the other. With a value all were read, and it is the outcome's output.
--- With a halt, the outcome is the one that it shows, and the file that it tells is one of these, and the last that was read.
+-- With a halt, the outcome is the one that it shows, and the file that it tells is one of these, and the last that was read; where
+-- that couldn't be read, a read of it failed.
 pub record ReadsAndJudges (names : List (List ℕ)) (IsIt : List (List ℕ × List ℕ) → Outcome → Type 0) (old new : FilesTold) (result : Result (Vec ℕ Global) Halt) : Type 0 where
   pub shows : IfSome old.left (λ left. Shows names result (IsIt left))
   pub read : OnOk result (ReadsEach old new names)
@@ -137,10 +138,11 @@ Concludes words (Ok bytes) status out out' err err' = Delivers bytes.items statu
 Concludes words (Err halt) status out out' err err' = TakesNothing out out' × (status ≡ status_of halt) × Explains (file_words words) halt err err'
 
 -- One halt kept the run from its output: the status is that of the halt, the outcome is the one that it shows, the error sink was
--- given its line, and no file was read after the one it tells.
+-- given its line, no file was read after the one it tells, and where it is a failed read, that file's failed.
 pub record SaysWhy (words : List (List ℕ)) (status : Status) (old new : FilesTold) (err_old err_new : SinkTold) : Type 0 where
   pub halt : Halt
   pub status_is : status_of halt ≡ status
   pub shows : IfSome old.left (λ left. HaltShows (file_words words) halt (IsOutcome words left))
   pub says : Explains (file_words words) halt err_old err_new
   pub last : IsLastRead (file_words words) old new halt
+  pub failed : IsFailedRead (file_words words) old new halt

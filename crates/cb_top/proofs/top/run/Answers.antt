@@ -21,7 +21,7 @@ returns-clause-no_line g c = no_line (texts c.args.words.now) c.answer-answer.re
 pub returns-clause-line : goal.returns-clause-line
 returns-clause-line g c =
     says_why (texts c.args.words.now) (g.F.Files.tells c.args.files.now) (g.F.Files.tells c.answer-answer.new.files) c.answer-answer.result c.conclude.result _ _ _ _
-    c.answer-answer.ensures.judged.shows c.answer-answer.ensures.judged.last c.conclude.ensures
+    c.answer-answer.ensures.judged c.conclude.ensures
 
 pub returns-clause-ends : goal.returns-clause-ends
 returns-clause-ends g c = may_end (texts c.args.words.now) c.answer-answer.result c.conclude.result _ _ _ _ c.answer-answer.ensures.ends c.conclude.ensures
