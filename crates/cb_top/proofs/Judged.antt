@@ -1,6 +1,6 @@
 -- What judging a file shows.
 use Rattle.std.proofs.Common.{◌≡◌, ◌<◌, List, ℕ, length, refl, sym, subst, arith, Result, Ok, Err, Option, Some, None}
-use Rattle.std.specs.Prelude.{IfSome, IfErr, IfOk}
+use Rattle.std.specs.Prelude.{IfSome, IfErr, IfOk, OnOk}
 use Rattle.std.specs.Result.{IsErrAnd}
 use Rattle.cb_io.specs.Outside.{FilesTold, left_of, TakesAll, ReadsAll}
 use Rattle.cb_model.specs.declared.tables.Tables.{Tables}
@@ -25,6 +25,10 @@ if_err_more (Err e) P Q f h = f e h
 pub if_ok_more : {T E : Type 0} (result : Result T E) (P Q : T → Type 0) → ((x : T) → P x → Q x) → IfOk result P → IfOk result Q
 if_ok_more (Ok x) P Q f h = f x h
 if_ok_more (Err e) P Q f h = tt
+
+pub on_ok : {T E : Type 0} (result : Result T E) (P : Type 0) → P → OnOk result P
+on_ok (Ok x) P p = p
+on_ok (Err e) P p = tt
 
 -- an error that is this one has what this one has
 pub err_judged : {T : Type 0} (result : Result T Halt) (halt : Halt) (P : Halt → Type 0) → IsErrAnd result (λ x. x ≡ halt) → P halt → IfErr result P

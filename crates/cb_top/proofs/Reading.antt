@@ -1,5 +1,5 @@
 -- File words that are read one after the other.
-use Rattle.std.proofs.Common.{◌≡◌, ◌∙◌, ℕ, List, [], refl, sym, ap, subst, take, slice_get, Result, Ok, Err, arith}
+use Rattle.std.proofs.Common.{◌≡◌, ◌∙◌, ◌<◌, ℕ, List, [], refl, sym, ap, subst, take, length, slice_get, Result, Ok, Err, arith}
 use Rattle.std.specs.Prelude.{None, Some, IfSome, unwrap_or}
 use Rattle.std.specs.declared.option.Option.{Option}
 use Rattle.cb_io.specs.Outside.{FilesTold, left_of, KeepsOthers, ReadsFront}
@@ -14,7 +14,7 @@ use Rattle.cb_top.specs.declared.halt.Halt.TheVariants as halts
 use Rattle.cb_top.specs.Halts.{OnFile, StopsFile}
 use Rattle.cb_io.specs.Outside.{ReadsEach}
 use Rattle.cb_io.proofs.Told.{ReadsEach-others}
-use Rattle.cb_top.specs.Run.{LeavesRest, ReadsUpTo, IsLastRead, StopsAt, OnFileFault, HaltShows}
+use Rattle.cb_top.specs.Run.{LeavesRest, ReadsUpTo, IsLastRead, IsFailedRead, HavePassed, FailsAt, HaltShows, ReadsAndJudges}
 
 -- no count falls where nothing is done
 pub counts_stay : (a : FilesTold) → NoCountFalls a a
@@ -100,21 +100,25 @@ module _ (names earlier : List (List ℕ)) (name : List ℕ) (place : ℕ) (Judg
     }
 
     -- the file that the halt tells is the last that was read
-    pub last_read : (halt : Halt) → take place names ≡ earlier → KeepsOthers now new name → ReadsFront now new name
+    last_read : (halt : Halt) → take place names ≡ earlier → KeepsOthers now new name → ReadsFront now new name
         → StopsFile place name Judges now new halt → IsLastRead names old new halt
     last_read halt first others front stops = on_file place (λ at. ReadsUpTo names at old new) halt stops.placed (reads_up_to first others front)
 
-    -- a run stops at the file word that couldn't be read
-    pub stops_at : (halt : Halt) → take place names ≡ earlier → NoCountFalls old now → KeepsOthers now new name → ReadsFront now new name
-        → StopsFile place name Judges now new halt → OnFileFault halt (λ at. StopsAt names at old new)
+    -- where the file word couldn't be read, a read of it failed
+    failed_read : (halt : Halt) → take place names ≡ earlier → IfSome old.left (λ left. HavePassed left earlier) → NoCountFalls old now → KeepsOthers now new name
+        → ReadsFront now new name → StopsFile place name Judges now new halt → IsFailedRead names old new halt
     unfolding reads_up_to
-    stops_at (halts.ReadFault at) first counts others front stops =
-        subst (λ i. StopsAt names i old new) (sym stops.placed)
-        (record { last = reads_up_to first others front; failed = ReadFailed-after old now new name counts stops.cause })
-    stops_at halt first counts others front stops = tt
+    failed_read (halts.ReadFault at) first passed counts others front stops =
+        subst (λ i. FailsAt names i old new) (sym stops.placed)
+        (record {
+          last = reads_up_to first others front;
+          failed = ReadFailed-after old now new name counts stops.cause;
+          passed = rw first passed;
+        })
+    failed_read halt first passed counts others front stops = tt
 
     -- what the halt shows is what the file's text is judged to give
-    pub halt_shows : (IsIt : List (List ℕ × List ℕ) → Outcome → Type 0) (halt : Halt)
+    halt_shows : (IsIt : List (List ℕ × List ℕ) → Outcome → Type 0) (halt : Halt)
         → IfSome old.left (λ left. (h : Halt) → Judges (contents left earlier name) h → Gives name h (IsIt left))
         → StopsFile place name Judges now new halt → IfSome old.left (λ left. HaltShows names halt (IsIt left))
     halt_shows IsIt halts.Usage each stops =
@@ -135,6 +139,22 @@ module _ (names earlier : List (List ℕ)) (name : List ℕ) (place : ℕ) (Judg
     halt_shows IsIt halts.Memory each stops = of_any old.left
     halt_shows IsIt halts.NotBuilt each stops =
         if_some2 old.left _ _ _ (λ left each_of j. each_of halts.NotBuilt j) each (judged old now earlier name (λ text. Judges text halts.NotBuilt) before stops.cause)
+
+    -- a file that gives no value ends the reading
+    pub ends_there : (IsIt : List (List ℕ × List ℕ) → Outcome → Type 0) (halt : Halt) → take place names ≡ earlier → place < length names
+        → IfSome old.left (λ left. HavePassed left earlier) → IfSome old.left (λ left. (h : Halt) → Judges (contents left earlier name) h → Gives name h (IsIt left))
+        → NoCountFalls old now → KeepsOthers now new name → ReadsFront now new name → StopsFile place name Judges now new halt → ReadsAndJudges names IsIt old new (Err halt)
+    ends_there IsIt halt first within passed each counts others front stops = record {
+      shows = halt_shows IsIt halt each stops;
+      read = tt;
+      placed = on_file place (λ at. at < length names) halt stops.placed within;
+      last = last_read halt first others front stops;
+      failed = failed_read halt first passed counts others front stops;
+    }
+
+-- want of memory tells no file
+pub memory_ends : (names : List (List ℕ)) (IsIt : List (List ℕ × List ℕ) → Outcome → Type 0) (old new : FilesTold) → ReadsAndJudges names IsIt old new (Err halts.Memory)
+memory_ends names IsIt old new = record { shows = of_any old.left; read = tt; placed = tt; last = tt; failed = tt }
 
 pub if_some3 : {T : Type 0} (o : Option T) (P Q R S : T → Type 0) → ((x : T) → P x → Q x → R x → S x) → IfSome o P → IfSome o Q → IfSome o R → IfSome o S
 if_some3 None P Q R S f p q r = tt

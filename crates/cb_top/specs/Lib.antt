@@ -1,4 +1,5 @@
 pub mod Status
+pub mod Asked
 pub mod Commands
 pub mod Faults
 pub mod Model

@@ -1,12 +1,12 @@
 //! The command `burst`.
-ghost use Rattle.std.specs.Prelude.{[], ◌∷◌, OnOk, IfOk, IfErr, IfSome};
-ghost use Rattle.cb_io.specs.Outside.{KeepsOthers, NoCountFalls, ReadsEach, ReadsFront};
+ghost use Rattle.std.specs.Prelude.{[], ◌∷◌, IfOk, IfErr};
+ghost use Rattle.cb_io.specs.Outside.{KeepsOthers, NoCountFalls, ReadsFront};
 ghost use Rattle.cb_topo.specs.Numbered.{topology_of};
 ghost use Rattle.cb_top.specs.Model.{IsModelText};
 ghost use Rattle.cb_top.specs.Burst.{IsTopologyText, IsSymptomText};
-ghost use Rattle.cb_top.specs.Halts.{IsOfFiles, IsPlaced, ReadsSuch, StopsFile, JudgesModel, JudgesTopology, JudgesSymptoms};
+ghost use Rattle.cb_top.specs.Halts.{IsOfFiles, ReadsSuch, StopsFile, JudgesModel, JudgesTopology, JudgesSymptoms};
 ghost use Rattle.cb_top.specs.Outcome.{BurstAnswers};
-ghost use Rattle.cb_top.specs.Run.{IsLastRead, StopsAt, Shows, OnStop};
+ghost use Rattle.cb_top.specs.Run.{ReadsAndJudges};
 
 use crate::files::{MODEL, SYMPTOMS, TOPOLOGY, read_file};
 use crate::halt::Halt;
@@ -27,11 +27,8 @@ pub fn burst<F: Files, L: Ledger>(
     symptoms: &str,
     steps: &mut Steps<L>,
 ) -> Result<Vec<u8>, Halt>
-    ensures answer { IfSome (F.tells files.old).left (λ left. Shows (model.now ∷ topology.now ∷ symptoms.now ∷ []) result (BurstAnswers left model.now topology.now symptoms.now)) }
-    ensures read { OnOk result (ReadsEach (F.tells files.old) (F.tells files.new) (model.now ∷ topology.now ∷ symptoms.now ∷ [])) }
-    ensures stop { OnStop result (λ place. StopsAt (model.now ∷ topology.now ∷ symptoms.now ∷ []) place (F.tells files.old) (F.tells files.new)) }
-    ensures last { IfErr result (IsLastRead (model.now ∷ topology.now ∷ symptoms.now ∷ []) (F.tells files.old) (F.tells files.new)) }
-    ensures placed { IfErr result (IsPlaced (model.now ∷ topology.now ∷ symptoms.now ∷ [])) }
+    ensures judged { ReadsAndJudges (model.now ∷ topology.now ∷ symptoms.now ∷ []) (λ left. BurstAnswers left model.now topology.now symptoms.now)
+        (F.tells files.old) (F.tells files.new) result }
     ensures of_files { IfErr result IsOfFiles }
 {
     let model = read_model(alloc, files, model)?;

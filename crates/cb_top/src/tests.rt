@@ -173,6 +173,31 @@ fn a_failed_read_names_its_file(rt: HostRuntime) -> Result<(), Fail> {
 }
 
 #[test]
+fn a_fault_is_told_before_the_next_file_is_read(rt: HostRuntime) -> Result<(), Fail> {
+    // The files that are there, the status and the line.
+    let cases: [(&[(&str, &str)], u8, &str); 2] = [
+        (&[("m", "class A {\n")], 3, "error 3 model unfinished\n"),
+        (
+            &[("m", ""), ("t", "create\n")],
+            4,
+            "error 4 topology line 1 bad-words\n",
+        ),
+    ];
+    for (files, code, err) in cases {
+        let case = Case {
+            words: &["burst", "m", "t", "s"],
+            files,
+            piece: 0,
+            failing_read: 0,
+            failing_write: 0,
+        };
+        let wanted = Wanted { code, out: "", err };
+        check(&rt, rt.alloc(), &case, &wanted)?;
+    }
+    Ok(())
+}
+
+#[test]
 fn a_refused_write_leaves_a_front(rt: HostRuntime) -> Result<(), Fail> {
     for (failing_write, out) in [(1, ""), (2, "burst r"), (3, "burst raised 0")] {
         let case = Case {
