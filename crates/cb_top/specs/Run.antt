@@ -26,8 +26,8 @@ TakesNothing old new = WritesAll old new []
 abbrev pub LeavesRest : List ℕ → Option (List ℕ) → Type 0
 LeavesRest bytes left = (front : List ℕ) × (rest : List ℕ) × (bytes ≡ front ++ rest) × (left ≡ Some rest)
 
--- The file word at a place is the last that was read. Those before it were read whole, a front was taken of what they left of
--- its name, and of every other name there is left what they left of it: nothing, where it is one of them, and else all.
+-- Nothing was taken of a file word behind the one at a place. Those before it were read whole, a front was taken of what they left
+-- of its name, and of every other name there is left what they left of it: nothing, where it is one of them, and else all.
 pub record ReadsUpTo (names : List (List ℕ)) (place : ℕ) (old new : FilesTold) : Type 0 where
   pub name : List ℕ
   pub is : slice_get names place ≡ Some name
@@ -46,7 +46,7 @@ HavePassed left (model ∷ topology ∷ []) =
     × IsTopologyText tables (contents left (model ∷ []) topology) network
 HavePassed left names = ⊥
 
--- a read of the file word at a place failed, no later one was read, and those before it have passed
+-- a read of the file word at a place failed, nothing was taken of a later one, and those before it have passed
 pub record FailsAt (names : List (List ℕ)) (place : ℕ) (old new : FilesTold) : Type 0 where
   pub last : ReadsUpTo names place old new
   pub failed : ReadFailed old new last.name
@@ -91,7 +91,7 @@ abbrev pub Shows : List (List ℕ) → Result (Vec ℕ Global) Halt → (Outcome
 Shows names (Ok bytes) IsIt = IsIt (done bytes.items)
 Shows names (Err halt) IsIt = HaltShows names halt IsIt
 
--- the file that a halt tells, if it tells one, is the last that was read
+-- nothing was taken of a file behind the one that a halt tells, if it tells one
 abbrev pub IsLastRead : List (List ℕ) → FilesTold → FilesTold → Halt → Type 0
 IsLastRead names old new halt = OnFile halt (λ place. ReadsUpTo names place old new)
 
@@ -101,8 +101,8 @@ IsFailedRead names old new (halts.ReadFault place) = FailsAt names place old new
 IsFailedRead names old new halt = Unit {0}
 
 -- The files of these names were read and judged, one after the other. With a value all were read, and it is the outcome's output.
--- With a halt, the outcome is the one that it shows, and the file that it tells is one of these, and the last that was read; where
--- that couldn't be read, a read of it failed.
+-- With a halt, the outcome is the one that it shows, the file that it tells is one of these, and nothing was taken of one behind it;
+-- where that couldn't be read, a read of it failed.
 pub record ReadsAndJudges (names : List (List ℕ)) (IsIt : List (List ℕ × List ℕ) → Outcome → Type 0) (old new : FilesTold) (result : Result (Vec ℕ Global) Halt) : Type 0 where
   pub shows : IfSome old.left (λ left. Shows names result (IsIt left))
   pub read : OnOk result (ReadsEach old new names)
@@ -138,7 +138,7 @@ Concludes words (Ok bytes) status out out' err err' = Delivers bytes.items statu
 Concludes words (Err halt) status out out' err err' = TakesNothing out out' × (status ≡ status_of halt) × Explains (file_words words) halt err err'
 
 -- One halt kept the run from its output: the status is that of the halt, the outcome is the one that it shows, the error sink was
--- given its line, no file was read after the one it tells, and where it is a failed read, that file's failed.
+-- given its line, nothing was taken of a file behind the one it tells, and where it is a failed read, a read of that file failed.
 pub record SaysWhy (words : List (List ℕ)) (status : Status) (old new : FilesTold) (err_old err_new : SinkTold) : Type 0 where
   pub halt : Halt
   pub status_is : status_of halt ≡ status

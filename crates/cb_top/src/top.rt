@@ -48,11 +48,12 @@ pub fn run<F: Files, O: Sink, E: Sink, L: Ledger>(
     ensures cause { OnDone result (IfSome (F.tells files.old).left (λ left.
         FindsTheCause (texts words.now) left (O.tells out.old) (O.tells out.new))) }
     ensures read_whole { OnDone result (ReadsEach (F.tells files.old) (F.tells files.new) (file_words (texts words.now))) }
-    // Where a read failed, the line names the file, those before it were read whole and have passed, and no later one was read.
+    // Where a read failed, the line names the file, those before it were read whole and have passed, and nothing was taken of a
+    // later one.
     ensures read_fault { OnReadFault result (BlamesFile (texts words.now) (F.tells files.old) (F.tells files.new) (E.tells err.old) (E.tells err.new)) }
     ensures write_fault { OnWriteFault result (BlamesOut (O.tells out.old) (O.tells out.new) (E.tells err.old) (E.tells err.new)) }
-    // At each other status but 0 the line tells why there is no output, which is what the outcome says, and no file was read after
-    // the one that it tells: one that is refused is refused before the next one is read.
+    // At each other status but 0 the line tells why there is no output, which is what the outcome says, and nothing was taken of a
+    // file behind the one that it tells: one that is refused is refused before bytes of the next one are taken.
     ensures line { OnNoOutput result (SaysWhy (texts words.now) result (F.tells files.old) (F.tells files.new) (E.tells err.old) (E.tells err.new)) }
     ensures memory { OnMemory result (Says (E.tells err.old) (E.tells err.new) memory_line) }
     ensures steps { (¬ AskForBurst (texts words.now)) → steps.new ≡ steps.old }
