@@ -13,14 +13,13 @@ use Rattle.cb_network.specs.Finding.{IsBurst}
 use Rattle.cb_network.proofs.Nearest.{burst_finds_the_cause}
 use Rattle.cb_report.specs.Lines.{burst_text}
 use Rattle.cb_top.specs.declared.halt.Halt.{Halt}
-use Rattle.cb_top.specs.declared.halt.Halt.TheVariants as halts
 use Rattle.cb_top.specs.declared.status.Status.{Status}
 use Rattle.cb_top.specs.declared.status.Status.TheVariants.{Done, Model, Topology as TopologyStatus, Limit, WriteFault}
 use Rattle.cb_top.specs.Asked.{Asked, asked}
 use Rattle.cb_top.specs.Status.{OnDone}
 use Rattle.cb_top.specs.Outcome.{Outcome, File, IsOutcome, RefusesModel, RefusesTopology, RefusesSymptoms, BurstGives, AskGives, file_after, done, nothing}
 use Rattle.cb_top.specs.Cause.{ListsTheNearest, PrintsTheCause, AskFinds, FindsTheCause}
-use Rattle.cb_top.specs.Halts.{status_of}
+use Rattle.cb_top.proofs.Ends.{done_at_no_halt}
 use Rattle.cb_top.proofs.Reading.{if_some}
 use Rattle.cb_top.specs.Run.{Shows, Concludes}
 
@@ -83,17 +82,6 @@ module _ (left : List (List ℕ × List ℕ)) (old new : SinkTold) (bytes : List
   finds (Asked.model m) words gives = tt
   finds Asked.other words gives = tt
 
-not_at_a_halt : (halt : Halt) (P : Type 0) → OnDone (status_of halt) P
-not_at_a_halt halts.Usage P = tt
-not_at_a_halt (halts.Model fault) P = tt
-not_at_a_halt (halts.Topology line fault) P = tt
-not_at_a_halt (halts.Symptoms line) P = tt
-not_at_a_halt (halts.TooLong place) P = tt
-not_at_a_halt (halts.LongLine place line) P = tt
-not_at_a_halt (halts.ReadFault place) P = tt
-not_at_a_halt halts.Memory P = tt
-not_at_a_halt halts.NotBuilt P = tt
-
 -- at status 0 the output names the cause
 pub names_the_cause : (words names : List (List ℕ)) (o : Option (List (List ℕ × List ℕ))) (answer : Result (Vec ℕ Global) Halt) (status : Status) (out out' err err' : SinkTold)
     → IfSome o (λ left. Shows names answer (IsOutcome words left)) → Concludes words answer status out out' err err'
@@ -103,4 +91,4 @@ names_the_cause words names o (Ok bytes) Done out out' err err' shown ends =
 names_the_cause words names o (Ok bytes) WriteFault out out' err err' shown ends = tt
 names_the_cause words names o (Ok bytes) status out out' err err' shown ends = absurd ends
 names_the_cause words names o (Err halt) status out out' err err' shown ends =
-    subst (λ (s : Status). OnDone s (IfSome o (λ left. FindsTheCause words left out out'))) (sym ends.1) (not_at_a_halt halt _)
+    subst (λ (s : Status). OnDone s (IfSome o (λ left. FindsTheCause words left out out'))) (sym ends.1) (done_at_no_halt halt _)

@@ -13,6 +13,7 @@ use Rattle.cb_top.specs.Faults.{limit_line, long_line, read_line}
 use Rattle.cb_top.specs.Halts.{status_of}
 use Rattle.cb_top.specs.Outcome.{Outcome, IsOutcome, AskGives, UnreadGives, file_after, file_words, done, usage, faulty, wrong_lined, bad_named, too_long, long_lined, not_built}
 use Rattle.cb_top.specs.Run.{Shows, HaltShows, Explains, Concludes, IsFailedRead, ReadsAndJudges, Answers, BlamesFile, TakesFront, TakesNothing, Says, SaysWhy}
+use Rattle.cb_top.proofs.Ends.{done_at_no_halt, write_fault_at_no_halt}
 use Rattle.cb_top.proofs.Texts.{model_gives_one}
 use Rattle.cb_top.proofs.Bursts.{burst_gives_one}
 use Rattle.cb_top.proofs.Reading.{if_some}
@@ -39,18 +40,7 @@ takes_front words o names (Ok bytes) Done out out' err err' shown ends = tt
 takes_front words o names (Ok bytes) WriteFault out out' err err' shown ends = if_some o _ _ (λ left is. (bytes.items, is, ends.0)) shown
 takes_front words o names (Ok bytes) status out out' err err' shown ends = absurd ends
 takes_front words o names (Err halt) status out out' err err' shown ends =
-    subst (λ (s : Status). OnWriteFault s (IfSome o (λ left. TakesFront words left out out'))) (sym ends.1) (not_at_a_halt halt)
-  where
-    not_at_a_halt : (h : Halt) → OnWriteFault (status_of h) (IfSome o (λ left. TakesFront words left out out'))
-    not_at_a_halt halts.Usage = tt
-    not_at_a_halt (halts.Model fault) = tt
-    not_at_a_halt (halts.Topology line fault) = tt
-    not_at_a_halt (halts.Symptoms line) = tt
-    not_at_a_halt (halts.TooLong place) = tt
-    not_at_a_halt (halts.LongLine place line) = tt
-    not_at_a_halt (halts.ReadFault place) = tt
-    not_at_a_halt halts.Memory = tt
-    not_at_a_halt halts.NotBuilt = tt
+    subst (λ (s : Status). OnWriteFault s (IfSome o (λ left. TakesFront words left out out'))) (sym ends.1) (write_fault_at_no_halt halt _)
 
 on_no_output : (status : Status) (P : Type 0) → P → OnNoOutput status P
 on_no_output Done P p = tt
@@ -83,18 +73,7 @@ no_line words (Ok bytes) Done out out' err err' ends = ends.1
 no_line words (Ok bytes) WriteFault out out' err err' ends = tt
 no_line words (Ok bytes) status out out' err err' ends = absurd ends
 no_line words (Err halt) status out out' err err' ends =
-    subst (λ (s : Status). OnDone s (TakesNothing err err')) (sym ends.1) (not_at_a_halt halt)
-  where
-    not_at_a_halt : (h : Halt) → OnDone (status_of h) (TakesNothing err err')
-    not_at_a_halt halts.Usage = tt
-    not_at_a_halt (halts.Model fault) = tt
-    not_at_a_halt (halts.Topology line fault) = tt
-    not_at_a_halt (halts.Symptoms line) = tt
-    not_at_a_halt (halts.TooLong place) = tt
-    not_at_a_halt (halts.LongLine place line) = tt
-    not_at_a_halt (halts.ReadFault place) = tt
-    not_at_a_halt halts.Memory = tt
-    not_at_a_halt halts.NotBuilt = tt
+    subst (λ (s : Status). OnDone s (TakesNothing err err')) (sym ends.1) (done_at_no_halt halt _)
 
 -- at a place stands one name
 same_name : (names : List (List ℕ)) (place : ℕ) (name other : List ℕ) → slice_get names place ≡ Some name → slice_get names place ≡ Some other → other ≡ name
@@ -151,14 +130,7 @@ module _ (words : List (List ℕ)) (old new : FilesTold) (err err' : SinkTold) w
     fails = fails;
     says = subst (λ n. Says err err' (read_line n)) (same_name (file_words words) place fails.last.name other fails.last.is at) (subst (λ l. Says err err' l) is says);
   }
-  blames_halt halts.Usage fails explains = tt
-  blames_halt (halts.Model fault) fails explains = tt
-  blames_halt (halts.Topology line fault) fails explains = tt
-  blames_halt (halts.Symptoms line) fails explains = tt
-  blames_halt (halts.TooLong place) fails explains = tt
-  blames_halt (halts.LongLine place line) fails explains = tt
-  blames_halt halts.Memory fails explains = tt
-  blames_halt halts.NotBuilt fails explains = tt
+  blames_halt halt fails explains = tt
 
   -- a run in which a read failed blames the file
   pub blames_file : (answer : Result (Vec ℕ Global) Halt) (status : Status) (out out' : SinkTold)
