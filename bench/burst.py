@@ -16,6 +16,7 @@ The networks, of so many sites:
     circle    the chain closed: each site reaches all
     scatter   a problem a site, each of which causes three to eight of as many symptoms
     dense     a problem a site, each of which causes about half of 96 symptoms
+    hub       a problem a site, with a symptom of its own and one that all problems cause
     reading   the ring's files, with a bad first line in the symptom file: what it takes to read the network alone
 """
 import pathlib
@@ -101,6 +102,20 @@ class Alarm {
 """
 
 
+HUB = """class Hub {
+  symptom Shared;
+  relation leaves to Leaf many inverse hub;
+}
+class Leaf {
+  problem Broken;
+  symptom Own;
+  relation hub to Hub one inverse leaves;
+  rule own: Broken => Own;
+  rule all: Broken => hub.Shared;
+}
+"""
+
+
 def ring(sites):
     """The lines of the ring, and the symptoms to choose from."""
     lines = [line for i in range(sites) for line in (f"create s{i} Switch", f"create p{i} Port", f"create q{i} Port", f"create c{i} Cable")]
@@ -132,6 +147,11 @@ def causes(sites, alarms, least, most, rng):
     return lines, [f"S@a{i}" for i in range(alarms)]
 
 
+def hub(sites):
+    lines = ["create hub Hub"] + [f"create l{i} Leaf" for i in range(sites)] + [f"link l{i} hub hub" for i in range(sites)]
+    return lines, ["Shared@hub"] + [f"Own@l{i}" for i in range(sites)]
+
+
 def network(kind, sites, rng):
     """The model, the lines of the topology, and the symptoms to choose from."""
     if kind == "pumps":
@@ -142,6 +162,8 @@ def network(kind, sites, rng):
         return RACKS, *full(sites, rng)
     if kind in ("chain", "circle"):
         return CHAIN, *chain(sites, kind == "circle")
+    if kind == "hub":
+        return HUB, *hub(sites)
     if kind == "scatter":
         return CAUSES, *causes(sites, sites, 3, 8, rng)
     return CAUSES, *causes(sites, 96, 36, 60, rng)
@@ -160,7 +182,7 @@ def write_inputs(folder, kind, sites):
 
 DEFAULT = [
     "pumps:2700", "ring:256", "ring:2048", "full:2048", "chain:2048", "chain:8192", "circle:8192",
-    "scatter:2048", "scatter:8192", "dense:2048", "dense:8192", "reading:2048",
+    "scatter:2048", "scatter:8192", "dense:2048", "dense:8192", "hub:8000", "reading:2048",
 ]
 
 

@@ -8,6 +8,7 @@ import sys
 import tempfile
 
 ROOT = pathlib.Path(__file__).resolve().parent.parent
+TIME = "/usr/bin/time"
 
 
 def programs(description, **argument):
@@ -27,15 +28,18 @@ def programs(description, **argument):
 
 
 def run(program, words, folder):
-    """The status, the output, the processor seconds and the peak memory in MiB of one run."""
-    with tempfile.TemporaryFile() as out, tempfile.TemporaryFile() as err:
-        process = subprocess.Popen([str(program), *words], cwd=folder, stdout=out, stderr=err)
+    """The status, the output, the processor seconds and the peak memory in MiB of one run. A process begins with the peak of the
+    one that it is forked from, so it is started by GNU time, which is small, where that is there."""
+    with tempfile.TemporaryFile() as out, tempfile.TemporaryFile() as err, tempfile.NamedTemporaryFile() as peak:
+        by = [TIME, "-q", "-f", "%M", "-o", peak.name] if os.path.exists(TIME) else []
+        process = subprocess.Popen([*by, str(program), *words], cwd=folder, stdout=out, stderr=err)
         _, status, usage = os.wait4(process.pid, 0)
         process.returncode = os.waitstatus_to_exitcode(status)
         out.seek(0)
         err.seek(0)
         text = out.read() + err.read()
-    return process.returncode, text, usage.ru_utime + usage.ru_stime, usage.ru_maxrss / 1024
+        memory = int(peak.read() or usage.ru_maxrss) / 1024
+    return process.returncode, text, usage.ru_utime + usage.ru_stime, memory
 
 
 def compare(what, command, programs_of, folder):

@@ -1,6 +1,7 @@
 -- Which refusals an edit may have, and which of them come first.
 use Rattle.std.proofs.Common.{◌≡◌, ◌⊎◌, ℕ, ◌+◌, ◌<◌, ◌≤◌, List, refl, sym, ap, subst, ◌∙◌, inl, inr, arith, true, false, cond, Some, Result, Ok, Err, OnOk, IfErr}
 use Rattle.std.specs.FinMap as map
+use Rattle.std.proofs.lemmas.Bool.{cases_lt}
 use Rattle.std.specs.List.{slice_get}
 use Rattle.cb_model.specs.declared.id.ClassId.{ClassId}
 use Rattle.cb_model.specs.declared.id.RelId.{RelId}
@@ -16,7 +17,7 @@ use Rattle.cb_network.specs.declared.edit.EditRefusal.TheVariants.{NoClass, Exis
 use Rattle.cb_network.specs.Topology.{Topology, IsLive, HasLink, IsMuted}
 use Rattle.cb_network.specs.Nodes.{IsNodeOf, IsProblem, IsSymptomNode, IsCount, IsBeyond}
 use Rattle.cb_network.specs.Sound.{IsInverse, instance_limit, node_limit, problem_limit, symptom_limit}
-use Rattle.cb_network.specs.Edits.{number_of, with_instance, node_of, IsRelationAt, HasRelationAt, HasNamedLink, IsWrongKind, IsTaken, IsOccupied, ChangedIs, Refuses}
+use Rattle.cb_network.specs.Edits.{number_of, with_instance, node_of, IsRelationAt, HasRelationAt, HasNamedLink, IsWrongKind, IsTaken, IsOccupied, ChangedIs, Refuses, IsAccepted, IsRefused}
 use Rattle.cb_network.proofs.Counts.{count_is_one}
 use Rattle.cb_network.proofs.Kept.{class_of}
 use Rattle.cb_network.proofs.Links.{one_inverse}
@@ -24,7 +25,7 @@ use Rattle.cb_net.specs.Numbered.{Net, LinkAt, IsWhole}
 use Rattle.cb_accept.specs.declared.counts.Counts.{Counts}
 use Rattle.cb_accept.specs.declared.link.Ends.{Ends}
 use Rattle.cb_accept.specs.Counts.{AreCounts, AreWithin}
-use Rattle.cb_accept.specs.Refusals.{IsAccepted, IsRefused, IsFirstLimit, FitsTarget, AreEnds}
+use Rattle.cb_accept.specs.Refusals.{IsFirstLimit, FitsTarget, AreEnds}
 use Rattle.cb_accept.proofs.Changed.{one_class_of}
 use Rattle.cb_accept.proofs.Looked.{one_name}
 use Rattle.cb_accept.proofs.Members.{one_class, one_relation}
@@ -72,6 +73,11 @@ module _ (t : Topology) (event name : List ℕ) (k : ℕ) where
   unmute_below live symptom muted NoSymptom low none = none (symptom low)
   unmute_below live symptom muted NotMuted low none = none (muted low)
   unmute_below live symptom muted why low holds = holds
+
+-- limits
+
+at_most : (k limit : ℕ) → ¬ (limit < k) → k ≤ limit
+at_most k limit few = elim (cases_lt limit k) [ inl many ↦ absurd (few many) | inr low ↦ low ]
 
 -- none below the last is none at all
 few_refusals : (why : EditRefusal) → number_of why < 16
@@ -263,22 +269,25 @@ module _ (t : Topology) (name class : List ℕ) where
             (λ _. few_symptoms within.symptoms))
 
         beyond_limit : (why : EditRefusal) → IsFirstLimit new why → IsRefused t (Create name class) why
-        beyond_limit NodeLimit many = (
-          made (λ u. IsBeyond (IsNodeOf u) node_limit) (new.nodes, are.nodes, many),
+        beyond_limit NodeLimit is = (
+          made (λ u. IsBeyond (IsNodeOf u) node_limit) (new.nodes, are.nodes, is.above),
           create_below t name class 13 (λ _. (c, named)) (λ _. fresh) (λ _. enough_instances) (later _ 13 13 (omega arith)) (later _ 14 13 (omega arith))
               (later _ 15 13 (omega arith)),
         )
-        beyond_limit ProblemLimit (few, many) = (
-          made (λ u. IsBeyond (IsProblem u) problem_limit) (new.problems, are.problems, many),
-          create_below t name class 14 (λ _. (c, named)) (λ _. fresh) (λ _. enough_instances) (λ _. few_nodes few) (later _ 14 14 (omega arith))
+        beyond_limit ProblemLimit is = (
+          made (λ u. IsBeyond (IsProblem u) problem_limit) (new.problems, are.problems, is.above),
+          create_below t name class 14 (λ _. (c, named)) (λ _. fresh) (λ _. enough_instances)
+              (λ _. few_nodes (at_most new.nodes node_limit (is.first NodeLimit (omega arith)))) (later _ 14 14 (omega arith))
               (later _ 15 14 (omega arith)),
         )
-        beyond_limit SymptomLimit (few, few', many) = (
-          made (λ u. IsBeyond (IsSymptomNode u) symptom_limit) (new.symptoms, are.symptoms, many),
-          create_below t name class 15 (λ _. (c, named)) (λ _. fresh) (λ _. enough_instances) (λ _. few_nodes few) (λ _. few_problems few')
+        beyond_limit SymptomLimit is = (
+          made (λ u. IsBeyond (IsSymptomNode u) symptom_limit) (new.symptoms, are.symptoms, is.above),
+          create_below t name class 15 (λ _. (c, named)) (λ _. fresh) (λ _. enough_instances)
+              (λ _. few_nodes (at_most new.nodes node_limit (is.first NodeLimit (omega arith))))
+              (λ _. few_problems (at_most new.problems problem_limit (is.first ProblemLimit (omega arith))))
               (later _ 15 15 (omega arith)),
         )
-        beyond_limit why never = absurd never
+        beyond_limit why is = absurd is.above
 
         pub create_decided : (result : Result (Unit {0}) EditRefusal) → OnOk result (AreWithin new) → OnOk result (IsAccepted t (Create name class))
         create_decided (Ok u) within = create_allowed within

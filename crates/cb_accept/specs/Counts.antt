@@ -2,7 +2,7 @@
 use Rattle.std.specs.Prelude.{◌≡◌, ◌≤◌, ℕ, List}
 use Rattle.cb_model.specs.declared.id.ClassId.{ClassId}
 use Rattle.cb_model.specs.declared.tables.Tables.{Tables}
-use Rattle.cb_model.specs.declared.limits.TheConstants.{MOST_EVENTS}
+use Rattle.cb_model.specs.Limits.{event_limit}
 use Rattle.cb_network.specs.Topology.{Topology, IsLive, IsOf, empty_topology}
 use Rattle.cb_network.specs.Nodes.{IsNodeOf, IsProblem, IsSymptomNode, IsCount}
 use Rattle.cb_network.specs.Sound.{node_limit, problem_limit, symptom_limit}
@@ -27,9 +27,9 @@ AreOwn tables class own = (name : List ℕ) → AreCounts (with_instance (empty_
 
 -- no number is above that of the events that a class may have
 pub record AreOfOneClass (counts : Counts) : Type 0 where
-  pub nodes : counts.nodes ≤ MOST_EVENTS
-  pub problems : counts.problems ≤ MOST_EVENTS
-  pub symptoms : counts.symptoms ≤ MOST_EVENTS
+  pub nodes : counts.nodes ≤ event_limit
+  pub problems : counts.problems ≤ event_limit
+  pub symptoms : counts.symptoms ≤ event_limit
 
 -- a topology of the model that has so many has these once it has a further instance of the class
 abbrev pub CountWith : Tables → Counts → ClassId → Counts → Type 0

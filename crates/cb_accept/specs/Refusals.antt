@@ -1,37 +1,33 @@
 -- What is looked up to decide an edit.
-use Rattle.std.specs.Prelude.{◌≡◌, ◌↔◌, ℕ, ◌<◌, ◌≤◌, List, Some, slice_get, IsTrue, Bool, Err}
+use Rattle.std.specs.Prelude.{◌≡◌, ◌↔◌, ℕ, ◌<◌, List, Some, slice_get, IsTrue, Bool}
 use Rattle.cb_model.specs.declared.id.ClassId.{ClassId}
 use Rattle.cb_model.specs.declared.id.EventId.{EventId}
 use Rattle.cb_model.specs.declared.id.RelId.{RelId}
 use Rattle.cb_model.specs.declared.tables.RelRow.{RelRow}
 use Rattle.cb_model.specs.Classes.{IsA}
 use Rattle.cb_model.specs.WellTyped.{IsClass}
-use Rattle.cb_network.specs.declared.edit.Edit.{Edit}
 use Rattle.cb_network.specs.declared.edit.EditRefusal.{EditRefusal}
 use Rattle.cb_network.specs.declared.edit.EditRefusal.TheVariants.{NodeLimit, ProblemLimit, SymptomLimit}
 use Rattle.cb_network.specs.Topology.{Topology, IsOf, IsMuted}
 use Rattle.cb_network.specs.Nodes.{IsSymptomNode}
 use Rattle.cb_network.specs.Sound.{node_limit, problem_limit, symptom_limit}
-use Rattle.cb_network.specs.Edits.{node_of, Refuses, IsAfter, IsRelationAt}
+use Rattle.cb_network.specs.Edits.{number_of, node_of, IsRelationAt}
 use Rattle.cb_net.specs.declared.id.InstanceId.{InstanceId}
 use Rattle.cb_net.specs.Numbered.{Net, IsNamed, HasEventAt, node_at}
 use Rattle.cb_accept.specs.declared.counts.Counts.{Counts}
 use Rattle.cb_accept.specs.declared.link.Ends.{Ends}
 
--- no refusal holds
-abbrev pub IsAccepted : Topology → Edit → Type 0
-IsAccepted t edit = (why : EditRefusal) → ¬ Refuses t edit why
+-- a number is above the limit that this refusal speaks of
+abbrev pub IsAbove : Counts → EditRefusal → Type 0
+IsAbove counts NodeLimit = node_limit < counts.nodes
+IsAbove counts ProblemLimit = problem_limit < counts.problems
+IsAbove counts SymptomLimit = symptom_limit < counts.symptoms
+IsAbove counts why = ⊥
 
--- this refusal holds, and none that comes before it
-abbrev pub IsRefused : Topology → Edit → EditRefusal → Type 0
-IsRefused t edit why = IsAfter t edit (Err why)
-
--- the first limit that a number is above
-abbrev pub IsFirstLimit : Counts → EditRefusal → Type 0
-IsFirstLimit counts NodeLimit = node_limit < counts.nodes
-IsFirstLimit counts ProblemLimit = (counts.nodes ≤ node_limit) × (problem_limit < counts.problems)
-IsFirstLimit counts SymptomLimit = (counts.nodes ≤ node_limit) × (counts.problems ≤ problem_limit) × (symptom_limit < counts.symptoms)
-IsFirstLimit counts why = ⊥
+-- a number is above this limit, and none is above a limit that comes before it
+pub record IsFirstLimit (counts : Counts) (why : EditRefusal) : Type 0 where
+  pub above : IsAbove counts why
+  pub first : (other : EditRefusal) → number_of other < number_of why → ¬ IsAbove counts other
 
 -- the instance is of this class, which is one of the model's
 pub record IsClassAt (n : Net) (id : InstanceId) (class : ClassId) : Type 0 where

@@ -2,7 +2,8 @@
 ghost use Rattle.std.specs.Prelude.{OnOk, IfErr};
 ghost use Rattle.cb_network.specs.declared.edit.Edit.TheVariants.{Create, Delete};
 ghost use Rattle.cb_accept.specs.Counts.{AreCounts, AreWithin};
-ghost use Rattle.cb_accept.specs.Refusals.{IsAccepted, IsRefused, IsFirstLimit};
+ghost use Rattle.cb_network.specs.Edits.{IsAccepted, IsRefused};
+ghost use Rattle.cb_accept.specs.Refusals.{IsFirstLimit};
 
 use crate::counts::Counts;
 use crate::limits::{MOST_INSTANCES, MOST_NODES, MOST_PROBLEMS, MOST_SYMPTOMS};

@@ -4,7 +4,8 @@ ghost use Rattle.cb_network.specs.declared.edit.EditRefusal.{EditRefusal as Refu
 ghost use Rattle.cb_network.specs.declared.edit.Edit.TheVariants.{Link, Unlink};
 ghost use Rattle.cb_model.specs.WellTyped.{WellTyped};
 ghost use Rattle.cb_net.specs.Numbered.{IsWhole};
-ghost use Rattle.cb_accept.specs.Refusals.{IsAccepted, IsRefused, AreEnds};
+ghost use Rattle.cb_network.specs.Edits.{IsAccepted, IsRefused};
+ghost use Rattle.cb_accept.specs.Refusals.{AreEnds};
 
 use crate::lookup::{is_of_kind, is_taken, relation_at};
 use cb_model::RelId;

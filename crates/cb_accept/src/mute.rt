@@ -1,7 +1,8 @@
 //! Whether a symptom may be muted, or observed again.
 ghost use Rattle.std.specs.Prelude.{OnOk, IfOk, IfErr};
 ghost use Rattle.cb_network.specs.declared.edit.Edit.TheVariants.{Mute, Unmute};
-ghost use Rattle.cb_accept.specs.Refusals.{IsAccepted, IsRefused, TellsMute};
+ghost use Rattle.cb_network.specs.Edits.{IsAccepted, IsRefused};
+ghost use Rattle.cb_accept.specs.Refusals.{TellsMute};
 
 use crate::lookup::symptom_at;
 use cb_net::Net;

@@ -1,7 +1,6 @@
 //! Why an edit is refused.
-ghost use Rattle.std.specs.Prelude.{OnOk, IfErr, Err};
-ghost use Rattle.cb_network.specs.declared.edit.EditRefusal.{EditRefusal as Refusal};
-ghost use Rattle.cb_network.specs.Edits.{Refuses, IsAfter};
+ghost use Rattle.std.specs.Prelude.{OnOk, IfErr};
+ghost use Rattle.cb_network.specs.Edits.{IsAccepted, IsRefused};
 ghost use Rattle.cb_accept.specs.Counts.{AreCounts, AreWithin};
 
 use crate::counts::Counts;
@@ -15,8 +14,8 @@ use cb_network::{Edit, EditRefusal};
 pub fn allows(net: &Net, counts: Counts, edit: &Edit) -> Result<(), EditRefusal>
     requires counts { AreCounts net.now.topology counts }
     requires few { AreWithin counts }
-    ensures allowed { OnOk result ((why : Refusal) → ¬ Refuses net.now.topology edit.now why) }
-    ensures refused { IfErr result (λ why. IsAfter net.now.topology edit.now (Err why)) }
+    ensures allowed { OnOk result (IsAccepted net.now.topology edit.now) }
+    ensures refused { IfErr result (IsRefused net.now.topology edit.now) }
 {
     match edit {
         Edit::Create { name, class } => may_create(net, counts, name.bytes(), class.bytes()),

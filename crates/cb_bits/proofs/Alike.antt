@@ -1,18 +1,13 @@
 -- Words of the same bits are the same.
-use Rattle.std.proofs.Common.{◌≡◌, ℕ, ◌+◌, ◌*◌, ◌/◌, ◌%◌, ◌^◌, ◌<◌, ◌==◌, zero, suc, List, length, slice_index_or, refl, sym, ap, ◌∙◌, arith}
+use Rattle.std.proofs.Common.{◌≡◌, ℕ, ◌+◌, ◌*◌, ◌/◌, ◌%◌, ◌^◌, ◌<◌, ◌==◌, List, length, slice_index_or, refl, sym, ap, ◌∙◌, arith}
 use Rattle.std.specs.Int.{bit_at}
 use Rattle.std.proofs.lemmas.Grind.{same_number_lists}
 use Rattle.std.proofs.lemmas.Nat.Bits.{same_from_bits_below, bit_at-lt}
 use Rattle.cb_bits.specs.Bits.{bit_of, HaveSameBits}
+use Rattle.cb_bits.proofs.Digits.{each_two}
 
 same_digit : (x y : ℕ) → x < 2 → y < 2 → (x == 1) ≡ (y == 1) → x ≡ y
-same_digit zero zero lx ly same = refl
-same_digit zero (suc zero) lx ly same = absurd (cc)
-same_digit (suc zero) zero lx ly same = absurd (cc)
-same_digit (suc zero) (suc zero) lx ly same = refl
-same_digit zero (suc (suc y)) lx ly same = absurd (let f : suc (suc y) < 2 → ⊥ = λ h. omega arith in f ly)
-same_digit (suc zero) (suc (suc y)) lx ly same = absurd (let f : suc (suc y) < 2 → ⊥ = λ h. omega arith in f ly)
-same_digit (suc (suc x)) y lx ly same = absurd (let f : suc (suc x) < 2 → ⊥ = λ h. omega arith in f lx)
+same_digit = each_two (λ x y. (x == 1) ≡ (y == 1) → x ≡ y) (λ same. refl) (λ same. absurd (cc)) (λ same. absurd (cc)) (λ same. refl)
 
 -- bit i of word j is value 64 j + i
 bit_there : (words : List ℕ) (j i : ℕ) → i < 64 → bit_of words (64 * j + i) ≡ bit_at (slice_index_or words j 0) i == 1

@@ -1,5 +1,5 @@
 -- The ones of words are the true values that they hold.
-use Rattle.std.proofs.Common.{◌≡◌, ℕ, zero, suc, ◌+◌, ◌-◌, ◌*◌, ◌/◌, ◌%◌, ◌^◌, ◌<◌, ◌==◌, cond, Bool, false, List, [], ◌∷◌, length, map, slice_index_or, bit_xor, refl, sym, ap, subst, ◌∙◌, arith}
+use Rattle.std.proofs.Common.{◌≡◌, ℕ, suc, ◌+◌, ◌-◌, ◌*◌, ◌/◌, ◌%◌, ◌^◌, ◌<◌, ◌==◌, cond, Bool, false, List, [], ◌∷◌, length, map, slice_index_or, bit_xor, refl, sym, ap, subst, ◌∙◌, arith}
 use Rattle.std.specs.Prelude.{count_ones}
 use Rattle.std.specs.Int.{bit_at}
 use Rattle.std.specs.List.{count_by, sum_by, range_with_len}
@@ -10,6 +10,7 @@ use Rattle.std.proofs.lemmas.Simd.{ones-mask_l, bit_mask_l, mask_l-lt, length-zi
 use Rattle.std.proofs.lemmas.Nat.{xor_lt}
 use Rattle.std.proofs.lemmas.Nat.Bits.{same_from_bits_below, bit_at-lt}
 use Rattle.cb_bits.specs.Bits.{bit_of, values, count_bits, Holds}
+use Rattle.cb_bits.proofs.Digits.{each_digit}
 use Rattle.cb_bits.proofs.Values.{row_len}
 use Rattle.cb_bits.proofs.Totals.{total, total_parts, total_alike, total_nothing, sum_by-map}
 
@@ -22,9 +23,7 @@ abbrev pub bits_of : ℕ → List Bool
 bits_of word = map (λ i. bit_at word i == 1) (range_with_len 0 64)
 
 as_digit : (b : ℕ) → b < 2 → cond (b == 1) 1 0 ≡ b
-as_digit zero lt = refl
-as_digit (suc zero) lt = refl
-as_digit (suc (suc b)) lt = absurd (let f : suc (suc b) < 2 → ⊥ = λ h. omega arith in f lt)
+as_digit = each_digit (λ b. cond (b == 1) 1 0 ≡ b) refl refl
 
 -- a word is the mask of its bits
 mask_of_bits : (word : ℕ) → word < 2 ^ 64 → mask_l (bits_of word) ≡ word

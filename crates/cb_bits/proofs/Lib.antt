@@ -1,3 +1,4 @@
+pub mod Digits
 pub mod Values
 pub mod Packed
 pub mod Places
@@ -10,3 +11,5 @@ pub mod Sums
 pub mod Alike
 pub mod Filled
 pub mod Grown
+pub mod NextBits
+pub mod NextOnes

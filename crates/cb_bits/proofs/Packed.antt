@@ -1,9 +1,9 @@
 -- Words that are those of a row.
-use Rattle.std.proofs.Common.{◌≡◌, ℕ, ◌*◌, ◌^◌, ◌<◌, ◌≤◌, Bool, false, List, length, slice_index_or, inl, inr, sym, subst, ◌∙◌, arith}
+use Rattle.std.proofs.Common.{◌≡◌, ℕ, ◌^◌, ◌<◌, Bool, false, List, length, slice_index_or, inl, inr, sym, subst, ◌∙◌, arith}
 use Rattle.std.specs.List.{All}
 use Rattle.std.proofs.lemmas.Bool.{cases_lt}
 use Rattle.std.proofs.lemmas.List.{same_lists, get_or_default, get_or_past}
-use Rattle.cb_bits.specs.Bits.{bit_of, values, Holds, Packs, HaveSameBits}
+use Rattle.cb_bits.specs.Bits.{bit_of, values, Holds, Packs}
 use Rattle.cb_bits.proofs.Values.{row_len, row_bit}
 use Rattle.cb_bits.proofs.Alike.{words_alike}
 

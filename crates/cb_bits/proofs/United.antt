@@ -1,5 +1,5 @@
 -- Words that are made of two lists of words, one by one.
-use Rattle.std.proofs.Common.{◌≡◌, ℕ, ◌/◌, ◌%◌, ◌+◌, ◌<◌, ◌≤◌, ◌==◌, ◌||◌, ◌^◌, zero, suc, Bool, false, not, cond, List, length, slice_index_or, bit_or, bit_xor, max, inl, inr, sym, ap, subst, ◌∙◌, refl, arith}
+use Rattle.std.proofs.Common.{◌≡◌, ℕ, ◌/◌, ◌%◌, ◌+◌, ◌<◌, ◌≤◌, ◌==◌, ◌||◌, ◌^◌, Bool, false, not, cond, List, length, slice_index_or, bit_or, bit_xor, max, inl, inr, sym, ap, subst, ◌∙◌, refl, arith}
 use Rattle.std.specs.Int.{bit_at}
 use Rattle.std.specs.Simd.Lanes.{zip2}
 use Rattle.std.proofs.lemmas.Bool.{cases_lt}
@@ -11,6 +11,7 @@ use Rattle.std.specs.List.{count_by, range_with_len}
 use Rattle.std.proofs.lemmas.List.FromFn.{fill_by_all}
 use mathlib.Core.Bool.{beq}
 use Rattle.cb_bits.specs.Bits.{bit_of, values, differing, count_bits, HaveSameBits, Holds}
+use Rattle.cb_bits.proofs.Digits.{each_two}
 use Rattle.cb_bits.proofs.Totals.{sum_by-map}
 use Rattle.cb_bits.proofs.Counted.{true_values, few_bits}
 use Rattle.cb_bits.proofs.Values.{values-are, row_len, row_bit}
@@ -60,33 +61,21 @@ module _ (f : ℕ → ℕ → ℕ) (g : Bool → Bool → Bool) (of_zeros : g fa
       ∙ ap (g (slice_index_or v k false)) (row_bit b n w is_w k lt)
       ∙ sym (get_or-zip2 g v w k false false false (omega arith) (omega arith)))
 
-not-two : (n : ℕ) → suc (suc n) < 2 → ⊥
-not-two n lt = omega arith
-
--- numbers below 2 as truth values
 or_digits : (x y : ℕ) → x < 2 → y < 2 → (max x y == 1) ≡ (x == 1 || y == 1)
-or_digits zero zero lx ly = refl
-or_digits zero (suc zero) lx ly = refl
-or_digits (suc zero) zero lx ly = refl
-or_digits (suc zero) (suc zero) lx ly = refl
-or_digits zero (suc (suc y)) lx ly = absurd (not-two y ly)
-or_digits (suc zero) (suc (suc y)) lx ly = absurd (not-two y ly)
-or_digits (suc (suc x)) y lx ly = absurd (not-two x lx)
+or_digits = each_two (λ x y. (max x y == 1) ≡ (x == 1 || y == 1)) refl refl refl refl
 
 pub or_bits : (v w i : ℕ) → (bit_at (bit_or v w) i == 1) ≡ ((bit_at v i == 1) || (bit_at w i == 1))
 or_bits v w i = ap (λ b. b == 1) (bit_at_or v w i) ∙ or_digits (bit_at v i) (bit_at w i) (bit_at-lt v i) (bit_at-lt w i)
 
 xor_digits : (x y : ℕ) → x < 2 → y < 2 → ((x + y) % 2 == 1) ≡ not (beq (x == 1) (y == 1))
-xor_digits zero zero lx ly = refl
-xor_digits zero (suc zero) lx ly = refl
-xor_digits (suc zero) zero lx ly = refl
-xor_digits (suc zero) (suc zero) lx ly = refl
-xor_digits zero (suc (suc y)) lx ly = absurd (not-two y ly)
-xor_digits (suc zero) (suc (suc y)) lx ly = absurd (not-two y ly)
-xor_digits (suc (suc x)) y lx ly = absurd (not-two x lx)
+xor_digits = each_two (λ x y. ((x + y) % 2 == 1) ≡ not (beq (x == 1) (y == 1))) refl refl refl refl
 
 pub xor_bits : (v w i : ℕ) → (bit_at (bit_xor v w) i == 1) ≡ not (beq (bit_at v i == 1) (bit_at w i == 1))
 xor_bits v w i = ap (λ b. b == 1) (bit_at_xor v w i) ∙ xor_digits (bit_at v i) (bit_at w i) (bit_at-lt v i) (bit_at-lt w i)
+
+-- what holds of two lists of words holds of slices that are those
+pub through : (a b v w : List ℕ) (P : List ℕ → List ℕ → Type 0) → v ≡ a → w ≡ b → P a b → P v w
+through a b v w P is_a is_b holds = subst (λ x. P x w) (sym is_a) (subst (P a) (sym is_b) holds)
 
 -- two rows of one length, in words
 module _ (a b : List ℕ) (n m : ℕ) (v w : List Bool) (ha : Holds a n) (hb : Holds b m) (is_v : values a n ≡ v) (is_w : values b m ≡ w)

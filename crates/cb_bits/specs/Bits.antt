@@ -1,7 +1,9 @@
 -- Truth values packed into words of 64 bits.
-use Rattle.std.specs.Prelude.{◌≡◌, ℕ, ◌+◌, ◌*◌, ◌/◌, ◌%◌, ◌<◌, ◌≤◌, ◌^◌, ◌==◌, Bool, false, not, List, length, map, min, slice_index_or}
+use Rattle.std.specs.Prelude.{◌≡◌, ℕ, ◌+◌, ◌*◌, ◌/◌, ◌%◌, ◌<◌, ◌≤◌, ◌^◌, ◌==◌, ◌&&◌, Bool, true, false, not, List, length, map, min, slice_index_or}
 use Rattle.std.specs.List.{All, count_by, range_with_len}
 use Rattle.std.specs.Int.{bit_at}
+use Rattle.std.specs.Simd.Lanes.{zip2}
+use Rattle.std.specs.Slice.Scan.{HoldsNowhere}
 use mathlib.Core.Bool.{beq}
 
 -- value k is bit k % 64, counted from the least, of word k / 64
@@ -19,6 +21,16 @@ count_bits words = count_by (bit_of words) (range_with_len 0 (64 * length words)
 -- all bits are the same
 abbrev pub HaveSameBits : List ℕ → List ℕ → Type 0
 HaveSameBits words other = (k : ℕ) → bit_of words k ≡ bit_of other k
+
+-- the bit is one in the first words and zero in the others
+abbrev pub in_not : List ℕ → List ℕ → ℕ → Bool
+in_not words others k = bit_of words k && not (bit_of others k)
+
+-- of the bits from a place on, this is the first that is one in the words and zero in the others
+pub record IsNextBit (words others : List ℕ) (from k : ℕ) : Type 0 where
+  pub on : from ≤ k
+  pub is : in_not words others k ≡ true
+  pub first : HoldsNowhere (in_not words others) from k
 
 -- how many words n values need
 abbrev pub words_for : ℕ → ℕ
@@ -40,3 +52,17 @@ pub record Packs (row : List Bool) (words : List ℕ) : Type 0 where
 -- at how many places two rows differ
 abbrev pub differing : List Bool → List Bool → ℕ
 differing row other = count_by (λ k. not (beq (slice_index_or row k false) (slice_index_or other k false))) (range_with_len 0 (length row))
+
+-- what is true in the row and false in the other
+abbrev pub without : List Bool → List Bool → List Bool
+without row other = zip2 (λ one other. one && not other) row other
+
+-- of the places from one on, this is the first that is true
+pub record IsNextOne (row : List Bool) (from k : ℕ) : Type 0 where
+  pub on : from ≤ k
+  pub is : slice_index_or row k false ≡ true
+  pub first : (j : ℕ) → from ≤ j → j < k → slice_index_or row j false ≡ false
+
+-- no place from this one on is true
+abbrev pub HasNoneFrom : List Bool → ℕ → Type 0
+HasNoneFrom row from = (k : ℕ) → from ≤ k → slice_index_or row k false ≡ false

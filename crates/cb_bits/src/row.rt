@@ -1,11 +1,11 @@
 //! A row of truth values.
-ghost use Rattle.std.specs.Prelude.{◌≡◌, ◌<◌, ◌≤◌, ◌-◌, ◌++◌, ◌↔◌, ◌||◌, length, replicate, SomeIff, IfOk, OnOk, OnErr, IsTrue, true, false, slice_index_or, slice_set, count_by};
+ghost use Rattle.std.specs.Prelude.{◌≡◌, ◌<◌, ◌≤◌, ◌-◌, ◌++◌, ◌↔◌, ◌||◌, length, replicate, SomeIff, IfSome, IfNone, IfOk, OnOk, OnErr, IsTrue, true, false, slice_index_or, slice_set, count_by};
 ghost use Rattle.std.specs.Simd.Lanes.{zip2};
-ghost use Rattle.cb_bits.specs.Bits.{Packs, differing};
+ghost use Rattle.cb_bits.specs.Bits.{Packs, differing, without, IsNextOne, HasNoneFrom};
 
 use crate::words::{
     are_same, as_words, clear_all, clear_bit, count_differing, count_differing_below, count_ones,
-    is_set, set_bit, unite, zero_words,
+    is_set, next_bit, set_bit, unite, zero_words,
 };
 use std::alloc::{AllocError, Global};
 use std::marker::Model;
@@ -48,12 +48,14 @@ impl Row {
         })
     }
 
+    /// How many values there are.
     pub fn len(&self) -> usize
         ensures { result ≡ length self.now }
     {
         self.len
     }
 
+    /// The value at a place.
     pub fn get(&self, i: usize) -> bool
         requires { i < length self.now }
         ensures { result ≡ slice_index_or self.now i false }
@@ -92,11 +94,29 @@ impl Row {
         unite(&mut self.words, &other.words);
     }
 
+    /// Whether the two are one list of values.
     pub fn equal(&self, other: &Row) -> bool
         requires { length self.now ≡ length other.now }
         ensures { IsTrue result ↔ (self.now ≡ other.now) }
     {
         are_same(&self.words, &other.words)
+    }
+
+    /// The first true place from a place on.
+    pub fn next_one(&self, from: usize) -> Option<usize>
+        ensures next { IfSome result (IsNextOne self.now from) }
+        ensures none { IfNone result (HasNoneFrom self.now from) }
+    {
+        next_bit(&self.words, &[], from)
+    }
+
+    /// The first place from a place on that is true here and false in `other`.
+    pub fn next_not_in(&self, other: &Row, from: usize) -> Option<usize>
+        requires { length self.now ≡ length other.now }
+        ensures next { IfSome result (IsNextOne (without self.now other.now) from) }
+        ensures none { IfNone result (HasNoneFrom (without self.now other.now) from) }
+    {
+        next_bit(&self.words, &other.words, from)
     }
 
     /// How many values are true.

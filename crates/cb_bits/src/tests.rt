@@ -30,6 +30,7 @@ fn rows_of_many_lengths(rt: HostRuntime) -> Result<(), Fail> {
         let mut other = row_of(rt.alloc(), n, &[63, 64])?;
         assert_eq!(rt; row.words().len(), words, "{n}");
         assert_eq!(rt; row.ones(), ones, "{n}");
+        assert_eq!(rt; row.next_one(0), places.first().copied(), "{n}");
         if row.len() == other.len() {
             let apart = row.distance(&other);
             assert_eq!(rt; row.equal(&other), apart == 0, "{n}");

@@ -1,8 +1,9 @@
 //! Single bits of a slice of words: bit k is bit k % 64, counted from the least, of word k / 64.
-ghost use Rattle.std.specs.Prelude.{◌≡◌, ◌≢◌, ◌<◌, ◌↔◌, ◌*◌, ◌^◌, ℕ, length, true, false, replicate, bit_or, bit_xor, IfOk, SomeIff, IsTrue};
+ghost use Rattle.std.specs.Prelude.{◌≡◌, ◌≢◌, ◌<◌, ◌≤◌, ◌↔◌, ◌*◌, ◌^◌, ℕ, length, true, false, replicate, slice_index_or, bit_or, bit_xor, IfOk, IfSome, IfNone, SomeIff, IsTrue};
 ghost use Rattle.std.specs.Simd.Lanes.{zip2};
 ghost use Rattle.std.specs.List.{All};
-ghost use Rattle.cb_bits.specs.Bits.{bit_of, words_for, count_bits, HaveSameBits};
+ghost use Rattle.std.specs.Slice.Scan.{HoldsNowhere};
+ghost use Rattle.cb_bits.specs.Bits.{bit_of, words_for, count_bits, in_not, HaveSameBits, IsNextBit};
 
 use std::alloc::{AllocError, Global};
 
@@ -118,4 +119,30 @@ pub fn are_same(words: &[u64], other: &[u64]) -> bool
         }
     }
     true
+}
+
+/// The first bit, from a place on, that is one in the words and zero in the others. Words that the others lack count as zeros.
+pub fn next_bit(words: &[u64], others: &[u64], from: usize) -> Option<usize>
+    requires { 64 * length words.now ≤ 2 ^ 64 }
+    ensures next { IfSome result (IsNextBit words.now others.now from) }
+    ensures none { IfNone result (HoldsNowhere (in_not words.now others.now) from (64 * length words.now)) }
+{
+    for i in from / 64..words.len() {
+        let start = from.max(64 * i);
+        let left = (words[i] & !word_or_zeros(others, i)) >> (start % 64);
+        if left != 0 {
+            return Some(start + left.trailing_zeros() as usize);
+        }
+    }
+    None
+}
+
+// The word at a place, or zeros where there is none.
+fn word_or_zeros(words: &[u64], i: usize) -> u64
+    ensures { result ≡ slice_index_or words.now i 0 }
+{
+    match words.get(i) {
+        Some(word) => *word,
+        None => 0,
+    }
 }

@@ -1,5 +1,5 @@
 -- What is found by name in a tree that keeps the rules.
-use Rattle.std.proofs.Common.{◌≡◌, ℕ, zero, suc, ◌<◌, List, [], ◌∷◌, ◌++◌, length, map, Option, Some, None, refl, sym, ap, subst, ◌∙◌, inl, inr, arith}
+use Rattle.std.proofs.Common.{◌≡◌, ℕ, ◌<◌, List, [], ◌∷◌, ◌++◌, length, map, Option, Some, None, refl, sym, ap, subst, ◌∙◌, inl, inr, arith}
 use Rattle.std.specs.Prelude.{slice_get, IfNone, IsSome}
 use Rattle.std.proofs.lemmas.Bool.{cases_lt}
 use Rattle.std.proofs.lemmas.Option.{slice_get_within}
@@ -10,40 +10,19 @@ use Rattle.cb_grammar.specs.declared.tree.Tree.{Tree}
 use Rattle.cb_grammar.specs.declared.tree.ClassDecl.{ClassDecl}
 use Rattle.cb_grammar.specs.declared.tree.Member.{Member}
 use Rattle.cb_grammar.specs.declared.tree.Member.TheVariants.{Event, Relation, Rule, Block, Hide}
-use Rattle.cb_rules.specs.declared.rule.TypeRule.TheVariants.{NoParent, NoTarget, BadInverse, NoCause, NoRelation, NoEffect, NoBlocked, NoHidden}
+use Rattle.cb_rules.specs.declared.rule.TypeRule.TheVariants.{TwoClasses, NoParent, TwoNames, NoTarget, BadInverse, NoCause, NoRelation, NoEffect, NoBlocked, NoHidden}
 use Rattle.cb_rules.specs.Classes.{ClassAt, IsNamed, IsAbove, MemberAt, HasAt, Has, Declares, IsEventNamed, IsSymptomNamed, IsRelation, IsRelationNamed, IsRelationTo, IsRelationBack, IsRuleNamed, Leads}
 use Rattle.cb_rules.specs.Rules.{IsNoClass, Owns}
 use Rattle.cb_rules.specs.Fault.{KeepsAll}
+use Rattle.cb_rules.proofs.Found.{one_member}
+use Rattle.cb_rules.proofs.Unique.{event_declares, relation_declares, rule_declares, one_place}
 use Rattle.cb_check.specs.Stands.{RelationDecl, declared_from, event_in, relation_in, rule_in}
 use Rattle.cb_check.specs.Denotes.{AreNumbersOf, DenotesEvent, DenotesRelation, DenotesRule, DenotesOwn, DenotesPath}
 use Rattle.cb_check.specs.Finder.{NeedsEvent, NeedsRelation, NeedsRule, NeedsOwn, NeedsPath, HasNumber, IsNumberOf, IsNumberAt, IsRelationInto, StepsTo}
 use Rattle.cb_check.specs.Numbers.{AreNumbers}
 use Rattle.cb_check.proofs.Sections.{declared_by}
 use Rattle.cb_check.proofs.Given.{from_some}
-use Rattle.cb_check.proofs.Few.{below_decl}
-use Rattle.cb_check.proofs.Kept.{one_at, one_member}
-
--- an event, a relation, a rule of a name declares it
-pub event_declares : (name : List ℕ) (member : Member) → IsEventNamed name member → Declares name member
-event_declares name (Event called problem symptom) is = (called, refl, is)
-event_declares name (Relation called target many inverse) is = absurd is
-event_declares name (Rule called cause path effect) is = absurd is
-event_declares name (Block called) is = absurd is
-event_declares name (Hide called) is = absurd is
-
-pub relation_declares : (name : List ℕ) (member : Member) → IsRelationNamed name member → Declares name member
-relation_declares name (Event called problem symptom) is = absurd is
-relation_declares name (Relation called target many inverse) is = (called, refl, is)
-relation_declares name (Rule called cause path effect) is = absurd is
-relation_declares name (Block called) is = absurd is
-relation_declares name (Hide called) is = absurd is
-
-pub rule_declares : (name : List ℕ) (member : Member) → IsRuleNamed name member → Declares name member
-rule_declares name (Event called problem symptom) is = absurd is
-rule_declares name (Relation called target many inverse) is = absurd is
-rule_declares name (Rule called cause path effect) is = (called, refl, is)
-rule_declares name (Block called) is = absurd is
-rule_declares name (Hide called) is = absurd is
+use Rattle.cb_check.proofs.Few.{above_decl}
 
 symptom_event : (name : List ℕ) (member : Member) → IsSymptomNamed name member → IsEventNamed name member
 symptom_event name (Event called problem symptom) is = is.0
@@ -75,25 +54,15 @@ relation_tells c (Block called) decl is = absurd (cc)
 relation_tells c (Hide called) decl is = absurd (cc)
 
 module _ (tree : Tree) where
-  -- a class that has anything is one of the tree's
-  has_within : (k n j : ℕ) (decl : ClassDecl) → IsAbove tree k n j → ClassAt tree j decl → k < length tree.classes
-  has_within k zero j decl same is = slice_get_within tree.classes k decl (subst (λ c. ClassAt tree c decl) (sym same) is)
-  has_within k (suc n) j decl above is = let below = below_decl tree k n j above in slice_get_within tree.classes k below.0 below.1
-
+  -- a class that can't be without something is one of the tree's
   pub needs_within : (P : Member → Type 0) (k : ℕ) → ¬ (¬ Has tree k P) → k < length tree.classes
   needs_within P k needs = elim (cases_lt k (length tree.classes)) [
     | inl below ↦ below
-    | inr past ↦ absurd (needs (λ has. let (j, i, (n, member, above, at, is)) = has in let below = has_within k n j at.0 above at.1 in omega arith))
+    | inr past ↦ absurd (needs (λ has. let (j, i, (n, member, above, at, is)) = has in let (decl, decl_is) = above_decl tree k n j at.0 above at.1 in let below = slice_get_within tree.classes k decl decl_is in omega arith))
   ]
-
-  pub owns_within : (P : Member → Type 0) (k : ℕ) → ¬ (¬ Owns tree k P) → k < length tree.classes
-  owns_within P k needs = needs_within P k (λ none. needs (λ owns. none (k, owns.0, (0, owns.1, refl, owns.2, owns.3))))
 
   pub needs_map : (P Q : Member → Type 0) → ((member : Member) → P member → Q member) → (k : ℕ) → ¬ (¬ Has tree k P) → ¬ (¬ Has tree k Q)
   needs_map P Q also k needs none = needs (λ has. let (j, i, (n, member, above, at, is)) = has in none (j, i, (n, member, above, at, also member is)))
-
-  pub owns_map : (P Q : Member → Type 0) → ((member : Member) → P member → Q member) → (k : ℕ) → ¬ (¬ Owns tree k P) → ¬ (¬ Owns tree k Q)
-  owns_map P Q also k needs none = needs (λ owns. let (i, member, at, is) = owns in none (i, member, at, also member is))
 
   -- what the rules ask for
   pub needs_parent : KeepsAll tree → (k : ℕ) (decl : ClassDecl) (parent : Token) → ClassAt tree k decl → decl.parent ≡ Some parent → ¬ IsNoClass tree parent.name
@@ -133,9 +102,9 @@ module _ (tree : Tree) where
       IsAbove tree k n j → MemberAt tree j i member → Declares name member → ¬ (¬ Has tree k P) → ¬ (¬ P member)
   surely keeps P name declares k j i n member above at named needs not = needs (λ has.
       let (j', i', (n', other, above', at', is)) = has in
-      let (classes, places) = one_member tree keeps k name j i j' i' (n, member, above, at, named) (n', other, above', at', declares other is) in
+      let (classes, places) = one_place tree (keeps TwoClasses) (keeps TwoNames) name k j i j' i' (n, member, above, at, named) (n', other, above', at', declares other is) in
       let there = subst (λ c. MemberAt tree c i other) (sym classes) (subst (λ m. MemberAt tree j' m other) (sym places) at') in
-      not (subst P (sym (one_at tree j i member other at there)) is))
+      not (subst P (sym (one_member tree j i member other at there)) is))
 
   pub surely_own : KeepsAll tree → (P : Member → Type 0) (name : List ℕ) → ((member : Member) → P member → Declares name member) → (j i : ℕ) (member : Member) →
       MemberAt tree j i member → Declares name member → ¬ (¬ Owns tree j P) → ¬ (¬ P member)

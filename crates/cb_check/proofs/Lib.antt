@@ -1,7 +1,6 @@
 pub mod Places
 pub mod Sections
 pub mod Same
-pub mod Kept
 pub mod Given
 pub mod Above
 pub mod Rows

@@ -16,10 +16,11 @@ use Rattle.cb_model.specs.WellTyped.{event, relation, rule}
 use Rattle.cb_grammar.specs.declared.tree.Token.{Token}
 use Rattle.cb_grammar.specs.declared.tree.Tree.{Tree}
 use Rattle.cb_grammar.specs.declared.tree.ClassDecl.{ClassDecl}
+use Rattle.cb_rules.specs.declared.rule.TypeRule.TheVariants.{TwoClasses}
 use Rattle.cb_rules.specs.Fault.{KeepsAll}
+use Rattle.cb_rules.proofs.Walks.{one_named}
 use Rattle.cb_check.specs.Stands.{Stands, StandsClass, StandsParent, StandsRelation, StandsPath, StandsRule, StandsBlock, StandsHide, RelationDecl, RuleDecl, NameDecl, relations_declared, rules_declared, blocks_declared, hides_declared}
 use Rattle.cb_check.proofs.Same.{same_class_id, same_class_row, same_relation_row, same_rule_row, same_block_row, same_hide_row, same_tables}
-use Rattle.cb_check.proofs.Kept.{one_class}
 use Rattle.cb_check.proofs.Given.{Gives, one_row, one_event, one_relation, one_rule}
 use Rattle.cb_check.proofs.Above.{class_named, event_named, relation_named, inverse_named, block_named}
 
@@ -34,7 +35,7 @@ zip_same R S (x ∷ xs) (y ∷ ys) (z ∷ zs) here there same = ap (λ v. v ∷ 
 
 module _ (tree : Tree) (one other : Tables) (keeps : KeepsAll tree) (s : Stands tree one) (s' : Stands tree other) where
   same_class : (name : List ℕ) (c c' : ClassId) → NamesClass one name c → NamesClass other name c' → c ≡ c'
-  same_class name c c' named named' = same_class_id c c' (one_class tree keeps name c.0 c'.0 (class_named tree one s name c named) (class_named tree other s' name c' named'))
+  same_class name c c' named named' = same_class_id c c' (one_named tree (keeps TwoClasses) name c.0 c'.0 (class_named tree one s name c named) (class_named tree other s' name c' named'))
 
   same_event : (c : ClassId) (name : List ℕ) (e e' : EventId) → NamesEvent one c name e → NamesEvent other c name e' → e ≡ e'
   same_event c name e e' named named' =

@@ -15,12 +15,13 @@ use Rattle.cb_grammar.specs.declared.tree.Token.{Token}
 use Rattle.cb_grammar.specs.declared.tree.Tree.{Tree}
 use Rattle.cb_grammar.specs.declared.tree.ClassDecl.{ClassDecl}
 use Rattle.cb_rules.specs.Classes.{IsNamed, Extends, IsAbove}
+use Rattle.cb_rules.specs.declared.rule.TypeRule.TheVariants.{TwoClasses}
 use Rattle.cb_rules.specs.Fault.{KeepsAll}
+use Rattle.cb_rules.proofs.Walks.{one_named}
 use Rattle.cb_check.specs.Stands.{RelationDecl, RuleDecl, NameDecl, StandsParent, StandsClass, StandsInverse, StandsRelation, StandsPath, StandsRule, StandsBlock, StandsHide, Stands, declared_from, event_in, relation_in, rule_in, block_in, hide_in}
 use Rattle.cb_check.specs.Denotes.{DenotesEvent, DenotesRelation, DenotesOwn, DenotesPath}
 use Rattle.cb_check.specs.Rows.{GivesParent, GivesClass, GivesEvent, GivesRelation, GivesRule, GivesBlock, GivesHide, AreRowsOf}
 use Rattle.cb_check.proofs.Places.{zip_right, zip_map}
-use Rattle.cb_check.proofs.Kept.{one_class}
 
 zip_same : {X : Type 0} (xs ys : List X) → AllZip (λ x y. x ≡ y) xs ys → ys ≡ xs
 zip_same [] [] zip = refl
@@ -46,7 +47,7 @@ module _ (tree : Tree) (t : Tables) (keeps : KeepsAll tree) (rows : AreRowsOf tr
   -- the parent in a row is the class that is extended
   parent_is : (token : Token) (class : Option ClassId) (j : ℕ) → GivesParent tree (Some token) class → IsNamed tree token.name j → class ≡ Some (record { 0 = j })
   parent_is token None j gives named = absurd gives
-  parent_is token (Some class) j gives named = ap (λ n. let c : ClassId = record { 0 = n } in Some c) (one_class tree keeps token.name class.0 j gives named)
+  parent_is token (Some class) j gives named = ap (λ n. let c : ClassId = record { 0 = n } in Some c) (one_named tree (keeps TwoClasses) token.name class.0 j gives named)
 
   extends_parent : (i j : ℕ) → Extends tree i j → parent_of t (record { 0 = i }) ≡ Some (record { 0 = j })
   extends_parent i j (decl, parent, is, extends, named) =
@@ -90,7 +91,7 @@ module _ (tree : Tree) (t : Tables) (keeps : KeepsAll tree) (rows : AreRowsOf tr
   stands_path c (name ∷ names) [] last path = absurd path
   stands_path c (name ∷ names) (r ∷ rs) last (step, to, named, rest) =
       let (found, gives) = names_relation c name r step in
-      let same = one_class tree keeps step.0.target to found.0.row.target.0 named gives.target in
+      let same = one_named tree (keeps TwoClasses) step.0.target to found.0.row.target.0 named gives.target in
       (found, stands_path found.0.row.target names rs last (subst (λ k. DenotesPath tree k names rs last) same rest))
 
   stands_rule : (decl : RuleDecl) (row : RuleRow) → GivesRule tree decl row → StandsRule t decl row

@@ -1,8 +1,8 @@
 -- The tables that a tree stands for keep the type rules where the tree does.
-use Rattle.std.proofs.Common.{◌≡◌, ◌≢◌, ℕ, suc, ◌≤◌, Bool, true, List, [], ◌∷◌, length, get_or, Option, Some, None, refl, sym, ap, subst, ◌∙◌, inl, inr, arith}
+use Rattle.std.proofs.Common.{◌≡◌, ◌≢◌, ℕ, suc, ◌≤◌, Bool, true, List, [], ◌∷◌, get_or, Option, Some, None, refl, sym, ap, subst, ◌∙◌, inl, inr, arith}
 use Rattle.std.specs.Prelude.{slice_get}
 use Rattle.std.specs.List.{AllPairs}
-use Rattle.std.proofs.lemmas.Bool.{cases_lt, cases_eq, cases_Bool}
+use Rattle.std.proofs.lemmas.Bool.{cases_eq, cases_Bool}
 use Rattle.std.proofs.lemmas.Option.{slice_get-get_or}
 use Rattle.cb_model.specs.declared.limits.TheConstants.{MOST_CLASSES, MOST_ANCESTORS, MOST_EVENTS, MOST_RELATIONS, MOST_RULES}
 use Rattle.cb_model.specs.declared.id.ClassId.{ClassId}
@@ -18,17 +18,20 @@ use Rattle.cb_model.specs.WellTyped.{Member as Declaration, event, relation, rul
 use Rattle.cb_grammar.specs.declared.tree.Tree.{Tree}
 use Rattle.cb_grammar.specs.declared.tree.ClassDecl.{ClassDecl}
 use Rattle.cb_grammar.specs.declared.tree.Member.{Member}
-use Rattle.cb_grammar.specs.declared.tree.Member.TheVariants.{Event, Relation, Rule, Hide}
+use Rattle.cb_grammar.specs.declared.tree.Member.TheVariants.{Event, Relation, Hide}
 use Rattle.cb_grammar.specs.Grammar.{NamesFit}
-use Rattle.cb_rules.specs.declared.rule.TypeRule.TheVariants.{Loop, Depth, BadInverse, NoHidden, TooManyClasses}
-use Rattle.cb_rules.specs.Classes.{ClassAt, IsNamed, IsAbove, MemberAt, HasAt, Has, Declares, IsSymptomNamed, IsRelationBack}
+use Rattle.cb_rules.specs.declared.rule.TypeRule.TheVariants.{TwoClasses, Loop, Depth, TwoNames, BadInverse, NoHidden}
+use Rattle.cb_rules.specs.Classes.{ClassAt, IsNamed, MemberAt, HasAt, Has, Declares, IsSymptomNamed, IsRelationBack}
 use Rattle.cb_rules.specs.Classes as tree_words
 use Rattle.cb_rules.specs.Rules.{Owns}
 use Rattle.cb_rules.specs.Fault.{KeepsAll}
-use Rattle.cb_check.specs.Stands.{Stands, StandsPath, StandsRelation, StandsRule, StandsBlock, StandsHide, RelationDecl, RuleDecl, NameDecl, rules_declared, blocks_declared, hides_declared, event_in, relation_in, rule_in, hide_in}
-use Rattle.cb_check.proofs.Places.{all_from, slice_at, zip_left}
+use Rattle.cb_rules.proofs.Found.{one_member}
+use Rattle.cb_rules.proofs.Walks.{one_named}
+use Rattle.cb_rules.proofs.Unique.{symptom_declares, back_declares, one_place}
+use Rattle.cb_check.specs.Stands.{Stands, StandsPath, StandsRelation, StandsRule, StandsBlock, StandsHide, RelationDecl, NameDecl, rules_declared, blocks_declared, hides_declared, event_in, relation_in, hide_in}
+use Rattle.cb_check.proofs.Places.{all_from, zip_left}
 use Rattle.cb_check.proofs.Sections.{declared_by}
-use Rattle.cb_check.proofs.Kept.{one_class, one_member, one_at}
+use Rattle.cb_check.proofs.Small.{few_classes, event_such, relation_such, rule_such}
 use Rattle.cb_check.proofs.Given.{Gives, has_at, one_row, one_event, one_relation, one_rule, from_some}
 use Rattle.cb_check.proofs.Above.{class_row, class_named, as_many, above, event_given, relation_given, rule_given, inverse_named}
 use Rattle.cb_check.proofs.Few.{below_decl, few, Stems, not_more_events, not_more_relations, not_more_rules}
@@ -60,42 +63,16 @@ module _ (tree : Tree) (keeps : KeepsAll tree) where
       from_some (λ (d : NameDecl). ¬ ¬ Has tree k (IsSymptomNamed d.name)) is (λ none. keeps NoHidden name.line (k, i, Hide name, at, (refl, none)))
   hides_symptom k i member at c decl is = absurd (cc)
 
-  few_classes : (n : ℕ) → ((decl : ClassDecl) → ¬ ClassAt tree n decl) → length tree.classes ≤ n
-  few_classes n none = elim (cases_lt n (length tree.classes)) [
-    | inl more ↦ let decl = slice_at tree.classes n more in absurd (none decl.0 decl.1)
-    | inr enough ↦ enough
-  ]
-
 -- what a row says, its member says
 symptom_row : (c : ClassId) (member : Member) (row : EventRow) (name : List ℕ) → event_in c member ≡ Some row → IsSymptomNamed name member → row.symptom ≡ true
 symptom_row c (Event called problem symptom) row name is (named, symptom_is) = from_some (λ (r : EventRow). r.symptom ≡ true) is symptom_is
 symptom_row c member row name is no_event = absurd (cc)
-
-symptom_named : (name : List ℕ) (member : Member) → IsSymptomNamed name member → Declares name member
-symptom_named name (Event called problem symptom) (named, is) = (called, refl, named)
-symptom_named name member no_event = absurd no_event
 
 back_row : (c : ClassId) (member : Member) (decl : RelationDecl) (name target inverse : List ℕ) → relation_in c member ≡ Some decl → IsRelationBack name target inverse member →
     (decl.target ≡ target) × (decl.inverse ≡ inverse)
 back_row c (Relation called to many back) decl name target inverse is (named, target_is, inverse_is) =
     from_some (λ (d : RelationDecl). (d.target ≡ target) × (d.inverse ≡ inverse)) is (target_is, inverse_is)
 back_row c member decl name target inverse is no_relation = absurd (cc)
-
-back_named : (name target inverse : List ℕ) (member : Member) → IsRelationBack name target inverse member → Declares name member
-back_named name target inverse (Relation called to many back) (named, target_is, inverse_is) = (called, refl, named)
-back_named name target inverse member no_relation = absurd no_relation
-
-is_event : (c : ClassId) (member : Member) (row : EventRow) → event_in c member ≡ Some row → tree_words.IsEvent member
-is_event c (Event name problem symptom) row is = tt
-is_event c member row is = absurd (cc)
-
-is_relation : (c : ClassId) (member : Member) (row : RelationDecl) → relation_in c member ≡ Some row → tree_words.IsRelation member
-is_relation c (Relation name target many inverse) row is = tt
-is_relation c member row is = absurd (cc)
-
-is_rule : (c : ClassId) (member : Member) (row : RuleDecl) → rule_in c member ≡ Some row → tree_words.IsRule member
-is_rule c (Rule name cause path effect) row is = tt
-is_rule c member row is = absurd (cc)
 
 path_reaches : (t : Tables) (c : ClassId) (names : List (List ℕ)) (rs : List RelId) (d : ClassId) → StandsPath t c names rs d → Reaches t c rs d
 path_reaches t c [] [] d says = says
@@ -108,7 +85,7 @@ module _ (tree : Tree) (t : Tables) (keeps : KeepsAll tree) (stands : Stands tre
   class_names = λ i j d below within same.
       let (one, one_is, one_says) = class_row tree t stands i (get_or t.classes i d) (slice_get-get_or t.classes i d (omega arith)) in
       let (other, other_is, other_says) = class_row tree t stands j (get_or t.classes j d) (slice_get-get_or t.classes j d within) in
-      let place = one_class tree keeps other.name.name i j (one, one_is, sym one_says.0 ∙ (same ∙ other_says.0)) (other, other_is, refl) in
+      let place = one_named tree (keeps TwoClasses) other.name.name i j (one, one_is, sym one_says.0 ∙ (same ∙ other_says.0)) (other, other_is, refl) in
       omega arith
 
   no_loop : (c : ClassId) (n : ℕ) → ancestor t c (suc n) ≢ Some c
@@ -138,9 +115,9 @@ module _ (tree : Tree) (t : Tables) (keeps : KeepsAll tree) (stands : Stands tre
   -- the member that a class has under a name is the one that has the row
   same_member : (k j i : ℕ) (name : List ℕ) (P : Member → Type 0) (which : Declaration) (g : Gives tree k which name) → ((member : Member) → P member → Declares name member) → HasAt tree k P j i → P g.member
   same_member k j i name P which g names (n, member, above, at, is) =
-      let place = one_member tree keeps k name j i g.class g.at (n, member, above, at, names member is) (has_at tree k which name (Declares name) g g.named) in
+      let place = one_place tree (keeps TwoClasses) (keeps TwoNames) name k j i g.class g.at (n, member, above, at, names member is) (has_at tree k which name (Declares name) g g.named) in
       let moved = subst (λ a. MemberAt tree j a member) place.1 at in
-      let same = one_at tree g.class g.at member g.member (subst (λ c. MemberAt tree c g.at member) place.0 moved) (g.decl, g.decl_is, g.member_is) in
+      let same = one_member tree g.class g.at member g.member (subst (λ c. MemberAt tree c g.at member) place.0 moved) (g.decl, g.decl_is, g.member_is) in
       subst P same is
 
   hidden : (row : HideRow) (i : ℕ) → slice_get t.hides i ≡ Some row → (has : HasEvent t row.class row.event) × (has.row.symptom ≡ true)
@@ -155,7 +132,7 @@ module _ (tree : Tree) (t : Tables) (keeps : KeepsAll tree) (stands : Stands tre
       let (g, g_class, gives) = event_given tree t stands row.class row.event.0 has.row has.is has.from_c in (
         has,
         marked has.row.symptom (λ not. some (λ (j, place, at). not (symptom_row has.row.class g.member has.row has.row.name gives
-            (same_member row.class.0 j place has.row.name (IsSymptomNamed has.row.name) (event row.event.0) g (symptom_named has.row.name) at)))),
+            (same_member row.class.0 j place has.row.name (IsSymptomNamed has.row.name) (event row.event.0) g (symptom_declares has.row.name) at)))),
       )
 
   -- the inverse that a relation stands with is declared as the one that leads back
@@ -175,7 +152,7 @@ module _ (tree : Tree) (t : Tables) (keeps : KeepsAll tree) (stands : Stands tre
           back_decl,
           back_says,
           λ not. some (λ (place, member, at, leads). not (back_row back_decl.class g.member back_decl back.name name decl.name gives
-              (found place back.name (IsRelationBack back.name name decl.name) (relation row.inverse.0) g (back_named back.name name decl.name) (0, member, refl, at, leads)))),
+              (found place back.name (IsRelationBack back.name name decl.name) (relation row.inverse.0) g (back_declares back.name name decl.name) (0, member, refl, at, leads)))),
         ),
       )
 
@@ -189,7 +166,7 @@ module _ (tree : Tree) (t : Tables) (keeps : KeepsAll tree) (stands : Stands tre
       let here = subst (IsNamed tree called) (class ∙ ap (λ (c : ClassId). c.0) (sym says.class)) (g.decl, g.decl_is, refl) in
       let there = class_named tree t stands back_decl.target back.target back_says.target in
       let to_class = same_class_id back.target row.class (stable back.target.0 row.class.0 (λ not. told (λ (target, inverse).
-      not (one_class tree keeps called back.target.0 row.class.0 (subst (λ name. IsNamed tree name back.target.0) target there) here)))) in
+      not (one_named tree (keeps TwoClasses) called back.target.0 row.class.0 (subst (λ name. IsNamed tree name back.target.0) target there) here)))) in
       let back_of_back = inverse_named tree t stands back.target back_decl.inverse back.inverse back_says.inverse in
       let again = subst (λ (c : ClassId). Gives tree c.0 (relation back.inverse.0) back_decl.inverse) to_class back_of_back in
       record {
@@ -204,13 +181,13 @@ module _ (tree : Tree) (t : Tables) (keeps : KeepsAll tree) (stands : Stands tre
       }
 
   event_stems : (c : ClassId) (e : EventId) → HasEvent t c e → Stems tree c.0 tree_words.IsEvent (event e.0)
-  event_stems c e has = let (g, class, gives) = event_given tree t stands c e.0 has.row has.is has.from_c in (has.row.name, g, is_event has.row.class g.member has.row gives)
+  event_stems c e has = let (g, class, gives) = event_given tree t stands c e.0 has.row has.is has.from_c in (has.row.name, g, event_such has.row.class g.member has.row gives)
 
   relation_stems : (c : ClassId) (r : RelId) → HasRelation t c r → Stems tree c.0 tree_words.IsRelation (relation r.0)
-  relation_stems c r has = let (decl, says, g, class, gives) = relation_given tree t stands c r.0 has.row has.is has.from_c in (has.row.name, g, is_relation decl.class g.member decl gives)
+  relation_stems c r has = let (decl, says, g, class, gives) = relation_given tree t stands c r.0 has.row has.is has.from_c in (has.row.name, g, relation_such decl.class g.member decl gives)
 
   rule_stems : (c : ClassId) (n : ℕ) → InheritsRule t c n → Stems tree c.0 tree_words.IsRule (rule n)
-  rule_stems c n (row, is, from_c) = let (decl, says, g, class, gives) = rule_given tree t stands c n row is from_c in (row.name, g, is_rule decl.class g.member decl gives)
+  rule_stems c n (row, is, from_c) = let (decl, says, g, class, gives) = rule_given tree t stands c n row is from_c in (row.name, g, rule_such decl.class g.member decl gives)
 
   keep_rules : KeepsTypeRules t
   keep_rules = record {
@@ -229,7 +206,7 @@ module _ (tree : Tree) (t : Tables) (keeps : KeepsAll tree) (stands : Stands tre
         let (decl, decl_is, says) = zip_left (StandsBlock t) (blocks_declared tree) t.blocks i row stands.blocks is in
         (says.rule, says.is, says.from_class));
     hidden = all_from (λ row. (has : HasEvent t row.class row.event) × (has.row.symptom ≡ true)) t.hides (λ i row. hidden row i);
-    few_classes = subst (λ n. n ≤ MOST_CLASSES) (as_many tree t stands) (few_classes tree keeps MOST_CLASSES (λ decl is. keeps TooManyClasses decl.name.line (MOST_CLASSES, decl, is, (refl, refl))));
+    few_classes = subst (λ n. n ≤ MOST_CLASSES) (as_many tree t stands) (few_classes tree keeps);
     few_events = λ c xs apart all. few tree c.0 tree_words.IsEvent (λ (e : EventId). event e.0) MOST_EVENTS one_event (not_more_events tree keeps c.0) xs apart (λ k d low. event_stems c (get_or xs k d) (all k d low));
     few_relations = λ c xs apart all. few tree c.0 tree_words.IsRelation (λ (r : RelId). relation r.0) MOST_RELATIONS one_relation (not_more_relations tree keeps c.0) xs apart (λ k d low. relation_stems c (get_or xs k d) (all k d low));
     few_rules = λ c xs apart all. few tree c.0 tree_words.IsRule (λ (n : ℕ). rule n) MOST_RULES one_rule (not_more_rules tree keeps c.0) xs apart (λ k d low. rule_stems c (get_or xs k d) (all k d low));

@@ -12,9 +12,8 @@ use Rattle.cb_check.specs.Stands.{declared_from, event_in, relation_in, rule_in}
 use Rattle.cb_check.specs.Denotes.{DenotesRelation}
 use Rattle.cb_check.specs.Numbers.{AreNumbers}
 
--- the tree keeps all rules, the directory is its, and its members have their numbers
-pub record IsFinder (tree directory : Tree) (numbers : List (List ℕ)) : Type 0 where
-  pub same : directory ≡ tree
+-- the tree keeps all rules, and its members have their numbers
+pub record IsFinder (tree : Tree) (numbers : List (List ℕ)) : Type 0 where
   pub keeps : KeepsAll tree
   pub numbered : AreNumbers tree numbers
 

@@ -1,5 +1,6 @@
 -- Which tables a tree stands for: the k-th declaration of each kind gives the k-th row of that kind, and each name in it is
--- replaced by the row that the name denotes.
+-- replaced by the row that the name denotes. Names are looked up in the tables, so that a reader of the model needs no tree;
+-- while the tables are being made they are looked up in the tree (`Rows`).
 use Rattle.std.specs.Prelude.{◌≡◌, ℕ, suc, List, [], ◌∷◌, ◌++◌, Bool, Option, None, Some, map, slice_get}
 use Rattle.std.specs.List.{AllZip, filter_map}
 use Rattle.cb_model.specs.declared.id.ClassId.{ClassId}
@@ -128,6 +129,7 @@ pub record StandsHide (t : Tables) (decl : NameDecl) (row : HideRow) : Type 0 wh
   pub class : row.class ≡ decl.class
   pub named : NamesEvent t row.class decl.name row.event
 
+-- each list of declarations gives the list of rows
 pub record Stands (tree : Tree) (t : Tables) : Type 0 where
   pub classes : AllZip (StandsClass t) tree.classes t.classes
   pub events : t.events ≡ events_declared tree

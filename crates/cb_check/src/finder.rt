@@ -17,7 +17,6 @@ use std::marker::Model;
 /// Finds what the names of a tree denote, which keeps all type rules. Contracts see the tree.
 #[derive(Drop)]
 pub struct Finder<'t> {
-    tree: &'t Tree,
     directory: Directory<'t>,
     numbers: List<List<u32>>,
 }
@@ -28,36 +27,30 @@ impl<'t> Model for Finder<'t> {
 
     ghost Value = { TheTree };
 
-    ghost view = { λ f. f.tree.now };
+    ghost view = { λ f. f.directory };
 
-    ghost invariant = { λ f. IsFinder f.tree.now f.directory f.numbers };
+    ghost invariant = { λ f. IsFinder f.directory f.numbers };
 }
 
 impl<'t> Finder<'t> {
-    pub fn of(
-        alloc: Global,
-        tree: &'t Tree,
-        directory: Directory<'t>,
-    ) -> Result<Finder<'t>, AllocError>
-        requires same { directory ≡ tree.now }
-        requires keeps { KeepsAll tree.now }
-        ensures { IfOk result (λ finder. finder ≡ tree.now) }
+    /// The finder of a directory's tree.
+    pub fn of(alloc: Global, directory: Directory<'t>) -> Result<Finder<'t>, AllocError>
+        requires { KeepsAll directory }
+        ensures { IfOk result (λ finder. finder ≡ directory.entry) }
     {
-        let numbers = numbers_of(alloc, tree)?;
-        Ok(Finder {
-            tree,
-            directory,
-            numbers,
-        })
+        let numbers = numbers_of(alloc, directory.tree())?;
+        Ok(Finder { directory, numbers })
     }
 
+    /// The tree, of which it is known that it keeps all type rules.
     pub fn tree(&self) -> &Tree
         ensures tree { result.now ≡ self.now }
         ensures keeps { KeepsAll self.now }
     {
-        self.tree
+        self.directory.tree()
     }
 
+    /// The class of this name.
     pub fn class(&self, name: &Token) -> ClassId
         requires { ¬ IsNoClass self.now name.now.name }
         ensures { IsNamed self.now name.now.name result.0 }
@@ -66,6 +59,7 @@ impl<'t> Finder<'t> {
         ClassId(class as u16)
     }
 
+    /// The event that the class has under this name.
     pub fn event(&self, class: ClassId, name: &Token) -> EventId
         requires { NeedsEvent self.now class.0 name.now.name }
         ensures { DenotesEvent self.now class.0 name.now.name result.0 }
@@ -73,7 +67,7 @@ impl<'t> Finder<'t> {
         EventId(self.number(self.place(class, name)))
     }
 
-    /// The number of the rule's row.
+    /// The number of the rule that the class has under this name.
     pub fn rule(&self, class: ClassId, name: &Token) -> u32
         requires { NeedsRule self.now class.0 name.now.name }
         ensures { DenotesRule self.now class.0 name.now.name result }
@@ -81,7 +75,7 @@ impl<'t> Finder<'t> {
         self.number(self.place(class, name))
     }
 
-    /// The relation that the class itself declares.
+    /// The relation that the class itself declares under this name.
     pub fn own_relation(&self, class: ClassId, name: &Token) -> RelId
         requires { NeedsOwn self.now class.0 name.now.name }
         ensures { DenotesOwn self.now class name.now.name result.0 }
@@ -125,7 +119,7 @@ impl<'t> Finder<'t> {
         requires { (member : TheMember) × MemberAt self.now place.class place.member member × IsRelation member }
         ensures { (member : TheMember) × MemberAt self.now place.class place.member member × IsRelationInto self.now member result.0 }
     {
-        let decl = self.tree.classes.at(place.class);
+        let decl = self.directory.tree().classes.at(place.class);
         match decl.members.at(place.member) {
             Member::Relation { target, .. } => self.class(target),
             _ => unreachable!(),

@@ -80,10 +80,12 @@ RuleSound (rules.Effect n c path e) = length path ≤ 4
 RuleSound (rules.Dot n c path) = (0 < length path) × (length path ≤ 4)
 RuleSound p = Unit {0}
 
+-- so for the rule that is being read
 abbrev pub PlaceSound : Place → Type 0
 PlaceSound (places.Rule p) = RuleSound p
 PlaceSound p = Unit {0}
 
+-- and in the class that is being read
 abbrev pub PartSound : Part → Type 0
 PartSound (parts.Inside c p) = ClassFits c × PlaceSound p
 PartSound part = Unit {0}

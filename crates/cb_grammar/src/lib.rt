@@ -8,4 +8,4 @@ mod tree;
 
 pub use lexeme::Lexeme;
 pub use machine::{Machine, one_tree, same_but_places};
-pub use tree::{ClassDecl, Member, Token, Tree};
+pub use tree::{ClassDecl, LONGEST_PATH, Member, Token, Tree};

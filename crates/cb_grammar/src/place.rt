@@ -3,7 +3,7 @@ ghost use Rattle.std.specs.Prelude.{◌≡◌, IfOk};
 ghost use Rattle.cb_grammar.specs.Table.{begun, next_event, next_relation, next_rule, next};
 
 use crate::lexeme::Lexeme;
-use crate::tree::{Member, Token};
+use crate::tree::{LONGEST_PATH, Member, Token};
 use cb_model::List;
 use std::alloc::{AllocError, Global};
 
@@ -196,7 +196,7 @@ fn grow_rule(alloc: Global, place: RulePlace, lexeme: Lexeme) -> Result<Grown, A
     Ok(Grown::More(Place::Rule(next)))
 }
 
-// A rule ends, or what seemed its effect is a relation of its path, of which there are at most 4.
+// A rule ends, or what seemed its effect is a relation of its path, unless that is full.
 fn grow_path(
     name: Token,
     cause: Token,
@@ -214,7 +214,7 @@ fn grow_path(
             effect,
         })),
         Lexeme::Dot => {
-            if path.len() >= 4 {
+            if path.len() >= LONGEST_PATH {
                 return Ok(Grown::Wrong);
             }
             let mut longer = path;

@@ -1,6 +1,9 @@
 //! What a text of classes says.
 use cb_model::{List, Name};
 
+/// The most relations of a rule's path.
+pub const LONGEST_PATH: usize = 4;
+
 /// A name, with its line, counted from 1, and the place of its first byte in the text.
 #[derive(Debug, Drop)]
 pub struct Token {

@@ -4,3 +4,4 @@ pub mod Listing
 pub mod Walking
 pub mod Bridge
 pub mod Places
+pub mod TypedPipes

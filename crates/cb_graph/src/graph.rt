@@ -41,6 +41,8 @@ impl std::marker::Model for Graph {
 }
 
 impl Graph {
+    /// The graph of the topology, which it takes over. Without memory for one place for each number of an instance, twice,
+    /// the topology is dropped.
     pub fn new(alloc: Global, topology: Topology) -> Result<Graph, AllocError>
         ensures { IfOk result (λ graph. graph ≡ topology) }
     {
@@ -56,6 +58,7 @@ impl Graph {
         })
     }
 
+    /// The topology, to be read. Edits go through the graph, which makes room for what they add.
     pub fn topology(&self) -> &Topology
         ensures { result.now ≡ self.now }
     {

@@ -72,6 +72,7 @@ impl InstanceSet {
         self.list.clear();
     }
 
+    /// Adds the instance, which may be a member already. It takes no memory.
     pub fn add(&mut self, id: InstanceId)
         requires { id.0 < length self.old }
         ensures length { length self.new ≡ length self.old }

@@ -8,3 +8,8 @@ mod rules;
 mod walk;
 
 pub use graph::Graph;
+
+#[cfg(test)]
+mod pipes;
+#[cfg(test)]
+mod tests;

@@ -11,12 +11,9 @@ use Rattle.std.specs.List.{list_any}
 use Rattle.std.specs.Str.{bytes_eq}
 use Rattle.std.proofs.Math.Bool.{or-true}
 use Rattle.std.proofs.lemmas.Slice.Eq.{bytes_eq-Decides}
-use Rattle.cb_io.specs.Outside.{FilesTold, SinkTold, bytes_of, contents, left_of, TakesAll, ReadsAll, ReadsFront, ReadsMoreThan, ReadsEach, KeepsOthers, NoCountFalls, ReadFailed, WritesAll, WritesFront}
+use Rattle.cb_io.specs.Outside.{FilesTold, SinkTold, bytes_of, contents, left_of, TakesAll, ReadsAll, ReadsEach, KeepsOthers, NoCountFalls, ReadFailed, WritesAll, WritesFront}
 
 -- ---- counts
-
-pub NoCountFalls-refl : (a : FilesTold) → NoCountFalls a a
-NoCountFalls-refl a = λ name. omega arith
 
 pub NoCountFalls-trans : (a b c : FilesTold) → NoCountFalls a b → NoCountFalls b c → NoCountFalls a c
 NoCountFalls-trans a b c first second = λ name. omega (arith, first name, second name)
@@ -26,63 +23,13 @@ pub ReadFailed-after : (a b c : FilesTold) (name : List ℕ) → NoCountFalls a 
     → ReadFailed a c name
 ReadFailed-after a b c name first second = omega (arith, first name, second)
 
--- a read that failed before others
-pub ReadFailed-before : (a b c : FilesTold) (name : List ℕ) → ReadFailed a b name → NoCountFalls b c
-    → ReadFailed a c name
-ReadFailed-before a b c name first second = omega (arith, first, second name)
-
 -- ---- what is left
-
-pub KeepsOthers-refl : (a : FilesTold) (name : List ℕ) → KeepsOthers a a name
-KeepsOthers-refl a name = λ other ne. Keeps-refl (left_of a other)
 
 -- two reads of one name
 pub KeepsOthers-trans : (a b c : FilesTold) (name : List ℕ) → KeepsOthers a b name → KeepsOthers b c name
     → KeepsOthers a c name
 KeepsOthers-trans a b c name first second =
     λ other ne. Keeps-trans (left_of a other) (left_of b other) (left_of c other) (first other ne) (second other ne)
-
-pub ReadsFront-refl : (a : FilesTold) (name : List ℕ) → ReadsFront a a name
-ReadsFront-refl a name = ([], Consumes-nil (left_of a name))
-
-pub ReadsFront-trans : (a b c : FilesTold) (name : List ℕ) → ReadsFront a b name → ReadsFront b c name
-    → ReadsFront a c name
-ReadsFront-trans a b c name (front, first) (more, second) =
-    (front ++ more, Consumes-trans (left_of a name) (left_of b name) (left_of c name) front more first second)
-
-TakesAll-kept : (a b c : Option (List ℕ)) (all : List ℕ) → Keeps a b → TakesAll b c all → TakesAll a c all
-TakesAll-kept None b c all kept takes = tt
-TakesAll-kept (Some left) None c all kept takes = absurd kept
-TakesAll-kept (Some left) (Some same) c all kept takes = (takes.0 ∙ kept, takes.1)
-
-TakesAll-keeps : (a b c : Option (List ℕ)) (all : List ℕ) → TakesAll a b all → Keeps b c → TakesAll a c all
-TakesAll-keeps None b c all takes kept = tt
-TakesAll-keeps (Some left) None c all takes kept = cc (takes.1)
-TakesAll-keeps (Some left) (Some rest) None all takes kept = absurd kept
-TakesAll-keeps (Some left) (Some rest) (Some same) all takes kept = (takes.0, ap (λ l. Some l) kept ∙ takes.1)
-
--- a name that is read whole after another one gives what was left of it before both
-pub ReadsAll-after : (a b c : FilesTold) (first name all : List ℕ) → name ≢ first → KeepsOthers a b first
-    → ReadsAll b c name all → ReadsAll a c name all
-ReadsAll-after a b c first name all ne others reads =
-    TakesAll-kept (left_of a name) (left_of b name) (left_of c name) all (others name ne) reads
-
--- a name that was read whole stays so while another one is read
-pub ReadsAll-before : (a b c : FilesTold) (name second all : List ℕ) → name ≢ second → ReadsAll a b name all
-    → KeepsOthers b c second → ReadsAll a c name all
-ReadsAll-before a b c name second all ne reads others =
-    TakesAll-keeps (left_of a name) (left_of b name) (left_of c name) all reads (others name ne)
-
-TakesAll-again : (a b c : Option (List ℕ)) (all more : List ℕ) → TakesAll a b all → TakesAll b c more → TakesAll a c all
-TakesAll-again None b c all more first second = tt
-TakesAll-again (Some left) None c all more first second = cc (first.1)
-TakesAll-again (Some left) (Some rest) c all more first second = (first.0, second.1)
-
--- a name that is read whole again
-pub ReadsAll-again : (a b c : FilesTold) (name all more : List ℕ) → ReadsAll a b name all → ReadsAll b c name more
-    → ReadsAll a c name all
-ReadsAll-again a b c name all more first second =
-    TakesAll-again (left_of a name) (left_of b name) (left_of c name) all more first second
 
 -- what was consumed up to the end is all
 pub TakesAll-at_end : (a b : Option (List ℕ)) (all : List ℕ) → Consumes a b all → IsAtEnd b → TakesAll a b all
@@ -97,25 +44,12 @@ pub record HasRead (old new : FilesTold) (name bytes : List ℕ) : Type 0 where
   pub others : KeepsOthers old new name
   pub counts : NoCountFalls old new
 
-pub HasRead-nil : (a : FilesTold) (name : List ℕ) → HasRead a a name []
-HasRead-nil a name =
-    record { came = Consumes-nil (left_of a name); others = KeepsOthers-refl a name; counts = NoCountFalls-refl a }
-
 -- more bytes came
 pub HasRead-more : {a b : FilesTold} (c : FilesTold) {name bytes : List ℕ} (more : List ℕ) → HasRead a b name bytes
     → Consumes (left_of b name) (left_of c name) more → KeepsOthers b c name → NoCountFalls b c
     → HasRead a c name (bytes ++ more)
 HasRead-more {a} {b} c {name} {bytes} more first came' others' counts' = record {
   came = Consumes-trans (left_of a name) (left_of b name) (left_of c name) bytes more first.came came';
-  others = KeepsOthers-trans a b c name first.others others';
-  counts = NoCountFalls-trans a b c first.counts counts';
-}
-
--- no more bytes came
-pub HasRead-kept : {a b : FilesTold} (c : FilesTold) {name bytes : List ℕ} → HasRead a b name bytes
-    → Keeps (left_of b name) (left_of c name) → KeepsOthers b c name → NoCountFalls b c → HasRead a c name bytes
-HasRead-kept {a} {b} c {name} {bytes} first kept others' counts' = record {
-  came = Consumes-kept (left_of a name) (left_of b name) (left_of c name) bytes first.came kept;
   others = KeepsOthers-trans a b c name first.others others';
   counts = NoCountFalls-trans a b c first.counts counts';
 }
@@ -154,15 +88,6 @@ whole : (a b : Option (List ℕ)) (bytes all : List ℕ) → a ≡ Some bytes �
 whole None b bytes all e t = cc
 whole (Some xs) b bytes all e t = t.0 ∙ (let f : Option (List ℕ) → List ℕ = λ o. unwrap_or o [] in ap f e)
 
-longer : (a b : Option (List ℕ)) (bytes front : List ℕ) (most : ℕ) → a ≡ Some bytes → Consumes a b front
-    → most < length front → most < length bytes
-longer None b bytes front most e k lt = cc
-longer (Some xs) None bytes front most e k lt = absurd k
-longer (Some xs) (Some ys) bytes front most e k lt =
-    let f : Option (List ℕ) → List ℕ = λ o. unwrap_or o [] in
-    let same : xs ≡ bytes = ap f e in
-    omega (arith, length-append front ys, ap length k, ap length same)
-
 if_told : {P Q : List (List ℕ × List ℕ) → Type 0} (told : Option (List (List ℕ × List ℕ))) → IfSome told P
     → ((left : List (List ℕ × List ℕ)) → P left → Q left) → IfSome told Q
 if_told None known next = tt
@@ -200,12 +125,6 @@ pub ReadsEach-gives : (a b c : FilesTold) (names : List (List ℕ)) (name all : 
 ReadsEach-gives a b c names name all each reads =
     if_told a.left each (λ left known. whole (left_of b name) (left_of c name) _ all (known name) reads)
 
--- where more came than so many bytes, the name gives more
-pub ReadsEach-more : (a b c : FilesTold) (names : List (List ℕ)) (name : List ℕ) (most : ℕ) → ReadsEach a b names
-    → ReadsMoreThan b c name most → IfSome a.left (λ left. most < length (contents left names name))
-ReadsEach-more a b c names name most each (front, more, came) =
-    if_told a.left each (λ left known. longer (left_of b name) (left_of c name) _ front most (known name) came more)
-
 -- what a last read leaves of the other names
 pub ReadsEach-others : (a b c : FilesTold) (names : List (List ℕ)) (name : List ℕ) → ReadsEach a b names
     → KeepsOthers b c name
@@ -215,20 +134,6 @@ ReadsEach-others a b c names name each others =
     (others other ne))
 
 -- ---- what was taken
-
-pub WritesAll-nil : (a : SinkTold) → WritesAll a a []
-WritesAll-nil a = Appends-nil a.taken
-
--- one text after another
-pub WritesAll-trans : (a b c : SinkTold) (first second : List ℕ) → WritesAll a b first → WritesAll b c second
-    → WritesAll a c (first ++ second)
-WritesAll-trans a b c first second one two = Appends-trans a.taken b.taken c.taken first second one two
-
-pub WritesFront-none : (a : SinkTold) (bytes : List ℕ) → WritesFront a a bytes
-WritesFront-none a bytes = (0, omega arith, Appends-nil a.taken)
-
-pub WritesFront-all : (a b : SinkTold) (bytes : List ℕ) → WritesAll a b bytes → WritesFront a b bytes
-WritesFront-all a b bytes all = (length bytes, omega arith, rw take-length all)
 
 -- a front of the first text, where the second isn't written
 pub WritesFront-first : (a b : SinkTold) (first second : List ℕ) → WritesFront a b first

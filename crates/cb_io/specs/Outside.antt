@@ -49,6 +49,10 @@ ReadsAll old new name all = TakesAll (left_of old name) (left_of new name) all
 abbrev pub ReadsFront : FilesTold → FilesTold → List ℕ → Type 0
 ReadsFront old new name = (front : List ℕ) × Consumes (left_of old name) (left_of new name) front
 
+-- a front of what was left of the name came, of at most so many bytes
+abbrev pub ReadsNoMoreThan : FilesTold → FilesTold → List ℕ → ℕ → Type 0
+ReadsNoMoreThan old new name most = (front : List ℕ) × (length front ≤ most) × Consumes (left_of old name) (left_of new name) front
+
 -- more than so many bytes of the name came
 abbrev pub ReadsMoreThan : FilesTold → FilesTold → List ℕ → ℕ → Type 0
 ReadsMoreThan old new name most = (front : List ℕ) × (most < length front) × Consumes (left_of old name) (left_of new name) front

@@ -1,5 +1,7 @@
 //! The machine's outputs.
-ghost use Rattle.std.specs.Prelude.{◌≡◌, ◌<◌, ◌≤◌, length, IfSome, None};
+ghost use Rattle.std.specs.Prelude.{◌≡◌, ◌<◌, ◌≤◌, length, IfOk, IfSome, OnOk, OnErr, None};
+ghost use Rattle.std.specs.Io.{WritesAtMost};
+ghost use Rattle.cb_io.specs.Outside.{next_count, Writes, WriteFailed};
 
 use crate::{Failed, Sink};
 use std::io::Write;
@@ -45,7 +47,18 @@ impl<W: Write + Drop> HostSink<W> {
 impl<W: Write + Drop> Sink for HostSink<W> {
     ghost tells = { λ s. s };
 
-    fn write(&mut self, bytes: &[u8]) -> Result<usize, Failed> {
+    fn write(&mut self, bytes: &[u8]) -> Result<usize, Failed>
+        requires { 0 < length bytes.now }
+        ensures some { IfOk result (λ n. 0 < n) }
+        ensures bound { WritesAtMost result bytes.now }
+        ensures bytes { Writes self.old self.new result bytes.now }
+        ensures counts { self.old.faults ≤ self.new.faults }
+        ensures failed { OnErr result (WriteFailed self.old self.new) }
+
+        // Each refusal is one fault, and nothing else is.
+        ensures ok { OnOk result (self.new ≡ self.old) }
+        ensures err { OnErr result (self.new ≡ record self.old { faults = next_count self.old.faults }) }
+    {
         match self.try_write(bytes) {
             Some(count) => Ok(count),
             None => {

@@ -68,6 +68,7 @@ impl Files for NeverFiles {
 pub struct NeverSink;
 
 impl NeverSink {
+    /// A sink with room for everything.
     pub fn new() -> Self {
         NeverSink
     }

@@ -1,6 +1,6 @@
 //! Whole files and whole texts, over any files and any sink.
-ghost use Rattle.std.specs.Prelude.{◌≡◌, ◌<◌, ◌≤◌, IfOk, OnOk, OnErr, IsErrOf, vec_len};
-ghost use Rattle.cb_io.specs.Outside.{ReadsAll, ReadsFront, ReadsMoreThan, KeepsOthers, NoCountFalls, ReadFailed, WritesAll, WritesFront, WriteFailed};
+ghost use Rattle.std.specs.Prelude.{◌≡◌, ◌<◌, ◌≤◌, ◌⊎◌, IfOk, OnOk, OnErr, IsErrOf, vec_len};
+ghost use Rattle.cb_io.specs.Outside.{ReadsAll, ReadsFront, ReadsMoreThan, ReadsNoMoreThan, KeepsOthers, NoCountFalls, ReadFailed, WritesAll, WritesFront, WriteFailed};
 
 use crate::{Failed, FileStop, Files, Sink};
 use std::alloc::{AllocError, Global};
@@ -80,6 +80,8 @@ pub fn read_whole<F: Files>(
     ensures fits { IfOk result (λ all. vec_len all ≤ most) }
     ensures too_much { IsErrOf result ReadStop.TooMuch →
         ReadsMoreThan (F.tells files.old) (F.tells files.new) name.now most }
+    ensures not_too_much { IsErrOf result ReadStop.TooMuch ⊎
+        ReadsNoMoreThan (F.tells files.old) (F.tells files.new) name.now most }
     ensures failed { IsErrOf result ReadStop.ReadFault →
         ReadFailed (F.tells files.old) (F.tells files.new) name.now }
 

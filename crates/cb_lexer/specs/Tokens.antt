@@ -1,6 +1,6 @@
 -- Which tokens stand in a text.
 use Rattle.std.specs.Prelude.{◌≡◌, ℕ, ◌+◌, ◌<◌, ◌≤◌, List, [], ◌∷◌, ◌++◌, length, drop, slice_range, false, None, codes}
-use Rattle.cb_text.specs.Names.{is_letter, is_name_byte, IsRun, IsName}
+use Rattle.cb_text.specs.Names.{is_letter, is_name_byte, name_limit, IsRun, IsName}
 use Rattle.cb_grammar.specs.declared.tree.Token.{Token}
 use Rattle.cb_grammar.specs.declared.lexeme.Lexeme.{Lexeme}
 use Rattle.cb_grammar.specs.declared.lexeme.Lexeme.TheVariants as lexemes
@@ -123,7 +123,7 @@ IsWordAt start k = IsWord k
 pub record IsLongRun (text : List ℕ) (start end : ℕ) : Type 0 where
   pub within : end ≤ length text
   pub run : IsRun (slice_range text start end)
-  pub long : 63 < length (slice_range text start end)
+  pub long : name_limit < length (slice_range text start end)
 
 -- the bytes begin with one that begins no token and is no part of a gap
 abbrev pub BeginsNone : List ℕ → Type 0

@@ -1,4 +1,3 @@
-pub mod Walk
 pub mod Trees
 pub mod Listed
 pub mod Made

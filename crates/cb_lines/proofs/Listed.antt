@@ -6,14 +6,14 @@ use Rattle.std.proofs.lemmas.List.Elements.{All-nil, All-push, Contains-append_l
 use Rattle.cb_text.specs.Names.{IsRun, IsNode, is_letter}
 use Rattle.cb_text.specs.Words.{IsPassedOver}
 use Rattle.cb_text.specs.Lines.{lines_of}
-use Rattle.cb_text.proofs.Cuts.{cut_once, name_lacks_at, node_is_cut}
+use Rattle.cb_text.proofs.Cuts.{node_read_once}
 use Rattle.cb_model.specs.declared.node.NodeName.{NodeName}
 use Rattle.cb_model.specs.Order.{Rises}
 use Rattle.cb_model.specs.NodeOrder.{node_cmp}
 use Rattle.cb_model.proofs.Rising.{nothing_in_empty}
-use Rattle.cb_lines.specs.Lines.{HasShortLines}
+use Rattle.cb_text.specs.Lines.{HasShortLines}
 use Rattle.cb_lines.specs.Symptoms.{SpellsNode, IsSymptomLine, ListsNodes}
-use Rattle.cb_lines.specs.Steps.{Adds}
+use Rattle.cb_lines.specs.Steps.{AddsNodes}
 
 same_Some : (x y : ℕ) → Some x ≡ Some y → x ≡ y
 same_Some x y e = cc
@@ -33,27 +33,24 @@ passed_over_is_no_node line node passed spells =
     letter_first node.event (64 ∷ []) node.instance spells.is.event_is.run written
 
 -- so it adds none
-pub passed_over_adds_none : (line : List ℕ) (nodes : List NodeName) → IsPassedOver line → Adds (SpellsNode line) nodes nodes
+pub passed_over_adds_none : (line : List ℕ) (nodes : List NodeName) → IsPassedOver line → AddsNodes (SpellsNode line) nodes nodes
 passed_over_adds_none line nodes passed n = (λ c. inl c, λ h. elim h [ inl c ↦ c | inr spells ↦ absurd (passed_over_is_no_node line n passed spells) ])
 
 -- a line is one node at most
-pub spelled_once : (line : List ℕ) (m n : NodeName) → SpellsNode line m → SpellsNode line n → m ≡ n
-spelled_once line m n a b =
+one_node : (line : List ℕ) (m n : NodeName) → SpellsNode line m → SpellsNode line n → m ≡ n
+one_node line m n a b =
     let words = sym a.words ∙ b.words in
     let word : a.word ≡ b.word = cc words in
     let is = subst (λ (w : List ℕ). IsNode w m.event m.instance) word a.is in
-    let cut = sym (node_is_cut b.word m.event m.instance is) ∙ node_is_cut b.word n.event n.instance b.is in
-    let parts = cut_once 64 m.event m.instance n.event n.instance (name_lacks_at m.event is.event_is.run) (name_lacks_at n.event b.is.event_is.run) cut in
-    let event = parts.0 in
-    let instance = parts.1 in
-    λ i. record { event = event i; instance = instance i }
+    let parts = node_read_once b.word m.event m.instance n.event n.instance is b.is in
+    λ i. record { event = parts.0 i; instance = parts.1 i }
 
 -- so it adds that one
-pub spelled_is_added : (line : List ℕ) (node : NodeName) (old new : List NodeName) → SpellsNode line node → Adds (λ n. n ≡ node) old new
-    → Adds (SpellsNode line) old new
+pub spelled_is_added : (line : List ℕ) (node : NodeName) (old new : List NodeName) → SpellsNode line node → AddsNodes (λ n. n ≡ node) old new
+    → AddsNodes (SpellsNode line) old new
 spelled_is_added line node old new spells adds n = (
   λ c. elim ((adds n).0 c) [ inl before ↦ inl before | inr same ↦ inr (subst (SpellsNode line) (sym same) spells) ],
-  λ h. (adds n).1 (elim h [ inl before ↦ inl before | inr it ↦ inr (spelled_once line n node it spells) ]),
+  λ h. (adds n).1 (elim h [ inl before ↦ inl before | inr it ↦ inr (one_node line n node it spells) ]),
 )
 
 -- the lines are good, and these are their nodes
@@ -71,7 +68,7 @@ none_of_none nodes none = record {
 }
 
 -- one line more
-pub one_more : (lines : List (List ℕ)) (old new : List NodeName) (line : List ℕ) → IsSymptomLine line → Adds (SpellsNode line) old new
+pub one_more : (lines : List (List ℕ)) (old new : List NodeName) (line : List ℕ) → IsSymptomLine line → AddsNodes (SpellsNode line) old new
     → AreNodesOf old lines → AreNodesOf new (lines ++ line ∷ [])
 one_more lines old new line good adds read = record {
   good = All-push IsSymptomLine lines line read.good good;

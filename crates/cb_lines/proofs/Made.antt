@@ -9,8 +9,8 @@ use Rattle.cb_network.specs.Topology.{empty_topology}
 use Rattle.cb_model.specs.declared.tables.Tables.{Tables}
 use Rattle.cb_lines.specs.declared.stop.LineStop.{LineStop}
 use Rattle.cb_lines.specs.declared.stop.LineStop.TheVariants.{Fault, NoMemory}
-use Rattle.cb_lines.specs.Lines.{HasShortLines, IsLineOf}
-use Rattle.cb_lines.specs.Steps.{StopsLine, stop_at}
+use Rattle.cb_text.specs.Lines.{HasShortLines, IsLineOf}
+use Rattle.cb_lines.specs.Steps.{StopsTopologyLine, stop_at}
 use Rattle.cb_lines.specs.Topologies.{LineMakes, LinesMake, Stops}
 
 -- a new instance of a spelled edit has a good name
@@ -30,7 +30,7 @@ made_more t (first ∷ before) line mid u makes (next, here, later) = (next, her
 
 -- the stop of a line is one of the file, with the number of the line
 pub stops_at : (tables : Tables) (text : List ℕ) (number : ℕ) (before : List (List ℕ)) (line : List ℕ) (made : Topology) (stop : LineStop)
-    → HasShortLines text → IsLineOf text number before line → LinesMake (empty_topology tables) before made → StopsLine made line stop
+    → HasShortLines text → IsLineOf text number before line → LinesMake (empty_topology tables) before made → StopsTopologyLine made line stop
     → Stops tables text (stop_at number stop)
 stops_at tables text number before line made (Fault fault) short is makes wrong =
     record { short = short; before = before; line = line; is = is; made = made; makes = makes; wrong = wrong }

@@ -11,9 +11,9 @@ use Rattle.cb_model.specs.Order.{Rises}
 use Rattle.cb_model.specs.NodeOrder.{node_cmp}
 use Rattle.cb_model.proofs.Rising.{node_cmp_total, node_cmp_exact}
 use Rattle.cb_network.proofs.Sets.{tied, tied_same}
-use Rattle.cb_lines.specs.Steps.{Adds}
+use Rattle.cb_lines.specs.Steps.{AddsNodes}
 
-pub added : (old new : BTreeSet NodeName) (k : NodeName) → Updates node_cmp old new k true → Adds (λ n. n ≡ k) old.keys new.keys
+pub added : (old new : BTreeSet NodeName) (k : NodeName) → Updates node_cmp old new k true → AddsNodes (λ n. n ≡ k) old.keys new.keys
 added old new k updates n =
     let before = btree_set_contains_iff node_cmp_total node_cmp_exact old n in
     let after = btree_set_contains_iff node_cmp_total node_cmp_exact new n in

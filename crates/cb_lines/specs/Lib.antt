@@ -1,4 +1,3 @@
-pub mod Lines
 pub mod Topologies
 pub mod Symptoms
 pub mod Steps

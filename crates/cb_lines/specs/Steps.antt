@@ -18,19 +18,19 @@ use Rattle.cb_lines.specs.Symptoms.{IsSymptomLine}
 use Rattle.cb_lines.specs.Topologies.{IsWrong}
 
 -- the new nodes are the old ones and those such that P
-abbrev pub Adds : (NodeName → Type 0) → List NodeName → List NodeName → Type 0
-Adds P old new = (n : NodeName) → Contains new n ↔ (Contains old n ⊎ P n)
+abbrev pub AddsNodes : (NodeName → Type 0) → List NodeName → List NodeName → Type 0
+AddsNodes P old new = (n : NodeName) → Contains new n ↔ (Contains old n ⊎ P n)
 
 -- the line of this number is bad, or there is not memory enough for it
-abbrev pub StopsAt : ℕ → List ℕ → SymptomStop → Type 0
-StopsAt number line (symptoms.LongLine other) = ⊥
-StopsAt number line (symptoms.BadName other) = (other ≡ number) × ¬ IsSymptomLine line
-StopsAt number line symptoms.NoMemory = Unit {0}
+abbrev pub StopsSymptomLine : ℕ → List ℕ → SymptomStop → Type 0
+StopsSymptomLine number line (symptoms.LongLine other) = ⊥
+StopsSymptomLine number line (symptoms.BadName other) = (other ≡ number) × ¬ IsSymptomLine line
+StopsSymptomLine number line symptoms.NoMemory = Unit {0}
 
 -- the line is wrong after this topology, or there is not memory enough for it
-abbrev pub StopsLine : Topology → List ℕ → LineStop → Type 0
-StopsLine t line (stop.Fault fault) = IsWrong t line fault
-StopsLine t line stop.NoMemory = Unit {0}
+abbrev pub StopsTopologyLine : Topology → List ℕ → LineStop → Type 0
+StopsTopologyLine t line (stop.Fault fault) = IsWrong t line fault
+StopsTopologyLine t line stop.NoMemory = Unit {0}
 
 -- a stop at the line of this number, as one of the file
 abbrev pub stop_at : ℕ → LineStop → TopologyStop

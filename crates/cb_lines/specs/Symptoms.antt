@@ -3,13 +3,12 @@ use Rattle.std.specs.Prelude.{◌≡◌, ◌⊎◌, ℕ, List, [], ◌∷◌}
 use Rattle.std.specs.List.{All, Contains}
 use Rattle.cb_text.specs.Names.{IsNode}
 use Rattle.cb_text.specs.Words.{words_of, IsPassedOver}
-use Rattle.cb_text.specs.Lines.{lines_of}
+use Rattle.cb_text.specs.Lines.{lines_of, HasShortLines, IsLineOf, IsFirstLong}
 use Rattle.cb_model.specs.declared.node.NodeName.{NodeName}
 use Rattle.cb_model.specs.Order.{Rises}
 use Rattle.cb_model.specs.NodeOrder.{node_cmp}
 use Rattle.cb_lines.specs.declared.symptoms.SymptomStop.{SymptomStop}
 use Rattle.cb_lines.specs.declared.symptoms.SymptomStop.TheVariants.{LongLine, BadName, NoMemory}
-use Rattle.cb_lines.specs.Lines.{HasShortLines, IsLineOf, IsFirstLong}
 
 -- the one word of the line is that node
 pub record SpellsNode (line : List ℕ) (node : NodeName) : Type 0 where

@@ -1,7 +1,7 @@
 -- Topology files: one edit a line.
 use Rattle.std.specs.Prelude.{◌≡◌, ◌⊎◌, ℕ, List, [], ◌∷◌, Ok, Err}
 use Rattle.cb_text.specs.Words.{IsPassedOver}
-use Rattle.cb_text.specs.Lines.{lines_of}
+use Rattle.cb_text.specs.Lines.{lines_of, HasShortLines, IsLineOf, IsFirstLong}
 use Rattle.cb_model.specs.declared.tables.Tables.{Tables}
 use Rattle.cb_network.specs.declared.edit.Edit.{Edit}
 use Rattle.cb_network.specs.Topology.{Topology, empty_topology}
@@ -11,7 +11,6 @@ use Rattle.cb_lines.specs.declared.topology.LineFault.{LineFault}
 use Rattle.cb_lines.specs.declared.topology.LineFault.TheVariants.{BadWords, Refused}
 use Rattle.cb_lines.specs.declared.topology.TopologyStop.{TopologyStop}
 use Rattle.cb_lines.specs.declared.topology.TopologyStop.TheVariants.{LongLine, BadLine, NoMemory}
-use Rattle.cb_lines.specs.Lines.{HasShortLines, IsLineOf, IsFirstLong}
 
 -- the line makes u of t: it is passed over and leaves t, or its edit is accepted
 abbrev pub LineMakes : Topology → List ℕ → Topology → Type 0

@@ -1,7 +1,6 @@
 //! Topology files and symptom files, line by line.
 #![tactic(auto)]
 
-mod line;
 mod nodes;
 mod stop;
 mod symptoms;

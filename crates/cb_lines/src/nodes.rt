@@ -3,7 +3,7 @@ ghost use Rattle.std.specs.Prelude.{◌≡◌, OnOk, IfOk};
 ghost use Rattle.cb_model.specs.declared.node.NodeName.{NodeName as Node};
 ghost use Rattle.cb_model.specs.Order.{Rises};
 ghost use Rattle.cb_model.specs.NodeOrder.{node_cmp};
-ghost use Rattle.cb_lines.specs.Steps.{Adds};
+ghost use Rattle.cb_lines.specs.Steps.{AddsNodes};
 
 use cb_model::{List, NodeName};
 use std::alloc::{AllocError, Global};
@@ -11,7 +11,7 @@ use std::collections::BTreeSet;
 
 /// Adds a node, where it is not there yet.
 pub fn add(nodes: &mut BTreeSet<NodeName>, node: NodeName) -> Result<(), AllocError>
-    ensures { OnOk result (Adds (λ (n : Node). n ≡ node) nodes.old.keys nodes.new.keys) }
+    ensures { OnOk result (AddsNodes (λ (n : Node). n ≡ node) nodes.old.keys nodes.new.keys) }
 {
     nodes.insert(node)?;
     Ok(())

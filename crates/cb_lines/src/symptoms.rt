@@ -2,12 +2,11 @@
 ghost use Rattle.std.specs.Prelude.{◌≡◌, OnOk, IfOk, IfErr};
 ghost use Rattle.cb_lines.specs.declared.symptoms.SymptomStop.TheVariants.{NoMemory};
 ghost use Rattle.cb_lines.specs.Symptoms.{SpellsNode, IsSymptomLine, ListsNodes, Stops};
-ghost use Rattle.cb_lines.specs.Steps.{Adds, StopsAt};
+ghost use Rattle.cb_lines.specs.Steps.{AddsNodes, StopsSymptomLine};
 
-use crate::line::{first_long, lines, only_word};
 use crate::nodes::{add, in_order};
 use cb_model::{List, Name, NodeName};
-use cb_text::{is_passed_over, node_parts};
+use cb_text::{first_long, is_passed_over, lines, node_parts, only_word};
 use std::alloc::{AllocError, Global};
 use std::collections::BTreeSet;
 
@@ -55,8 +54,8 @@ fn read_line(
     number: u64,
 ) -> Result<(), SymptomStop>
     ensures good { OnOk result (IsSymptomLine line.now) }
-    ensures added { OnOk result (Adds (SpellsNode line.now) raised.old.keys raised.new.keys) }
-    ensures stop { IfErr result (StopsAt number line.now) }
+    ensures added { OnOk result (AddsNodes (SpellsNode line.now) raised.old.keys raised.new.keys) }
+    ensures stop { IfErr result (StopsSymptomLine number line.now) }
 {
     if is_passed_over(line) {
         return Ok(());

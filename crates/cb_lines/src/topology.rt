@@ -1,18 +1,16 @@
 //! Topology files.
-ghost use Rattle.std.specs.Prelude.{◌≡◌, OnOk, IfOk, IfErr};
+ghost use Rattle.std.specs.Prelude.{OnOk, IfOk, IfErr};
 ghost use Rattle.cb_topo.specs.Numbered.{topology_of};
-ghost use Rattle.cb_lines.specs.declared.topology.TopologyStop.TheVariants.{NoMemory};
 ghost use Rattle.cb_lines.specs.Topologies.{LineMakes, MakesTopology, Stops};
-ghost use Rattle.cb_lines.specs.Steps.{StopsLine};
+ghost use Rattle.cb_lines.specs.Steps.{StopsTopologyLine};
 
-use crate::line::{first_long, lines};
 use crate::stop::LineStop;
 use cb_edits::read_edit;
 use cb_model::Model;
 use cb_network::EditRefusal;
-use cb_text::is_passed_over;
+use cb_text::{first_long, is_passed_over, lines};
 use cb_topo::Topology;
-use std::alloc::{AllocError, Global};
+use std::alloc::Global;
 
 /// What is wrong with a line of a topology file.
 #[derive(Clone, Copy, Debug, PartialEq, Eq)]
@@ -32,14 +30,6 @@ pub enum TopologyStop {
     BadLine { line: u64, fault: LineFault },
     /// There is not memory enough.
     NoMemory,
-}
-
-impl From<AllocError> for TopologyStop {
-    ghost from_gives = { λ _ stop. stop ≡ NoMemory };
-
-    fn from(_error: AllocError) -> TopologyStop {
-        TopologyStop::NoMemory
-    }
 }
 
 /// The topology that the lines of a text make.
@@ -64,7 +54,7 @@ pub fn read_topology(alloc: Global, model: Model, text: &[u8]) -> Result<Topolog
 // Makes the edit of a line, unless the line is passed over.
 fn read_line(alloc: Global, topology: &mut Topology, line: &[u8]) -> Result<(), LineStop>
     ensures makes { OnOk result (LineMakes (topology_of topology.old) line.now (topology_of topology.new)) }
-    ensures stop { IfErr result (StopsLine (topology_of topology.old) line.now) }
+    ensures stop { IfErr result (StopsTopologyLine (topology_of topology.old) line.now) }
 {
     if is_passed_over(line) {
         return Ok(());

@@ -4,7 +4,7 @@ use Rattle.std.specs.List.{All, AllZip, Contains, slice_index_or}
 use Rattle.std.specs.Prelude.{slice_set}
 use Rattle.std.specs.declared.cmp.Ordering.TheVariants.{Less}
 use Rattle.std.proofs.lemmas.Bool.{cases_eq, cases_lt}
-use Rattle.std.proofs.lemmas.List.{length-map, length-set}
+use Rattle.std.proofs.lemmas.List.{length-map, length-set, length-replicate}
 use Rattle.std.proofs.lemmas.Option.{slice_get-get_or, slice_get_within, get_or_from_slice_get}
 use Rattle.cb_model.proofs.Numbers.{take_more, zip_push, slice_get-set_other, slice_get-set_same, slice_get-replicate}
 use Rattle.cb_model.specs.declared.node.NodeName.{NodeName}
@@ -24,8 +24,8 @@ use Rattle.cb_topo.specs.Numbered.{Numbered, topology_of, IsNodeNamed, IsLiveNod
 use Rattle.cb_graph.specs.Edges.{EdgeAt, number}
 use Rattle.cb_graph.proofs.Chains.{named_once, lead_to_caused}
 use Rattle.cb_matrix.specs.Codes.{IsOnce, IsBelow, IsCodeOf}
-use Rattle.cb_matrix.specs.Searched.{IsCodeFrom, AreProblemsAt}
-use Rattle.cb_matrix.specs.Fits.{IsMatrixOf}
+use Rattle.cb_matrix.specs.Searched.{IsCodeFrom, AreProblemsAt, HaveRows}
+use Rattle.cb_matrix.specs.Matrix.{IsMatrixOf}
 use Rattle.cb_matrix.specs.declared.matrix.Matrix.{Matrix}
 
 -- a set's code is a search's, where the set is what was found
@@ -183,11 +183,17 @@ module _ (n : Numbered) (whole : IsWhole n) (sound : Sound (topology_of n)) (col
       }
 
 -- a row that was kept, or wasn't
-pub finished_or_kept : (edge : ℕ → ℕ → Type 0) (count : ℕ) (rows new : List (Option (List Bool))) (i : ℕ) (row : List Bool)
-    → AreFinished edge count rows → IsFinished edge count i row → (new ≡ rows) ⊎ (new ≡ slice_set rows i (Some row)) → AreFinished edge count new
-finished_or_kept edge count rows new i row finished is (inl same) = subst (AreFinished edge count) (sym same) finished
-finished_or_kept edge count rows new i row finished is (inr set) = subst (AreFinished edge count) (sym set) (finished_more edge count rows i row finished is)
+pub row_kept : (n : Numbered) (rows new : List (Option (List Bool))) (i : ℕ) (row : List Bool) → HaveRows n rows → IsFinished (EdgeAt n) (length n.nodes) i row
+    → (new ≡ rows) ⊎ (new ≡ slice_set rows i (Some row)) → HaveRows n new
+row_kept n rows new i row old is (inl same) = subst (HaveRows n) (sym same) old
+row_kept n rows new i row old is (inr set) = subst (HaveRows n) (sym set) (record {
+  room = length-set rows i (Some row) ∙ old.room;
+  finished = finished_more (EdgeAt n) (length n.nodes) rows i row old.finished is;
+})
 
-pub as_long : (rows new : List (Option (List Bool))) (i : ℕ) (row : List Bool) → (new ≡ rows) ⊎ (new ≡ slice_set rows i (Some row)) → length new ≡ length rows
-as_long rows new i row (inl same) = ap length same
-as_long rows new i row (inr set) = ap length set ∙ length-set rows i (Some row)
+-- no row at all
+pub no_rows : (n : Numbered) (rows : List (Option (List Bool))) (room : ℕ) → rows ≡ replicate room None → room ≡ length n.nodes → HaveRows n rows
+no_rows n rows room are is = subst (HaveRows n) (sym are) (record {
+  room = length-replicate room None ∙ is;
+  finished = none_finished (EdgeAt n) (length n.nodes) room;
+})

@@ -5,7 +5,8 @@ use Rattle.std.proofs.lemmas.Bool.{cases_eq, cases_lt}
 use Rattle.std.proofs.lemmas.List.{length-set, length-replicate, get_or-set_other, get_or_past}
 use Rattle.std.proofs.lemmas.Option.{slice_get_within}
 use Rattle.cb_nodes.specs.declared.id.NodeId.{NodeId}
-use Rattle.cb_reach.specs.Rows.{Has, IsNext, HasAllOf}
+use Rattle.cb_bits.specs.Bits.{IsNextOne, HasNoneFrom}
+use Rattle.cb_reach.specs.Rows.{Has}
 use Rattle.cb_reach.proofs.Marks.{has_set, set_cases, nothing}
 use Rattle.cb_graph.specs.Edges.{number}
 use Rattle.cb_matrix.specs.Codes.{ArePlaces, IsCodeOf}
@@ -33,14 +34,14 @@ same_number columns place a b is at =
     let e : number a ≡ number b = cc in
     ap (λ (x : NodeId). x.0) e
 
-module _ (columns : List NodeId) (reached : List Bool) (to : ℕ) (code : List Bool) (room node : ℕ) (old : IsCodedTo columns reached to code)
-    (next : IsNext reached (replicate room false) to node) where
+module _ (columns : List NodeId) (reached : List Bool) (to : ℕ) (code : List Bool) (node : ℕ) (old : IsCodedTo columns reached to code)
+    (next : IsNextOne reached to node) where
   -- a node of the row below the next one is below `to`, or is that one
   earlier : (k : ℕ) → Has reached k → k < node + 1 → (k < to) ⊎ (k ≡ node)
   earlier k has lt = elim (cases_lt k to) [
     | inl low ↦ inl low
     | inr on ↦ elim (cases_lt k node) [
-      | inl before ↦ absurd (nothing room k (next.first k on before has))
+      | inl before ↦ absurd (let off = next.first k on before in cc)
       | inr after ↦ inr (omega arith)
     ]
   ]
@@ -55,7 +56,7 @@ module _ (columns : List NodeId) (reached : List Bool) (to : ℕ) (code : List B
           λ has. elim (set_cases code place k has) [
             | inl same ↦
                 let here : node ≡ m = same_number columns place node m is (subst (λ p. slice_get columns p ≡ Some (number m)) same at) in
-                (subst (Has reached) here next.left.0, omega arith)
+                (subst (Has reached) here next.is, omega arith)
             | inr had ↦ let both = (old.each k m at).0 had in (both.0, let lt = both.1 in let on = next.on in omega arith)
           ],
           λ both. elim (earlier m both.0 both.1) [
@@ -79,7 +80,7 @@ module _ (columns : List NodeId) (reached : List Bool) (to : ℕ) (code : List B
     );
   }
 
-  module _ (places : List (Option ℕ)) (are : ArePlaces room columns places) where
+  module _ (room : ℕ) (places : List (Option ℕ)) (are : ArePlaces room columns places) where
     -- the next node is a column
     pub coded_here : (place : ℕ) → slice_get places node ≡ Some (Some place) → IsCodedTo columns reached (node + 1) (slice_set code place true)
     coded_here place at = coded_more place (are.each node place at) (λ k is.
@@ -93,18 +94,12 @@ module _ (columns : List NodeId) (reached : List Bool) (to : ℕ) (code : List B
     pub coded_on : slice_get places node ≡ Some None → IsCodedTo columns reached (node + 1) code
     coded_on at = coded_past (λ k is. let both : Some (Some k) ≡ Some None = sym (are.all node k is) ∙ at in absurd (cc))
 
-pub has_within : (row : List Bool) (k : ℕ) → Has row k → k < length row
-has_within row k has = elim (cases_lt k (length row)) [
-  | inl low ↦ low
-  | inr high ↦ absurd (let e = get_or_past row k false high in cc)
-]
-
-pub all_coded : (columns : List NodeId) (reached : List Bool) (to : ℕ) (code : List Bool) (room : ℕ) → IsCodedTo columns reached to code
-    → HasAllOf reached (replicate room false) to → IsCodeOf columns reached code
-all_coded columns reached to code room old none = record {
+pub all_coded : (columns : List NodeId) (reached : List Bool) (to : ℕ) (code : List Bool) → IsCodedTo columns reached to code → HasNoneFrom reached to
+    → IsCodeOf columns reached code
+all_coded columns reached to code old none = record {
   width = old.width;
   each = λ k m at. (
     λ has. ((old.each k m at).0 has).0,
-    λ has. (old.each k m at).1 (has, elim (cases_lt m to) [ inl low ↦ low | inr on ↦ absurd (nothing room m (none m on has)) ]),
+    λ has. (old.each k m at).1 (has, elim (cases_lt m to) [ inl low ↦ low | inr on ↦ absurd (let off = none m on in cc) ]),
   );
 }

@@ -1,5 +1,5 @@
 -- Codes over numbers of nodes.
-use Rattle.std.specs.Prelude.{◌≡◌, ◌↔◌, ◌<◌, ℕ, List, Bool, false, Option, Some, length, slice_get, replicate}
+use Rattle.std.specs.Prelude.{◌≡◌, ◌↔◌, ◌<◌, ℕ, List, Bool, Option, Some, length, slice_get}
 use Rattle.cb_nodes.specs.declared.id.NodeId.{NodeId}
 use Rattle.cb_reach.specs.Rows.{Has}
 use Rattle.cb_graph.specs.Edges.{number}
@@ -19,11 +19,10 @@ pub record ArePlaces (room : ℕ) (columns : List NodeId) (places : List (Option
   pub each : (node place : ℕ) → slice_get places node ≡ Some (Some place) → slice_get columns place ≡ Some (number node)
   pub all : (node place : ℕ) → slice_get columns place ≡ Some (number node) → slice_get places node ≡ Some (Some place)
 
--- the columns with their places, and a row of as many places as there are numbers, with none of them
+-- the columns of these numbers, with their places
 pub record AreIndexed (room : ℕ) (ids : List NodeId) (columns : Columns) : Type 0 where
   pub nodes : columns.nodes ≡ ids
   pub places : ArePlaces room ids columns.places.items
-  pub none : columns.none ≡ replicate room false
 
 -- for each column, whether the set of nodes has it
 pub record IsCodeOf (columns : List NodeId) (reached code : List Bool) : Type 0 where

@@ -1,3 +1,3 @@
-pub mod Fits
+pub mod Matrix
 pub mod Codes
 pub mod Searched

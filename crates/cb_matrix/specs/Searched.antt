@@ -1,10 +1,10 @@
 -- Problems that were searched from.
-use Rattle.std.specs.Prelude.{◌≡◌, ◌↔◌, ℕ, List, Bool, Some, length, slice_get}
+use Rattle.std.specs.Prelude.{◌≡◌, ◌↔◌, ℕ, List, Bool, Option, Some, length, slice_get}
 use Rattle.std.specs.List.{AllZip}
 use Rattle.cb_nodes.specs.declared.id.NodeId.{NodeId}
 use Rattle.cb_coding.specs.declared.group.Problem.{Problem}
 use Rattle.cb_reach.specs.Rows.{Has}
-use Rattle.cb_reach.specs.Graphs.{LeadsTo, IsFinished}
+use Rattle.cb_reach.specs.Graphs.{LeadsTo, IsFinished, AreFinished}
 use Rattle.cb_topo.specs.Numbered.{Numbered, IsNodeNamed}
 use Rattle.cb_graph.specs.Edges.{EdgeAt, number}
 use Rattle.cb_matrix.specs.declared.search.Searched.{Searched}
@@ -27,3 +27,8 @@ pub record IsSearched (n : Numbered) (columns : List NodeId) (id : NodeId) (sear
 -- the problems of these numbers, one by one
 abbrev pub AreProblemsAt : Numbered → List NodeId → List NodeId → List Problem → Type 0
 AreProblemsAt n columns ids problems = AllZip (IsProblemAt n columns) ids problems
+
+-- there is a place for the number of each node, and each row stands at the number of the node that leads to exactly its nodes
+pub record HaveRows (n : Numbered) (rows : List (Option (List Bool))) : Type 0 where
+  pub room : length rows ≡ length n.nodes
+  pub finished : AreFinished (EdgeAt n) (length n.nodes) rows

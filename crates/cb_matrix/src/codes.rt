@@ -5,7 +5,6 @@ ghost use Rattle.cb_matrix.specs.Codes.{IsOnce, IsBelow, ArePlaces, AreIndexed, 
 use cb_bits::Row;
 use cb_model::List;
 use cb_nodes::NodeId;
-use cb_reach::next_in_not;
 use std::alloc::{AllocError, Global};
 
 /// Columns, and the place of each by its number.
@@ -15,8 +14,6 @@ pub struct Columns {
     pub nodes: List<NodeId>,
     /// For the number of each node, its place among the columns.
     pub places: Vec<Option<usize>>,
-    /// A row with none of the nodes.
-    pub none: Row,
 }
 
 /// The columns of these numbers. All numbers of nodes are below the room.
@@ -26,12 +23,7 @@ pub fn indexed(alloc: Global, nodes: List<NodeId>, room: usize) -> Result<Column
     ensures { IfOk result (AreIndexed room nodes) }
 {
     let places = places_of(alloc, &nodes, room)?;
-    let none = Row::zeroed(alloc, room)?;
-    Ok(Columns {
-        nodes,
-        places,
-        none,
-    })
+    Ok(Columns { nodes, places })
 }
 
 // For the number of each node, its place among the columns.
@@ -53,12 +45,12 @@ fn places_of(
 
 /// For each column, whether the row has it. Only what the row has is looked at.
 pub fn code_of(alloc: Global, columns: &Columns, reached: &Row) -> Result<Row, AllocError>
-    requires { AreIndexed (length reached.now) columns.now.nodes columns.now }
+    requires { ArePlaces (length reached.now) columns.now.nodes columns.now.places.items }
     ensures { IfOk result (IsCodeOf columns.now.nodes reached.now) }
 {
     let mut code = Row::zeroed(alloc, columns.nodes.len())?;
     let mut from = 0;
-    while let Some(node) = next_in_not(reached, &columns.none, from) {
+    while let Some(node) = reached.next_one(from) {
         if let Some(place) = columns.places[node] {
             code.set(place);
         }

@@ -1,7 +1,7 @@
 //! The matrix of a topology.
 ghost use Rattle.std.specs.Prelude.{◌≡◌, IfOk};
 ghost use Rattle.cb_topo.specs.Numbered.{topology_of};
-ghost use Rattle.cb_matrix.specs.Fits.{IsMatrixOf};
+ghost use Rattle.cb_matrix.specs.Matrix.{IsMatrixOf};
 
 use crate::codes::indexed;
 use crate::names::names_of;
@@ -30,13 +30,13 @@ impl Matrix {
         ensures matrix { IfOk result (IsMatrixOf (topology_of graph.old)) }
         ensures same { graph.new ≡ graph.old }
     {
-        graph.topology().facts();
+        graph.topology().facts(); // That a topology is sound keeps columns and problems within their limits.
         let room = graph.topology().node_room();
-        let nodes = graph.topology().columns(alloc)?;
-        let columns = names_of(alloc, graph.topology(), &nodes)?;
-        let index = indexed(alloc, nodes, room)?;
-        let nodes = graph.topology().problems(alloc)?;
-        let problems = coded(alloc, graph, &index, &nodes, steps)?;
+        let column_nodes = graph.topology().columns(alloc)?;
+        let columns = names_of(alloc, graph.topology(), &column_nodes)?;
+        let index = indexed(alloc, column_nodes, room)?;
+        let problem_nodes = graph.topology().problems(alloc)?;
+        let problems = coded(alloc, graph, &index, &problem_nodes, steps)?;
         Ok(Matrix { columns, problems })
     }
 }

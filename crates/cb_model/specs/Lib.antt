@@ -2,6 +2,7 @@ pub mod Order
 pub mod NodeOrder
 pub mod Classes
 pub mod NameMap
+pub mod Limits
 pub mod WellTyped
 pub mod Views
 pub mod Rows

@@ -2,7 +2,7 @@
 use Rattle.std.specs.Prelude.{◌≡◌, ◌≢◌, ℕ, suc, ◌<◌, ◌≤◌, List, [], ◌∷◌, length, Some, None, slice_get, IfSome, true}
 use Rattle.std.specs.List.{All, AllPairs}
 use Rattle.cb_text.specs.Names.{IsName}
-use Rattle.cb_model.specs.declared.limits.TheConstants.{MOST_CLASSES, MOST_ANCESTORS, MOST_EVENTS, MOST_RELATIONS, MOST_RULES}
+use Rattle.cb_model.specs.Limits.{class_limit, ancestor_limit, event_limit, relation_limit, rule_limit}
 use Rattle.cb_model.specs.declared.id.ClassId.{ClassId}
 use Rattle.cb_model.specs.declared.id.EventId.{EventId}
 use Rattle.cb_model.specs.declared.id.RelId.{RelId}
@@ -50,7 +50,7 @@ Declares t c (event n) name = (row : EventRow) × (slice_get t.events n ≡ Some
 Declares t c (relation n) name = (row : RelRow) × (slice_get t.relations n ≡ Some row) × (row.class ≡ c) × (row.name ≡ name)
 Declares t c (rule n) name = (row : RuleRow) × (slice_get t.rules n ≡ Some row) × (row.class ≡ c) × (row.name ≡ name)
 
--- c has the rule or blocks it: it is declared in c or in an ancestor
+-- c inherits or declares the rule, whether it is blocked or not
 abbrev pub InheritsRule : Tables → ClassId → ℕ → Type 0
 InheritsRule t c n = (row : RuleRow) × (slice_get t.rules n ≡ Some row) × IsA t c row.class
 
@@ -71,32 +71,32 @@ pub record HasInverse (t : Tables) (r : RelId) (row : RelRow) : Type 0 where
   pub to_class : back.target ≡ row.class
   pub again : back.inverse ≡ r
 
--- the type rules: one field for what each forbids, but for the names that lead nowhere, since a row has places for names
+-- the type rules, but for those on names that lead nowhere, since a row has places where a text has names
 pub record KeepsTypeRules (t : Tables) : Type 0 where
-  -- two classes of one name
+  -- no two classes have one name
   pub class_names : AllPairs (λ one other. one.name ≢ other.name) t.classes
-  -- a class that is its own ancestor
+  -- no class is its own ancestor
   pub no_loop : (c : ClassId) (n : ℕ) → ancestor t c (suc n) ≢ Some c
-  -- a class with too many ancestors
-  pub depth : (c : ClassId) → ancestor t c (suc MOST_ANCESTORS) ≡ None
-  -- two members of one name, in a class and its ancestors
+  -- each class has few ancestors
+  pub depth : (c : ClassId) → ancestor t c (suc ancestor_limit) ≡ None
+  -- in a class and its ancestors no name is declared twice
   pub member_names : (c d : ClassId) (one other : Member) (name : List ℕ) → IsA t c d → Declares t c one name → Declares t d other name → one ≡ other
-  -- a relation whose inverse does not lead back
+  -- the inverse of each relation leads back to it
   pub inverses : (r : RelId) (row : RelRow) → slice_get t.relations r.0 ≡ Some row → HasInverse t r row
-  -- a cause that the rule's class does not have
+  -- the class of each rule has its cause
   pub causes : All (λ row. HasEvent t row.class row.cause) t.rules
-  -- a path that leads nowhere, or to a class that does not have the effect
+  -- the path of each rule leads to a class that has its effect
   pub effects : All (λ row. (d : ClassId) × Reaches t row.class row.path d × HasEvent t d row.effect) t.rules
-  -- a blocked rule that the class does not inherit or declare
+  -- a class blocks only rules that it inherits or declares
   pub blocked : All (λ row. InheritsRule t row.class row.rule) t.blocks
-  -- a hidden event that the class does not have, or that is no symptom
+  -- a class hides only events that it has, and that are marked symptom
   pub hidden : All (λ row. (has : HasEvent t row.class row.event) × (has.row.symptom ≡ true)) t.hides
-  -- too many classes
-  pub few_classes : length t.classes ≤ MOST_CLASSES
-  -- a class with too many events, relations or rules
-  pub few_events : (c : ClassId) → AtMost MOST_EVENTS (HasEvent t c)
-  pub few_relations : (c : ClassId) → AtMost MOST_RELATIONS (HasRelation t c)
-  pub few_rules : (c : ClassId) → AtMost MOST_RULES (InheritsRule t c)
+  -- there are few classes
+  pub few_classes : length t.classes ≤ class_limit
+  -- each class has few events, few relations, and few rules with those that it blocks
+  pub few_events : (c : ClassId) → AtMost event_limit (HasEvent t c)
+  pub few_relations : (c : ClassId) → AtMost relation_limit (HasRelation t c)
+  pub few_rules : (c : ClassId) → AtMost rule_limit (InheritsRule t c)
 
 -- the tables are those of a model
 pub record WellTyped (t : Tables) : Type 0 where

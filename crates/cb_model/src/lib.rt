@@ -11,6 +11,7 @@ mod name;
 mod name_map;
 mod node;
 mod rule;
+mod sample;
 mod tables;
 
 pub use id::{ClassId, EventId, RelId};
@@ -21,6 +22,7 @@ pub use name::Name;
 pub use name_map::NameMap;
 pub use node::{GroupName, NamedGroup, NodeName};
 pub use rule::{Marks, Rule};
+pub use sample::sample_model;
 pub use tables::{BlockRow, ClassRow, EventRow, HideRow, RelRow, RuleRow, Tables};
 
 #[cfg(test)]

@@ -38,12 +38,14 @@ impl<T> List<T> {
         List { items }
     }
 
+    /// How many items there are.
     pub fn len(&self) -> usize
         ensures { result ≡ length self.now }
     {
         self.items.len()
     }
 
+    /// The item at a place; the first is at 0.
     pub fn at(&self, i: usize) -> &T
         requires { i < length self.now }
         ensures { slice_get self.now i ≡ Some result.now }

@@ -34,6 +34,7 @@ impl Name {
         })
     }
 
+    /// The bytes as they were given.
     pub fn bytes(&self) -> &[u8]
         ensures { result.now ≡ self.now }
     {

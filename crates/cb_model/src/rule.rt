@@ -1,4 +1,4 @@
-//! What contracts of a model speak of besides its tables.
+//! What a class has of an event and of a rule, once it is known what the class hides and blocks.
 ghost use Rattle.std.specs.Prelude.{◌≡◌, IfOk};
 ghost use Rattle.cb_model.specs.Views.{rule_of};
 

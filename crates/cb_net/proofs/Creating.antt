@@ -61,7 +61,7 @@ module _ (tables : Tables) (old new : Slots) (id : InstanceId) (x : Instance) (f
   tidy was i y at = elim (now i y at) [
     | inl e ↦
         let none : [] ≡ y.links.rows.items = sym (ap (λ (z : Instance). z.links.rows.items) e.1 ∙ bare) in
-        subst IsTidy none (record { apart = tt; once = λ r. nothing_twice [] refl })
+        subst IsTidy none (record { apart = λ i j d lt le. absurd (omega arith); once = λ r. nothing_twice [] refl })
     | inr old_y ↦ was i y old_y
   ]
 
@@ -170,10 +170,10 @@ made tables old mid new entries entries' room room' id k x name sound kept vacan
 -- an instance at which nothing is muted
 pub no_mutes : (tables : Tables) (x : Instance) (events : List EventId) → AreEventsOf tables x.class events → length events ≤ vec_capacity x.muted → x.muted.items ≡ []
     → FitsMutes tables (head_of x)
-no_mutes tables x events are room unmuted = record {
+no_mutes tables x events are spare unmuted = record {
   events = events;
   are = are;
-  room = room;
+  spare = spare;
   of_class = λ e has. absurd (nothing_in_empty e (subst (λ es. Contains es e) unmuted has));
   once = nothing_twice x.muted.items unmuted;
 }

@@ -21,7 +21,7 @@ use Rattle.cb_net.specs.Forgotten.{Sheds, ForgetsAll}
 use Rattle.cb_net.specs.Joined.{AllTidy}
 use Rattle.cb_net.specs.Numbered.{Net, slot, inverse_of, name_at, name_or, without}
 use Rattle.cb_net.specs.Places.{Entries, place_of}
-use Rattle.cb_net.specs.Rows.{first, items_of, row_of}
+use Rattle.cb_net.specs.Rows.{find_row, items_of, row_of}
 use Rattle.cb_net.specs.Shown.{topology_of, seen, name_in, Shows}
 use Rattle.cb_net.specs.Slots.{Head, head_of, Slots, At, NamedAt, Lists}
 use Rattle.cb_net.specs.Sound.{IsSound, FitsMutes}
@@ -29,7 +29,7 @@ use Rattle.cb_net.proofs.Creating.{shown_of}
 use Rattle.cb_net.proofs.Linking.{inverse_twice, same_names}
 use Rattle.cb_net.proofs.Placing.{told, at_seen, same_id, decide_id}
 use Rattle.cb_net.proofs.Rewiring.{same_head}
-use Rattle.cb_net.proofs.RowLemmas.{first_listed}
+use Rattle.cb_net.proofs.RowLemmas.{row_listed}
 use Rattle.cb_net.proofs.Showing.{one_at, shown_once, slot_within}
 
 -- neither of two names is this one
@@ -135,15 +135,15 @@ module _ (tables : Tables) (old new : Slots) (entries entries' : Entries) (room 
           let has : Contains (row_of x.links.rows.items (inverse_of tables r)) i = subst (λ (z : Instance). Contains (row_of z.links.rows.items (inverse_of tables r)) i) same mine.listed in
           let twice = inverse_twice tables sound.typed r turn.0 in
           let here : Lists new i r id = subst (λ k. Lists new i r k) e l in
-          in_row (first x.links.rows.items (inverse_of tables r)) refl has twice.1 here
+          in_row (find_row x.links.rows.items (inverse_of tables r)) refl has twice.1 here
         where
-          in_row : (o : Option Row) → first x.links.rows.items (inverse_of tables r) ≡ o → Contains (items_of o) i → inverse_of tables (inverse_of tables r) ≡ r → Lists new i r id → ⊥
+          in_row : (o : Option Row) → find_row x.links.rows.items (inverse_of tables r) ≡ o → Contains (items_of o) i → inverse_of tables (inverse_of tables r) ≡ r → Lists new i r id → ⊥
           in_row None is none twice here = none_in i none
             where
               none_in : (k : InstanceId) → Contains [] k → ⊥
               none_in k (n, lt, e) = omega arith
           in_row (Some row) is has twice here =
-              let of_x = first_listed x.links.rows.items (inverse_of tables r) row is in
+              let of_x = row_listed x.links.rows.items (inverse_of tables r) row is in
               let to_r : inverse_of tables row.rel ≡ r = ap (inverse_of tables) of_x.1 ∙ twice in
               forgets.gone mid_tidy row i of_x.0 has (subst (λ q. Lists new i q id) (sym to_r) here)
 

@@ -5,12 +5,13 @@ use Rattle.std.proofs.lemmas.List.Elements.{Contains-push_cases}
 use Rattle.cb_model.specs.declared.id.RelId.{RelId}
 use Rattle.cb_model.specs.declared.tables.Tables.{Tables}
 use Rattle.cb_model.proofs.Rising.{nothing_in_empty}
+use Rattle.cb_net.specs.Items.{Loses}
 use Rattle.cb_net.specs.declared.id.InstanceId.{InstanceId}
 use Rattle.cb_net.specs.declared.links.Row.{Row}
 use Rattle.cb_net.specs.Forgotten.{Sheds, ForgetsRow, ForgetsAll}
 use Rattle.cb_net.specs.Joined.{Rewires, AllTidy}
 use Rattle.cb_net.specs.Numbered.{inverse_of}
-use Rattle.cb_net.specs.Rows.{Loses, items_of}
+use Rattle.cb_net.specs.Rows.{items_of}
 use Rattle.cb_net.specs.Slots.{Slots, At, Lists}
 use Rattle.cb_net.specs.Sound.{IsSound}
 use Rattle.cb_net.specs.Places.{Entries}
@@ -18,9 +19,6 @@ use Rattle.cb_net.specs.declared.instance.Instance.{Instance}
 use Rattle.cb_model.specs.WellTyped.{IsRelation}
 use Rattle.cb_net.proofs.RowLemmas.{own_row}
 use Rattle.cb_net.proofs.Rewiring.{loses_lists, loses_tidy}
-
-sheds_nothing : (slots : Slots) (id : InstanceId) → Sheds slots slots id
-sheds_nothing slots id = record { heads = refl; fewer = λ i r j l. l; others = λ i r j ne l. l; tidy = λ t. t }
 
 pub sheds_more : (old mid new : Slots) (id : InstanceId) → Sheds old mid id → Sheds mid new id → Sheds old new id
 sheds_more old mid new id a b = record {
@@ -38,9 +36,6 @@ sheds_one old new at back id tidy w = record {
   tidy = loses_tidy old new at back id w;
 }
 
-pub forgets_none : (slots : Slots) (id : InstanceId) (back : RelId) → ForgetsRow slots slots id back []
-forgets_none slots id back = record { sheds = λ t. sheds_nothing slots id; gone = λ t at has. absurd (nothing_in_empty at has) }
-
 pub forgets_one : (old mid new : Slots) (id : InstanceId) (back : RelId) (list : List InstanceId) (at : InstanceId) → ForgetsRow old mid id back list
     → Rewires mid new at back (Loses id) → ForgetsRow old new id back (list ++ at ∷ [])
 forgets_one old mid new id back list at so_far w = record {
@@ -52,9 +47,6 @@ forgets_one old mid new id back list at so_far w = record {
         | inr e ↦ before.1 (sym e, refl, refl)
       ];
 }
-
-pub forgets_nobody : (tables : Tables) (slots : Slots) (id : InstanceId) → ForgetsAll tables slots slots id []
-forgets_nobody tables slots id = record { sheds = λ t. sheds_nothing slots id; gone = λ t row at has. absurd (nothing_in_empty row has) }
 
 pub forgets_row : (tables : Tables) (old mid new : Slots) (id : InstanceId) (rows : List Row) (row : Row) → ForgetsAll tables old mid id rows
     → ForgetsRow mid new id (inverse_of tables row.rel) row.to.items → ForgetsAll tables old new id (rows ++ row ∷ [])

@@ -1,10 +1,10 @@
 -- Links that are added and taken away in two steps.
 use Rattle.std.proofs.Common.{◌≡◌, List, sym, ◌∙◌, inl, inr}
 use Rattle.cb_model.specs.declared.id.RelId.{RelId}
+use Rattle.cb_net.specs.Items.{Gains, Loses}
 use Rattle.cb_net.specs.declared.id.InstanceId.{InstanceId}
 use Rattle.cb_net.specs.declared.instance.Instance.{Instance}
-use Rattle.cb_net.specs.Joined.{Rewires, Gains, SameLinks, Joins, Parts}
-use Rattle.cb_net.specs.Rows.{Loses}
+use Rattle.cb_net.specs.Joined.{Rewires, SameLinks, Joins, Parts}
 use Rattle.cb_net.specs.Slots.{Slots, At, Lists}
 use Rattle.cb_net.proofs.Rewiring.{same_head, gains_lists, gains_tidy, loses_lists, loses_tidy}
 

@@ -20,13 +20,14 @@ use Rattle.cb_model.proofs.Rising.{node_cmp_total, node_cmp_exact}
 use Rattle.cb_network.specs.Edits.{node_of, with_mute, without_mute}
 use Rattle.cb_network.specs.Topology.{Topology, IsMuted}
 use Rattle.cb_network.proofs.Sets.{in_insert, in_remove}
+use Rattle.cb_net.specs.Items.{Gains, Loses}
 use Rattle.cb_net.specs.declared.id.InstanceId.{InstanceId}
 use Rattle.cb_net.specs.declared.instance.Instance.{Instance}
 use Rattle.cb_net.specs.declared.links.Links.{Links}
-use Rattle.cb_net.specs.Muted.{Remutes, GainsEvent}
+use Rattle.cb_net.specs.Muted.{Remutes}
 use Rattle.cb_net.specs.Numbered.{Net, slot, event_name, name_in_row, name_at, name_or, node_at, muted, unmuted, HasEventAt, IsMutedAt, inverse_of, Once}
 use Rattle.cb_net.specs.Places.{Entries, place_of}
-use Rattle.cb_net.specs.Rows.{Loses, row_of}
+use Rattle.cb_net.specs.Rows.{row_of}
 use Rattle.cb_net.specs.Shown.{topology_of, seen, name_in, Shows, HoldsMute}
 use Rattle.cb_net.specs.Slots.{Slots, At, NamedAt, Lists, head_of}
 use Rattle.cb_net.specs.Sound.{IsSound, IsTidy, FitsMutes}
@@ -99,7 +100,7 @@ room_to_mute t x fits e has none =
     let few : length listed ≤ length fits.events = omega (arith, length-map fits.events (λ (d : EventId). d.0)) in
     let count = at_most_listed (HasEvent t x.class) (length fits.events) listed (λ d h. (fits.are.exactly d.0).1 h) few more (once_more x.muted.items e fits.once none) all in
     let longer : length more ≡ length x.muted.items + 1 = length-append x.muted.items (e ∷ []) in
-    let room = fits.room in
+    let spare = fits.spare in
     omega arith
   where
     of_class : (d : EventId) → Contains (x.muted.items ++ e ∷ []) d → HasEvent t x.class d
@@ -262,7 +263,7 @@ module _ (tables : Tables) (old new : Slots) (entries : Entries) (room : ℕ) (i
 
 -- one event more
 module _ (tables : Tables) (old new : Slots) (entries : Entries) (room : ℕ) (id : InstanceId) (x : Instance) (at : At old id x) (e : EventId)
-    (has : HasEvent tables x.class e) (w : Remutes old new id (GainsEvent e)) (sound : IsSound tables old entries room) where
+    (has : HasEvent tables x.class e) (w : Remutes old new id (Gains e)) (sound : IsSound tables old entries room) where
   gain_fits : ¬ Contains x.muted.items e → FitsMutes tables (head_of (record x { muted = (w.this x at).0 }))
   gain_fits none =
       let fits = sound.mutes id x at in
@@ -270,7 +271,7 @@ module _ (tables : Tables) (old new : Slots) (entries : Entries) (room : ℕ) (i
       record {
         events = fits.events;
         are = fits.are;
-        room = let r = fits.room in let same = t.2 in omega arith;
+        spare = let r = fits.spare in let same = t.2 in omega arith;
         of_class = λ d in_m. elim (Contains-push_cases x.muted.items e d (subst (λ es. Contains es d) t.3 in_m)) [ inl in_x ↦ fits.of_class d in_x | inr is ↦ subst (HasEvent tables x.class) is has ];
         once = subst Once (sym t.3) (once_more x.muted.items e fits.once none);
       }
@@ -282,15 +283,15 @@ module _ (tables : Tables) (old new : Slots) (entries : Entries) (room : ℕ) (i
       let is = in_insert node_cmp_total node_cmp_exact t.mutes (node_of (event_name tables e) x.name) n in
       let more = (w.this x at).3 in (
         λ h. elim (is.0 h) [
-          | inl here ↦ here_now tables old new entries room id x at (GainsEvent e) w sound e n (subst (λ es. Contains es e) (sym more) (Contains-push x.muted.items e)) (sym here)
-          | inr before ↦ elim (mute_was tables old new entries room id x at (GainsEvent e) w sound n (shows.0 before)) [
-            | inl found ↦ here_now tables old new entries room id x at (GainsEvent e) w sound found.0 n (subst (λ es. Contains es found.0) (sym more) (Contains-append_left x.muted.items (e ∷ []) found.0 found.1)) found.2
+          | inl here ↦ here_now tables old new entries room id x at (Gains e) w sound e n (subst (λ es. Contains es e) (sym more) (Contains-push x.muted.items e)) (sym here)
+          | inr before ↦ elim (mute_was tables old new entries room id x at (Gains e) w sound n (shows.0 before)) [
+            | inl found ↦ here_now tables old new entries room id x at (Gains e) w sound found.0 n (subst (λ es. Contains es found.0) (sym more) (Contains-append_left x.muted.items (e ∷ []) found.0 found.1)) found.2
             | inr other ↦ other.0
           ]
         ],
-        λ g. is.1 (elim (mute_now tables old new entries room id x at (GainsEvent e) w sound n g) [
+        λ g. is.1 (elim (mute_now tables old new entries room id x at (Gains e) w sound n g) [
           | inl found ↦ elim (Contains-push_cases x.muted.items e found.0 (subst (λ es. Contains es found.0) more found.1)) [
-            | inl in_x ↦ inr (shows.1 (here_before tables old new entries room id x at (GainsEvent e) w sound found.0 n in_x found.2))
+            | inl in_x ↦ inr (shows.1 (here_before tables old new entries room id x at (Gains e) w sound found.0 n in_x found.2))
             | inr same ↦ inl (sym found.2 ∙ ap (λ d. node_of (event_name tables d) x.name) (sym same))
           ]
           | inr other ↦ inr (shows.1 other.0)
@@ -298,14 +299,14 @@ module _ (tables : Tables) (old new : Slots) (entries : Entries) (room : ℕ) (i
       )
 
   pub gained_sound : ¬ Contains x.muted.items e → IsSound tables new entries room
-  gained_sound none = remuted_sound tables old new entries room id x at (GainsEvent e) w sound (gain_fits none)
+  gained_sound none = remuted_sound tables old new entries room id x at (Gains e) w sound (gain_fits none)
 
   pub gained_net : (next : ℕ) → ¬ Contains x.muted.items e → seen tables new room next ≡ muted (seen tables old room next) id e
   gained_net next none =
       let n : Net = seen tables old room next in
       let t = topology_of tables old in
-      remuted_net tables old new entries room id x at (GainsEvent e) w sound next (with_mute t (node_of (event_name tables e) x.name)).mutes (gain_fits none) gain_holds
-      ∙ ap (λ k. record n { topology = with_mute t k }) (sym (node_is tables old new entries room id x at (GainsEvent e) w sound next e))
+      remuted_net tables old new entries room id x at (Gains e) w sound next (with_mute t (node_of (event_name tables e) x.name)).mutes (gain_fits none) gain_holds
+      ∙ ap (λ k. record n { topology = with_mute t k }) (sym (node_is tables old new entries room id x at (Gains e) w sound next e))
 
 -- one event less
 module _ (tables : Tables) (old new : Slots) (entries : Entries) (room : ℕ) (id : InstanceId) (x : Instance) (at : At old id x) (e : EventId)
@@ -317,7 +318,7 @@ module _ (tables : Tables) (old new : Slots) (entries : Entries) (room : ℕ) (i
       record {
         events = fits.events;
         are = fits.are;
-        room = let r = fits.room in let same = t.2 in omega arith;
+        spare = let r = fits.spare in let same = t.2 in omega arith;
         of_class = λ d in_m. fits.of_class d ((t.3.others d (λ is. t.3.gone fits.once (subst (Contains t.0.items) is in_m))).0 in_m);
         once = t.3.once fits.once;
       }

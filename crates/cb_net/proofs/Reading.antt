@@ -40,10 +40,6 @@ module _ (tables : Tables) (slots : Slots) (entries : Entries) (room : ℕ) (sou
   pub class_at : (i : InstanceId) (x : Instance) → At slots i x → IsOf (topology_of tables slots) x.name x.class
   class_at i x at = (shown.instances x.name x.class).1 (record { at = i; instance = x; is = at; named = refl; of_class = refl })
 
-  -- no instance has a name that is not live
-  pub fresh_name : (name : List ℕ) → ¬ IsLiveName (topology_of tables slots) name → (i : InstanceId) (x : Instance) → At slots i x → x.name ≡ name → ⊥
-  fresh_name name absent i x at e = absent (subst (λ n. IsLiveName (topology_of tables slots) n) e (live_of (topology_of tables slots) x.name x.class (class_at i x at)))
-
   -- a name that has no place is not live
   pub not_placed : (name : List ℕ) → place_of entries name ≡ None → ¬ IsLiveName (topology_of tables slots) name
   not_placed name none live =

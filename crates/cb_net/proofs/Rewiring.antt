@@ -5,11 +5,12 @@ use Rattle.std.proofs.lemmas.List.Elements.{Contains-append_left, Contains-push,
 use Rattle.std.proofs.lemmas.List.Quantifiers.{all_pairs_push}
 use Rattle.cb_model.specs.declared.id.RelId.{RelId}
 use Rattle.cb_network.proofs.Decided.{Decision, decide_number, decide_same, decide_both}
+use Rattle.cb_net.specs.Items.{Gains, Loses}
 use Rattle.cb_net.specs.declared.id.InstanceId.{InstanceId}
 use Rattle.cb_net.specs.declared.instance.Instance.{Instance}
-use Rattle.cb_net.specs.Joined.{head_in, SameHeads, Rewires, Stays, Gains, HasRoomAt, AllTidy, SameLinks}
+use Rattle.cb_net.specs.Joined.{head_in, SameHeads, Rewires, Stays, HasSpareAt, AllTidy, SameLinks}
 use Rattle.cb_net.specs.Numbered.{slot, Once}
-use Rattle.cb_net.specs.Rows.{first, items_of, row_of, Puts, Loses}
+use Rattle.cb_net.specs.Rows.{find_row, items_of, row_of, Puts}
 use Rattle.cb_net.specs.Slots.{head_of, Slots, At, Lists}
 use Rattle.cb_net.specs.Sound.{IsTidy}
 use Rattle.cb_net.proofs.Placing.{decide_id}
@@ -67,15 +68,15 @@ rewired_none old at rel Step none = record {
 module _ (old new : Slots) (at : InstanceId) (rel : RelId) (Step : List InstanceId → List InstanceId → Type 0) (w : Rewires old new at rel Step) where
   -- rows of other instances and of other relations stay
   first_stays : (i : InstanceId) (r : RelId) (x y : Instance) → ((i ≡ at) × (r ≡ rel) → ⊥) → At old i x → At new i y
-      → first y.links.rows.items r ≡ first x.links.rows.items r
+      → find_row y.links.rows.items r ≡ find_row x.links.rows.items r
   first_stays i r x y apart is now = elim (decide_id i at) [
     | inl e ↦
         let t = w.this x (subst (λ k. At old k x) e is) in
         let same : t.0 ≡ y = one_at new at t.0 y t.1 (subst (λ k. At new k y) e now) in
-        ap (λ (z : Instance). first z.links.rows.items r) (sym same) ∙ t.2.others r (λ f. apart (e, f))
+        ap (λ (z : Instance). find_row z.links.rows.items r) (sym same) ∙ t.2.others r (λ f. apart (e, f))
     | inr ne ↦
         let same : x ≡ y = same_inside x y (sym is ∙ (sym (w.others i ne) ∙ now)) in
-        ap (λ (z : Instance). first z.links.rows.items r) (sym same)
+        ap (λ (z : Instance). find_row z.links.rows.items r) (sym same)
   ]
 
   still_there : (i : InstanceId) (x : Instance) → At old i x → (y : Instance) × At new i y
@@ -96,8 +97,8 @@ module _ (old new : Slots) (at : InstanceId) (rel : RelId) (Step : List Instance
         record { lister = y.0; is = y.1; listed = subst (λ o. Contains (items_of o) j) (sym same) l.listed },
   )
 
-  pub room_elsewhere : (i : InstanceId) (r : RelId) → ((i ≡ at) × (r ≡ rel) → ⊥) → HasRoomAt old i r → HasRoomAt new i r
-  room_elsewhere i r apart room y now =
+  pub spare_elsewhere : (i : InstanceId) (r : RelId) → ((i ≡ at) × (r ≡ rel) → ⊥) → HasSpareAt old i r → HasSpareAt new i r
+  spare_elsewhere i r apart room y now =
       let x = was_there i y now in
       let same = first_stays i r x.0 y apart x.1 now in
       let has = room x.0 x.1 in

@@ -20,11 +20,11 @@ use Rattle.cb_net.specs.declared.id.InstanceId.{InstanceId}
 use Rattle.cb_net.specs.declared.instance.Instance.{Instance}
 use Rattle.cb_net.specs.declared.links.Row.{Row}
 use Rattle.cb_net.specs.Numbered.{slot, event_name}
-use Rattle.cb_net.specs.Rows.{first, row_of, items_of, AreApart}
+use Rattle.cb_net.specs.Rows.{find_row, row_of, items_of, AreApart}
 use Rattle.cb_net.specs.Slots.{Slots, At, NamedAt}
 use Rattle.cb_net.specs.Shown.{entries_in, links_in, links_by, links_to, mutes_in, topology_of, HoldsInstance, HoldsLink, HoldsMute, Shows}
 use Rattle.cb_net.proofs.Gathered.{from_flat, to_flat, only, in_set, in_map}
-use Rattle.cb_net.proofs.RowLemmas.{own_row, first_listed}
+use Rattle.cb_net.proofs.RowLemmas.{own_row, row_listed}
 
 pub same_inside : {X : Type 0} (x y : X) → Some x ≡ Some y → x ≡ y
 same_inside x y e = cc
@@ -86,7 +86,7 @@ module _ (slots : Slots) (apart : (i : InstanceId) (x : Instance) → At slots i
       target i x at row of_x j in_row None is in_it = absurd (nothing_in_empty l in_it)
       target i x at row of_x j in_row (Some y) is in_it =
           let e = only _ _ in_it in
-          let own : Some row ≡ first x.links.rows.items row.rel = sym (own_row x.links.rows.items row (apart i x at) of_x) in
+          let own : Some row ≡ find_row x.links.rows.items row.rel = sym (own_row x.links.rows.items row (apart i x at) of_x) in
           let listed : Contains (row_of x.links.rows.items row.rel) j = subst (λ o. Contains (items_of o) j) own in_row in
           record {
             from = i;
@@ -109,15 +109,15 @@ module _ (slots : Slots) (apart : (i : InstanceId) (x : Instance) → At slots i
       let x = h.lists.lister in
       let same : h.from_is.0 ≡ x = one_at slots h.from h.from_is.0 x h.from_is.1 h.lists.is in
       let from : x.name ≡ a = ap (λ (z : Instance). z.name) (sym same) ∙ h.from_is.2 in
-      go (first x.links.rows.items r) refl h.lists.listed
+      go (find_row x.links.rows.items r) refl h.lists.listed
     where
-      go : (o : Option Row) → first h.lists.lister.links.rows.items r ≡ o → Contains (items_of o) h.to → Contains (flat_map (links_in slots) slots) (link_of a r b)
+      go : (o : Option Row) → find_row h.lists.lister.links.rows.items r ≡ o → Contains (items_of o) h.to → Contains (flat_map (links_in slots) slots) (link_of a r b)
       go None is none = absurd (nothing_in_empty h.to none)
       go (Some row) is in_row =
           let x = h.lists.lister in
           let same : h.from_is.0 ≡ x = one_at slots h.from h.from_is.0 x h.from_is.1 h.lists.is in
           let from : x.name ≡ a = ap (λ (z : Instance). z.name) (sym same) ∙ h.from_is.2 in
-          let at_row = first_listed x.links.rows.items r row is in
+          let at_row = row_listed x.links.rows.items r row is in
           let e : link_of x.name row.rel h.to_is.0.name ≡ link_of a r b = λ i. link_of (from i) (at_row.1 i) (h.to_is.2 i) in
           let there : Contains (links_to x.name row.rel (slot slots h.to.0)) (link_of x.name row.rel h.to_is.0.name) = subst (λ o. Contains (links_to x.name row.rel o) (link_of x.name row.rel h.to_is.0.name)) (sym h.to_is.1) (contains_head _ []) in
           let by_row = to_flat (λ j. links_to x.name row.rel (slot slots j.0)) row.to.items h.to _ in_row there in

@@ -4,7 +4,7 @@ use Rattle.cb_model.specs.declared.id.RelId.{RelId}
 use Rattle.cb_net.specs.declared.id.InstanceId.{InstanceId}
 use Rattle.cb_net.specs.declared.instance.Instance.{Instance}
 use Rattle.cb_net.specs.Numbered.{slot}
-use Rattle.cb_net.specs.Rows.{row_of, HasRoom, Puts}
+use Rattle.cb_net.specs.Rows.{row_of, HasSpare, Puts}
 use Rattle.cb_net.specs.Slots.{Head, head_of, Slots, At, Lists}
 use Rattle.cb_net.specs.Sound.{IsTidy}
 
@@ -28,13 +28,9 @@ pub record Rewires (old new : Slots) (at : InstanceId) (rel : RelId) (Step : Lis
 abbrev pub Stays : List InstanceId → List InstanceId → Type 0
 Stays old new = new ≡ old
 
--- the list has the item more, at its end
-abbrev pub Gains : InstanceId → List InstanceId → List InstanceId → Type 0
-Gains item old new = new ≡ old ++ item ∷ []
-
--- the instance has room for one more under the relation
-abbrev pub HasRoomAt : Slots → InstanceId → RelId → Type 0
-HasRoomAt slots at rel = (x : Instance) → At slots at x → HasRoom x.links.rows.items rel
+-- one instance more fits in the list of this one without memory
+abbrev pub HasSpareAt : Slots → InstanceId → RelId → Type 0
+HasSpareAt slots at rel = (x : Instance) → At slots at x → HasSpare x.links.rows.items rel
 
 -- the link, or its inverse
 abbrev pub IsJoin : InstanceId → RelId → InstanceId → RelId → InstanceId → RelId → InstanceId → Type 0

@@ -1,4 +1,5 @@
 pub mod Numbered
+pub mod Items
 pub mod Rows
 pub mod Codes
 pub mod Slots

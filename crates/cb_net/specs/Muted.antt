@@ -9,13 +9,9 @@ use Rattle.cb_net.specs.Numbered.{slot}
 use Rattle.cb_net.specs.Shown.{name_in}
 use Rattle.cb_net.specs.Slots.{Slots, At}
 
--- the list has the event more, at its end
-abbrev pub GainsEvent : EventId → List EventId → List EventId → Type 0
-GainsEvent event old new = new ≡ old ++ event ∷ []
-
 -- one event more can be muted without memory
-abbrev pub HasRoomToMute : Slots → InstanceId → Type 0
-HasRoomToMute slots id = (x : Instance) → At slots id x → vec_len x.muted < vec_capacity x.muted
+abbrev pub HasSpareToMute : Slots → InstanceId → Type 0
+HasSpareToMute slots id = (x : Instance) → At slots id x → vec_len x.muted < vec_capacity x.muted
 
 -- of one instance the muted events take this step
 pub record Remutes (old new : Slots) (id : InstanceId) (Step : List EventId → List EventId → Type 0) : Type 0 where

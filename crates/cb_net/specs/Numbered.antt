@@ -1,5 +1,5 @@
 -- A topology whose instances have numbers.
-use Rattle.std.specs.Prelude.{◌≡◌, ◌≢◌, ℕ, List, [], Option, Some, None, slice_index_or, slice_get, slice_set}
+use Rattle.std.specs.Prelude.{◌≡◌, ◌≢◌, ◌+◌, max, ℕ, List, [], Option, Some, None, slice_index_or, slice_get, slice_set}
 use Rattle.std.specs.List.{AllPairs}
 use Rattle.cb_model.specs.Classes.{HasEvent}
 use Rattle.cb_model.specs.declared.id.ClassId.{ClassId}
@@ -10,7 +10,7 @@ use Rattle.cb_model.specs.declared.tables.EventRow.{EventRow}
 use Rattle.cb_model.specs.declared.tables.RelRow.{RelRow}
 use Rattle.cb_model.specs.declared.tables.Tables.{Tables}
 use Rattle.cb_network.specs.Topology.{Topology, empty_topology, HasLink, IsMuted, IsOf, IsLive as IsLiveName}
-use Rattle.cb_network.specs.Edits.{with_link, without_link, without_instance, with_mute, without_mute, node_of}
+use Rattle.cb_network.specs.Edits.{with_instance, without_instance, with_link, without_link, with_mute, without_mute, node_of}
 use Rattle.cb_net.specs.declared.id.InstanceId.{InstanceId}
 
 -- a topology, the name of the instance of each number, a number above all of them, and the number that the next instance gets
@@ -52,6 +52,13 @@ pub record LinkAt (n : Net) (i : InstanceId) (r : RelId) (j : InstanceId) : Type
 pub record SetsOnly {X : Type 0} (old new : List (Option X)) (i : InstanceId) (x : Option X) : Type 0 where
   pub this : slot new i.0 ≡ x
   pub others : (j : InstanceId) → j ≢ i → slot new j.0 ≡ slot old j.0
+
+-- the net has an instance more, of this name and class, under a number that was free
+pub record Creates (old new : Net) (id : InstanceId) (name : List ℕ) (class : ClassId) : Type 0 where
+  pub free : IsFree old id
+  pub named : SetsOnly old.names new.names id (Some name)
+  pub made : new.topology ≡ with_instance old.topology name class
+  pub room : new.room ≡ max old.room (old.next + 1)
 
 -- no item stands twice
 abbrev pub Once : {X : Type 0} → List X → Type 0

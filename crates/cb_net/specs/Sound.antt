@@ -25,11 +25,11 @@ abbrev pub StandBothWays : Tables → Slots → Type 0
 StandBothWays tables slots = (i : InstanceId) (r : RelId) (j : InstanceId) → Lists slots i r j
     → IsRelation tables r × Lists slots j (inverse_of tables r) i
 
--- muted are events of the class, each once, and there is room for all of those
+-- muted are events of the class, each once, and all of those fit without memory
 pub record FitsMutes (tables : Tables) (h : Head) : Type 0 where
   pub events : List EventId
   pub are : AreEventsOf tables h.class events
-  pub room : length events ≤ vec_capacity h.muted
+  pub spare : length events ≤ vec_capacity h.muted
   pub of_class : (e : EventId) → Contains h.muted.items e → HasEvent tables h.class e
   pub once : Once h.muted.items
 

@@ -9,18 +9,10 @@ ghost use Rattle.cb_net.specs.Numbered.{inverse_of};
 
 use crate::id::InstanceId;
 use crate::instance::Instance;
-use crate::join::take_away;
+use crate::join::{inverse, take_away};
 use crate::links::Links;
 use cb_model::{Model, RelId};
 use slab::Slab;
-
-/// The inverse of the relation.
-pub fn inverse(model: &Model, rel: RelId) -> RelId
-    requires { IsRelation model.now rel }
-    ensures { result ≡ inverse_of model.now rel }
-{
-    model.tables().relations.at(rel.0 as usize).inverse
-}
 
 /// Those that were listed by an instance list it no more.
 pub fn forget(model: &Model, slots: &mut Slab<Instance>, id: InstanceId, links: &Links)

@@ -1,15 +1,25 @@
 //! Links between two instances.
 ghost use Rattle.std.specs.Prelude.{◌≡◌, OnOk, OnErr};
+ghost use Rattle.cb_net.specs.Items.{Gains, Loses};
+ghost use Rattle.cb_model.specs.WellTyped.{IsRelation};
 ghost use Rattle.cb_net.specs.declared.instance.Instance.{Instance as TheInstance};
-ghost use Rattle.cb_net.specs.Rows.{Loses};
+ghost use Rattle.cb_net.specs.Numbered.{inverse_of};
 ghost use Rattle.cb_net.specs.Slots.{At};
-ghost use Rattle.cb_net.specs.Joined.{Rewires, Stays, Gains, HasRoomAt, SameLinks, Joins, Parts};
+ghost use Rattle.cb_net.specs.Joined.{Rewires, Stays, HasSpareAt, SameLinks, Joins, Parts};
 
 use crate::id::InstanceId;
 use crate::instance::Instance;
-use cb_model::RelId;
+use cb_model::{Model, RelId};
 use slab::Slab;
 use std::alloc::{AllocError, Global};
+
+/// The inverse of the relation.
+pub fn inverse(model: &Model, rel: RelId) -> RelId
+    requires { IsRelation model.now rel }
+    ensures { result ≡ inverse_of model.now rel }
+{
+    model.tables().relations.at(rel.0 as usize).inverse
+}
 
 /// Adds the link, and its inverse by the relation `back`. A link that is its own inverse is added once.
 pub fn join(
@@ -65,7 +75,7 @@ fn reserve(
     rel: RelId,
 ) -> Result<(), AllocError>
     ensures same { Rewires slots.old.slots slots.new.slots at rel Stays }
-    ensures room { OnOk result (HasRoomAt slots.new.slots at rel) }
+    ensures spare { OnOk result (HasSpareAt slots.new.slots at rel) }
     ensures next { slots.new.vacant_key ≡ slots.old.vacant_key }
 {
     match slots.get_mut(at.0) {
@@ -75,7 +85,7 @@ fn reserve(
 }
 
 fn add(slots: &mut Slab<Instance>, at: InstanceId, rel: RelId, to: InstanceId)
-    requires { HasRoomAt slots.old.slots at rel }
+    requires { HasSpareAt slots.old.slots at rel }
     ensures rewires { Rewires slots.old.slots slots.new.slots at rel (Gains to) }
     ensures next { slots.new.vacant_key ≡ slots.old.vacant_key }
 {

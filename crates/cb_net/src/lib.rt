@@ -4,6 +4,7 @@
 mod forget;
 mod id;
 mod instance;
+mod items;
 mod join;
 mod links;
 mod mutes;

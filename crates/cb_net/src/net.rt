@@ -4,16 +4,15 @@ ghost use Rattle.std.specs.FinMap as fin_map;
 ghost use Rattle.std.specs.List.{Contains};
 ghost use Rattle.cb_model.specs.WellTyped.{IsClass, IsRelation};
 ghost use Rattle.cb_network.specs.Topology.{IsLive as IsLiveName, IsOf};
-ghost use Rattle.cb_network.specs.Edits.{with_instance};
 ghost use Rattle.cb_net.specs.declared.id.InstanceId.{InstanceId as Id};
-ghost use Rattle.cb_net.specs.Numbered.{empty_net, IsNamed, IsLive, IsFree, LinkAt, SetsOnly, Once, inverse_of, linked, unlinked, without, muted, unmuted, HasEventAt, IsMutedAt, IsWhole};
+ghost use Rattle.cb_net.specs.Numbered.{empty_net, IsNamed, IsLive, LinkAt, Creates, Once, inverse_of, linked, unlinked, without, muted, unmuted, HasEventAt, IsMutedAt, IsWhole};
 
-use crate::forget::{forget, inverse};
+use crate::forget::forget;
 use crate::id::InstanceId;
 use crate::instance::Instance;
-use crate::join::{join, part};
-use crate::links::{Links, lists};
-use crate::mutes::{has, mute, unmute};
+use crate::join::{inverse, join, part};
+use crate::links::Links;
+use crate::mutes::{mute, unmute};
 use cb_model::{ClassId, EventId, Model, Name, RelId};
 use indexmap::IndexMap;
 use slab::Slab;
@@ -46,7 +45,7 @@ impl std::marker::Model for Net {
 }
 
 impl Net {
-    /// No instance of any class.
+    /// A net of the model without any instance.
     pub fn new(alloc: Global, model: Model) -> Net
         ensures { result ≡ empty_net model }
     {
@@ -59,6 +58,7 @@ impl Net {
         }
     }
 
+    /// The model whose classes the instances are of.
     pub fn model(&self) -> &Model
         ensures { result.now ≡ self.now.topology.model }
     {
@@ -76,6 +76,7 @@ impl Net {
         }
     }
 
+    /// The name of the instance.
     pub fn name_of(&self, id: InstanceId) -> &[u8]
         requires { IsLive self.now id }
         ensures { IsNamed self.now id result.now }
@@ -83,6 +84,7 @@ impl Net {
         self.slots[id.0].name.bytes()
     }
 
+    /// The class of the instance, by its number in the model.
     pub fn class_of(&self, id: InstanceId) -> ClassId
         requires { IsLive self.now id }
         ensures { (name : List ℕ) → IsNamed self.now id name → IsOf self.now.topology name result }
@@ -109,9 +111,9 @@ impl Net {
         let there = self.links(from, rel);
         let back = self.links(to, inverse(&self.model, rel));
         if there.len() <= back.len() {
-            lists(there, to)
+            there.contains(&to)
         } else {
-            lists(back, from)
+            back.contains(&from)
         }
     }
 
@@ -162,10 +164,7 @@ impl Net {
         requires class { IsClass self.old.topology.model class }
         requires absent { ¬ IsLiveName self.old.topology name.now }
         ensures number { IfOk result (λ id. id.0 ≡ self.old.next) }
-        ensures free { IfOk result (IsFree self.old) }
-        ensures named { IfOk result (λ id. SetsOnly self.old.names self.new.names id (Some name.now)) }
-        ensures made { OnOk result (self.new.topology ≡ with_instance self.old.topology name.now class) }
-        ensures room { OnOk result (self.new.room ≡ max self.old.room (self.old.next + 1)) }
+        ensures created { IfOk result (λ id. Creates self.old self.new id name.now class) }
         ensures err { OnErr result (self.new ≡ self.old) }
     {
         self.slots.reserve(1)?;
@@ -231,7 +230,7 @@ impl Net {
         requires event { HasEventAt self.now id event }
         ensures { IsTrue result ↔ IsMutedAt self.now id event }
     {
-        has(&self.slots[id.0].muted, event)
+        self.slots[id.0].muted.contains(&event)
     }
 
     /// Mutes the event at the instance. It takes no memory.

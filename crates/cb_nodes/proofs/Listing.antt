@@ -111,7 +111,7 @@ pub numbers_more : (first old new : Numbers) (i : InstanceId) (list : List Liste
     → ¬ HasEvent first.slots.items i e → ¬ Contains es e → Takes old new id (node_of i e) → NumbersAll first new i (list ++ record { event = e; id = id } ∷ []) (es ++ e ∷ [])
 numbers_more first old new i list es e id all none off takes = record {
   kept = takes.kept;
-  same_room = record { slots = takes.same_room.slots ∙ all.same_room.slots; free = takes.same_room.free ∙ all.same_room.free };
+  same_spare = record { slots = takes.same_spare.slots ∙ all.same_spare.slots; free = takes.same_spare.free ∙ all.same_spare.free };
   one = one_more old new i e id takes all.one (none_yet first.slots.items old.slots.items i es e all.adds none off);
   listed = listed_more old new i e id takes list all.listed;
   adds = adds_more old new i e id takes first.slots.items es all.adds;
@@ -156,7 +156,7 @@ numbered_sound old new lists lists' i list es all sets sound =
     ))
     sound
 
--- nothing changed but room
+-- nothing changed but what fits without memory
 pub same_sound : (old new : Numbers) (lists lists' : Lists) → AreKept new → new.slots.items ≡ old.slots.items → SameLists lists lists' → IsSound old lists → IsSound new lists'
 same_sound old new lists lists' kept slots same sound = record {
   kept = kept;

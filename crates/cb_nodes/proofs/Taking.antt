@@ -32,7 +32,7 @@ count_set_none {X} xs i x lt some =
     let e : one (slot xs i) ≡ 1 = ap one some in
     omega (arith, h, e)
 
--- nothing changed but room
+-- nothing changed but what fits without memory
 pub same_slots : (old new : Numbers) → AreKept old → new.slots.items ≡ old.slots.items → new.free.items ≡ old.free.items → vec_capacity old.free ≤ vec_capacity new.free → SameSlots old new
 same_slots old new kept slots free room = record {
   slots = slots;
@@ -41,7 +41,7 @@ same_slots old new kept slots free room = record {
     within = λ id has. subst (λ (t : Table). id.0 < length t) (sym slots) (kept.within id (subst (λ xs. Contains xs id) free has));
     vacant = λ id has. subst (λ (t : Table). slot t id.0 ≡ None) (sym slots) (kept.vacant id (subst (λ xs. Contains xs id) free has));
     once = subst Once (sym free) kept.once;
-    room = let n : length new.slots.items ≡ length old.slots.items = ap length slots in omega (arith, kept.room);
+    spare = let n : length new.slots.items ≡ length old.slots.items = ap length slots in omega (arith, kept.spare);
   };
 }
 
@@ -65,9 +65,9 @@ taken_free old new id node kept popped free_room written slots_room =
         within = λ x in_x. omega (arith, kept.within x (front x in_x));
         vacant = λ x in_x. others x.0 (other x in_x) ∙ kept.vacant x (front x in_x);
         once = pairs_front (λ a b. a ≢ b) new.free.items id once;
-        room = omega (arith, kept.room);
+        spare = omega (arith, kept.spare);
       };
-      same_room = record { slots = slots_room; free = free_room };
+      same_spare = record { slots = slots_room; free = free_room };
       free = none;
       this = ap (λ (t : Table). slot t id.0) written ∙ get_or-set_same old.slots.items id.0 (Some node) None lt;
       others = others;
@@ -102,7 +102,7 @@ given_back old new id kept (node, is) written pushed room =
           | inr e ↦ ap (λ (y : NodeId). slot new.slots.items y.0) (sym e) ∙ this
         ];
         once = subst Once (sym pushed) (pairs_more (λ a b. a ≢ b) old.free.items id kept.once other);
-        room = omega (arith, kept.room);
+        spare = omega (arith, kept.spare);
       };
       this = this;
       others = others;

@@ -1,19 +1,11 @@
--- A new instance of a net, and numbers for its events.
-use Rattle.std.specs.Prelude.{◌≡◌, ◌+◌, ℕ, List, Some, max, length}
+-- Numbers for the events of a new instance.
+use Rattle.std.specs.Prelude.{List}
 use Rattle.cb_model.specs.Views.{AreEventsOf}
 use Rattle.cb_model.specs.declared.id.ClassId.{ClassId}
 use Rattle.cb_model.specs.declared.id.EventId.{EventId}
-use Rattle.cb_network.specs.Edits.{with_instance}
 use Rattle.cb_net.specs.declared.id.InstanceId.{InstanceId}
-use Rattle.cb_net.specs.Numbered.{Net, IsFree, SetsOnly}
+use Rattle.cb_net.specs.Numbered.{Net, IsFree}
 use Rattle.cb_nodes.specs.Table.{Table, HasEvent, Adds}
-
--- the net has an instance more, of this name and class, under a number that was free
-pub record Creates (old new : Net) (id : InstanceId) (name : List ℕ) (class : ClassId) : Type 0 where
-  pub free : IsFree old id
-  pub named : SetsOnly old.names new.names id (Some name)
-  pub made : new.topology ≡ with_instance old.topology name class
-  pub room : new.room ≡ max old.room (old.next + 1)
 
 -- free numbers of instances have no nodes
 abbrev pub IsFreed : Net → Table → Type 0

@@ -12,21 +12,21 @@ use Rattle.cb_nodes.specs.declared.node.Node.{Node}
 use Rattle.cb_nodes.specs.declared.numbers.Numbers.{Numbers}
 use Rattle.cb_nodes.specs.Table.{Table, IsNode, HasNumber, node_of, IsOne, Adds, count_of, room_with}
 
--- each number has a node or is free, once, and there is room for all of them among the free ones
+-- each number has a node or is free, once, and all of them fit among the free ones without memory
 pub record AreKept (n : Numbers) : Type 0 where
   pub counted : length n.free.items + count_of n.slots.items ≡ length n.slots.items
   pub within : (id : NodeId) → Contains n.free.items id → id.0 < length n.slots.items
   pub vacant : (id : NodeId) → Contains n.free.items id → slot n.slots.items id.0 ≡ None
   pub once : Once n.free.items
-  pub room : length n.slots.items ≤ vec_capacity n.free
+  pub spare : length n.slots.items ≤ vec_capacity n.free
 
 -- so many nodes more fit without memory
-pub record HasRoomFor (n : Numbers) (more : ℕ) : Type 0 where
+pub record HasSpareFor (n : Numbers) (more : ℕ) : Type 0 where
   pub slots : room_with n.slots.items more ≤ vec_capacity n.slots
   pub free : room_with n.slots.items more ≤ vec_capacity n.free
 
--- as much room as there was
-pub record SameRoom (old new : Numbers) : Type 0 where
+-- as much fits without memory as did
+pub record SameSpare (old new : Numbers) : Type 0 where
   pub slots : vec_capacity new.slots ≡ vec_capacity old.slots
   pub free : vec_capacity new.free ≡ vec_capacity old.free
 
@@ -38,7 +38,7 @@ pub record SameSlots (old new : Numbers) : Type 0 where
 -- a number that was free has the node
 pub record Takes (old new : Numbers) (id : NodeId) (node : Node) : Type 0 where
   pub kept : AreKept new
-  pub same_room : SameRoom old new
+  pub same_spare : SameSpare old new
   pub free : slot old.slots.items id.0 ≡ None
   pub this : slot new.slots.items id.0 ≡ Some node
   pub others : (k : ℕ) → k ≢ id.0 → slot new.slots.items k ≡ slot old.slots.items k
@@ -67,11 +67,11 @@ list_at lists i = items_in (slice_get lists i.0)
 abbrev pub SameLists : Lists → Lists → Type 0
 SameLists old new = (i : InstanceId) → list_at new i ≡ list_at old i
 
--- the instance has a list, in which so many more fit
-pub record HasRoomIn (lists : Lists) (i : InstanceId) (more : ℕ) : Type 0 where
+-- the instance has a list, in which so many more fit without memory
+pub record HasSpareIn (lists : Lists) (i : InstanceId) (more : ℕ) : Type 0 where
   pub list : Vec Listed Global
   pub is : slice_get lists i.0 ≡ Some list
-  pub room : vec_len list + more ≤ vec_capacity list
+  pub spare : vec_len list + more ≤ vec_capacity list
 
 -- no number stands twice
 abbrev pub AreApart : List Listed → Type 0
@@ -90,7 +90,7 @@ pub record IsListOf (nodes : Table) (i : InstanceId) (list : List Listed) : Type
 -- the events have numbers, and are listed with them
 pub record NumbersAll (old new : Numbers) (i : InstanceId) (list : List Listed) (events : List EventId) : Type 0 where
   pub kept : AreKept new
-  pub same_room : SameRoom old new
+  pub same_spare : SameSpare old new
   pub one : IsOne new.slots.items
   pub listed : IsListOf new.slots.items i list
   pub adds : Adds old.slots.items new.slots.items i events

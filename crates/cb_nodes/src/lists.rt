@@ -4,7 +4,7 @@ ghost use Rattle.std.specs.List.{Contains};
 ghost use Rattle.cb_model.specs.declared.id.EventId.{EventId as Event};
 ghost use Rattle.cb_net.specs.Numbered.{Once};
 ghost use Rattle.cb_nodes.specs.declared.listed.Listed.{Listed as Item};
-ghost use Rattle.cb_nodes.specs.Kept.{AreKept, HasRoomFor, HasRoomIn, SameLists, IsListOf, HaveNumbers, AreApart, NumbersAll, Frees};
+ghost use Rattle.cb_nodes.specs.Kept.{AreKept, HasSpareFor, HasSpareIn, SameLists, IsListOf, HaveNumbers, AreApart, NumbersAll, Frees};
 ghost use Rattle.cb_nodes.specs.Table.{HasEvent, IsOne, room_with};
 
 use crate::id::NodeId;
@@ -23,7 +23,7 @@ pub fn reserve(
     more: usize,
 ) -> Result<(), AllocError>
     ensures same { SameLists lists.old.items lists.new.items }
-    ensures room { OnOk result (HasRoomIn lists.new.items instance more) }
+    ensures spare { OnOk result (HasSpareIn lists.new.items instance more) }
 {
     grow(alloc, lists, instance)?;
     lists[instance.0].reserve(more)
@@ -32,7 +32,7 @@ pub fn reserve(
 // Makes a list for the instance, and for each of a lower number.
 fn grow(alloc: Global, lists: &mut Vec<Vec<Listed>>, instance: InstanceId) -> Result<(), AllocError>
     ensures same { SameLists lists.old.items lists.new.items }
-    ensures room { OnOk result (instance.0 < vec_len lists.new) }
+    ensures listed { OnOk result (instance.0 < vec_len lists.new) }
 {
     while lists.len() <= instance.0 {
         lists.push(Vec::new(alloc))?;
@@ -52,8 +52,8 @@ pub fn number_events(
     requires listed { IsListOf numbers.old.slots.items instance list.old.items }
     requires new { (e : Event) → ¬ HasEvent numbers.old.slots.items instance e }
     requires once { Once events.now }
-    requires room { HasRoomFor numbers.old (length events.now) }
-    requires list_room { vec_len list.old + length events.now ≤ vec_capacity list.old }
+    requires spare { HasSpareFor numbers.old (length events.now) }
+    requires list_spare { vec_len list.old + length events.now ≤ vec_capacity list.old }
     requires few { room_with numbers.old.slots.items (length events.now) ≤ 2 ^ 32 }
     ensures { NumbersAll numbers.old numbers.new instance list.new.items events.now }
 {

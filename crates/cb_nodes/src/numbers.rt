@@ -1,6 +1,6 @@
 //! Numbers that nodes have, and numbers that are free.
 ghost use Rattle.std.specs.Prelude.{◌≡◌, ◌≤◌, ◌<◌, ◌^◌, [], OnOk, vec_capacity};
-ghost use Rattle.cb_nodes.specs.Kept.{AreKept, HasRoomFor, Takes, GivesBack, SameSlots};
+ghost use Rattle.cb_nodes.specs.Kept.{AreKept, HasSpareFor, Takes, GivesBack, SameSlots};
 ghost use Rattle.cb_nodes.specs.Table.{HasNumber, count_of, room_with};
 
 use crate::id::NodeId;
@@ -49,7 +49,7 @@ impl Numbers {
         requires kept { AreKept self.old }
         requires fits { room_with self.old.slots.items more < 2 ^ 64 }
         ensures same { SameSlots self.old self.new }
-        ensures room { OnOk result (HasRoomFor self.new more) }
+        ensures spare { OnOk result (HasSpareFor self.new more) }
     {
         let room = self.room_with(more);
         self.slots.reserve(room - self.slots.len())?;
@@ -59,7 +59,7 @@ impl Numbers {
     /// Gives the node a number that was free.
     pub fn take(&mut self, node: Node) -> NodeId
         requires kept { AreKept self.old }
-        requires room { HasRoomFor self.old 1 }
+        requires spare { HasSpareFor self.old 1 }
         requires few { room_with self.old.slots.items 1 ≤ 2 ^ 32 }
         ensures { Takes self.old self.new result node }
     {

@@ -3,9 +3,9 @@ ghost use Rattle.std.specs.Prelude.{◌≡◌, ◌≤◌, ◌<◌, ◌^◌, ◌�
 ghost use Rattle.cb_model.specs.Views.{AreEventsOf};
 ghost use Rattle.cb_model.specs.WellTyped.{IsClass};
 ghost use Rattle.cb_model.specs.declared.id.EventId.{EventId as Event};
-ghost use Rattle.cb_net.specs.Numbered.{Once};
+ghost use Rattle.cb_net.specs.Numbered.{Once, Creates};
 ghost use Rattle.cb_network.specs.Topology.{IsLive as IsLiveName};
-ghost use Rattle.cb_nodes.specs.Created.{Creates, AddsAll, IsFreed};
+ghost use Rattle.cb_nodes.specs.Created.{AddsAll, IsFreed};
 ghost use Rattle.cb_nodes.specs.declared.id.NodeId.{NodeId as Id};
 ghost use Rattle.cb_nodes.specs.Table.{IsNode, HasNumber, node_of, HasEvent, IsOne, Adds, Removes, count_of, room_with};
 
@@ -56,8 +56,8 @@ impl NodeTable {
         let _ = &self.numbers;
     }
 
-    /// Gives each of the events a number that was free.
-    pub fn add(
+    /// Gives each of the events a number that was free, whatever instance there is: tests number events without a net.
+    pub(crate) fn add(
         &mut self,
         alloc: Global,
         instance: InstanceId,

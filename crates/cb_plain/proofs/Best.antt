@@ -1,18 +1,10 @@
 -- The better of pairs of codes.
-use Rattle.std.proofs.Common.{◌≡◌, ℕ, ◌+◌, ◌<◌, List, length, Option, Some, None, Bool, true, false, inl, inr, arith}
-use Rattle.std.proofs.lemmas.Bool.{cases_Bool}
-use Rattle.std.proofs.lemmas.Bool.Decides.{nat_tests}
+use Rattle.std.proofs.Common.{◌≡◌, ℕ, ◌<◌, ◌≤◌, List, length, Option, Some, None, Bool, inl, inr, arith}
+use Rattle.std.proofs.lemmas.Bool.{cases_lt, cases_eq}
 use Rattle.cb_coding.specs.declared.book.Pair.{Pair}
-use Rattle.cb_coding.specs.Distance.{apart, all_columns, code_at}
-use Rattle.cb_coding.specs.Pairs.{IsPair, ComesBefore, IsLeast}
-use Rattle.cb_plain.specs.Closest.{IsTold, Beats, Improves, is_before, limit_of}
-use Rattle.cb_plain.proofs.Places.{at_most_all}
-
-before_is : (i j : ℕ) (p : Pair) → is_before i j p ≡ true → ComesBefore i j p.first p.second
-before_is i j p e = grind (arith, nat_tests)
-
-is_before_is : (i j : ℕ) (p : Pair) → is_before i j p ≡ false → ComesBefore i j p.first p.second → ⊥
-is_before_is i j p e before = grind (arith, nat_tests)
+use Rattle.cb_coding.specs.Distance.{apart, all_columns}
+use Rattle.cb_coding.specs.Pairs.{IsPair, IsLeast}
+use Rattle.cb_plain.specs.Closest.{IsTold, Beats, Improves, IsBetter}
 
 module _ (width : ℕ) (codes : List (List Bool)) where
   abbrev far : ℕ → ℕ → ℕ
@@ -27,24 +19,25 @@ module _ (width : ℕ) (codes : List (List Bool)) where
 
   module _ (i j : ℕ) (pair : IsPair codes i j) where
     -- the best stays, where this pair is no better
-    pub stays : (best : Option Pair) → (far i j < limit_of width i j best → ⊥) → Beats width codes best i j
-    stays None above = absurd (above (let most = at_most_all width (code_at codes i) (code_at codes j) in omega arith))
-    stays (Some p) above = elim (cases_Bool (is_before i j p)) [
-      | inl e ↦ let high : far i j < p.distance + 1 → ⊥ = rw e at above in (omega arith, λ before. omega arith)
-      | inr e ↦ let high : far i j < p.distance → ⊥ = rw e at above in (omega arith, λ before. absurd (is_before_is i j p e before))
-    ]
+    pub stays : (best : Option Pair) → ¬ IsBetter i j (far i j) best → Beats width codes best i j
+    stays None worse = absurd (worse tt)
+    stays (Some p) worse =
+        let low : p.distance ≤ far i j = elim (cases_lt (far i j) p.distance) [ inl lt ↦ absurd (worse (inl lt)) | inr le ↦ le ] in (
+          low,
+          λ before. elim (cases_eq (far i j) p.distance) [
+            | inl same ↦ absurd (worse (inr (same, before)))
+            | inr other ↦ omega arith
+          ],
+        )
 
-    pub takes : (best : Option Pair) (d : ℕ) → d ≡ far i j → d < limit_of width i j best
+    pub takes : (best : Option Pair) (d : ℕ) → d ≡ far i j → IsBetter i j d best
         → Improves width codes best (Some (record { first = i; second = j; distance = d }))
-    takes None d is below = record { told = (pair, is); no_less = λ k l b. absurd b }
-    takes (Some p) d is below = record {
+    takes None d is better = record { told = (pair, is); no_less = λ k l b. absurd b }
+    takes (Some p) d is better = record {
       told = (pair, is);
-      no_less = λ k l b. elim (cases_Bool (is_before i j p)) [
-        | inl e ↦
-            let low : d < p.distance + 1 = rw e at below in
-            let before = before_is i j p e in
-            (let le = b.0 in omega arith, λ earlier. (let lt = b.1 (grind arith) in omega arith))
-        | inr e ↦ let low : d < p.distance = rw e at below in let le = b.0 in (omega arith, λ earlier. omega arith)
+      no_less = λ k l b. elim better [
+        | inl low ↦ let le = b.0 in (omega arith, λ earlier. omega arith)
+        | inr (same, before) ↦ (let le = b.0 in omega arith, λ earlier. (let lt = b.1 (grind arith) in omega arith))
       ];
     }
 

@@ -13,7 +13,7 @@ use Rattle.cb_model.specs.declared.node.NodeName.{NodeName}
 use Rattle.cb_model.proofs.Numbers.{slice_get-set_other, slice_get-set_same}
 use Rattle.cb_coding.specs.declared.group.Problem.{Problem}
 use Rattle.cb_coding.specs.declared.group.Group.{Group}
-use Rattle.cb_plain.specs.Grouped.{group, HaveWidth, AreWordsOf, IsNew, Joins, Opens}
+use Rattle.cb_plain.specs.Grouped.{group, AreWide, AreWordsOf, IsNew, Joins, Opens}
 use Rattle.cb_plain.proofs.Before.{fails_everywhere}
 use Rattle.cb_plain.proofs.Pushed.{pushed_cases, item_there, passes_nowhere}
 
@@ -85,7 +85,7 @@ same_words groups keys place was members at are =
       ];
     }
 
-module _ (groups : List Group) (keys : List (Vec ℕ)) (are : AreWordsOf groups keys) (p : Problem) (wide : HaveWidth (length p.code) groups) where
+module _ (groups : List Group) (keys : List (Vec ℕ)) (are : AreWordsOf groups keys) (p : Problem) (wide : AreWide (length p.code) groups) where
   -- the words that are found lead to the group of the code
   pub joins_found : (place : ℕ) (was : Group) (found : (key : Vec ℕ) × (slice_get keys place ≡ Some key) × Packs p.code key.items)
       → slice_get groups place ≡ Some was → (members : List NodeName) → members ≡ was.members ++ p.name ∷ []

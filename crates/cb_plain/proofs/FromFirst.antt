@@ -2,9 +2,8 @@
 use Rattle.std.proofs.Common.{◌≡◌, ◌+◌, ◌-◌, ◌≤◌, ℕ, List, [], ◌∷◌, ◌++◌, length, slice_get, Some, Bool, true, false, cond, refl, sym, ap, ◌∙◌, inl, inr, arith}
 use Rattle.std.proofs.lemmas.List.{length_push}
 use Rattle.std.proofs.lemmas.List.Sums.{sum_by-cons}
-use Rattle.cb_coding.specs.Distance.{HaveWidth, differ, bit, distance, all_columns, apart}
+use Rattle.cb_coding.specs.Distance.{differ, bit, distance, all_columns, apart}
 use Rattle.cb_coding.proofs.Distances.{triangle}
-use Rattle.cb_plain.proofs.Places.{apart_is, width_is}
 use Rattle.cb_plain.proofs.Pushed.{pushed_cases}
 
 -- what a column adds to a distance
@@ -51,8 +50,3 @@ one_further width codes n m far firsts is = record {
     | inr new ↦ sym new.1 ∙ is ∙ ap (apart (all_columns width) codes 0) (sym (new.0 ∙ firsts.all))
   ];
 }
-
-pub first_apart : (width : ℕ) (codes : List (List Bool)) → HaveWidth width codes → (i : ℕ) (z v : List Bool) → slice_get codes 0 ≡ Some z → slice_get codes i ≡ Some v
-    → distance (all_columns (length z)) z v ≡ apart (all_columns width) codes 0 i
-first_apart width codes wide i z v at at' =
-    ap (λ columns. distance columns z v) (width_is width codes 0 z wide at) ∙ apart_is (all_columns width) codes 0 i z v at at'

@@ -11,7 +11,7 @@ use Rattle.cb_coding.specs.declared.group.Problem.{Problem}
 use Rattle.cb_coding.specs.declared.group.Group.{Group}
 use Rattle.cb_coding.specs.Groups.{AreProblems, AreGroups, members_of, group_of, same_code, zeros, codes_of}
 use Rattle.cb_coding.proofs.One.{same_code_true, same_code_itself}
-use Rattle.cb_plain.specs.Grouped.{group, HaveWidth, Joins, Opens, AddsProblem}
+use Rattle.cb_plain.specs.Grouped.{group, AreWide, Joins, Opens, AddsProblem}
 use Rattle.cb_plain.proofs.Before.{GroupsBefore, none_yet, all_groups, has_group, opens_group, is_new}
 use Rattle.cb_plain.proofs.Pushed.{pushed_cases, taken_is, map_set_same, passes_there, passes_nowhere}
 
@@ -53,7 +53,7 @@ pub record AreGrouped (width : ℕ) (problems : List Problem) (i : ℕ) (groups 
   pub before : GroupsBefore width problems i (map (group_of problems) (codes_of groups))
   pub each : (k : ℕ) (g : Group) → slice_get groups k ≡ Some g → g.members ≡ members_of (take i problems) g.code
   pub apart : (j k : ℕ) (g h : Group) → slice_get groups j ≡ Some g → slice_get groups k ≡ Some h → g.code ≡ h.code → j ≡ k
-  pub wide : HaveWidth width groups
+  pub wide : AreWide width groups
   pub few : length groups ≤ i + 1
 
 module _ (width : ℕ) (problems : List Problem) where
@@ -99,7 +99,7 @@ module _ (width : ℕ) (problems : List Problem) where
     pub is_wide : length p.code ≡ width
     is_wide = all_at (λ (q : Problem). length q.code ≡ width) problems i p at are_problems.wide
 
-    pub one_width : HaveWidth (length p.code) groups
+    pub one_width : AreWide (length p.code) groups
     one_width k g there = are.wide k g there ∙ sym is_wide
 
     code_there : (k : ℕ) (g : Group) → slice_get groups k ≡ Some g → slice_get full k ≡ Some (group_of problems g.code)

@@ -15,10 +15,16 @@ pub apart_is : (columns : List ℕ) (codes : List (List Bool)) (i j : ℕ) (v w 
     → slice_get codes i ≡ Some v → slice_get codes j ≡ Some w → distance columns v w ≡ apart columns codes i j
 apart_is columns codes i j v w at at' = rw (← code_at_is codes i v at, ← code_at_is codes j w at') refl
 
-pub width_is : (width : ℕ) (codes : List (List Bool)) (i : ℕ) (code : List Bool) → HaveWidth width codes
+width_is : (width : ℕ) (codes : List (List Bool)) (i : ℕ) (code : List Bool) → HaveWidth width codes
     → slice_get codes i ≡ Some code → all_columns (length code) ≡ all_columns width
 width_is width codes i code wide at =
     ap all_columns (ap length (sym (code_at_is codes i code at)) ∙ wide i [] (slice_get_within codes i code at))
+
+-- and over all columns
+pub all_apart : (width : ℕ) (codes : List (List Bool)) → HaveWidth width codes → (i j : ℕ) (v w : List Bool)
+    → slice_get codes i ≡ Some v → slice_get codes j ≡ Some w → distance (all_columns (length v)) v w ≡ apart (all_columns width) codes i j
+all_apart width codes wide i j v w at at' =
+    ap (λ columns. distance columns v w) (width_is width codes i v wide at) ∙ apart_is (all_columns width) codes i j v w at at'
 
 -- how far a word is from the code that a place gives
 pub from_word_is : (columns : List ℕ) (codes : List (List Bool)) (word : List Bool) (i : ℕ) (code : List Bool)

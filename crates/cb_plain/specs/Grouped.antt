@@ -12,8 +12,8 @@ abbrev pub group : List Bool → List NodeName → Group
 group code members = record { code = code; members = members }
 
 -- the codes of all groups have that width
-abbrev pub HaveWidth : ℕ → List Group → Type 0
-HaveWidth width groups = (i : ℕ) (g : Group) → slice_get groups i ≡ Some g → length g.code ≡ width
+abbrev pub AreWide : ℕ → List Group → Type 0
+AreWide width groups = (i : ℕ) (g : Group) → slice_get groups i ≡ Some g → length g.code ≡ width
 
 -- the words of the groups' codes, in the order of the groups
 pub record AreWordsOf (groups : List Group) (keys : List (Vec ℕ)) : Type 0 where

@@ -1,4 +1,5 @@
 pub mod Closest
-pub mod AtDistance
+pub mod Holders
+pub mod Sharing
 pub mod Finds
 pub mod Grouped

@@ -8,7 +8,7 @@ ghost use Rattle.cb_network.specs.Finding.{least_or_one, is_among as is_among_of
 ghost use Rattle.cb_plain.specs.Finds.{Finds};
 
 use crate::closest::least;
-use crate::decode::nearest;
+use crate::decode::{nearest, radius};
 use crate::grouping::{codes, groups};
 use crate::reduce::every_column;
 use cb_bits::Row;
@@ -43,7 +43,7 @@ pub fn find(
         raised: raised.len() as u64,
         unknown: (raised.len() - word.ones()) as u64,
         distance: answer.distance,
-        radius: book.distance.saturating_sub(1) / 2,
+        radius: radius(book.distance),
         sure: answer.sure,
         groups: named_groups(alloc, &groups, &answer.groups)?,
     })

@@ -3,7 +3,7 @@ ghost use Rattle.std.specs.Prelude.{◌≡◌, ◌≤◌, ◌+◌, ℕ, [], ◌�
 ghost use Rattle.std.specs.Global.{Vec as Items};
 ghost use Rattle.cb_bits.specs.Bits.{Packs};
 ghost use Rattle.cb_coding.specs.Groups.{AreProblems, AreGroups, zeros as no_symptom, codes_of};
-ghost use Rattle.cb_plain.specs.Grouped.{group as group_with, AreWordsOf, HaveWidth, IsNew, AddsProblem};
+ghost use Rattle.cb_plain.specs.Grouped.{group as group_with, AreWordsOf, AreWide, IsNew, AddsProblem};
 
 use cb_bits::Row;
 use cb_coding::{Group, Problem};
@@ -63,7 +63,7 @@ impl Grouping {
     // Adds a problem to the group of its code, which is opened where there is none.
     fn add(&mut self, alloc: Global, problem: &Problem) -> Result<(), AllocError>
         requires words { AreWordsOf self.old.groups.items self.old.words.keys }
-        requires width { HaveWidth (length problem.now.code) self.old.groups.items }
+        requires width { AreWide (length problem.now.code) self.old.groups.items }
         ensures words { OnOk result (AreWordsOf self.new.groups.items self.new.words.keys) }
         ensures added { OnOk result (AddsProblem problem.now self.old.groups.items self.new.groups.items) }
     {

@@ -5,8 +5,10 @@ mod closest;
 mod decode;
 mod finding;
 mod grouping;
+mod holders;
 mod measure;
 mod reduce;
+mod sharing;
 
 pub use closest::least;
 pub use decode::nearest;

@@ -30,6 +30,8 @@ fn finds_the_first_closest_pair(rt: HostRuntime) -> Result<(), Fail> {
     // Few columns, so that only pairs which share one are tried, and those with the first code.
     let sharing = ["0000000000", "1111000000", "0000000111", "1110100000"];
     assert_eq!(rt; closest(alloc, 10, &sharing)?, pair(1, 3, 2));
+    let alike = ["0000000000", "1110000000", "0111000000", "1101000000"];
+    assert_eq!(rt; closest(alloc, 10, &alike)?, pair(1, 2, 2));
     let apart = ["0000000000", "0000000111", "1100000000", "0011000000"];
     assert_eq!(rt; closest(alloc, 10, &apart)?, pair(0, 2, 2));
     Ok(())

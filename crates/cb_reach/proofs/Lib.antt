@@ -1,4 +1,3 @@
-pub mod Firsts
 pub mod Sought
 pub mod Chains
 pub mod Marks

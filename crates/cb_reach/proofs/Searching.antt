@@ -111,14 +111,14 @@ module _ (edge : ℕ → ℕ → Type 0) (nodes : ℕ) (found0 done0 found done 
     }
 
   -- where nothing is left to visit
-  module _ (none : HasAllOf found done 0) where
+  module _ (none : HasAllOf done found) where
     pub all_done : done ≡ found
-    all_done = same_rows done found (old.len_done ∙ sym old.len_found) old.settled.within (λ k. none k (omega arith))
+    all_done = same_rows done found (old.len_done ∙ sym old.len_found) old.settled.within none
 
     pub all_led : (k : ℕ) → Has found k ↔ IsLedTo edge found0 k
     all_led k = (
       old.led k,
-      λ from. closed_along edge found (λ a b has e. old.settled.next a b (none a (omega arith) has) e) from.0 from.2.0 k from.2.1 (old.kept from.0 from.1),
+      λ from. closed_along edge found (λ a b has e. old.settled.next a b (none a has) e) from.0 from.2.0 k from.2.1 (old.kept from.0 from.1),
     )
 
     pub all_counted : steps + ones done0 ≤ steps0 + ones found

@@ -1,6 +1,6 @@
 -- Chains of edges, and rows of nodes under a search.
 use Rattle.std.specs.Prelude.{◌≡◌, ◌↔◌, ℕ, Bool, List, [], ◌∷◌, Option, Some, length, slice_get}
-use Rattle.cb_reach.specs.Rows.{Has}
+use Rattle.cb_reach.specs.Rows.{Has, HasAllOf}
 
 -- there is an edge to the first of these nodes and from each to the next, and the last is `to`; without any, both are one
 abbrev pub Chain : (ℕ → ℕ → Type 0) → ℕ → List ℕ → ℕ → Type 0
@@ -17,7 +17,7 @@ IsLedTo edge row to = (from : ℕ) × Has row from × LeadsTo edge from to
 
 -- what is done is found, and so are its successors
 pub record IsSettled (edge : ℕ → ℕ → Type 0) (found done : List Bool) : Type 0 where
-  pub within : (node : ℕ) → Has done node → Has found node
+  pub within : HasAllOf found done
   pub next : (node next : ℕ) → Has done node → edge node next → Has found next
 
 -- the row has exactly the nodes that this one leads to

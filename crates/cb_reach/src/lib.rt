@@ -4,11 +4,9 @@
 #![tactic(auto)]
 
 mod edges;
-mod places;
 mod search;
 
 pub use edges::Edges;
-pub use places::next_in_not;
 pub use search::{extend, reach};
 
 #[cfg(test)]

@@ -1,10 +1,9 @@
 //! The search along edges. It keeps no list of nodes to visit: those that are found and not done are left.
 ghost use Rattle.std.specs.Prelude.{◌≡◌, ◌≢◌, ◌<◌, ◌≤◌, ◌+◌, ◌↔◌, ℕ, length, replicate, false, slice_get, List, Bool, IfSome, IfNone};
 ghost use Rattle.cb_reach.specs.Graphs.{LeadsTo, IsLedTo, IsSettled, AreFinished};
-ghost use Rattle.cb_reach.specs.Rows.{Has, ones};
+ghost use Rattle.cb_reach.specs.Rows.{Has, HasAllOf, IsLeft, ones};
 
 use crate::edges::Edges;
-use crate::places::next_around;
 use cb_bits::Row;
 use cb_steps::Steps;
 use std::sync::ledger::Ledger;
@@ -31,7 +30,7 @@ pub fn extend<L: Ledger, G: Edges>(
 {
     // The start of the word in which a node was last found: the next one is looked for from there on.
     let mut last = 0;
-    while let Some(node) = next_around(found, done, last) {
+    while let Some(node) = next_left(found, done, last) {
         match row_at(finished, node) {
             Some(row) => {
                 found.or_from(row);
@@ -43,6 +42,18 @@ pub fn extend<L: Ledger, G: Edges>(
             }
         }
         last = node / 64 * 64;
+    }
+}
+
+// A node that is found and not done: the next one from a place on, or else the first of all.
+fn next_left(found: &Row, done: &Row, from: usize) -> Option<usize>
+    requires { length found.now ≡ length done.now }
+    ensures left { IfSome result (IsLeft found.now done.now) }
+    ensures none { IfNone result (HasAllOf done.now found.now) }
+{
+    match found.next_not_in(done, from) {
+        Some(node) => Some(node),
+        None => found.next_not_in(done, 0),
     }
 }
 

@@ -2,13 +2,13 @@
 -- eight of a member, at place i of that class. A rule is of interest only where those before it are kept.
 use Rattle.std.specs.Prelude.{◌≡◌, ◌≢◌, ◌⊎◌, ℕ, suc, ◌<◌, List, length, take, Some, slice_get}
 use Rattle.std.specs.List.{All, AllPairs}
-use Rattle.cb_model.specs.declared.limits.TheConstants.{MOST_CLASSES, MOST_ANCESTORS, MOST_EVENTS, MOST_RELATIONS, MOST_RULES}
+use Rattle.cb_model.specs.Limits.{class_limit, ancestor_limit, event_limit, relation_limit, rule_limit}
 use Rattle.cb_grammar.specs.declared.tree.Token.{Token}
 use Rattle.cb_grammar.specs.declared.tree.Tree.{Tree}
 use Rattle.cb_grammar.specs.declared.tree.ClassDecl.{ClassDecl}
 use Rattle.cb_grammar.specs.declared.tree.Member.{Member}
 use Rattle.cb_grammar.specs.declared.tree.Member.TheVariants.{Relation, Rule, Block, Hide}
-use Rattle.cb_rules.specs.Classes.{ClassAt, IsNamed, IsAbove, MemberAt, HasAt, Has, declared, Declares, IsEvent, IsEventNamed, IsSymptomNamed, IsRelation, IsRelationNamed, IsRelationBack, IsRule, IsRuleNamed, Leads, IsNamedBefore, DeclaresBefore, Inherits, IsOnLoop}
+use Rattle.cb_rules.specs.Classes.{ClassAt, IsNamed, IsAbove, MemberAt, HasAt, Has, declared, IsEvent, IsEventNamed, IsSymptomNamed, IsRelation, IsRelationNamed, IsRelationBack, IsRule, IsRuleNamed, Leads, IsNamedBefore, DeclaresBefore, Inherits, IsOnLoop}
 
 -- an earlier class has the class's name
 abbrev pub IsSecondClass : Tree → ℕ → ClassDecl → ℕ → Type 0
@@ -28,7 +28,7 @@ IsInLoop tree k decl line = (line ≡ decl.name.line) × IsOnLoop tree k
 
 -- the class has too many ancestors
 abbrev pub IsTooDeep : Tree → ℕ → ClassDecl → ℕ → Type 0
-IsTooDeep tree k decl line = (line ≡ decl.name.line) × ((j : ℕ) × IsAbove tree k (suc MOST_ANCESTORS) j)
+IsTooDeep tree k decl line = (line ≡ decl.name.line) × ((j : ℕ) × IsAbove tree k (suc ancestor_limit) j)
 
 -- the member's name is declared earlier in the class, or in an ancestor
 abbrev pub IsSecondName : Tree → ℕ → ℕ → Member → ℕ → Type 0
@@ -91,7 +91,7 @@ HidesNothing tree k i member line = ⊥
 
 -- the class is the first of too many
 abbrev pub IsOneTooMany : Tree → ℕ → ClassDecl → ℕ → Type 0
-IsOneTooMany tree k decl line = (k ≡ MOST_CLASSES) × (line ≡ decl.name.line)
+IsOneTooMany tree k decl line = (k ≡ class_limit) × (line ≡ decl.name.line)
 
 -- the class has more members such that P than so many: the list has different places of such, by class and place in it
 abbrev pub HasMoreThan : Tree → ℕ → ℕ → (Member → Type 0) → Type 0
@@ -101,4 +101,4 @@ HasMoreThan tree k most P = (places : List (ℕ × ℕ)) × AllPairs (λ one oth
 -- the class has too many events, relations or rules
 abbrev pub HasTooMany : Tree → ℕ → ClassDecl → ℕ → Type 0
 HasTooMany tree k decl line = (line ≡ decl.name.line)
-    × (HasMoreThan tree k MOST_EVENTS IsEvent ⊎ HasMoreThan tree k MOST_RELATIONS IsRelation ⊎ HasMoreThan tree k MOST_RULES IsRule)
+    × (HasMoreThan tree k event_limit IsEvent ⊎ HasMoreThan tree k relation_limit IsRelation ⊎ HasMoreThan tree k rule_limit IsRule)

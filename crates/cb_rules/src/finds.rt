@@ -1,15 +1,13 @@
 //! What the rules ask of a directory.
 ghost use Rattle.std.specs.Prelude.{◌≡◌, ◌↔◌, ◌<◌, length, IfOk, IfSome, IfNone, IfErr, IsTrue};
 ghost use Rattle.cb_rules.specs.declared.rule.TypeRule.TheVariants.{TwoNames, BadInverse, NoTarget};
-ghost use Rattle.cb_rules.specs.Classes.{Has, IsEventNamed, IsSymptomNamed, IsRuleNamed, IsRelationNamed, IsRelationBack, Leads};
-ghost use Rattle.cb_rules.specs.Rules.{Owns};
+ghost use Rattle.cb_rules.specs.Classes.{Has, IsEventNamed, IsSymptomNamed, IsRuleNamed, IsRelationNamed, IsRelationBack, Leads, IsNamedBefore, DeclaresBefore, Inherits};
+ghost use Rattle.cb_rules.specs.Rules.{Owns, StopsAt};
 ghost use Rattle.cb_rules.specs.Fault.{KeepsBefore};
-ghost use Rattle.cb_rules.specs.Directory.{is_event as counts_event, is_rule as counts_rule};
 ghost use Rattle.cb_rules.specs.Finds.{is_symptom as counts_symptom, LeadsOn, LooksBack};
-ghost use Rattle.cb_rules.specs.Classes.{IsNamedBefore, DeclaresBefore, Inherits};
-ghost use Rattle.cb_rules.specs.Rules.{StopsAt};
 
 use crate::directory::Directory;
+use crate::entry::Kind;
 use cb_grammar::{Member, Token};
 
 /// Whether a class before this place has the name.
@@ -52,7 +50,7 @@ pub fn has_event(directory: &Directory<'_>, class: usize, name: &[u8]) -> bool
     ensures { IsTrue result ↔ Has directory.now class (IsEventNamed name.now) }
 {
     match directory.member(class, name) {
-        Some(member) => is_event(member),
+        Some(member) => Kind::Event.has(member),
         None => false,
     }
 }
@@ -76,7 +74,7 @@ pub fn has_rule(directory: &Directory<'_>, class: usize, name: &[u8]) -> bool
     ensures { IsTrue result ↔ Has directory.now class (IsRuleNamed name.now) }
 {
     match directory.member(class, name) {
-        Some(member) => is_rule(member),
+        Some(member) => Kind::Rule.has(member),
         None => false,
     }
 }
@@ -152,12 +150,6 @@ fn looks_back(member: &Member, home: &[u8], back: &[u8]) -> bool
     }
 }
 
-fn is_event(member: &Member) -> bool
-    ensures { result ≡ counts_event member.now }
-{
-    matches!(member, Member::Event { .. })
-}
-
 fn is_symptom(member: &Member) -> bool
     ensures { result ≡ counts_symptom member.now }
 {
@@ -165,10 +157,4 @@ fn is_symptom(member: &Member) -> bool
         Member::Event { symptom, .. } => *symptom,
         _ => false,
     }
-}
-
-fn is_rule(member: &Member) -> bool
-    ensures { result ≡ counts_rule member.now }
-{
-    matches!(member, Member::Rule { .. })
 }

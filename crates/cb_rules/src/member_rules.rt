@@ -1,12 +1,10 @@
 //! The rules on members of classes.
-ghost use Rattle.std.specs.Prelude.{◌≡◌, ◌<◌, ◌↔◌, ◌⊎◌, IsTrue, length, option_map};
+ghost use Rattle.std.specs.Prelude.{◌<◌, ◌↔◌, ◌⊎◌, IsTrue, length};
 ghost use Rattle.cb_rules.specs.declared.rule.TypeRule.TheVariants.{TwoNames, NoTarget, BadInverse, NoCause, NoRelation, NoEffect, NoBlocked, NoHidden};
-ghost use Rattle.cb_rules.specs.Classes.{MemberAt, declared};
-ghost use Rattle.cb_rules.specs.Rules.{IsSecondName, HasNoTarget, HasBadInverse, HasNoCause, HasNoRelation, HasNoEffect, BlocksNothing, HidesNothing};
+ghost use Rattle.cb_rules.specs.Classes.{MemberAt, DeclaresBefore, Inherits};
+ghost use Rattle.cb_rules.specs.Rules.{IsSecondName, HasNoTarget, HasBadInverse, HasNoCause, HasNoRelation, HasNoEffect, BlocksNothing, HidesNothing, StopsAt, IsBadInverse, IsBadEffect};
 ghost use Rattle.cb_rules.specs.Fault.{KeepsBefore};
 ghost use Rattle.cb_rules.specs.Least.{IsLeast};
-ghost use Rattle.cb_rules.specs.Classes.{DeclaresBefore, Inherits};
-ghost use Rattle.cb_rules.specs.Rules.{StopsAt, IsBadInverse, IsBadEffect};
 
 use crate::blame::blame;
 use crate::directory::Directory;
@@ -14,6 +12,7 @@ use crate::finds::{
     declares_before, follow, has_event, has_rule, has_symptom, inherits, leads_back,
 };
 use crate::least::MemberRule;
+use crate::places::declared_by;
 use cb_grammar::{Member, Token};
 
 /// No name is declared twice in a class and its ancestors.
@@ -195,19 +194,6 @@ impl MemberRule for HiddenKnown {
             Member::Hide { name } => blame(!has_symptom(directory, class, name.name.bytes()), name),
             _ => None,
         }
-    }
-}
-
-// The name that a member declares.
-fn declared_by(member: &Member) -> Option<&Token>
-    ensures { option_map (λ token. token.now) result ≡ declared member.now }
-{
-    match member {
-        Member::Event { name, .. } => Some(name),
-        Member::Relation { name, .. } => Some(name),
-        Member::Rule { name, .. } => Some(name),
-        Member::Block { .. } => None,
-        Member::Hide { .. } => None,
     }
 }
 

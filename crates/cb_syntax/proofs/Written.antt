@@ -1,5 +1,5 @@
 -- The lines of a canonical text, as they are written piece by piece.
-use Rattle.std.proofs.Common.{◌≡◌, refl, ap, sym, ◌∙◌, ℕ, List, [], ◌∷◌, ◌++◌, Bool, true, false, Option, None, Some, append_assoc}
+use Rattle.std.proofs.Common.{◌≡◌, refl, ap, sym, ◌∙◌, ℕ, List, Bool, [], ◌∷◌, ◌++◌, true, false, Option, None, Some, append_assoc}
 use Rattle.std.specs.Prelude.{codes}
 use Rattle.std.specs.List.{flat_map}
 use Rattle.cb_grammar.specs.declared.tree.Token.{Token}
@@ -9,19 +9,7 @@ use Rattle.cb_grammar.specs.declared.lexeme.Lexeme.{Lexeme}
 use Rattle.cb_grammar.specs.declared.lexeme.Lexeme.TheVariants as lexemes
 use Rattle.cb_grammar.specs.Grammar.{step_tokens, parent_tokens}
 use Rattle.cb_syntax.specs.Canonical.{spaced, member_text, class_text}
-use Rattle.cb_syntax.specs.Written.{event_words, named_written, relation_written, step_written, rule_written, parent_written, head_written}
-
-pub event_is : (n : Token) (p s : Bool) → named_written (event_words p s) n ≡ member_text (members.Event n p s)
-event_is n true true = simp append_assoc refl
-event_is n true false = simp append_assoc refl
-event_is n false true = simp append_assoc refl
-event_is n false false = simp append_assoc refl
-
-pub block_is : (n : Token) → named_written (codes "  block ") n ≡ member_text (members.Block n)
-block_is n = simp append_assoc refl
-
-pub hide_is : (n : Token) → named_written (codes "  hide ") n ≡ member_text (members.Hide n)
-hide_is n = simp append_assoc refl
+use Rattle.cb_syntax.specs.Written.{relation_written, step_written, rule_written, parent_written, head_written}
 
 relation_shape : (a n b g words i s e : List ℕ) → a ++ n ++ b ++ g ++ (words ++ i ++ (s ++ e)) ≡ a ++ ((n ++ (b ++ (g ++ (words ++ (i ++ s))))) ++ e)
 relation_shape a n b g words i s e = simp append_assoc refl

@@ -6,7 +6,6 @@ mod parser;
 mod printer;
 
 pub use cb_grammar::{ClassDecl, Member, Token, Tree};
-pub use cb_lexer::LONGEST_TEXT;
 pub use fault::SyntaxFault;
 pub use parser::{one_answer, parse};
 pub use printer::{canonical_spells, one_canonical, print};

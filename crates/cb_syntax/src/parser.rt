@@ -1,17 +1,18 @@
 //! Reads a model.
 ghost use Rattle.std.specs.Prelude.{◌≤◌, length, Ok, Err, IfOk, MatchResult};
 ghost use Rattle.cb_grammar.specs.Grammar.{tree_tokens, NamesFit};
+ghost use Rattle.cb_lexer.specs.Places.{text_limit};
 ghost use Rattle.cb_syntax.specs.Spells.{Spells, IsFault, NamesStand};
 ghost use Rattle.cb_syntax.specs.Laws.{TellsFault, IsUnlessMemory, OneAnswer};
 
 use crate::fault::SyntaxFault;
 use cb_grammar::{Machine, Tree};
-use cb_lexer::{Found, LONGEST_TEXT, Spot, find_token};
+use cb_lexer::{Found, Spot, find_token};
 use std::alloc::Global;
 
 /// The tree that the text spells, or the text's first fault.
 pub fn parse(alloc: Global, text: &[u8]) -> Result<Tree, SyntaxFault>
-    requires { length text.now ≤ LONGEST_TEXT }
+    requires { length text.now ≤ text_limit }
     ensures answer { MatchResult result (Spells text.now) (TellsFault text.now) }
     ensures names_stand { IfOk result (λ tree. NamesStand text.now 0 (tree_tokens tree)) }
     ensures names_fit { IfOk result (λ tree. NamesFit tree) }
@@ -23,9 +24,9 @@ pub fn parse(alloc: Global, text: &[u8]) -> Result<Tree, SyntaxFault>
     read(alloc, text)
 }
 
-// The same, with no look at other answers.
+// The same answer, without the clauses that follow from it.
 fn read(alloc: Global, text: &[u8]) -> Result<Tree, SyntaxFault>
-    requires { length text.now ≤ LONGEST_TEXT }
+    requires { length text.now ≤ text_limit }
     ensures { MatchResult result (Spells text.now) (TellsFault text.now) }
 {
     let mut spot = Spot::first();

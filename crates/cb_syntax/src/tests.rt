@@ -1,10 +1,10 @@
-use crate::{LONGEST_TEXT, SyntaxFault, parse, print};
+use crate::{SyntaxFault, parse, print};
 use std::alloc::{AllocError, Global};
 use std::test::Fail;
 
 // The canonical text of what the text spells, or its fault in words.
 fn told(alloc: Global, text: &[u8]) -> Result<Vec<u8>, AllocError> {
-    if text.len() > LONGEST_TEXT {
+    if text.len() > 16 << 20 {
         return Vec::from_slice(alloc, b"too long");
     }
     match parse(alloc, text) {

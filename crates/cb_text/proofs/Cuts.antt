@@ -6,7 +6,7 @@ use Rattle.std.proofs.lemmas.List.{append_cancel_left, append_assoc, take-append
 use Rattle.std.proofs.lemmas.List.Elements.{All-cons}
 use Rattle.std.proofs.lemmas.List.Splits.{slice_split_at}
 use Rattle.memchr.specs.Find.{IsFirstByte, is_byte}
-use Rattle.cb_text.specs.Names.{is_letter, is_name_byte, IsRun, IsNode}
+use Rattle.cb_text.specs.Names.{is_letter, is_name_byte, IsRun, IsNode, NodesAreReadOnce}
 
 -- no byte is the cut
 abbrev pub Lacks : ℕ → List ℕ → Type 0
@@ -22,7 +22,7 @@ module _ (cut : ℕ) (front back other_front other_back : List ℕ) (lacks : Lac
       cc both
 
   -- both parts are determined
-  pub cut_once : (front ≡ other_front) × (back ≡ other_back)
+  cut_once : (front ≡ other_front) × (back ≡ other_back)
   cut_once =
       let tails = append_cancel_left front (cut ∷ back) (cut ∷ other_back) (same ∙ ap (λ (f : List ℕ). f ++ cut ∷ other_back) (sym fronts_are_one)) in
       (fronts_are_one, cc tails)
@@ -44,8 +44,14 @@ name_lacks_at (b ∷ bs) run =
     All-cons (λ c. nat_eq c 64 ≡ false) b bs (byte_is_no_at b (letter_is_name_byte b run.0)) (λ k d low. byte_is_no_at (get_or bs k d) (run.1 k d low))
 
 -- a node is its event, `@` and its instance
-pub node_is_cut : (bytes event instance : List ℕ) → IsNode bytes event instance → bytes ≡ event ++ 64 ∷ instance
+node_is_cut : (bytes event instance : List ℕ) → IsNode bytes event instance → bytes ≡ event ++ 64 ∷ instance
 node_is_cut bytes event instance node = node.written ∙ append_assoc event (codes "@") instance
+
+-- so a node's bytes have one event and one instance
+pub node_read_once : NodesAreReadOnce
+node_read_once bytes event instance other_event other_instance node other =
+    cut_once 64 event instance other_event other_instance (name_lacks_at event node.event_is.run)
+    (name_lacks_at other_event other.event_is.run) (sym (node_is_cut bytes event instance node) ∙ node_is_cut bytes other_event other_instance other)
 
 -- a node's event ends at the first `@`, and its instance begins behind it
 pub node_parts_are : (bytes event instance : List ℕ) (at : ℕ) → IsFirstByte (is_byte 64) bytes (Some at) → IsNode bytes event instance →

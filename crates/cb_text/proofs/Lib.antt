@@ -1,3 +1,4 @@
 pub mod WordLemmas
 pub mod Cuts
 pub mod LineLemmas
+pub mod LinesRead

@@ -106,12 +106,34 @@ line_begins text from low =
       | inr none ↦ (_, line_to_end text from (omega arith) (λ k _ within. before k (omega arith)))
     ]
 
--- the next line begins within the text
-next_within : (text : List ℕ) (from : ℕ) (line : LineAt) → IsLineAt text from line → line.next ≤ length text
-next_within text from line is = elim is.ends [
-  | inl end ↦ omega arith
-  | inr lf ↦ omega (arith, slice_get_within text line.end 10 lf.0)
+-- a line ends within the text, and the next one begins within it
+pub line_within : (text : List ℕ) (from : ℕ) (line : LineAt) → IsLineAt text from line → (line.end ≤ length text) × (line.next ≤ length text)
+line_within text from line is = elim is.ends [
+  | inl end ↦ (omega arith, omega arith)
+  | inr lf ↦ let within = slice_get_within text line.end 10 lf.0 in (omega arith, omega arith)
 ]
+
+-- parts are at most as many lines
+lines_of_front : (b : ℕ) (parts : List (List ℕ)) → length (lines_of_parts (onto_first b parts)) ≤ length (lines_of_parts parts) + 1
+lines_of_front b [] = omega arith
+lines_of_front b ([] ∷ []) = omega arith
+lines_of_front b ((c ∷ cs) ∷ []) = omega arith
+lines_of_front b (part ∷ next ∷ parts) = omega arith
+
+lines_of_behind : (parts : List (List ℕ)) → length (lines_of_parts ([] ∷ parts)) ≤ length (lines_of_parts parts) + 1
+lines_of_behind [] = omega arith
+lines_of_behind (part ∷ parts) = omega arith
+
+-- a text has at least as many bytes as lines
+pub lines_are_few : (text : List ℕ) → length (lines_of text) ≤ length text
+lines_are_few [] = omega arith
+lines_are_few (b ∷ bs) =
+    let few = lines_are_few bs in
+    let parts = slice_split (λ c. nat_eq c 10) bs in
+    elim (cases_Bool (nat_eq b 10)) [
+      | inl lf ↦ rw lf (omega (arith, few, lines_of_behind parts))
+      | inr other ↦ rw other (omega (arith, few, lines_of_front b parts))
+    ]
 
 -- what is met on the way from line to line are the lines
 pub met_are_lines : (text : List ℕ) (from number : ℕ) (met : List (ℕ × List ℕ)) → MeetsFrom text from number met →
@@ -135,6 +157,6 @@ lines_are_met text (l ∷ lines) from number low is = elim (cases_lt from (lengt
       let same = sym is ∙ lines_of-line text from inside line.0 line.1 in
       let first : l ≡ slice_range text line.0.start line.0.end = cc same in
       let later : lines_of (drop line.0.next text) ≡ lines = cc same in
-      (line.0, inside, line.1, ap (λ (x : List ℕ). (number, x)) first, lines_are_met text lines line.0.next (number + 1) (next_within text from line.0 line.1) later)
+      (line.0, inside, line.1, ap (λ (x : List ℕ). (number, x)) first, lines_are_met text lines line.0.next (number + 1) (line_within text from line.0 line.1).1 later)
   | inr end ↦ let none : lines_of (drop from text) ≡ [] = ap lines_of (drop_all from text end) in absurd (cc)
 ]

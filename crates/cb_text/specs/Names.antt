@@ -3,6 +3,10 @@ use Rattle.std.specs.Prelude.{◌≡◌, ◌≢◌, ℕ, ◌≤◌, ◌++◌, Li
 use Rattle.std.specs.List.{All, Contains}
 use Rattle.std.specs.Int.{is_in_range}
 
+-- a name has at most so many bytes, be it of an instance or of anything else
+abbrev pub name_limit : ℕ
+name_limit = 63
+
 -- an ASCII letter
 abbrev pub is_letter : ℕ → Bool
 is_letter b = is_in_range 97 122 b || is_in_range 65 90 b
@@ -29,13 +33,13 @@ IsRun (b ∷ bs) = IsTrue (is_letter b) × All (λ c. IsTrue (is_name_byte c)) b
 -- the name of a class, an event, a relation or a rule
 pub record IsName (bytes : List ℕ) : Type 0 where
   pub run : IsRun bytes
-  pub short : length bytes ≤ 63
+  pub short : length bytes ≤ name_limit
   pub free : ¬ Contains reserved_words bytes
 
 -- the name of an instance or of a source
 pub record IsInstance (bytes : List ℕ) : Type 0 where
   pub some : bytes ≢ []
-  pub short : length bytes ≤ 63
+  pub short : length bytes ≤ name_limit
   pub bytes_are : All (λ b. IsTrue (is_instance_byte b)) bytes
 
 -- a node, written `event@instance`

@@ -3,8 +3,7 @@ ghost use Rattle.std.specs.Prelude.{◌≡◌, ◌↔◌, IsTrue};
 ghost use Rattle.std.specs.List.{Contains};
 ghost use Rattle.cb_text.specs.Names.{is_letter, is_name_byte, is_instance_byte, reserved_words, IsRun, IsName, IsInstance};
 
-/// The greatest length of a name.
-const LONGEST: usize = 63;
+use crate::limits::LONGEST_NAME;
 
 /// The words that are no names.
 const RESERVED: [&str; 13] = [
@@ -16,14 +15,14 @@ const RESERVED: [&str; 13] = [
 pub fn is_name(bytes: &[u8]) -> bool
     ensures { IsTrue result ↔ IsName bytes.now }
 {
-    bytes.len() <= LONGEST && is_run(bytes) && !is_reserved(bytes)
+    bytes.len() <= LONGEST_NAME && is_run(bytes) && !is_reserved(bytes)
 }
 
 /// Whether the bytes are the name of an instance or of a source. Reserved words are.
 pub fn is_instance(bytes: &[u8]) -> bool
     ensures { IsTrue result ↔ IsInstance bytes.now }
 {
-    !bytes.is_empty() && bytes.len() <= LONGEST && bytes.iter().all(|b| is_instance_byte(*b))
+    !bytes.is_empty() && bytes.len() <= LONGEST_NAME && bytes.iter().all(|b| is_instance_byte(*b))
 }
 
 // A letter and then bytes of names.

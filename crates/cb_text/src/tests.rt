@@ -67,7 +67,7 @@ fn lines_of_words(rt: HostRuntime) {
 }
 
 #[test]
-fn lines(rt: HostRuntime) {
+fn lines_from_place_to_place(rt: HostRuntime) {
     let text = b"a\r\n\n#b\nc";
     let table = [(0, 2, 3), (3, 3, 4), (4, 6, 7), (7, 8, 8)];
     let mut from = 0;

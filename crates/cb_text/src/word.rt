@@ -1,5 +1,5 @@
 //! The words of a line.
-ghost use Rattle.std.specs.Prelude.{◌≡◌, ◌≤◌, ◌↔◌, [], ◌∷◌, length, IsTrue, IfSome, IfNone};
+ghost use Rattle.std.specs.Prelude.{◌≡◌, ◌≤◌, ◌↔◌, ℕ, List, [], ◌∷◌, length, IsTrue, IfSome, IfNone};
 ghost use Rattle.std.specs.List.{prefix_len, position_or_len};
 ghost use Rattle.std.specs.Iterator.{YieldsFirstRef, item_count};
 ghost use Rattle.cb_text.specs.Words.{is_blank, words_of, IsPassedOver};
@@ -49,6 +49,19 @@ pub fn is_passed_over(line: &[u8]) -> bool
     match words(line).next() {
         None => true,
         Some(word) => word.first() == Some(&b'#'),
+    }
+}
+
+/// The word of a line that has just one.
+pub fn only_word(line: &[u8]) -> Option<&[u8]>
+    ensures one { IfSome result (λ word. words_of line.now ≡ word.now ∷ []) }
+    ensures other { IfNone result ((word : List ℕ) → ¬ (words_of line.now ≡ word ∷ [])) }
+{
+    let mut words = words(line);
+    let word = words.next()?;
+    match words.next() {
+        None => Some(word),
+        Some(_) => None,
     }
 }
 

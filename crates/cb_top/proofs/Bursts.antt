@@ -7,7 +7,7 @@ use Rattle.cb_network.specs.Topology.{Topology}
 use Rattle.cb_network.specs.Regular.{IsRegular}
 use Rattle.cb_network.proofs.One.{burst_is_one}
 use Rattle.cb_lines.specs.declared.topology.LineFault.{LineFault}
-use Rattle.cb_lines.specs.Lines.{HasShortLines}
+use Rattle.cb_text.specs.Lines.{HasShortLines}
 use Rattle.cb_report.specs.Lines.{burst_text}
 use Rattle.cb_top.specs.Model.{HasShortText, IsModelText}
 use Rattle.cb_top.specs.Burst.{IsTopologyText, IsSymptomText, HasWrongLine, HasBadName}

@@ -1,8 +1,7 @@
 -- What is printed at status 0 names the cause.
-use Rattle.std.proofs.Common.{◌≡◌, ◌≢◌, sym, ℕ, List, [], ◌∷◌, Bool, true, false, ap, subst, arith, inl, inr, Result, Ok, Err, Vec}
+use Rattle.std.proofs.Common.{◌≡◌, ◌≢◌, sym, ℕ, List, [], ◌∷◌, ap, subst, arith, inl, inr, Result, Ok, Err, Vec}
 use Rattle.std.proofs.lemmas.List.{length-map}
-use Rattle.std.specs.Prelude.{codes, MatchBool, IfSome, Option}
-use Rattle.std.specs.Str.{bytes_eq}
+use Rattle.std.specs.Prelude.{IfSome, Option}
 use Rattle.std.specs.declared.alloc.Global.{Global}
 use Rattle.cb_coding.specs.declared.group.Group.{Group}
 use Rattle.cb_model.specs.declared.node.NodeName.{NodeName}
@@ -14,24 +13,23 @@ use Rattle.cb_network.specs.Finding.{IsBurst}
 use Rattle.cb_network.proofs.Nearest.{burst_finds_the_cause}
 use Rattle.cb_report.specs.Lines.{burst_text}
 use Rattle.cb_top.specs.declared.halt.Halt.{Halt}
-use Rattle.cb_top.specs.declared.halt.Halt.TheVariants as halts
 use Rattle.cb_top.specs.declared.status.Status.{Status}
 use Rattle.cb_top.specs.declared.status.Status.TheVariants.{Done, Model, Topology as TopologyStatus, Limit, WriteFault}
+use Rattle.cb_top.specs.Asked.{Asked, asked}
 use Rattle.cb_top.specs.Status.{OnDone}
-use Rattle.cb_top.specs.Outcome.{Outcome, File, IsOutcome, RefusesModel, RefusesTopology, RefusesSymptoms, BurstGives, BurstAnswers, UnreadGives, file_after, done, nothing}
-use Rattle.cb_io.specs.Outside.{contents}
-use Rattle.cb_top.specs.Cause.{ListsTheNearest, PrintsTheCause, FindsTheCause}
-use Rattle.cb_top.specs.Halts.{status_of}
+use Rattle.cb_top.specs.Outcome.{Outcome, File, IsOutcome, RefusesModel, RefusesTopology, RefusesSymptoms, BurstGives, AskGives, file_after, done, nothing}
+use Rattle.cb_top.specs.Cause.{ListsTheNearest, PrintsTheCause, AskFinds, FindsTheCause}
+use Rattle.cb_top.proofs.Ends.{done_at_no_halt}
 use Rattle.cb_top.proofs.Reading.{if_some}
 use Rattle.cb_top.specs.Run.{Shows, Concludes}
 
 lists_the_nearest : (t : Topology) (raised : List NodeName) (finding : Finding) (burst : IsBurst t raised finding) → ListsTheNearest t raised finding burst
 lists_the_nearest t raised finding burst =
     let answered = burst.found.answered in
-    let wide = length-map burst.groups (λ (g : Group). g.code) in (
-      burst.found.answer.groups,
-      burst.found.groups_are,
-      λ i. (
+    let wide = length-map burst.groups (λ (g : Group). g.code) in record {
+      places = burst.found.answer.groups;
+      rise = answered.rise;
+      nearest = λ i. (
         λ listed.
             let (within, is) = (answered.nearest i).0 listed in
             (omega (arith, within, wide), λ j lt. let least = answered.least j (omega (arith, wide)) in omega arith),
@@ -40,8 +38,9 @@ lists_the_nearest t raised finding burst =
             let near = none_nearer k (omega (arith, wide)) in
             let far = answered.least i (omega (arith, wide)) in
             (answered.nearest i).1 (omega (arith, wide), omega arith),
-      ),
-    )
+      );
+      listed = burst.found.groups_are;
+    }
 
 not_done : (bytes : List ℕ) (status : Status) (line : List ℕ) → status ≢ Done → done bytes ≡ nothing status line → ⊥
 not_done bytes status line other e = other (sym (ap (λ (o : Outcome). o.status) e))
@@ -78,38 +77,18 @@ module _ (model topology symptoms : File) (old new : SinkTold) (bytes : List ℕ
       }
 
 module _ (left : List (List ℕ × List ℕ)) (old new : SinkTold) (bytes : List ℕ) (written : WritesAll old new bytes) where
-  finds : (words : List (List ℕ)) → IsOutcome words left (done bytes) → FindsTheCause words left old new
-  finds [] is = tt
-  finds (c ∷ []) is = tt
-  finds (c ∷ m ∷ []) is = tt
-  finds (c ∷ m ∷ t ∷ []) is = tt
-  finds (c ∷ m ∷ t ∷ s ∷ []) is = by_test (bytes_eq c (codes "burst")) is
-    where
-      by_test : (is_burst : Bool)
-          → MatchBool is_burst (BurstAnswers left m t s (done bytes)) (UnreadGives (c ∷ m ∷ t ∷ s ∷ []) (done bytes))
-          → MatchBool is_burst (PrintsTheCause (contents left [] m) (contents left (m ∷ []) t) (contents left (m ∷ t ∷ []) s) old new) (Unit {0})
-      by_test true gives = prints (file_after left [] m) (file_after left (m ∷ []) t) (file_after left (m ∷ t ∷ []) s) old new bytes written gives
-      by_test false other = tt
-  finds (c ∷ m ∷ t ∷ s ∷ x ∷ xs) is = tt
-
-not_at_a_halt : (halt : Halt) (P : Type 0) → OnDone (status_of halt) P
-not_at_a_halt halts.Usage P = tt
-not_at_a_halt (halts.Model fault) P = tt
-not_at_a_halt (halts.Topology line fault) P = tt
-not_at_a_halt (halts.Symptoms line) P = tt
-not_at_a_halt (halts.TooLong place) P = tt
-not_at_a_halt (halts.LongLine place line) P = tt
-not_at_a_halt (halts.ReadFault place) P = tt
-not_at_a_halt halts.Memory P = tt
-not_at_a_halt halts.NotBuilt P = tt
+  finds : (ask : Asked) (words : List (List ℕ)) → AskGives ask words left (done bytes) → AskFinds ask left old new
+  finds (Asked.burst m t s) words gives = prints (file_after left [] m) (file_after left (m ∷ []) t) (file_after left (m ∷ t ∷ []) s) old new bytes written gives
+  finds (Asked.model m) words gives = tt
+  finds Asked.other words gives = tt
 
 -- at status 0 the output names the cause
 pub names_the_cause : (words names : List (List ℕ)) (o : Option (List (List ℕ × List ℕ))) (answer : Result (Vec ℕ Global) Halt) (status : Status) (out out' err err' : SinkTold)
     → IfSome o (λ left. Shows names answer (IsOutcome words left)) → Concludes words answer status out out' err err'
     → OnDone status (IfSome o (λ left. FindsTheCause words left out out'))
 names_the_cause words names o (Ok bytes) Done out out' err err' shown ends =
-    if_some o _ _ (λ left is. finds left out out' bytes.items ends.0 words is) shown
+    if_some o _ _ (λ left is. finds left out out' bytes.items ends.0 (asked words) words is) shown
 names_the_cause words names o (Ok bytes) WriteFault out out' err err' shown ends = tt
 names_the_cause words names o (Ok bytes) status out out' err err' shown ends = absurd ends
 names_the_cause words names o (Err halt) status out out' err err' shown ends =
-    subst (λ (s : Status). OnDone s (IfSome o (λ left. FindsTheCause words left out out'))) (sym ends.1) (not_at_a_halt halt _)
+    subst (λ (s : Status). OnDone s (IfSome o (λ left. FindsTheCause words left out out'))) (sym ends.1) (done_at_no_halt halt _)

@@ -19,7 +19,7 @@ use Rattle.cb_edits.specs.Spelled.{SpellsEdit}
 use Rattle.cb_edits.proofs.Decoded.{spelled_once}
 use Rattle.cb_lines.specs.declared.topology.LineFault.{LineFault}
 use Rattle.cb_lines.specs.declared.topology.LineFault.TheVariants.{BadWords, Refused}
-use Rattle.cb_lines.specs.Lines.{IsShort, HasShortLines, IsFirstLong}
+use Rattle.cb_text.specs.Lines.{IsShort, HasShortLines, IsFirstLong}
 use Rattle.cb_lines.specs.Topologies.{LineMakes, LinesMake, MakesTopology, IsWrong, IsFirstWrong}
 use Rattle.cb_lines.specs.Symptoms.{IsSymptomLine, ListsNodes, IsFirstBad}
 

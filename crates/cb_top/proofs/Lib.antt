@@ -9,4 +9,5 @@ pub mod Texts
 pub mod Bursts
 pub mod Shown
 pub mod Outcomes
+pub mod Ends
 pub mod Cause

@@ -1,7 +1,6 @@
 -- The outcome of the words and the files is one, and a run answers it.
-use Rattle.std.proofs.Common.{◌≡◌, ◌+◌, ℕ, suc, List, [], ◌∷◌, Bool, true, false, refl, sym, ◌∙◌, subst, inl, inr, arith, Result, Ok, Err, Vec, slice_get, Some}
-use Rattle.std.specs.Prelude.{codes, MatchBool, if◌then◌else◌, Option, IfSome}
-use Rattle.std.specs.Str.{bytes_eq}
+use Rattle.std.proofs.Common.{◌≡◌, ℕ, List, [], ◌∷◌, refl, sym, ◌∙◌, subst, inl, inr, Result, Ok, Err, Vec, slice_get, Some}
+use Rattle.std.specs.Prelude.{Option, IfSome, IfErr}
 use Rattle.std.specs.declared.alloc.Global.{Global}
 use Rattle.cb_io.specs.Outside.{SinkTold, FilesTold}
 use Rattle.cb_top.specs.declared.halt.Halt.{Halt}
@@ -9,10 +8,12 @@ use Rattle.cb_top.specs.declared.halt.Halt.TheVariants as halts
 use Rattle.cb_top.specs.declared.status.Status.{Status}
 use Rattle.cb_top.specs.declared.status.Status.TheVariants.{Done, WriteFault}
 use Rattle.cb_top.specs.Status.{OnAnswer, OnDone, OnNoOutput, OnReadFault, OnWriteFault}
+use Rattle.cb_top.specs.Asked.{Asked, asked}
 use Rattle.cb_top.specs.Faults.{limit_line, long_line, read_line}
 use Rattle.cb_top.specs.Halts.{status_of}
-use Rattle.cb_top.specs.Outcome.{Outcome, IsOutcome, ModelAnswers, BurstAnswers, UnreadGives, file_after, file_words, done, usage, faulty, wrong_lined, bad_named, too_long, long_lined, not_built}
-use Rattle.cb_top.specs.Run.{Shows, HaltShows, Explains, Concludes, OnFileFault, OnStop, StopsAt, Answers, BlamesFile, TakesFront, TakesNothing, Says, SaysWhy}
+use Rattle.cb_top.specs.Outcome.{Outcome, IsOutcome, AskGives, UnreadGives, file_after, file_words, done, usage, faulty, wrong_lined, bad_named, too_long, long_lined, not_built}
+use Rattle.cb_top.specs.Run.{Shows, HaltShows, Explains, Concludes, IsFailedRead, ReadsAndJudges, Answers, BlamesFile, TakesFront, TakesNothing, Says, SaysWhy}
+use Rattle.cb_top.proofs.Ends.{done_at_no_halt, write_fault_at_no_halt}
 use Rattle.cb_top.proofs.Texts.{model_gives_one}
 use Rattle.cb_top.proofs.Bursts.{burst_gives_one}
 use Rattle.cb_top.proofs.Reading.{if_some}
@@ -23,43 +24,23 @@ unread_one words a b (inl (u, e)) (inr (n, h)) = absurd (n u)
 unread_one words a b (inr (n, e)) (inl (v, h)) = absurd (n v)
 unread_one words a b (inr (n, e)) (inr (m, h)) = e ∙ sym h
 
--- of two facts by a test, each is of one value
-by_test : (t : Bool) (P Q : Outcome → Type 0) (a b : Outcome) → (P a → P b → a ≡ b) → (Q a → Q b → a ≡ b) → MatchBool t (P a) (Q a) → MatchBool t (P b) (Q b) → a ≡ b
-by_test true P Q a b one other p q = one p q
-by_test false P Q a b one other p q = other p q
+asked_one : (ask : Asked) (words : List (List ℕ)) (left : List (List ℕ × List ℕ)) (a b : Outcome) → AskGives ask words left a → AskGives ask words left b → a ≡ b
+asked_one (Asked.burst m t s) words left a b p q = burst_gives_one (file_after left [] m) (file_after left (m ∷ []) t) (file_after left (m ∷ t ∷ []) s) a b p q
+asked_one (Asked.model m) words left a b p q = model_gives_one (file_after left [] m) a b p q
+asked_one Asked.other words left a b p q = unread_one words a b p q
 
 pub outcome_is_one : (words : List (List ℕ)) (left : List (List ℕ × List ℕ)) (a b : Outcome) → IsOutcome words left a → IsOutcome words left b → a ≡ b
-outcome_is_one [] left a b p q = unread_one [] a b p q
-outcome_is_one (c ∷ []) left a b p q = unread_one (c ∷ []) a b p q
-outcome_is_one (c ∷ m ∷ []) left a b p q =
-    by_test (bytes_eq c (codes "model")) (ModelAnswers left m) (UnreadGives (c ∷ m ∷ [])) a b
-    (model_gives_one (file_after left [] m) a b) (unread_one (c ∷ m ∷ []) a b) p q
-outcome_is_one (c ∷ m ∷ t ∷ []) left a b p q = unread_one (c ∷ m ∷ t ∷ []) a b p q
-outcome_is_one (c ∷ m ∷ t ∷ s ∷ []) left a b p q =
-    by_test (bytes_eq c (codes "burst")) (BurstAnswers left m t s) (UnreadGives (c ∷ m ∷ t ∷ s ∷ [])) a b
-    (burst_gives_one (file_after left [] m) (file_after left (m ∷ []) t) (file_after left (m ∷ t ∷ []) s) a b) (unread_one (c ∷ m ∷ t ∷ s ∷ []) a b) p q
-outcome_is_one (c ∷ m ∷ t ∷ s ∷ x ∷ xs) left a b p q = unread_one (c ∷ m ∷ t ∷ s ∷ x ∷ xs) a b p q
+outcome_is_one words left a b p q = asked_one (asked words) words left a b p q
 
 -- where a write failed, the output is a front of the outcome's
 pub takes_front : (words : List (List ℕ)) (o : Option (List (List ℕ × List ℕ))) (names : List (List ℕ)) (answer : Result (Vec ℕ Global) Halt) (status : Status) (out out' err err' : SinkTold)
     → IfSome o (λ left. Shows names answer (IsOutcome words left)) → Concludes words answer status out out' err err'
     → OnWriteFault status (IfSome o (λ left. TakesFront words left out out'))
 takes_front words o names (Ok bytes) Done out out' err err' shown ends = tt
-takes_front words o names (Ok bytes) WriteFault out out' err err' shown ends = if_some o _ _ (λ left is. (done bytes.items, is, ends.0)) shown
+takes_front words o names (Ok bytes) WriteFault out out' err err' shown ends = if_some o _ _ (λ left is. (bytes.items, is, ends.0)) shown
 takes_front words o names (Ok bytes) status out out' err err' shown ends = absurd ends
 takes_front words o names (Err halt) status out out' err err' shown ends =
-    subst (λ (s : Status). OnWriteFault s (IfSome o (λ left. TakesFront words left out out'))) (sym ends.1) (not_at_a_halt halt)
-  where
-    not_at_a_halt : (h : Halt) → OnWriteFault (status_of h) (IfSome o (λ left. TakesFront words left out out'))
-    not_at_a_halt halts.Usage = tt
-    not_at_a_halt (halts.Model fault) = tt
-    not_at_a_halt (halts.Topology line fault) = tt
-    not_at_a_halt (halts.Symptoms line) = tt
-    not_at_a_halt (halts.TooLong place) = tt
-    not_at_a_halt (halts.LongLine place line) = tt
-    not_at_a_halt (halts.ReadFault place) = tt
-    not_at_a_halt halts.Memory = tt
-    not_at_a_halt halts.NotBuilt = tt
+    subst (λ (s : Status). OnWriteFault s (IfSome o (λ left. TakesFront words left out out'))) (sym ends.1) (write_fault_at_no_halt halt _)
 
 on_no_output : (status : Status) (P : Type 0) → P → OnNoOutput status P
 on_no_output Done P p = tt
@@ -75,12 +56,15 @@ no_output words (Ok bytes) status out out' err err' ends = absurd ends
 no_output words (Err halt) status out out' err err' ends = on_no_output status (TakesNothing out out') ends.0
 
 -- where there is no output, the line tells why
-pub says_why : (words : List (List ℕ)) (answer : Result (Vec ℕ Global) Halt) (status : Status) (out out' err err' : SinkTold)
-    → Concludes words answer status out out' err err' → OnNoOutput status (SaysWhy words status err err')
-says_why words (Ok bytes) Done out out' err err' ends = tt
-says_why words (Ok bytes) WriteFault out out' err err' ends = tt
-says_why words (Ok bytes) status out out' err err' ends = absurd ends
-says_why words (Err halt) status out out' err err' ends = on_no_output status (SaysWhy words status err err') (halt, sym ends.1, ends.2)
+pub says_why : (words : List (List ℕ)) (old new : FilesTold) (answer : Result (Vec ℕ Global) Halt) (status : Status) (out out' err err' : SinkTold)
+    → ReadsAndJudges (file_words words) (IsOutcome words) old new answer → Concludes words answer status out out' err err'
+    → OnNoOutput status (SaysWhy words status old new err err')
+says_why words old new (Ok bytes) Done out out' err err' judged ends = tt
+says_why words old new (Ok bytes) WriteFault out out' err err' judged ends = tt
+says_why words old new (Ok bytes) status out out' err err' judged ends = absurd ends
+says_why words old new (Err halt) status out out' err err' judged ends =
+    on_no_output status (SaysWhy words status old new err err')
+    (record { halt = halt; status_is = sym ends.1; shows = judged.shows; says = ends.2; last = judged.last; failed = judged.failed })
 
 -- where the output is whole, no line was written
 pub no_line : (words : List (List ℕ)) (answer : Result (Vec ℕ Global) Halt) (status : Status) (out out' err err' : SinkTold)
@@ -89,46 +73,15 @@ no_line words (Ok bytes) Done out out' err err' ends = ends.1
 no_line words (Ok bytes) WriteFault out out' err err' ends = tt
 no_line words (Ok bytes) status out out' err err' ends = absurd ends
 no_line words (Err halt) status out out' err err' ends =
-    subst (λ (s : Status). OnDone s (TakesNothing err err')) (sym ends.1) (not_at_a_halt halt)
-  where
-    not_at_a_halt : (h : Halt) → OnDone (status_of h) (TakesNothing err err')
-    not_at_a_halt halts.Usage = tt
-    not_at_a_halt (halts.Model fault) = tt
-    not_at_a_halt (halts.Topology line fault) = tt
-    not_at_a_halt (halts.Symptoms line) = tt
-    not_at_a_halt (halts.TooLong place) = tt
-    not_at_a_halt (halts.LongLine place line) = tt
-    not_at_a_halt (halts.ReadFault place) = tt
-    not_at_a_halt halts.Memory = tt
-    not_at_a_halt halts.NotBuilt = tt
+    subst (λ (s : Status). OnDone s (TakesNothing err err')) (sym ends.1) (done_at_no_halt halt _)
 
--- a file word stands one place behind its place among the file words
-file_word_at : (words : List (List ℕ)) (place : ℕ) (name : List ℕ) → slice_get (file_words words) place ≡ Some name → slice_get words (suc place) ≡ Some name
-file_word_at [] place name e = absurd (cc)
-file_word_at (c ∷ []) place name e = absurd (cc)
-file_word_at (c ∷ m ∷ []) place name e = at (bytes_eq c (codes "model")) e
-  where
-    at : (is_model : Bool) → slice_get (if is_model then m ∷ [] else []) place ≡ Some name → slice_get (m ∷ []) place ≡ Some name
-    at true h = h
-    at false h = absurd (cc)
-file_word_at (c ∷ m ∷ t ∷ []) place name e = absurd (cc)
-file_word_at (c ∷ m ∷ t ∷ s ∷ []) place name e = at (bytes_eq c (codes "burst")) e
-  where
-    at : (is_burst : Bool) → slice_get (if is_burst then m ∷ t ∷ s ∷ [] else []) place ≡ Some name → slice_get (m ∷ t ∷ s ∷ []) place ≡ Some name
-    at true h = h
-    at false h = absurd (cc)
-file_word_at (c ∷ m ∷ t ∷ s ∷ x ∷ xs) place name e = absurd (cc)
-
--- the word behind the place of a file word is its name
-same_name : (words : List (List ℕ)) (place : ℕ) (name other : List ℕ) → slice_get (file_words words) place ≡ Some name → slice_get words (place + 1) ≡ Some other → other ≡ name
-same_name words place name other e h =
-    let next : suc place ≡ place + 1 = omega arith in
-    let follows = subst (λ i. slice_get words i ≡ Some name) next (file_word_at words place name e) in
-    cc
+-- at a place stands one name
+same_name : (names : List (List ℕ)) (place : ℕ) (name other : List ℕ) → slice_get names place ≡ Some name → slice_get names place ≡ Some other → other ≡ name
+same_name names place name other e h = cc
 
 module _ (words : List (List ℕ)) (o : Option (List (List ℕ × List ℕ))) (out out' err err' : SinkTold) where
   -- a run that halts answers the outcome
-  answers_halt : (halt : Halt) → IfSome o (λ left. HaltShows (file_words words) halt (IsOutcome words left)) → TakesNothing out out' → Explains words halt err err'
+  answers_halt : (halt : Halt) → IfSome o (λ left. HaltShows (file_words words) halt (IsOutcome words left)) → TakesNothing out out' → Explains (file_words words) halt err err'
       → OnAnswer (status_of halt) (IfSome o (λ left. Answers words left (status_of halt) out out' err err'))
   answers_halt halts.Usage shown none (line, is, says) =
       if_some o _ _ (λ left it. record { outcome = usage; is = it; status_is = refl; output = none; says = subst (λ l. Says err err' l) is says }) shown
@@ -144,7 +97,7 @@ module _ (words : List (List ℕ)) (o : Option (List (List ℕ × List ℕ))) (o
         is = it;
         status_is = refl;
         output = none;
-        says = subst (λ n. Says err err' (long_line n number)) (same_name words place name other named at) (subst (λ l. Says err err' l) is says);
+        says = subst (λ n. Says err err' (long_line n number)) (same_name (file_words words) place name other named at) (subst (λ l. Says err err' l) is says);
       }) shown
   answers_halt (halts.TooLong place) shown none (line, (other, at, is), says) =
       if_some o _ _ (λ left (name, named, it). record {
@@ -152,7 +105,7 @@ module _ (words : List (List ℕ)) (o : Option (List (List ℕ × List ℕ))) (o
         is = it;
         status_is = refl;
         output = none;
-        says = subst (λ n. Says err err' (limit_line n)) (same_name words place name other named at) (subst (λ l. Says err err' l) is says);
+        says = subst (λ n. Says err err' (limit_line n)) (same_name (file_words words) place name other named at) (subst (λ l. Says err err' l) is says);
       }) shown
   answers_halt (halts.ReadFault place) shown none explains = tt
   answers_halt halts.Memory shown none explains = tt
@@ -170,27 +123,20 @@ module _ (words : List (List ℕ)) (o : Option (List (List ℕ × List ℕ))) (o
       subst (λ (s : Status). OnAnswer s (IfSome o (λ left. Answers words left s out out' err err'))) (sym ends.1) (answers_halt halt shown ends.0 ends.2)
 
 module _ (words : List (List ℕ)) (old new : FilesTold) (err err' : SinkTold) where
-  blames_halt : (halt : Halt) → OnFileFault halt (λ place. StopsAt (file_words words) place old new) → Explains words halt err err'
+  blames_halt : (halt : Halt) → IsFailedRead (file_words words) old new halt → Explains (file_words words) halt err err'
       → OnReadFault (status_of halt) (BlamesFile words old new err err')
-  blames_halt (halts.ReadFault place) stops (line, (other, at, is), says) = record {
+  blames_halt (halts.ReadFault place) fails (line, (other, at, is), says) = record {
     place = place;
-    stops = stops;
-    says = subst (λ n. Says err err' (read_line n)) (same_name words place stops.name other stops.is at) (subst (λ l. Says err err' l) is says);
+    fails = fails;
+    says = subst (λ n. Says err err' (read_line n)) (same_name (file_words words) place fails.last.name other fails.last.is at) (subst (λ l. Says err err' l) is says);
   }
-  blames_halt halts.Usage stops explains = tt
-  blames_halt (halts.Model fault) stops explains = tt
-  blames_halt (halts.Topology line fault) stops explains = tt
-  blames_halt (halts.Symptoms line) stops explains = tt
-  blames_halt (halts.TooLong place) stops explains = tt
-  blames_halt (halts.LongLine place line) stops explains = tt
-  blames_halt halts.Memory stops explains = tt
-  blames_halt halts.NotBuilt stops explains = tt
+  blames_halt halt fails explains = tt
 
-  -- a run that stopped at a file word blames it
+  -- a run in which a read failed blames the file
   pub blames_file : (answer : Result (Vec ℕ Global) Halt) (status : Status) (out out' : SinkTold)
-      → OnStop answer (λ place. StopsAt (file_words words) place old new) → Concludes words answer status out out' err err'
+      → IfErr answer (IsFailedRead (file_words words) old new) → Concludes words answer status out out' err err'
       → OnReadFault status (BlamesFile words old new err err')
-  blames_file (Ok bytes) Done out out' stops ends = tt
-  blames_file (Ok bytes) WriteFault out out' stops ends = tt
-  blames_file (Ok bytes) status out out' stops ends = absurd ends
-  blames_file (Err halt) status out out' stops ends = subst (λ (s : Status). OnReadFault s (BlamesFile words old new err err')) (sym ends.1) (blames_halt halt stops ends.2)
+  blames_file (Ok bytes) Done out out' fails ends = tt
+  blames_file (Ok bytes) WriteFault out out' fails ends = tt
+  blames_file (Ok bytes) status out out' fails ends = absurd ends
+  blames_file (Err halt) status out out' fails ends = subst (λ (s : Status). OnReadFault s (BlamesFile words old new err err')) (sym ends.1) (blames_halt halt fails ends.2)

@@ -1,8 +1,9 @@
 -- File words that are read one after the other.
-use Rattle.std.proofs.Common.{◌≡◌, ℕ, List, sym, ap, subst, ◌<◌, length, arith, take, slice_get, Result, Ok, Err}
-use Rattle.std.specs.Prelude.{None, Some, IfSome}
+use Rattle.std.proofs.Common.{◌≡◌, ◌∙◌, ◌<◌, ℕ, List, [], refl, sym, ap, subst, take, length, slice_get, Result, Ok, Err, arith}
+use Rattle.std.specs.Prelude.{None, Some, IfSome, unwrap_or}
 use Rattle.std.specs.declared.option.Option.{Option}
-use Rattle.cb_io.specs.Outside.{FilesTold, left_of, KeepsOthers}
+use Rattle.cb_io.specs.Outside.{FilesTold, left_of, KeepsOthers, ReadsFront}
+use Rattle.std.specs.Io.KnownBytes.{Consumes}
 use Rattle.cb_top.specs.Outcome.{Outcome, usage, faulty, wrong_lined, bad_named, too_long, long_lined, not_built}
 use Rattle.cb_io.specs.Outside.{contents}
 use Rattle.std.specs.Result.{IsErrAnd}
@@ -10,10 +11,14 @@ use Rattle.cb_io.specs.Outside.{NoCountFalls}
 use Rattle.cb_io.proofs.Told.{ReadFailed-after}
 use Rattle.cb_top.specs.declared.halt.Halt.{Halt}
 use Rattle.cb_top.specs.declared.halt.Halt.TheVariants as halts
-use Rattle.cb_top.specs.Halts.{IsPlaced, StopsFile}
+use Rattle.cb_top.specs.Halts.{OnFile, StopsFile}
 use Rattle.cb_io.specs.Outside.{ReadsEach}
 use Rattle.cb_io.proofs.Told.{ReadsEach-others}
-use Rattle.cb_top.specs.Run.{StopsAt, OnFileFault, HaltShows}
+use Rattle.cb_top.specs.Run.{LeavesRest, ReadsUpTo, IsLastRead, IsFailedRead, HavePassed, FailsAt, HaltShows, ReadsAndJudges}
+
+-- no count falls where nothing is done
+pub counts_stay : (a : FilesTold) → NoCountFalls a a
+counts_stay a = λ name. omega arith
 
 pub if_some : {T : Type 0} (o : Option T) (P Q : T → Type 0) → ((x : T) → P x → Q x) → IfSome o P → IfSome o Q
 if_some None P Q f h = tt
@@ -64,64 +69,92 @@ gives_more name (halts.ReadFault place) P Q f h = tt
 gives_more name halts.Memory P Q f h = tt
 gives_more name halts.NotBuilt P Q f h = f _ h
 
+-- a fact of the place of a file is one of the halt that tells the file
+pub on_file : (place : ℕ) (P : ℕ → Type 0) (halt : Halt) → OnFile halt (λ at. at ≡ place) → P place → OnFile halt P
+on_file place P (halts.Model fault) e p = subst P (sym e) p
+on_file place P (halts.Topology line fault) e p = subst P (sym e) p
+on_file place P (halts.Symptoms line) e p = subst P (sym e) p
+on_file place P (halts.TooLong at) e p = subst P (sym e) p
+on_file place P (halts.LongLine at line) e p = subst P (sym e) p
+on_file place P (halts.ReadFault at) e p = subst P (sym e) p
+on_file place P halt e p = tt
+
+-- where a front came of all that is left, the rest is left
+leaves_rest : (a b : Option (List ℕ)) (bytes front : List ℕ) → a ≡ Some bytes → Consumes a b front → LeavesRest bytes b
+leaves_rest None b bytes front e came = cc
+leaves_rest (Some xs) None bytes front e came = absurd came
+leaves_rest (Some xs) (Some ys) bytes front e came =
+    let f : Option (List ℕ) → List ℕ = λ o. unwrap_or o [] in
+    let same : xs ≡ bytes = ap f e in
+    (front, ys, sym same ∙ came, refl)
+
 -- the file words before this one were read, and this one stops the run
 module _ (names earlier : List (List ℕ)) (name : List ℕ) (place : ℕ) (Judges : List ℕ → Halt → Type 0) (is : slice_get names place ≡ Some name) where
-  -- it has its place
-  pub placed : (now new : FilesTold) (halt : Halt) → place < length names → StopsFile place name Judges now new halt → IsPlaced names halt
-  placed now new halts.Usage lt stops = tt
-  placed now new (halts.Model fault) lt stops = tt
-  placed now new (halts.Topology line fault) lt stops = tt
-  placed now new (halts.Symptoms line) lt stops = tt
-  placed now new (halts.TooLong at) lt stops = let e = stops.0 in omega (arith, lt)
-  placed now new (halts.LongLine at line) lt stops = let e = stops.0 in omega (arith, lt)
-  placed now new (halts.ReadFault at) lt stops = let e = stops.0 in omega (arith, lt)
-  placed now new halts.Memory lt stops = tt
-  placed now new halts.NotBuilt lt stops = tt
-
   module _ (old now new : FilesTold) (before : ReadsEach old now earlier) where
-    -- a run stops at the file word that couldn't be read
-    pub stops_at : (halt : Halt) → take place names ≡ earlier → NoCountFalls old now → KeepsOthers now new name
-        → StopsFile place name Judges now new halt → OnFileFault halt (λ at. StopsAt names at old new)
-    stops_at (halts.ReadFault at) first counts others fault =
-        let named : slice_get names at ≡ Some name = subst (λ i. slice_get names i ≡ Some name) (sym fault.0) is in
-        let front : take at names ≡ earlier = subst (λ i. take i names ≡ earlier) (sym fault.0) first in
-        record {
-          name = name;
-          is = named;
-          failed = ReadFailed-after old now new name counts fault.1;
-          others = rw front (ReadsEach-others old now new earlier name before others);
-        }
-    stops_at halts.Usage first counts others fault = tt
-    stops_at (halts.Model f) first counts others fault = tt
-    stops_at (halts.Topology line why) first counts others fault = tt
-    stops_at (halts.Symptoms line) first counts others fault = tt
-    stops_at (halts.TooLong at) first counts others fault = tt
-    stops_at (halts.LongLine at line) first counts others fault = tt
-    stops_at halts.Memory first counts others fault = tt
-    stops_at halts.NotBuilt first counts others fault = tt
+    pub reads_up_to : take place names ≡ earlier → KeepsOthers now new name → ReadsFront now new name → ReadsUpTo names place old new
+    reads_up_to first others (front, came) = record {
+      name = name;
+      is = is;
+      front = rw first (if_some old.left _ _ (λ left known. leaves_rest (left_of now name) (left_of new name) (contents left earlier name) front (known name) came) before);
+      others = rw first (ReadsEach-others old now new earlier name before others);
+    }
+
+    -- the file that the halt tells is the last that was read
+    last_read : (halt : Halt) → take place names ≡ earlier → KeepsOthers now new name → ReadsFront now new name
+        → StopsFile place name Judges now new halt → IsLastRead names old new halt
+    last_read halt first others front stops = on_file place (λ at. ReadsUpTo names at old new) halt stops.placed (reads_up_to first others front)
+
+    -- where the file word couldn't be read, a read of it failed
+    failed_read : (halt : Halt) → take place names ≡ earlier → IfSome old.left (λ left. HavePassed left earlier) → NoCountFalls old now → KeepsOthers now new name
+        → ReadsFront now new name → StopsFile place name Judges now new halt → IsFailedRead names old new halt
+    unfolding reads_up_to
+    failed_read (halts.ReadFault at) first passed counts others front stops =
+        subst (λ i. FailsAt names i old new) (sym stops.placed)
+        (record {
+          last = reads_up_to first others front;
+          failed = ReadFailed-after old now new name counts stops.cause;
+          passed = rw first passed;
+        })
+    failed_read halt first passed counts others front stops = tt
 
     -- what the halt shows is what the file's text is judged to give
-    pub halt_shows : (IsIt : List (List ℕ × List ℕ) → Outcome → Type 0) (halt : Halt)
+    halt_shows : (IsIt : List (List ℕ × List ℕ) → Outcome → Type 0) (halt : Halt)
         → IfSome old.left (λ left. (h : Halt) → Judges (contents left earlier name) h → Gives name h (IsIt left))
         → StopsFile place name Judges now new halt → IfSome old.left (λ left. HaltShows names halt (IsIt left))
     halt_shows IsIt halts.Usage each stops =
-        if_some2 old.left _ _ _ (λ left each_of j. each_of halts.Usage j) each (judged old now earlier name (λ text. Judges text halts.Usage) before stops)
+        if_some2 old.left _ _ _ (λ left each_of j. each_of halts.Usage j) each (judged old now earlier name (λ text. Judges text halts.Usage) before stops.cause)
     halt_shows IsIt (halts.Model fault) each stops =
-        if_some2 old.left _ _ _ (λ left each_of j. each_of (halts.Model fault) j) each (judged old now earlier name (λ text. Judges text (halts.Model fault)) before stops)
+        if_some2 old.left _ _ _ (λ left each_of j. each_of (halts.Model fault) j) each (judged old now earlier name (λ text. Judges text (halts.Model fault)) before stops.cause)
     halt_shows IsIt (halts.TooLong at) each stops =
-        let named : slice_get names at ≡ Some name = subst (λ i. slice_get names i ≡ Some name) (sym stops.0) is in
-        if_some2 old.left _ _ _ (λ left each_of j. (name, named, each_of (halts.TooLong at) j)) each (judged old now earlier name (λ text. Judges text (halts.TooLong at)) before stops.1)
+        let named : slice_get names at ≡ Some name = subst (λ i. slice_get names i ≡ Some name) (sym stops.placed) is in
+        if_some2 old.left _ _ _ (λ left each_of j. (name, named, each_of (halts.TooLong at) j)) each (judged old now earlier name (λ text. Judges text (halts.TooLong at)) before stops.cause)
     halt_shows IsIt (halts.LongLine at line) each stops =
-        let named : slice_get names at ≡ Some name = subst (λ i. slice_get names i ≡ Some name) (sym stops.0) is in
-        if_some2 old.left _ _ _ (λ left each_of j. (name, named, each_of (halts.LongLine at line) j)) each (judged old now earlier name (λ text. Judges text (halts.LongLine at line)) before stops.1)
+        let named : slice_get names at ≡ Some name = subst (λ i. slice_get names i ≡ Some name) (sym stops.placed) is in
+        if_some2 old.left _ _ _ (λ left each_of j. (name, named, each_of (halts.LongLine at line) j)) each (judged old now earlier name (λ text. Judges text (halts.LongLine at line)) before stops.cause)
     halt_shows IsIt (halts.Topology line fault) each stops =
-        if_some2 old.left _ _ _ (λ left each_of j. each_of (halts.Topology line fault) j) each (judged old now earlier name (λ text. Judges text (halts.Topology line fault)) before stops)
+        if_some2 old.left _ _ _ (λ left each_of j. each_of (halts.Topology line fault) j) each (judged old now earlier name (λ text. Judges text (halts.Topology line fault)) before stops.cause)
     halt_shows IsIt (halts.Symptoms line) each stops =
-        if_some2 old.left _ _ _ (λ left each_of j. each_of (halts.Symptoms line) j) each (judged old now earlier name (λ text. Judges text (halts.Symptoms line)) before stops)
+        if_some2 old.left _ _ _ (λ left each_of j. each_of (halts.Symptoms line) j) each (judged old now earlier name (λ text. Judges text (halts.Symptoms line)) before stops.cause)
     halt_shows IsIt (halts.ReadFault at) each stops = of_any old.left
     halt_shows IsIt halts.Memory each stops = of_any old.left
     halt_shows IsIt halts.NotBuilt each stops =
-        if_some2 old.left _ _ _ (λ left each_of j. each_of halts.NotBuilt j) each (judged old now earlier name (λ text. Judges text halts.NotBuilt) before stops)
+        if_some2 old.left _ _ _ (λ left each_of j. each_of halts.NotBuilt j) each (judged old now earlier name (λ text. Judges text halts.NotBuilt) before stops.cause)
+
+    -- a file that gives no value ends the reading
+    pub ends_there : (IsIt : List (List ℕ × List ℕ) → Outcome → Type 0) (halt : Halt) → take place names ≡ earlier → place < length names
+        → IfSome old.left (λ left. HavePassed left earlier) → IfSome old.left (λ left. (h : Halt) → Judges (contents left earlier name) h → Gives name h (IsIt left))
+        → NoCountFalls old now → KeepsOthers now new name → ReadsFront now new name → StopsFile place name Judges now new halt → ReadsAndJudges names IsIt old new (Err halt)
+    ends_there IsIt halt first within passed each counts others front stops = record {
+      shows = halt_shows IsIt halt each stops;
+      read = tt;
+      placed = on_file place (λ at. at < length names) halt stops.placed within;
+      last = last_read halt first others front stops;
+      failed = failed_read halt first passed counts others front stops;
+    }
+
+-- want of memory tells no file
+pub memory_ends : (names : List (List ℕ)) (IsIt : List (List ℕ × List ℕ) → Outcome → Type 0) (old new : FilesTold) → ReadsAndJudges names IsIt old new (Err halts.Memory)
+memory_ends names IsIt old new = record { shows = of_any old.left; read = tt; placed = tt; last = tt; failed = tt }
 
 pub if_some3 : {T : Type 0} (o : Option T) (P Q R S : T → Type 0) → ((x : T) → P x → Q x → R x → S x) → IfSome o P → IfSome o Q → IfSome o R → IfSome o S
 if_some3 None P Q R S f p q r = tt

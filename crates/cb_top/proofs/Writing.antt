@@ -1,6 +1,6 @@
 -- A line that is written part after part.
 use Rattle.std.specs.List.{flat_map}
-use Rattle.std.proofs.Common.{◌≡◌, inr, ◌≤◌, ◌<◌, zero, suc, [], ◌∷◌, length, get_or, take, drop, refl, sym, ap, ◌∙◌, append_assoc, List, ℕ, ◌++◌, arith, true, false, Result, is_err, OnErr, OnOk}
+use Rattle.std.proofs.Common.{◌≡◌, inr, ◌≤◌, ◌<◌, zero, suc, [], ◌∷◌, length, get_or, take, drop, refl, sym, ap, ◌∙◌, append_assoc, List, ℕ, ◌++◌, arith, true, Result, is_err, OnErr}
 use Rattle.std.specs.declared.result.Result.TheVariants.{Ok, Err}
 use Rattle.cb_io.specs.Outside.{SinkTold, WritesAll, WritesFront, WriteFailed}
 use Rattle.cb_io.proofs.Told.{WritesFront-first, WritesFront-second}
@@ -9,10 +9,6 @@ use Rattle.cb_top.specs.Run.{Says}
 pub on_err : {T E P : Type 0} (r : Result T E) → is_err r ≡ true → OnErr r P → P
 on_err (Ok x) e h = cc
 on_err (Err x) e h = h
-
-pub on_ok : {T E P : Type 0} (r : Result T E) → is_err r ≡ false → OnOk r P → P
-on_ok (Ok x) e h = h
-on_ok (Err x) e h = cc
 
 -- the parts before this one were written, and a front of this one before a fault
 pub says_front : (a b c : SinkTold) (before part after : List ℕ) → WritesAll a b before → a.faults ≤ b.faults → WritesFront b c part → WriteFailed b c

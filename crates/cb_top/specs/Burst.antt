@@ -6,7 +6,7 @@ use Rattle.cb_network.specs.declared.finding.Finding.{Finding}
 use Rattle.cb_network.specs.Topology.{Topology}
 use Rattle.cb_network.specs.Finding.{IsBurst}
 use Rattle.cb_lines.specs.declared.topology.LineFault.{LineFault}
-use Rattle.cb_lines.specs.Lines.{IsFirstLong}
+use Rattle.cb_text.specs.Lines.{IsFirstLong}
 use Rattle.cb_lines.specs.Topologies.{MakesTopology, IsFirstWrong}
 use Rattle.cb_lines.specs.Symptoms.{ListsNodes, IsFirstBad}
 use Rattle.cb_top.specs.Model.{HasShortText, IsModelText}

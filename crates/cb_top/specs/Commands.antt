@@ -1,6 +1,7 @@
 -- The words of the command line, and the commands that they are.
 use Rattle.std.specs.Prelude.{◌≡◌, ◌⊎◌, ℕ, ◌≤◌, ◌^◌, ◌-◌, List, [], ◌∷◌, codes}
 use Rattle.cb_text.specs.Decimals.{IsDecimal}
+use Rattle.cb_top.specs.Asked.{Asked, asked, IsForBuilt, IsForBurst}
 use Rattle.cb_top.specs.declared.command.Command.{Command}
 use Rattle.cb_top.specs.declared.command.Command.TheVariants.{Burst, Model, NotBuilt}
 
@@ -21,16 +22,13 @@ IsSites word = IsNumber 1 256 word
 abbrev pub IsStart : List ℕ → Type 0
 IsStart word = IsNumber 0 (2 ^ 64 - 1) word
 
--- the words of the commands that are built: `burst` with its three files, and `model` with its one
+-- the words are those of a command that is built
 abbrev pub IsBuilt : List (List ℕ) → Type 0
-IsBuilt (command ∷ model ∷ []) = command ≡ codes "model"
-IsBuilt (command ∷ model ∷ topology ∷ symptoms ∷ []) = command ≡ codes "burst"
-IsBuilt words = ⊥
+IsBuilt words = IsForBuilt (asked words)
 
 -- the words of `burst`
 abbrev pub AskForBurst : List (List ℕ) → Type 0
-AskForBurst (command ∷ model ∷ topology ∷ symptoms ∷ []) = command ≡ codes "burst"
-AskForBurst words = ⊥
+AskForBurst words = IsForBurst (asked words)
 
 -- the words of the other commands: which name them, and which of the others are numbers
 abbrev pub IsUnbuilt : List (List ℕ) → Type 0
@@ -46,6 +44,6 @@ IsInTable words = IsBuilt words ⊎ IsUnbuilt words
 
 -- the words ask for this command
 abbrev pub Asks : List (List ℕ) → Command → Type 0
-Asks words (Burst model topology symptoms) = words ≡ codes "burst" ∷ model.now ∷ topology.now ∷ symptoms.now ∷ []
-Asks words (Model model) = words ≡ codes "model" ∷ model.now ∷ []
+Asks words (Burst model topology symptoms) = asked words ≡ Asked.burst model.now topology.now symptoms.now
+Asks words (Model model) = asked words ≡ Asked.model model.now
 Asks words NotBuilt = IsUnbuilt words

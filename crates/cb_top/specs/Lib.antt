@@ -1,4 +1,5 @@
 pub mod Status
+pub mod Asked
 pub mod Commands
 pub mod Faults
 pub mod Model
@@ -7,5 +8,6 @@ pub mod Halts
 pub mod Judged
 pub mod Outcome
 pub mod Run
+pub mod Ends
 pub mod Cause
 pub mod Laws

@@ -1,7 +1,6 @@
 -- What a run is to answer: a relation between the words, the bytes of the files, and the outcome.
-use Rattle.std.specs.Prelude.{◌≡◌, ◌⊎◌, ◌<◌, ℕ, List, [], ◌∷◌, length, if◌then◌else◌, map, String, string_bytes, codes, MatchBool}
+use Rattle.std.specs.Prelude.{◌≡◌, ◌⊎◌, ◌<◌, ℕ, List, [], ◌∷◌, length, map, String, string_bytes}
 use Rattle.std.specs.declared.alloc.Global.{Global}
-use Rattle.std.specs.Str.{bytes_eq}
 use Rattle.cb_grammar.specs.declared.tree.Tree.{Tree}
 use Rattle.cb_syntax.specs.Canonical.{canonical_text}
 use Rattle.cb_io.specs.Outside.{contents}
@@ -13,6 +12,7 @@ use Rattle.cb_network.specs.Finding.{IsBurst}
 use Rattle.cb_lines.specs.declared.topology.LineFault.{LineFault}
 use Rattle.cb_report.specs.Lines.{burst_text}
 use Rattle.cb_top.specs.declared.fault.ModelFault.{ModelFault}
+use Rattle.cb_top.specs.Asked.{Asked, asked, files_of}
 use Rattle.cb_top.specs.Commands.{IsUnbuilt}
 use Rattle.cb_top.specs.Faults.{usage_line, model_line, topology_line, symptom_line, limit_line, long_line, not_built_line}
 use Rattle.cb_top.specs.Model.{file_limit, IsTreeText, IsModelText, IsFaultOf}
@@ -132,20 +132,18 @@ BurstAnswers left model topology symptoms outcome =
 
 -- the words that name files, in the order in which they are read
 abbrev pub file_words : List (List ℕ) → List (List ℕ)
-file_words (command ∷ model ∷ []) = if bytes_eq command (codes "model") then model ∷ [] else []
-file_words (command ∷ model ∷ topology ∷ symptoms ∷ []) = if bytes_eq command (codes "burst") then model ∷ topology ∷ symptoms ∷ [] else []
-file_words words = []
+file_words words = files_of (asked words)
 
 -- words that name no file are those of a command that isn't built, or of none
 abbrev pub UnreadGives : List (List ℕ) → Outcome → Type 0
 UnreadGives words outcome = (IsUnbuilt words × (outcome ≡ not_built)) ⊎ ((¬ IsUnbuilt words) × (outcome ≡ usage))
 
+-- the outcome of what the words ask for
+abbrev pub AskGives : Asked → List (List ℕ) → List (List ℕ × List ℕ) → Outcome → Type 0
+AskGives (Asked.burst model topology symptoms) words left outcome = BurstAnswers left model topology symptoms outcome
+AskGives (Asked.model model) words left outcome = ModelAnswers left model outcome
+AskGives Asked.other words left outcome = UnreadGives words outcome
+
 -- the outcome of these words, by the bytes left of each name
 abbrev pub IsOutcome : List (List ℕ) → List (List ℕ × List ℕ) → Outcome → Type 0
-IsOutcome (command ∷ model ∷ []) left outcome =
-    MatchBool (bytes_eq command (codes "model")) (ModelAnswers left model outcome) (UnreadGives (command ∷ model ∷ []) outcome)
-IsOutcome (command ∷ model ∷ topology ∷ symptoms ∷ []) left outcome =
-    MatchBool (bytes_eq command (codes "burst"))
-    (BurstAnswers left model topology symptoms outcome)
-    (UnreadGives (command ∷ model ∷ topology ∷ symptoms ∷ []) outcome)
-IsOutcome words left outcome = UnreadGives words outcome
+IsOutcome words left outcome = AskGives (asked words) words left outcome

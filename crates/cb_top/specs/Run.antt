@@ -1,15 +1,18 @@
 -- What the clauses of a run say. `old` is told before the run, `new` after it.
-use Rattle.std.specs.Prelude.{◌≡◌, ◌≢◌, ◌⊎◌, ℕ, List, [], ◌+◌, take, slice_get, IfSome, Some, Result, Ok, Err, Vec}
+use Rattle.std.specs.Prelude.{◌≡◌, ◌≢◌, ◌⊎◌, ℕ, List, [], ◌∷◌, ◌++◌, take, slice_get, Option, IfSome, Some, Result, OnOk, IfErr, Ok, Err, Vec}
 use Rattle.std.specs.declared.alloc.Global.{Global}
-use Rattle.cb_io.specs.Outside.{FilesTold, SinkTold, left_of, ReadFailed, WritesAll, WritesFront, WriteFailed}
+use Rattle.cb_io.specs.Outside.{FilesTold, SinkTold, contents, left_of, ReadsEach, ReadFailed, WritesAll, WritesFront, WriteFailed}
+use Rattle.cb_model.specs.declared.tables.Tables.{Tables}
+use Rattle.cb_network.specs.Topology.{Topology}
+use Rattle.cb_top.specs.Model.{IsModelText}
+use Rattle.cb_top.specs.Burst.{IsTopologyText}
 use Rattle.cb_top.specs.declared.status.Status.{Status}
 use Rattle.cb_top.specs.declared.status.Status.TheVariants.{Done, WriteFault}
 use Rattle.cb_top.specs.declared.halt.Halt.{Halt}
 use Rattle.cb_top.specs.declared.halt.Halt.TheVariants as halts
 use Rattle.cb_top.specs.Faults.{usage_line, model_line, topology_line, symptom_line, limit_line, long_line, read_line, write_line, memory_line, not_built_line}
-use Rattle.cb_top.specs.Halts.{status_of}
+use Rattle.cb_top.specs.Halts.{OnFile, IsPlaced, status_of}
 use Rattle.cb_top.specs.Outcome.{Outcome, IsOutcome, file_words, done, usage, faulty, wrong_lined, bad_named, too_long, long_lined, not_built}
-use Rattle.cb_io.specs.Outside.{contents}
 
 -- the sink took the line, or a front of it where a write failed
 abbrev pub Says : SinkTold → SinkTold → List ℕ → Type 0
@@ -19,19 +22,41 @@ Says old new line = WritesAll old new line ⊎ (WritesFront old new line × Writ
 abbrev pub TakesNothing : SinkTold → SinkTold → Type 0
 TakesNothing old new = WritesAll old new []
 
--- A read of the file word at a place failed. The file words before it were read whole, and all names but that one and
--- those have left what they had.
-pub record StopsAt (names : List (List ℕ)) (place : ℕ) (old new : FilesTold) : Type 0 where
+-- a front of these bytes was taken, and the rest is left
+abbrev pub LeavesRest : List ℕ → Option (List ℕ) → Type 0
+LeavesRest bytes left = (front : List ℕ) × (rest : List ℕ) × (bytes ≡ front ++ rest) × (left ≡ Some rest)
+
+-- Nothing was taken of a file word behind the one at a place. Those before it were read whole, a front was taken of what they left
+-- of its name, and of every other name there is left what they left of it: nothing, where it is one of them, and else all.
+pub record ReadsUpTo (names : List (List ℕ)) (place : ℕ) (old new : FilesTold) : Type 0 where
   pub name : List ℕ
   pub is : slice_get names place ≡ Some name
-  pub failed : ReadFailed old new name
+  pub front : IfSome old.left (λ left. LeavesRest (contents left (take place names) name) (left_of new name))
   pub others : IfSome old.left (λ left. (other : List ℕ) → other ≢ name → left_of new other ≡ Some (contents left (take place names) other))
 
--- a file word stopped the run, and the line names it
+-- The files of these names, in the order in which they are read, have passed: the first says a model, and the second a topology of
+-- it. No more than two stand before another.
+abbrev pub HavePassed : List (List ℕ × List ℕ) → List (List ℕ) → Type 0
+HavePassed left [] = Unit {0}
+HavePassed left (model ∷ []) = (tables : Tables) × IsModelText (contents left [] model) tables
+HavePassed left (model ∷ topology ∷ []) =
+    (tables : Tables)
+    × IsModelText (contents left [] model) tables
+    × (network : Topology)
+    × IsTopologyText tables (contents left (model ∷ []) topology) network
+HavePassed left names = ⊥
+
+-- a read of the file word at a place failed, nothing was taken of a later one, and those before it have passed
+pub record FailsAt (names : List (List ℕ)) (place : ℕ) (old new : FilesTold) : Type 0 where
+  pub last : ReadsUpTo names place old new
+  pub failed : ReadFailed old new last.name
+  pub passed : IfSome old.left (λ left. HavePassed left (take place names))
+
+-- a read of a file word failed, and the line names it
 pub record BlamesFile (words : List (List ℕ)) (old new : FilesTold) (err_old err_new : SinkTold) : Type 0 where
   pub place : ℕ
-  pub stops : StopsAt (file_words words) place old new
-  pub says : Says err_old err_new (read_line stops.name)
+  pub fails : FailsAt (file_words words) place old new
+  pub says : Says err_old err_new (read_line fails.last.name)
 
 -- a write failed, and the line says so
 pub record BlamesOut (old new err_old err_new : SinkTold) : Type 0 where
@@ -46,19 +71,9 @@ pub record Answers (words : List (List ℕ)) (left : List (List ℕ × List ℕ)
   pub output : WritesAll out_old out_new outcome.out
   pub says : Says err_old err_new outcome.line
 
--- the output took a front of the outcome's bytes
+-- the outcome is a whole output, and the sink took a front of it
 abbrev pub TakesFront : List (List ℕ) → List (List ℕ × List ℕ) → SinkTold → SinkTold → Type 0
-TakesFront words left old new = (outcome : Outcome) × IsOutcome words left outcome × WritesFront old new outcome.out
-
--- a fact where a file word couldn't be read, of its place
-abbrev pub OnFileFault : Halt → (ℕ → Type 0) → Type 0
-OnFileFault (halts.ReadFault place) P = P place
-OnFileFault halt P = Unit {0}
-
--- the same, where a result may be such a halt
-abbrev pub OnStop : {T : Type 0} → Result T Halt → (ℕ → Type 0) → Type 0
-OnStop (Ok value) P = Unit {0}
-OnStop (Err halt) P = OnFileFault halt P
+TakesFront words left old new = (bytes : List ℕ) × IsOutcome words left (done bytes) × WritesFront old new bytes
 
 -- what a halt shows of the outcome, by the names of the files
 abbrev pub HaltShows : List (List ℕ) → Halt → (Outcome → Type 0) → Type 0
@@ -76,21 +91,40 @@ abbrev pub Shows : List (List ℕ) → Result (Vec ℕ Global) Halt → (Outcome
 Shows names (Ok bytes) IsIt = IsIt (done bytes.items)
 Shows names (Err halt) IsIt = HaltShows names halt IsIt
 
--- the line that tells why there is no output, by the words: the first file word stands right behind the command
+-- nothing was taken of a file behind the one that a halt tells, if it tells one
+abbrev pub IsLastRead : List (List ℕ) → FilesTold → FilesTold → Halt → Type 0
+IsLastRead names old new halt = OnFile halt (λ place. ReadsUpTo names place old new)
+
+-- where the halt is that a file couldn't be read, a read of it failed, and those before it have passed
+abbrev pub IsFailedRead : List (List ℕ) → FilesTold → FilesTold → Halt → Type 0
+IsFailedRead names old new (halts.ReadFault place) = FailsAt names place old new
+IsFailedRead names old new halt = Unit {0}
+
+-- The files of these names were read and judged, one after the other. With a value all were read, and it is the outcome's output.
+-- With a halt, the outcome is the one that it shows, the file that it tells is one of these, and nothing was taken of one behind it;
+-- where that couldn't be read, a read of it failed.
+pub record ReadsAndJudges (names : List (List ℕ)) (IsIt : List (List ℕ × List ℕ) → Outcome → Type 0) (old new : FilesTold) (result : Result (Vec ℕ Global) Halt) : Type 0 where
+  pub shows : IfSome old.left (λ left. Shows names result (IsIt left))
+  pub read : OnOk result (ReadsEach old new names)
+  pub placed : IfErr result (IsPlaced names)
+  pub last : IfErr result (IsLastRead names old new)
+  pub failed : IfErr result (IsFailedRead names old new)
+
+-- the line that tells why there is no output, by the names of the files
 abbrev pub IsLine : List (List ℕ) → Halt → List ℕ → Type 0
-IsLine words halts.Usage line = line ≡ usage_line
-IsLine words (halts.Model fault) line = line ≡ model_line fault
-IsLine words (halts.Topology number fault) line = line ≡ topology_line number fault
-IsLine words (halts.Symptoms number) line = line ≡ symptom_line number
-IsLine words (halts.TooLong place) line = (name : List ℕ) × (slice_get words (place + 1) ≡ Some name) × (line ≡ limit_line name)
-IsLine words (halts.LongLine place number) line = (name : List ℕ) × (slice_get words (place + 1) ≡ Some name) × (line ≡ long_line name number)
-IsLine words (halts.ReadFault place) line = (name : List ℕ) × (slice_get words (place + 1) ≡ Some name) × (line ≡ read_line name)
-IsLine words halts.Memory line = line ≡ memory_line
-IsLine words halts.NotBuilt line = line ≡ not_built_line
+IsLine names halts.Usage line = line ≡ usage_line
+IsLine names (halts.Model fault) line = line ≡ model_line fault
+IsLine names (halts.Topology number fault) line = line ≡ topology_line number fault
+IsLine names (halts.Symptoms number) line = line ≡ symptom_line number
+IsLine names (halts.TooLong place) line = (name : List ℕ) × (slice_get names place ≡ Some name) × (line ≡ limit_line name)
+IsLine names (halts.LongLine place number) line = (name : List ℕ) × (slice_get names place ≡ Some name) × (line ≡ long_line name number)
+IsLine names (halts.ReadFault place) line = (name : List ℕ) × (slice_get names place ≡ Some name) × (line ≡ read_line name)
+IsLine names halts.Memory line = line ≡ memory_line
+IsLine names halts.NotBuilt line = line ≡ not_built_line
 
 -- the error sink was given the line that tells why
 abbrev pub Explains : List (List ℕ) → Halt → SinkTold → SinkTold → Type 0
-Explains words halt old new = (line : List ℕ) × IsLine words halt line × Says old new line
+Explains names halt old new = (line : List ℕ) × IsLine names halt line × Says old new line
 
 -- how the bytes of the output are written
 abbrev pub Delivers : List ℕ → Status → SinkTold → SinkTold → SinkTold → SinkTold → Type 0
@@ -101,8 +135,14 @@ Delivers bytes status out out' err err' = ⊥
 -- how a run ends, once the files were read and judged
 abbrev pub Concludes : List (List ℕ) → Result (Vec ℕ Global) Halt → Status → SinkTold → SinkTold → SinkTold → SinkTold → Type 0
 Concludes words (Ok bytes) status out out' err err' = Delivers bytes.items status out out' err err'
-Concludes words (Err halt) status out out' err err' = TakesNothing out out' × (status ≡ status_of halt) × Explains words halt err err'
+Concludes words (Err halt) status out out' err err' = TakesNothing out out' × (status ≡ status_of halt) × Explains (file_words words) halt err err'
 
--- the error sink was given the line of a halt that a run of this status may have
-abbrev pub SaysWhy : List (List ℕ) → Status → SinkTold → SinkTold → Type 0
-SaysWhy words status old new = (halt : Halt) × (status_of halt ≡ status) × Explains words halt old new
+-- One halt kept the run from its output: the status is that of the halt, the outcome is the one that it shows, the error sink was
+-- given its line, nothing was taken of a file behind the one it tells, and where it is a failed read, a read of that file failed.
+pub record SaysWhy (words : List (List ℕ)) (status : Status) (old new : FilesTold) (err_old err_new : SinkTold) : Type 0 where
+  pub halt : Halt
+  pub status_is : status_of halt ≡ status
+  pub shows : IfSome old.left (λ left. HaltShows (file_words words) halt (IsOutcome words left))
+  pub says : Explains (file_words words) halt err_old err_new
+  pub last : IsLastRead (file_words words) old new halt
+  pub failed : IsFailedRead (file_words words) old new halt

@@ -1,12 +1,12 @@
 //! The command `burst`.
-ghost use Rattle.std.specs.Prelude.{[], ◌∷◌, OnOk, IfOk, IfErr, IfSome};
-ghost use Rattle.cb_io.specs.Outside.{KeepsOthers, NoCountFalls, ReadsEach};
+ghost use Rattle.std.specs.Prelude.{[], ◌∷◌, IfOk, IfErr};
+ghost use Rattle.cb_io.specs.Outside.{KeepsOthers, NoCountFalls, ReadsFront};
 ghost use Rattle.cb_topo.specs.Numbered.{topology_of};
 ghost use Rattle.cb_top.specs.Model.{IsModelText};
 ghost use Rattle.cb_top.specs.Burst.{IsTopologyText, IsSymptomText};
-ghost use Rattle.cb_top.specs.Halts.{IsPlaced, ReadsSuch, StopsFile, JudgesModel, JudgesTopology, JudgesSymptoms};
+ghost use Rattle.cb_top.specs.Halts.{IsOfFiles, ReadsSuch, StopsFile, JudgesModel, JudgesTopology, JudgesSymptoms};
 ghost use Rattle.cb_top.specs.Outcome.{BurstAnswers};
-ghost use Rattle.cb_top.specs.Run.{StopsAt, Shows, OnStop};
+ghost use Rattle.cb_top.specs.Run.{ReadsAndJudges};
 
 use crate::files::{MODEL, SYMPTOMS, TOPOLOGY, read_file};
 use crate::halt::Halt;
@@ -27,10 +27,9 @@ pub fn burst<F: Files, L: Ledger>(
     symptoms: &str,
     steps: &mut Steps<L>,
 ) -> Result<Vec<u8>, Halt>
-    ensures answer { IfSome (F.tells files.old).left (λ left. Shows (model.now ∷ topology.now ∷ symptoms.now ∷ []) result (BurstAnswers left model.now topology.now symptoms.now)) }
-    ensures read { OnOk result (ReadsEach (F.tells files.old) (F.tells files.new) (model.now ∷ topology.now ∷ symptoms.now ∷ [])) }
-    ensures stop { OnStop result (λ place. StopsAt (model.now ∷ topology.now ∷ symptoms.now ∷ []) place (F.tells files.old) (F.tells files.new)) }
-    ensures placed { IfErr result (IsPlaced (model.now ∷ topology.now ∷ symptoms.now ∷ [])) }
+    ensures judged { ReadsAndJudges (model.now ∷ topology.now ∷ symptoms.now ∷ []) (λ left. BurstAnswers left model.now topology.now symptoms.now)
+        (F.tells files.old) (F.tells files.new) result }
+    ensures of_files { IfErr result IsOfFiles }
 {
     let model = read_model(alloc, files, model)?;
     let topology = read_topology_file(alloc, files, model, topology)?;
@@ -42,6 +41,7 @@ pub fn burst<F: Files, L: Ledger>(
 fn read_model<F: Files>(alloc: Global, files: &mut F, name: &str) -> Result<Model, Halt>
     ensures model { IfOk result (λ model. ReadsSuch (F.tells files.old) (F.tells files.new) name.now (λ text. IsModelText text model)) }
     ensures halt { IfErr result (StopsFile MODEL name.now JudgesModel (F.tells files.old) (F.tells files.new)) }
+    ensures front { ReadsFront (F.tells files.old) (F.tells files.new) name.now }
     ensures others { KeepsOthers (F.tells files.old) (F.tells files.new) name.now }
     ensures counts { NoCountFalls (F.tells files.old) (F.tells files.new) }
 {
@@ -58,6 +58,7 @@ fn read_topology_file<F: Files>(
 ) -> Result<Topology, Halt>
     ensures topology { IfOk result (λ topology. ReadsSuch (F.tells files.old) (F.tells files.new) name.now (λ text. IsTopologyText model text (topology_of topology))) }
     ensures halt { IfErr result (StopsFile TOPOLOGY name.now (JudgesTopology model) (F.tells files.old) (F.tells files.new)) }
+    ensures front { ReadsFront (F.tells files.old) (F.tells files.new) name.now }
     ensures others { KeepsOthers (F.tells files.old) (F.tells files.new) name.now }
     ensures counts { NoCountFalls (F.tells files.old) (F.tells files.new) }
 {
@@ -73,6 +74,7 @@ fn read_symptom_file<F: Files>(
 ) -> Result<List<NodeName>, Halt>
     ensures raised { IfOk result (λ raised. ReadsSuch (F.tells files.old) (F.tells files.new) name.now (λ text. IsSymptomText text raised)) }
     ensures halt { IfErr result (StopsFile SYMPTOMS name.now JudgesSymptoms (F.tells files.old) (F.tells files.new)) }
+    ensures front { ReadsFront (F.tells files.old) (F.tells files.new) name.now }
     ensures others { KeepsOthers (F.tells files.old) (F.tells files.new) name.now }
     ensures counts { NoCountFalls (F.tells files.old) (F.tells files.new) }
 {

@@ -1,5 +1,5 @@
 //! The one line that says why there is no output. It is written in parts and takes no memory.
-ghost use Rattle.std.specs.Prelude.{◌≡◌, ◌++◌, ◌+◌, ◌<◌, length, slice_get, codes, Some};
+ghost use Rattle.std.specs.Prelude.{◌≡◌, ◌++◌, ◌<◌, length, slice_get, codes, Some};
 ghost use Rattle.std.specs.List.{flat_map};
 ghost use Rattle.cb_top.specs.Faults.{model_line, line_of_model, at_line, unexpected_line, long_line};
 ghost use Rattle.cb_top.specs.Halts.{IsPlaced};
@@ -15,7 +15,7 @@ use itoa::Buffer;
 /// Says why there is no output.
 pub fn explain<E: Sink>(err: &mut E, words: &[String], halt: Halt)
     requires { IsPlaced (file_words (texts words.now)) halt }
-    ensures { Explains (texts words.now) halt (E.tells err.old) (E.tells err.new) }
+    ensures { Explains (file_words (texts words.now)) halt (E.tells err.old) (E.tells err.new) }
 {
     match halt {
         Halt::Usage => say(err, &[b"error 2 usage\n"]),
@@ -34,8 +34,8 @@ pub fn explain<E: Sink>(err: &mut E, words: &[String], halt: Halt)
 
 // The name of the file at a place among the file words, which stand right behind the command.
 fn name_at(words: &[String], place: usize) -> &str
-    requires { place + 1 < length words.now }
-    ensures { slice_get (texts words.now) (place + 1) ≡ Some result.now }
+    requires { place < length (file_words (texts words.now)) }
+    ensures { slice_get (file_words (texts words.now)) place ≡ Some result.now }
 {
     words[place + 1].as_str()
 }

@@ -1,6 +1,6 @@
 //! The files of a command, each read whole.
 ghost use Rattle.std.specs.Prelude.{◌≤◌, length, IfOk, IfErr};
-ghost use Rattle.cb_io.specs.Outside.{ReadsAll, KeepsOthers, NoCountFalls};
+ghost use Rattle.cb_io.specs.Outside.{ReadsAll, ReadsFront, KeepsOthers, NoCountFalls};
 ghost use Rattle.cb_top.specs.Model.{HasShortText};
 ghost use Rattle.cb_top.specs.Halts.{StopsFile, JudgesLength};
 
@@ -30,6 +30,7 @@ pub fn read_file<F: Files>(
     ensures text { IfOk result (λ text. ReadsAll (F.tells files.old) (F.tells files.new) name.now text.items) }
     ensures short { IfOk result (λ text. HasShortText text.items) }
     ensures halt { IfErr result (StopsFile place name.now JudgesLength (F.tells files.old) (F.tells files.new)) }
+    ensures front { ReadsFront (F.tells files.old) (F.tells files.new) name.now }
     ensures others { KeepsOthers (F.tells files.old) (F.tells files.new) name.now }
     ensures counts { NoCountFalls (F.tells files.old) (F.tells files.new) }
 {

@@ -173,6 +173,31 @@ fn a_failed_read_names_its_file(rt: HostRuntime) -> Result<(), Fail> {
 }
 
 #[test]
+fn a_fault_is_told_before_the_next_file_is_read(rt: HostRuntime) -> Result<(), Fail> {
+    // The files that are there, the status and the line.
+    let cases: [(&[(&str, &str)], u8, &str); 2] = [
+        (&[("m", "class A {\n")], 3, "error 3 model unfinished\n"),
+        (
+            &[("m", ""), ("t", "create\n")],
+            4,
+            "error 4 topology line 1 bad-words\n",
+        ),
+    ];
+    for (files, code, err) in cases {
+        let case = Case {
+            words: &["burst", "m", "t", "s"],
+            files,
+            piece: 0,
+            failing_read: 0,
+            failing_write: 0,
+        };
+        let wanted = Wanted { code, out: "", err };
+        check(&rt, rt.alloc(), &case, &wanted)?;
+    }
+    Ok(())
+}
+
+#[test]
 fn a_refused_write_leaves_a_front(rt: HostRuntime) -> Result<(), Fail> {
     for (failing_write, out) in [(1, ""), (2, "burst r"), (3, "burst raised 0")] {
         let case = Case {
@@ -188,6 +213,124 @@ fn a_refused_write_leaves_a_front(rt: HostRuntime) -> Result<(), Fail> {
             err: "error 9 write\n",
         };
         check(&rt, rt.alloc(), &case, &wanted)?;
+    }
+    Ok(())
+}
+
+/// A run that comes to its end: the words, the files in the order in which they are read, and the output.
+#[derive(Clone, Copy)]
+struct Worked<'a> {
+    words: &'a [&'a str],
+    files: &'a [(&'a str, &'a str)],
+    out: &'a str,
+}
+
+// How many bytes a read gives at most, and a write takes.
+const PIECE: usize = 7;
+
+const WORKED: [Worked<'static>; 4] = [
+    Worked {
+        words: &["model", "m"],
+        files: &[("m", LINK)],
+        out: LINK,
+    },
+    Worked {
+        words: &["burst", "m", "t", "s"],
+        files: &[
+            ("m", PUMP_IN_A_LINE),
+            ("t", "create p1 Pump\n"),
+            ("s", "Heat@p1\n"),
+        ],
+        out: "burst raised 1 unknown 0 distance 1 radius 0 unsure groups 3\n  group quiet\n  group Dry@p1\n  group Worn@p1\n",
+    },
+    Worked {
+        words: &["burst", "m", "t", "s"],
+        files: &[("m", LINK), ("t", LINKED_AND_MUTED), ("s", "NoSignal@b\n")],
+        out: "burst raised 1 unknown 1 distance 0 radius 0 sure groups 1\n  group quiet Fail@b\n",
+    },
+    Worked {
+        words: &["burst", "m", "t", "s"],
+        files: &[("m", NODE), ("t", CHAIN), ("s", "Sick@n1\nSick@n3\n")],
+        out: "burst raised 2 unknown 0 distance 1 radius 1 sure groups 1\n  group Sick@n1 Sick@n2 Sick@n3\n",
+    },
+];
+
+// The run in small pieces, in which these calls fail.
+fn in_pieces<'a>(worked: &Worked<'a>, failing_read: u64, failing_write: u64) -> Case<'a> {
+    Case {
+        words: worked.words,
+        files: worked.files,
+        piece: PIECE,
+        failing_read,
+        failing_write,
+    }
+}
+
+// Each read fails in turn: the line names its file, and there is no output.
+fn each_read_fails(rt: &impl Abort, alloc: Global, worked: &Worked<'_>) -> Result<(), AllocError> {
+    let mut read = 0_u64;
+    for (name, text) in worked.files {
+        let err = format!(in alloc; "error 8 read {name}\n")?;
+        let wanted = Wanted {
+            code: 8,
+            out: "",
+            err: err.as_str(),
+        };
+        // One read for each piece, and one that finds the end.
+        for _ in 0..=text.as_bytes().chunks(PIECE).len() {
+            read = read.saturating_add(1);
+            check(rt, alloc, &in_pieces(worked, read, 0), &wanted)?;
+        }
+    }
+    let wanted = Wanted {
+        code: 0,
+        out: worked.out,
+        err: "",
+    };
+    check(
+        rt,
+        alloc,
+        &in_pieces(worked, read.saturating_add(1), 0),
+        &wanted,
+    )
+}
+
+// Each write fails in turn: the output has the pieces before it.
+fn each_write_fails(rt: &impl Abort, alloc: Global, worked: &Worked<'_>) -> Result<(), Fail> {
+    let mut write = 0_u64;
+    let mut front = Vec::new(alloc);
+    for piece in worked.out.as_bytes().chunks(PIECE) {
+        write = write.saturating_add(1);
+        let Ok(out) = from_utf8(&front) else {
+            return Err(Fail::new("a front of the output is text"));
+        };
+        let wanted = Wanted {
+            code: 9,
+            out,
+            err: "error 9 write\n",
+        };
+        check(rt, alloc, &in_pieces(worked, 0, write), &wanted)?;
+        front.extend_from_slice(piece)?;
+    }
+    let wanted = Wanted {
+        code: 0,
+        out: worked.out,
+        err: "",
+    };
+    check(
+        rt,
+        alloc,
+        &in_pieces(worked, 0, write.saturating_add(1)),
+        &wanted,
+    )?;
+    Ok(())
+}
+
+#[test]
+fn each_call_fails_in_turn(rt: HostRuntime) -> Result<(), Fail> {
+    for worked in WORKED {
+        each_read_fails(&rt, rt.alloc(), &worked)?;
+        each_write_fails(&rt, rt.alloc(), &worked)?;
     }
     Ok(())
 }

@@ -1,13 +1,13 @@
 //! The top call.
-ghost use Rattle.std.specs.Prelude.{◌≡◌, OnOk, IfErr, IfSome};
+ghost use Rattle.std.specs.Prelude.{◌≡◌, IfSome};
 ghost use Rattle.cb_top.specs.Status.{OnAnswer, OnDone, OnNoOutput, OnReadFault, OnWriteFault, OnMemory};
-ghost use Rattle.cb_top.specs.Commands.{IsInTable, IsUnbuilt, AskForBurst};
+ghost use Rattle.cb_top.specs.Commands.{IsBuilt, IsInTable, IsUnbuilt, AskForBurst};
 ghost use Rattle.cb_top.specs.Faults.{memory_line};
-ghost use Rattle.cb_top.specs.Halts.{IsPlaced};
 ghost use Rattle.cb_top.specs.Outcome.{texts, file_words, IsOutcome};
 ghost use Rattle.cb_top.specs.Cause.{FindsTheCause};
+ghost use Rattle.cb_top.specs.Ends.{MayEnd, MayGive};
 ghost use Rattle.cb_io.specs.Outside.{ReadsEach};
-ghost use Rattle.cb_top.specs.Run.{Answers, TakesFront, TakesNothing, BlamesFile, BlamesOut, Says, SaysWhy, StopsAt, Shows, OnStop};
+ghost use Rattle.cb_top.specs.Run.{Answers, TakesFront, TakesNothing, BlamesFile, BlamesOut, ReadsAndJudges, Says, SaysWhy};
 
 use crate::burst::burst;
 use crate::command::Command;
@@ -33,11 +33,14 @@ pub fn run<F: Files, O: Sink, E: Sink, L: Ledger>(
     // Status, output and line are those of the outcome, unless a read or a write failed or memory ran out.
     ensures answer { OnAnswer result (IfSome (F.tells files.old).left (λ left.
         Answers (texts words.now) left result (O.tells out.old) (O.tells out.new) (E.tells err.old) (E.tells err.new))) }
-    // Where a write failed, the output is the outcome's up to some byte; at each other status but 0 there is none.
+    // Where a write failed, the outcome is a whole output, of which a front was written; at each other status but 0 there is none.
     ensures front { OnWriteFault result (IfSome (F.tells files.old).left (λ left. TakesFront (texts words.now) left (O.tells out.old) (O.tells out.new))) }
     ensures no_output { OnNoOutput result (TakesNothing (O.tells out.old) (O.tells out.new)) }
     ensures no_line { OnDone result (TakesNothing (E.tells err.old) (E.tells err.new)) }
-    // Where the words are none of the table, or those of a command that isn't built, nothing else matters.
+    // Which words end how, whatever the files tell: 2 comes exactly where they are none of the table, 11 exactly where they are
+    // those of a command that isn't built, 4 for `burst` alone, and nothing is read but for a command that is built.
+    ensures ends { MayEnd (texts words.now) result }
+    ensures unread { (¬ IsBuilt (texts words.now)) → files.new ≡ files.old }
     ensures usage { (¬ IsInTable (texts words.now)) → result ≡ Status.Usage }
     ensures unbuilt { IsUnbuilt (texts words.now) → result ≡ Status.NotBuilt }
     // The headline: what `burst` prints are exactly the groups nearest to what is raised, by codes from what causes what; and
@@ -45,10 +48,13 @@ pub fn run<F: Files, O: Sink, E: Sink, L: Ledger>(
     ensures cause { OnDone result (IfSome (F.tells files.old).left (λ left.
         FindsTheCause (texts words.now) left (O.tells out.old) (O.tells out.new))) }
     ensures read_whole { OnDone result (ReadsEach (F.tells files.old) (F.tells files.new) (file_words (texts words.now))) }
+    // Where a read failed, the line names the file, those before it were read whole and have passed, and nothing was taken of a
+    // later one.
     ensures read_fault { OnReadFault result (BlamesFile (texts words.now) (F.tells files.old) (F.tells files.new) (E.tells err.old) (E.tells err.new)) }
     ensures write_fault { OnWriteFault result (BlamesOut (O.tells out.old) (O.tells out.new) (E.tells err.old) (E.tells err.new)) }
-    // At each other status but 0 the line tells why there is no output.
-    ensures line { OnNoOutput result (SaysWhy (texts words.now) result (E.tells err.old) (E.tells err.new)) }
+    // At each other status but 0 the line tells why there is no output, which is what the outcome says, and nothing was taken of a
+    // file behind the one that it tells: one that is refused is refused before bytes of the next one are taken.
+    ensures line { OnNoOutput result (SaysWhy (texts words.now) result (F.tells files.old) (F.tells files.new) (E.tells err.old) (E.tells err.new)) }
     ensures memory { OnMemory result (Says (E.tells err.old) (E.tells err.new) memory_line) }
     ensures steps { (¬ AskForBurst (texts words.now)) → steps.new ≡ steps.old }
 {
@@ -63,10 +69,9 @@ fn answer<F: Files, L: Ledger>(
     files: &mut F,
     steps: &mut Steps<L>,
 ) -> Result<Vec<u8>, Halt>
-    ensures answer { IfSome (F.tells files.old).left (λ left. Shows (file_words (texts words.now)) result (IsOutcome (texts words.now) left)) }
-    ensures read { OnOk result (ReadsEach (F.tells files.old) (F.tells files.new) (file_words (texts words.now))) }
-    ensures stop { OnStop result (λ place. StopsAt (file_words (texts words.now)) place (F.tells files.old) (F.tells files.new)) }
-    ensures placed { IfErr result (IsPlaced (file_words (texts words.now))) }
+    ensures judged { ReadsAndJudges (file_words (texts words.now)) (IsOutcome (texts words.now)) (F.tells files.old) (F.tells files.new) result }
+    ensures ends { MayGive (texts words.now) result }
+    ensures unread { (¬ IsBuilt (texts words.now)) → files.new ≡ files.old }
     ensures usage { (¬ IsInTable (texts words.now)) → result ≡ Err Halt.Usage }
     ensures unbuilt { IsUnbuilt (texts words.now) → result ≡ Err Halt.NotBuilt }
     ensures steps { (¬ AskForBurst (texts words.now)) → steps.new ≡ steps.old }

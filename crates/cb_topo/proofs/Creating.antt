@@ -10,23 +10,23 @@ use Rattle.cb_model.proofs.Rising.{name_cmp_total, name_cmp_exact}
 use Rattle.cb_network.specs.Topology.{Topology, IsLive as IsLiveName, IsOf}
 use Rattle.cb_network.specs.Nodes.{IsNodeOf, IsCount, IsBeyond}
 use Rattle.cb_network.specs.Sound.{node_limit}
-use Rattle.cb_network.specs.Edits.{with_instance, Changes}
+use Rattle.cb_network.specs.Edits.{with_instance, Changes, IsAccepted}
 use Rattle.cb_network.proofs.Kept.{live_of}
 use Rattle.cb_network.proofs.Sets.{got_insert}
 use Rattle.cb_net.specs.declared.id.InstanceId.{InstanceId}
-use Rattle.cb_net.specs.Numbered.{Net, slot, IsNamed, IsLive, IsFree, SetsOnly, HasEventAt, IsWhole as IsWholeNet, name_at}
+use Rattle.cb_net.specs.Numbered.{Net, slot, IsNamed, IsLive, IsFree, SetsOnly, Creates, HasEventAt, IsWhole as IsWholeNet, name_at}
 use Rattle.cb_net.proofs.Placing.{decide_id}
 use Rattle.cb_nodes.specs.declared.id.NodeId.{NodeId}
 use Rattle.cb_nodes.specs.declared.node.Node.{Node}
 use Rattle.cb_nodes.specs.Table.{Table, IsNode, HasEvent as HasEventIn, IsOne, Adds, count_of}
 use Rattle.cb_accept.proofs.Own.{event_is_listed, listed_is_event}
-use Rattle.cb_topo.specs.Applied.{KeepsInstances, KeepsNodes, IsAccepted}
+use Rattle.cb_topo.specs.Applied.{KeepsInstances, KeepsNodes}
 use Rattle.cb_topo.specs.Kept.{FitsTable, IsKept}
 use Rattle.cb_topo.specs.Made.{Makes}
 use Rattle.cb_topo.proofs.Regular.{typed_is_regular}
 use Rattle.cb_accept.specs.declared.counts.Counts.{Counts}
 use Rattle.cb_accept.specs.Counts.{CountWith}
-use Rattle.cb_nodes.specs.Created.{Creates, AddsAll}
+use Rattle.cb_nodes.specs.Created.{AddsAll}
 use Rattle.cb_network.specs.declared.edit.Edit.TheVariants.{Create}
 use Rattle.cb_network.specs.declared.edit.EditRefusal.TheVariants.{Exists, NodeLimit}
 use Rattle.cb_network.proofs.Accepted.{edit_keeps_sound}
@@ -122,7 +122,7 @@ module _ (n : Net) (name : List ℕ) (c : ClassId) (names : List (Option (List �
           (k, adds.kept k _ is)
     ]
 
-    pub count : IsCount (IsNodeOf new.topology) (count_of ms)
+    count : IsCount (IsNodeOf new.topology) (count_of ms)
     count = fits_count new ms typed whole one live had all
 
     -- the numbers stay below the limit, since the nodes do
@@ -142,7 +142,7 @@ module _ (n : Net) (name : List ℕ) (c : ClassId) (names : List (Option (List �
         limited m a b limit is low_a low_b = omega arith
 
     pub created_fits : FitsTable new ms
-    created_fits = record { one = one; live = live; had = had; all = all; count = count; few = few }
+    created_fits = record { one = one; live = live; had = had; all = all; few = few }
 
   pub keeps_instances : (ns ms : Table) → KeepsInstances (record { net = n; nodes = ns }) (record { net = new; nodes = ms })
   keeps_instances ns ms = λ i x is live. named_stays i x is

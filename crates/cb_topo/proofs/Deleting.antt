@@ -7,7 +7,7 @@ use Rattle.cb_model.specs.declared.id.EventId.{EventId}
 use Rattle.cb_model.specs.WellTyped.{WellTyped}
 use Rattle.cb_model.proofs.Rising.{name_cmp_total, name_cmp_exact}
 use Rattle.cb_network.specs.Topology.{Topology, IsLive as IsLiveName, IsOf}
-use Rattle.cb_network.specs.Edits.{without_instance, Changes}
+use Rattle.cb_network.specs.Edits.{without_instance, Changes, IsAccepted}
 use Rattle.cb_network.specs.Sound.{node_limit}
 use Rattle.cb_network.proofs.Kept.{class_of}
 use Rattle.cb_network.proofs.Sets.{got_remove}
@@ -16,7 +16,7 @@ use Rattle.cb_net.specs.Numbered.{Net, slot, IsNamed, IsLive, HasEventAt, IsWhol
 use Rattle.cb_nodes.specs.declared.id.NodeId.{NodeId}
 use Rattle.cb_nodes.specs.declared.node.Node.{Node}
 use Rattle.cb_nodes.specs.Table.{Table, IsNode, HasEvent as HasEventIn, IsOne, Removes}
-use Rattle.cb_topo.specs.Applied.{KeepsInstances, KeepsNodes, IsAccepted}
+use Rattle.cb_topo.specs.Applied.{KeepsInstances, KeepsNodes}
 use Rattle.cb_topo.specs.Kept.{FitsTable, IsKept}
 use Rattle.cb_topo.specs.Made.{Makes}
 use Rattle.cb_topo.proofs.Regular.{typed_is_regular}
@@ -24,7 +24,6 @@ use Rattle.cb_accept.specs.declared.counts.Counts.{Counts}
 use Rattle.cb_accept.specs.Counts.{AreCounts, CountWithout}
 use Rattle.cb_network.specs.declared.edit.Edit.TheVariants.{Delete}
 use Rattle.cb_network.proofs.Accepted.{edit_keeps_sound}
-use Rattle.cb_topo.proofs.Counted.{fits_count}
 use Rattle.cb_topo.proofs.Named.{name_is, named_at}
 use Rattle.cb_net.proofs.Placing.{same_id}
 
@@ -80,7 +79,7 @@ module _ (n : Net) (id : InstanceId) (here : IsLive n id) (whole : IsWholeNet n)
       let left = class_was n.topology gone x d (subst (λ q. IsOf new.topology q d) now of_d) in
       ((x, was.1), (d, subst (λ q. IsOf n.topology q d) (sym old) left.1, has))
 
-  module _ (ns ms : Table) (fits : FitsTable n ns) (typed : WellTyped n.topology.model) (new_whole : IsWholeNet new) (one : IsOne ms)
+  module _ (ns ms : Table) (fits : FitsTable n ns) (one : IsOne ms)
       (removes : Removes ns ms id) where
     live : (k : NodeId) (node : Node) → IsNode ms k node → IsLive new node.instance
     live k node is =
@@ -103,7 +102,7 @@ module _ (n : Net) (id : InstanceId) (here : IsLive n id) (whole : IsWholeNet n)
     few = let before = fits.few in let same = removes.room in omega arith
 
     pub deleted_fits : FitsTable new ms
-    deleted_fits = record { one = one; live = live; had = had; all = all; count = fits_count new ms typed new_whole one live had all; few = few }
+    deleted_fits = record { one = one; live = live; had = had; all = all; few = few }
 
   left_name : (x : List ℕ) → IsLiveName new.topology x → x ≢ gone
   left_name x live = let (d, is) = class_of new.topology x live in (class_was n.topology gone x d is).0
@@ -145,7 +144,7 @@ delete_makes n m ns ms counts counts' name c id kept accepted named of_class sam
         typed = kept.typed;
         whole = new_whole;
         classed = λ q d of_d. kept.classed q d (class_was n.topology (name_at n id) q d of_d).1;
-        table = deleted_fits n id here kept.whole ns ms kept.table kept.typed new_whole one removes;
+        table = deleted_fits n id here kept.whole ns ms kept.table one removes;
         counted = subst (λ t. AreCounts t counts') (ap (without_instance n.topology) (sym is)) (less n.topology name refl of_class kept.counted);
       };
     } in

@@ -19,7 +19,6 @@ use Rattle.cb_nodes.specs.Table.{Table, IsNode, HasEvent as HasEventIn, IsOne}
 use Rattle.cb_accept.specs.declared.counts.Counts.{Counts}
 use Rattle.cb_accept.specs.Counts.{AreCounts}
 use Rattle.cb_topo.specs.Kept.{IsKept}
-use Rattle.cb_topo.proofs.Counted.{fits_count}
 
 module _ (tables : Tables) (typed : WellTyped tables) where
   abbrev net : Net
@@ -57,6 +56,6 @@ module _ (tables : Tables) (typed : WellTyped tables) where
     typed = typed;
     whole = whole;
     classed = λ name c is. absurd (no_class name c is);
-    table = record { one = one; live = live; had = had; all = all; count = fits_count net nodes typed whole one live had all; few = omega arith };
+    table = record { one = one; live = live; had = had; all = all; few = omega arith };
     counted = are;
   }

@@ -8,7 +8,7 @@ use Rattle.cb_network.specs.Topology.{link_cmp}
 use Rattle.cb_network.specs.Nodes.{IsNodeOf, IsProblem, IsSymptomNode}
 use Rattle.cb_network.specs.Sound.{Sound}
 use Rattle.cb_network.specs.Laws.{HasGoodName}
-use Rattle.cb_network.specs.Edits.{Changes}
+use Rattle.cb_network.specs.Edits.{Changes, IsAccepted}
 use Rattle.cb_network.proofs.Accepted.{edit_keeps_sound}
 use Rattle.cb_network.proofs.Counts.{nodes_are, problems_are, symptoms_are, same_count}
 use Rattle.cb_network.proofs.Kept.{live_of}
@@ -16,7 +16,7 @@ use Rattle.cb_net.specs.Numbered.{Net, IsWhole as IsWholeNet}
 use Rattle.cb_nodes.specs.Table.{Table}
 use Rattle.cb_accept.specs.declared.counts.Counts.{Counts}
 use Rattle.cb_accept.specs.Counts.{AreCounts}
-use Rattle.cb_topo.specs.Applied.{IsNodeRoomAfter, IsInstanceRoomAfter, IsAccepted}
+use Rattle.cb_topo.specs.Applied.{IsNodeRoomAfter, IsInstanceRoomAfter}
 use Rattle.cb_topo.specs.Kept.{IsKept, FitsTable}
 use Rattle.cb_topo.specs.Made.{Makes, Rewires, rewired}
 use Rattle.cb_topo.proofs.Regular.{typed_is_regular}
@@ -68,7 +68,6 @@ module _ (n : Net) (links : set.FinSet link_cmp) (mutes : set.FinSet node_cmp) w
     live = fits.live;
     had = fits.had;
     all = fits.all;
-    count = same_count (IsNodeOf n.topology) (IsNodeOf new.topology) (λ q. (nodes_stay q, nodes_were q)) _ fits.count;
     few = fits.few;
   }
 

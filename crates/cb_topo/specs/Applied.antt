@@ -1,5 +1,5 @@
 -- What an accepted edit does to the numbers.
-use Rattle.std.specs.Prelude.{◌≡◌, ◌+◌, ℕ, List, length, max, Ok, Err}
+use Rattle.std.specs.Prelude.{◌≡◌, ◌+◌, ℕ, List, length, max, Ok}
 use Rattle.cb_model.specs.declared.id.ClassId.{ClassId}
 use Rattle.cb_model.specs.declared.id.EventId.{EventId}
 use Rattle.cb_model.specs.declared.node.NodeName.{NodeName}
@@ -7,10 +7,9 @@ use Rattle.cb_model.specs.Classes.{NamesClass}
 use Rattle.cb_model.specs.Views.{AreEventsOf}
 use Rattle.cb_network.specs.declared.edit.Edit.{Edit}
 use Rattle.cb_network.specs.declared.edit.Edit.TheVariants.{Create, Link}
-use Rattle.cb_network.specs.declared.edit.EditRefusal.{EditRefusal}
-use Rattle.cb_network.specs.Topology.{Topology, IsLive}
+use Rattle.cb_network.specs.Topology.{IsLive}
 use Rattle.cb_network.specs.Nodes.{IsNodeOf}
-use Rattle.cb_network.specs.Edits.{IsAfter, Refuses}
+use Rattle.cb_network.specs.Edits.{IsAfter, IsAccepted, IsRefused}
 use Rattle.cb_net.specs.declared.id.InstanceId.{InstanceId}
 use Rattle.cb_net.specs.Numbered.{IsNamed}
 use Rattle.cb_nodes.specs.declared.id.NodeId.{NodeId}
@@ -52,11 +51,7 @@ MayGrow (Create name class) = Unit {0}
 MayGrow (Link a rel b) = Unit {0}
 MayGrow edit = ⊥
 
--- no refusal of the edit holds
-abbrev pub IsAccepted : Topology → Edit → Type 0
-IsAccepted t edit = (why : EditRefusal) → ¬ Refuses t edit why
-
 -- why the edit isn't made: it is refused for this, or it is accepted and one that may need memory
 abbrev pub Prevents : Numbered → Edit → EditFault → Type 0
-Prevents n edit (Refused why) = IsAfter (topology_of n) edit (Err why)
+Prevents n edit (Refused why) = IsRefused (topology_of n) edit why
 Prevents n edit NoMemory = IsAccepted (topology_of n) edit × MayGrow edit

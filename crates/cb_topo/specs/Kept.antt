@@ -4,23 +4,21 @@ use Rattle.cb_model.specs.declared.id.ClassId.{ClassId}
 use Rattle.cb_model.specs.declared.id.EventId.{EventId}
 use Rattle.cb_model.specs.WellTyped.{WellTyped, IsClass}
 use Rattle.cb_network.specs.Topology.{Topology, IsOf}
-use Rattle.cb_network.specs.Nodes.{IsNodeOf, IsCount}
 use Rattle.cb_network.specs.Sound.{Sound, node_limit}
 use Rattle.cb_net.specs.declared.id.InstanceId.{InstanceId}
 use Rattle.cb_net.specs.Numbered.{Net, IsLive, HasEventAt, IsWhole as IsWholeNet}
 use Rattle.cb_nodes.specs.declared.id.NodeId.{NodeId}
 use Rattle.cb_nodes.specs.declared.node.Node.{Node}
-use Rattle.cb_nodes.specs.Table.{Table, IsNode, HasEvent as HasEventIn, IsOne, count_of}
+use Rattle.cb_nodes.specs.Table.{Table, IsNode, HasEvent as HasEventIn, IsOne}
 use Rattle.cb_accept.specs.declared.counts.Counts.{Counts}
 use Rattle.cb_accept.specs.Counts.{AreCounts}
 
--- exactly the events of live instances have numbers, each one
+-- exactly the events of live instances have numbers, each has one, and the numbers are below the limit of nodes
 pub record FitsTable (net : Net) (nodes : Table) : Type 0 where
   pub one : IsOne nodes
   pub live : (id : NodeId) (node : Node) → IsNode nodes id node → IsLive net node.instance
   pub had : (id : NodeId) (node : Node) → IsNode nodes id node → HasEventAt net node.instance node.event
   pub all : (i : InstanceId) (e : EventId) → IsLive net i → HasEventAt net i e → HasEventIn nodes i e
-  pub count : IsCount (IsNodeOf net.topology) (count_of nodes)
   pub few : length nodes ≤ node_limit
 
 -- instances are of classes of the model

@@ -1,13 +1,12 @@
 //! The topology under edits.
-ghost use Rattle.std.specs.Prelude.{◌≡◌, ◌≤◌, ◌<◌, [], length, OnOk, OnErr, IfOk, IfErr, Err};
+ghost use Rattle.std.specs.Prelude.{◌≡◌, ◌≤◌, ◌<◌, [], length, OnOk, OnErr, IfOk, IfErr};
 ghost use Rattle.cb_model.specs.WellTyped.{WellTyped};
-ghost use Rattle.cb_network.specs.declared.edit.EditRefusal.{EditRefusal as Refusal};
 ghost use Rattle.cb_network.specs.Sound.{Sound, node_limit};
-ghost use Rattle.cb_network.specs.Edits.{Refuses, IsAfter};
+ghost use Rattle.cb_network.specs.Edits.{IsAccepted, IsRefused};
 ghost use Rattle.cb_network.specs.Laws.{HasGoodName};
 ghost use Rattle.cb_net.specs.Numbered.{empty_net};
 ghost use Rattle.cb_topo.specs.Numbered.{Numbered, topology_of, IsWhole};
-ghost use Rattle.cb_topo.specs.Applied.{Applies, Prevents, MayGrow, IsNodeRoomAfter, IsInstanceRoomAfter, IsAccepted};
+ghost use Rattle.cb_topo.specs.Applied.{Applies, Prevents, MayGrow, IsNodeRoomAfter, IsInstanceRoomAfter};
 ghost use Rattle.cb_topo.specs.Kept.{IsKept};
 ghost use Rattle.cb_topo.specs.Made.{Makes};
 
@@ -49,7 +48,7 @@ impl Topology {
 
     /// What `node_room` is once an accepted edit is made.
     pub fn node_room_after(&self, edit: &Edit) -> usize
-        requires { (why : Refusal) → ¬ Refuses (topology_of self.now) edit.now why }
+        requires { IsAccepted (topology_of self.now) edit.now }
         ensures { IsNodeRoomAfter self.now edit.now result }
     {
         match edit {
@@ -74,8 +73,8 @@ impl Topology {
 
     /// Whether the edit is accepted, and else the refusal that stands first among those that hold.
     pub fn allows(&self, edit: &Edit) -> Result<(), EditRefusal>
-        ensures allowed { OnOk result ((why : Refusal) → ¬ Refuses (topology_of self.now) edit.now why) }
-        ensures refused { IfErr result (λ why. IsAfter (topology_of self.now) edit.now (Err why)) }
+        ensures allowed { OnOk result (IsAccepted (topology_of self.now) edit.now) }
+        ensures refused { IfErr result (IsRefused (topology_of self.now) edit.now) }
     {
         allows(&self.net, self.counts, edit)
     }

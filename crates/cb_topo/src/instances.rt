@@ -3,7 +3,7 @@ ghost use Rattle.std.specs.Prelude.{◌≡◌, IfOk, OnErr};
 ghost use Rattle.cb_text.specs.Names.{IsInstance};
 ghost use Rattle.cb_network.specs.declared.edit.Edit.TheVariants.{Create, Delete};
 ghost use Rattle.cb_topo.specs.Kept.{IsKept};
-ghost use Rattle.cb_topo.specs.Applied.{IsAccepted};
+ghost use Rattle.cb_network.specs.Edits.{IsAccepted};
 ghost use Rattle.cb_topo.specs.Made.{Makes};
 
 use cb_accept::Counts;

@@ -5,7 +5,7 @@ ghost use Rattle.cb_network.specs.declared.edit.Edit.TheVariants.{Link, Unlink};
 ghost use Rattle.cb_network.specs.Edits.{IsRelationAt, HasRelationAt};
 ghost use Rattle.cb_net.specs.Numbered.{IsLive, name_at};
 ghost use Rattle.cb_topo.specs.Kept.{AreClassed};
-ghost use Rattle.cb_topo.specs.Applied.{IsAccepted};
+ghost use Rattle.cb_network.specs.Edits.{IsAccepted};
 ghost use Rattle.cb_topo.specs.Made.{Rewires};
 
 use cb_model::RelId;

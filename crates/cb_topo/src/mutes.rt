@@ -4,7 +4,7 @@ ghost use Rattle.cb_network.specs.Edits.{node_of as name_of};
 ghost use Rattle.cb_network.specs.Nodes.{IsNodeOf, IsEventAt};
 ghost use Rattle.cb_net.specs.Numbered.{IsLive, name_at};
 ghost use Rattle.cb_topo.specs.Kept.{AreClassed};
-ghost use Rattle.cb_topo.specs.Applied.{IsAccepted};
+ghost use Rattle.cb_network.specs.Edits.{IsAccepted};
 ghost use Rattle.cb_topo.specs.Made.{Rewires};
 
 use cb_model::EventId;

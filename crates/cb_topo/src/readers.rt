@@ -20,6 +20,7 @@ use cb_net::InstanceId;
 use cb_nodes::{Node, NodeId};
 
 impl Topology {
+    /// The model, with its tables.
     pub fn model(&self) -> &Model
         ensures { result.now ≡ (topology_of self.now).model }
     {
@@ -34,6 +35,7 @@ impl Topology {
         self.net.instance_named(name)
     }
 
+    /// The bytes of the instance's name, for as long as the topology is lent.
     pub fn instance_name(&self, id: InstanceId) -> &[u8]
         requires { IsLive self.now.net id }
         ensures { IsNamed self.now.net id result.now }
@@ -41,6 +43,7 @@ impl Topology {
         self.net.name_of(id)
     }
 
+    /// The class that the instance was created with.
     pub fn class_of(&self, id: InstanceId) -> ClassId
         requires { IsLive self.now.net id }
         ensures { (name : Items ℕ) → IsNamed self.now.net id name → IsOf (topology_of self.now) name result }
@@ -87,6 +90,7 @@ impl Topology {
         self.nodes.node_at(instance, event)
     }
 
+    /// The instance that the node is at.
     pub fn instance_of(&self, node: NodeId) -> InstanceId
         requires { IsLiveNode self.now node }
         ensures { (at : NodeAt) → IsNode self.now.nodes node at → at.instance ≡ result }
@@ -94,6 +98,7 @@ impl Topology {
         self.node_of(node).instance
     }
 
+    /// The event that the node is of, which its instance's class has, its own or an inherited one.
     pub fn event_of(&self, node: NodeId) -> EventId
         requires { IsLiveNode self.now node }
         ensures { (at : NodeAt) → IsNode self.now.nodes node at → at.event ≡ result }
@@ -116,6 +121,7 @@ impl Topology {
         self.marks_of(node).symptom && !self.is_muted(node)
     }
 
+    /// Whether the event is marked as a problem. A node may be a column and a problem.
     pub fn is_problem(&self, node: NodeId) -> bool
         requires { IsLiveNode self.now node }
         ensures { (name : Name) → IsNodeNamed self.now node name → IsTrue result ↔ IsProblem (topology_of self.now) name }
@@ -123,12 +129,14 @@ impl Topology {
         self.marks_of(node).problem
     }
 
+    /// How many instances are live. It takes no search.
     pub fn instance_count(&self) -> usize
         ensures { result ≡ fin_map.len (topology_of self.now).instances }
     {
         self.net.count()
     }
 
+    /// How many nodes there are, of any kind, muted or not. It takes no search.
     pub fn node_count(&self) -> usize
         ensures { IsCount (IsNodeOf (topology_of self.now)) result }
     {

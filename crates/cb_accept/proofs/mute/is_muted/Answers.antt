@@ -5,7 +5,7 @@ use Rattle.cb_network.specs.declared.edit.EditRefusal.TheVariants.{NoSymptom}
 use Rattle.cb_network.specs.Topology.{IsMuted}
 use Rattle.cb_net.specs.declared.id.InstanceId.{InstanceId}
 use Rattle.cb_net.specs.Numbered.{IsNamed}
-use Rattle.cb_accept.specs.Refusals.{IsRefused}
+use Rattle.cb_network.specs.Edits.{IsRefused}
 use Rattle.cb_accept.proofs.Answered.{absent_err, present}
 use Rattle.cb_accept.proofs.Firsts.{no_symptom_to_mute, no_symptom_to_unmute}
 use Rattle.cb_accept.proofs.mute.is_muted.Goals as goal

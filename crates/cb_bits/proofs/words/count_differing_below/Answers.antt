@@ -1,10 +1,9 @@
-use Rattle.std.proofs.Common.{◌≡◌, ◌+◌, ◌≤◌, slice_index_or, bit_xor, sym, ap, ◌∙◌, arith}
+use Rattle.std.proofs.Common.{◌+◌, slice_index_or, bit_xor, sym, ap, ◌∙◌, arith}
 use Rattle.std.specs.Prelude.{count_ones}
 use Rattle.std.specs.List.{sum_by}
 use Rattle.std.specs.Simd.Lanes.{zip2}
 use Rattle.std.proofs.lemmas.List.{take_all}
 use Rattle.std.proofs.lemmas.Simd.{length-zip2}
-use Rattle.cb_bits.specs.Bits.{count_bits}
 use Rattle.cb_bits.proofs.Counted.{ones_of_zip}
 use Rattle.cb_bits.proofs.Sums.{sum_further, sum_further_le}
 use Rattle.cb_bits.proofs.words.count_differing_below.Goals as goal

@@ -1,7 +1,7 @@
 use Rattle.std.proofs.Common.{arith, subst, sym}
 use Rattle.cb_text.specs.Lines.{lines_of}
 use Rattle.cb_lines.proofs.Listed.{AreNodesOf, one_more, all_listed}
-use Rattle.cb_lines.proofs.Walk.{ReadTo, read_more, read_all, number_within}
+use Rattle.cb_text.proofs.LinesRead.{ReadTo, read_more, read_all, number_within}
 use Rattle.cb_lines.proofs.symptoms.read_symptoms.Goals as goal
 
 pub overflow_add-number : goal.overflow_add-number

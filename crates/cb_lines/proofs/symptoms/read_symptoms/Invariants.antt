@@ -1,5 +1,5 @@
 use Rattle.cb_lines.proofs.Listed.{AreNodesOf}
-use Rattle.cb_lines.proofs.Walk.{ReadTo}
+use Rattle.cb_text.proofs.LinesRead.{ReadTo}
 use Rattle.cb_lines.proofs.symptoms.read_symptoms.Given as goal
 
 abbrev pub invariant-loop-line : goal.invariant-loop-line

@@ -3,7 +3,7 @@ use Rattle.cb_network.specs.Topology.{empty_topology}
 use Rattle.cb_topo.specs.Numbered.{topology_of}
 use Rattle.cb_lines.specs.Topologies.{LinesMake, Stops}
 use Rattle.cb_lines.proofs.Made.{made_more, stops_at}
-use Rattle.cb_lines.proofs.Walk.{ReadTo, read_none, read_more, comes, number_within}
+use Rattle.cb_text.proofs.LinesRead.{ReadTo, read_none, read_more, comes, number_within}
 use Rattle.cb_lines.proofs.topology.read_topology.Goals as goal
 
 pub loop-line-init : goal.loop-line-init

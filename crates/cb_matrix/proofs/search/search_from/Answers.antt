@@ -7,7 +7,7 @@ pub returns-clause-searched : goal.returns-clause-searched
 returns-clause-searched g c = record {
   problem = record {
     named = subst (λ n. IsNodeNamed n c.args.node c.in_ok-name.name) c.topology.ensures c.in_ok-name.ensures;
-    coded = code_from c.args.graph.now c.args.columns.now.nodes c.args.node c.reach.new.found c.in_ok-code.code c.reach.ensures.found c.in_ok-code.ensures;
+    coded = code_from c.args.graph.now c.args.columns.now.nodes c.args.node c.in_ok-row.row c.in_ok-code.code c.in_ok-row.ensures.row.each c.in_ok-code.ensures;
   };
-  row = record { room = c.reach.ensures.length; each = c.reach.ensures.found };
+  row = c.in_ok-row.ensures.row;
 }

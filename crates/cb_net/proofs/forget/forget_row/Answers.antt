@@ -1,11 +1,11 @@
 use Rattle.std.proofs.Common.{sym, subst, get_or, ◌∙◌}
 use Rattle.std.proofs.lemmas.List.{take_more}
 use Rattle.std.proofs.lemmas.List.Elements.{Contains-get_or}
+use Rattle.cb_net.specs.Items.{Loses}
 use Rattle.cb_net.specs.declared.id.InstanceId.{InstanceId}
 use Rattle.cb_net.specs.Forgotten.{ForgetsRow}
 use Rattle.cb_net.specs.Joined.{Rewires}
 use Rattle.cb_net.specs.Numbered.{inverse_of}
-use Rattle.cb_net.specs.Rows.{Loses}
 use Rattle.cb_net.proofs.Forgetting.{forgets_one}
 use Rattle.cb_net.proofs.forget.forget_row.Goals as goal
 

@@ -1,5 +1,5 @@
 use Rattle.std.proofs.Common.{sym, refl, subst}
-use Rattle.cb_net.specs.Joined.{Gains}
+use Rattle.cb_net.specs.Items.{Gains}
 use Rattle.cb_net.specs.Rows.{Puts}
 use Rattle.cb_net.proofs.Rewiring.{rewired, rewired_none}
 use Rattle.cb_net.proofs.join.add.Goals as goal

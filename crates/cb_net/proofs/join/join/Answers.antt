@@ -1,8 +1,9 @@
 use Rattle.std.proofs.Common.{◌≡◌, sym, ◌∙◌}
-use Rattle.cb_net.specs.Joined.{Stays, Gains}
+use Rattle.cb_net.specs.Items.{Gains}
+use Rattle.cb_net.specs.Joined.{Stays}
 use Rattle.cb_net.proofs.Joining.{joins_once, joins_twice, remains, same_twice}
 use Rattle.cb_net.proofs.Losing.{item_of, other_item}
-use Rattle.cb_net.proofs.Rewiring.{stays_links, room_elsewhere}
+use Rattle.cb_net.proofs.Rewiring.{stays_links, spare_elsewhere}
 use Rattle.cb_net.proofs.RowLemmas.{same_rel, differs, on_err}
 use Rattle.cb_net.proofs.join.join.Goals as goal
 use Rattle.cb_net.proofs.join.join.Goals.{else-eq-via-then-eq+else-eq-2, else-eq-via-else-eq}
@@ -20,7 +21,7 @@ add-requires-else-eq c =
       | else-eq-via-then-eq+else-eq-2 w ↦ λ e. differs c.args.rel c.args.back (sym w.eq-then-eq.ensures ∙ w.if-eq-2.false) e.1
       | else-eq-via-else-eq w ↦ λ e. other_item c.args.from c.args.to (sym c.eq.ensures ∙ w.if-eq.false) e.0
     ] in
-    room_elsewhere _ _ _ _ Stays c.in_ok-reserve-2.ensures.same c.args.from c.args.rel apart c.in_ok-reserve.ensures.room
+    spare_elsewhere _ _ _ _ Stays c.in_ok-reserve-2.ensures.same c.args.from c.args.rel apart c.in_ok-reserve.ensures.spare
 
 pub add-requires-else-eq-2 : goal.add-requires-else-eq-2
 add-requires-else-eq-2 c =
@@ -28,7 +29,7 @@ add-requires-else-eq-2 c =
       | else-eq-via-then-eq+else-eq-2 w ↦ λ e. differs c.args.rel c.args.back (sym w.eq-then-eq.ensures ∙ w.if-eq-2.false) (sym e.1)
       | else-eq-via-else-eq w ↦ λ e. other_item c.args.from c.args.to (sym c.eq.ensures ∙ w.if-eq.false) (sym e.0)
     ] in
-    room_elsewhere _ _ _ _ (Gains c.args.to) c.add-else-eq.ensures.rewires c.args.to c.args.back apart c.in_ok-reserve-2.ensures.room
+    spare_elsewhere _ _ _ _ (Gains c.args.to) c.add-else-eq.ensures.rewires c.args.to c.args.back apart c.in_ok-reserve-2.ensures.spare
 
 pub returns-then-eq-2-clause-ok : goal.returns-then-eq-2-clause-ok
 returns-then-eq-2-clause-ok c =

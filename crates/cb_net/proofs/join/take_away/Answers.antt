@@ -1,5 +1,5 @@
 use Rattle.std.proofs.Common.{sym, refl}
-use Rattle.cb_net.specs.Rows.{Loses}
+use Rattle.cb_net.specs.Items.{Loses}
 use Rattle.cb_net.proofs.Rewiring.{rewired, rewired_none}
 use Rattle.cb_net.proofs.join.take_away.Goals as goal
 

@@ -46,7 +46,7 @@ returns c = record {
         let all = c.len-5.ensures in
         let known = c.ones.ensures in
         omega arith;
-    radius_is = rw (c.saturating_sub.ensures, c.distance_or_one.ensures) refl;
+    radius_is = rw (c.radius.ensures, c.distance_or_one.ensures) refl;
     answer = c.in_ok-answer.answer;
     answered = rw (c.in_ok-every_column.ensures, c.len-2.ensures, c.in_ok-codes.ensures, c.distance_or_one.ensures, c.in_ok-word.ensures) at c.in_ok-answer.ensures;
     distance_is = refl;

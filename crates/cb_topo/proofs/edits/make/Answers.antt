@@ -1,6 +1,6 @@
 use Rattle.std.proofs.Common.{◌≡◌, subst, sym, refl}
 use Rattle.cb_network.specs.declared.edit.Edit.TheVariants.{Create, Delete, Link, Unlink, Mute, Unmute}
-use Rattle.cb_topo.specs.Applied.{IsAccepted}
+use Rattle.cb_network.specs.Edits.{IsAccepted}
 use Rattle.cb_topo.specs.Made.{Makes}
 use Rattle.cb_topo.proofs.Rewiring.{rewires_makes}
 use Rattle.cb_topo.proofs.edits.make.Goals as goal

@@ -1,6 +1,6 @@
 use Rattle.cb_network.specs.declared.edit.Edit.TheVariants.{Link, Unlink}
 use Rattle.cb_network.specs.declared.edit.EditRefusal.TheVariants.{NoRelation}
-use Rattle.cb_accept.specs.Refusals.{IsRefused}
+use Rattle.cb_network.specs.Edits.{IsRefused}
 use Rattle.cb_net.specs.declared.id.InstanceId.{InstanceId}
 use Rattle.cb_net.specs.Numbered.{IsNamed}
 use Rattle.cb_accept.proofs.Answered.{absent_err, present}

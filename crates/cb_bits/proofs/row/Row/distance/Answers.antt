@@ -1,12 +1,8 @@
-use Rattle.std.proofs.Common.{◌≡◌, ◌<◌, ◌^◌, ℕ, List, length, bit_xor, sym, ap, ◌∙◌, subst}
+use Rattle.std.proofs.Common.{◌≡◌, ◌<◌, ◌^◌, length, bit_xor, ap, ◌∙◌}
 use Rattle.std.specs.Simd.Lanes.{zip2}
 use Rattle.cb_bits.specs.Bits.{count_bits}
-use Rattle.cb_bits.proofs.United.{one_count, xor_count, xor_few}
+use Rattle.cb_bits.proofs.United.{through, one_count, xor_count, xor_few}
 use Rattle.cb_bits.proofs.row.Row.distance.Goals as goal
-
--- the same of slices that are the words
-through : (a b v w : List ℕ) (P : List ℕ → List ℕ → Type 0) → v ≡ a → w ≡ b → P a b → P v w
-through a b v w P is_a is_b holds = subst (λ x. P x w) (sym is_a) (subst (P a) (sym is_b) holds)
 
 pub count_differing-requires : goal.count_differing-requires
 count_differing-requires c = record {

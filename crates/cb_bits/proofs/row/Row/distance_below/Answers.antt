@@ -1,12 +1,8 @@
-use Rattle.std.proofs.Common.{◌≡◌, ◌<◌, ◌^◌, ℕ, List, SomeIff, length, bit_xor, sym, ap, ◌∙◌, subst}
+use Rattle.std.proofs.Common.{◌≡◌, ◌<◌, ◌^◌, SomeIff, length, bit_xor, ap, ◌∙◌, subst}
 use Rattle.std.specs.Simd.Lanes.{zip2}
 use Rattle.cb_bits.specs.Bits.{count_bits}
-use Rattle.cb_bits.proofs.United.{one_count, xor_count, xor_few}
+use Rattle.cb_bits.proofs.United.{through, one_count, xor_count, xor_few}
 use Rattle.cb_bits.proofs.row.Row.distance_below.Goals as goal
-
--- the same of slices that are the words
-through : (a b v w : List ℕ) (P : List ℕ → List ℕ → Type 0) → v ≡ a → w ≡ b → P a b → P v w
-through a b v w P is_a is_b holds = subst (λ x. P x w) (sym is_a) (subst (P a) (sym is_b) holds)
 
 pub count_differing_below-requires : goal.count_differing_below-requires
 count_differing_below-requires c = record {

@@ -1,6 +1,4 @@
-use Rattle.std.proofs.Common.{sym, subst, ap, ◌∙◌, arith}
-use Rattle.cb_bits.specs.Bits.{Holds, Packs}
-use Rattle.cb_bits.proofs.Values.{row_len, row_bit}
+use Rattle.std.proofs.Common.{◌∙◌}
 use Rattle.cb_bits.proofs.Packed.{packs}
 use Rattle.cb_bits.proofs.row.Row.words.Goals as goal
 

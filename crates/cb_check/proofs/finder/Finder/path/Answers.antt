@@ -1,9 +1,8 @@
 use Rattle.std.proofs.Common.{List, ℕ, ◌∷◌, [], ◌++◌, map, take, refl, sym, ap, subst, ◌∙◌}
 use Rattle.std.proofs.lemmas.List.{map-append, take_all}
-use Rattle.cb_model.proofs.Numbers.{read_at}
+use Rattle.cb_model.proofs.Numbers.{read_at, take_more}
 use Rattle.cb_grammar.specs.declared.tree.Token.{Token}
 use Rattle.cb_check.specs.Denotes.{DenotesPath}
-use Rattle.cb_check.proofs.Numbering.{take_step}
 use Rattle.cb_check.proofs.Found.{path_push, path_leads}
 use Rattle.cb_check.proofs.finder.Finder.path.Goals as goal
 
@@ -29,7 +28,7 @@ loop-name-preserved c =
     let n = c.loop-name.name-index in
     let token = c.name-item.result in
     let is = read_at tokens tokens n token refl c.loop-name-test.true c.name-item.is in
-    let more = ap (map called) (take_step tokens n token is) ∙ map-append called (take n tokens) (token ∷ []) in
+    let more = ap (map called) (take_more tokens n token is) ∙ map-append called (take n tokens) (token ∷ []) in
     let pushed = path_push tree k (map called (take n tokens)) c.loop-name.path c.loop-name.reached.0 token.name c.step.result.0 c.step.result.1.0 c.loop-name.invariant c.step.ensures in
     subst (λ names. DenotesPath tree k names c.push.new.self c.step.result.1.0) (sym more)
     (subst (λ rs. DenotesPath tree k (map called (take n tokens) ++ token.name ∷ []) rs c.step.result.1.0) (sym c.in_ok-push.ensures.ok) pushed)

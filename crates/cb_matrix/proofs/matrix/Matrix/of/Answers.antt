@@ -10,35 +10,35 @@ use Rattle.cb_matrix.proofs.matrix.Matrix.of.Goals as goal
 
 pub names_of-requires : goal.names_of-requires
 names_of-requires g c =
-    let nodes = c.in_ok-nodes.nodes in
-    let columns = c.in_ok-nodes.ensures in
+    let nodes = c.in_ok-column_nodes.column_nodes in
+    let columns = c.in_ok-column_nodes.ensures in
     subst (λ (n : Numbered). All (IsLiveNode n) nodes) (c.topology-3.ensures ∙ sym c.topology-4.ensures) (all_live c.topology-3.result.now nodes columns.0 columns.2)
 
 pub indexed-requires-clause-once : goal.indexed-requires-clause-once
 indexed-requires-clause-once g c =
-    let columns = c.in_ok-nodes.ensures in
-    once_of c.topology-3.result.now c.in_ok-nodes.nodes columns.0 columns.1.rise columns.2
+    let columns = c.in_ok-column_nodes.ensures in
+    once_of c.topology-3.result.now c.in_ok-column_nodes.column_nodes columns.0 columns.1.rise columns.2
 
 pub indexed-requires-clause-below : goal.indexed-requires-clause-below
 indexed-requires-clause-below g c =
-    let columns = c.in_ok-nodes.ensures in
-    let nodes = c.in_ok-nodes.nodes in
+    let columns = c.in_ok-column_nodes.ensures in
+    let nodes = c.in_ok-column_nodes.column_nodes in
     all_below c.topology-2.result.now c.node_room-room.result nodes columns.0 c.node_room-room.ensures.above
     (subst (λ (n : Numbered). AreNamed n nodes columns.0) (c.topology-3.ensures ∙ sym c.topology-2.ensures) columns.2)
 
 pub coded-requires-clause-live : goal.coded-requires-clause-live
 coded-requires-clause-live g c =
-    let nodes = c.in_ok-nodes-2.nodes in
-    let problems = c.in_ok-nodes-2.ensures in
+    let nodes = c.in_ok-problem_nodes.problem_nodes in
+    let problems = c.in_ok-problem_nodes.ensures in
     subst (λ (n : Numbered). All (IsLiveNode n) nodes) c.topology-5.ensures (all_live c.topology-5.result.now nodes problems.0 problems.2)
 
 pub returns-clause-matrix : goal.returns-clause-matrix
 returns-clause-matrix g c =
     let n = c.args.graph.now in
-    let nodes = c.in_ok-nodes.nodes in
-    let ids = c.in_ok-nodes-2.nodes in
-    let columns = c.in_ok-nodes.ensures in
-    let problems = c.in_ok-nodes-2.ensures in
+    let nodes = c.in_ok-column_nodes.column_nodes in
+    let ids = c.in_ok-problem_nodes.problem_nodes in
+    let columns = c.in_ok-column_nodes.ensures in
+    let problems = c.in_ok-problem_nodes.ensures in
     is_matrix n
     (subst IsWhole c.topology.ensures c.facts.ensures.whole)
     (subst (λ (m : Numbered). Sound (topology_of m)) c.topology.ensures c.facts.ensures.sound)

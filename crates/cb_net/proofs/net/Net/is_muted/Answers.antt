@@ -1,6 +1,7 @@
 use Rattle.std.proofs.Common.{sym, subst}
 use Rattle.std.specs.List.{Contains}
 use Rattle.cb_net.specs.Numbered.{Net, IsNamed}
+use Rattle.cb_net.proofs.Losing.{any_is, same_event, decides_event}
 use Rattle.cb_net.proofs.Muting.{class_has, muted_at}
 use Rattle.cb_net.proofs.Placing.{seen_at}
 use Rattle.cb_net.proofs.Reading.{occupied}
@@ -16,7 +17,8 @@ returns c =
     let x = c.index.result.now in
     let at = c.index.ensures in
     let has = class_has _ _ _ _ _ _ c.self.view_is c.args.id x at c.args.event c.self.invariant c.requires.event in
+    let any = any_is same_event decides_event c.deref.result.now c.args.event c.contains.result c.contains.ensures.cases in
     let here = muted_at _ _ _ _ _ _ c.self.view_is c.args.id x at c.args.event c.self.invariant has in (
-      λ h. here.0 (subst (λ es. Contains es c.args.event) c.deref.ensures.value (c.has.ensures.0 h)),
-      λ is. c.has.ensures.1 (subst (λ es. Contains es c.args.event) (sym c.deref.ensures.value) (here.1 is)),
+      λ h. here.0 (subst (λ es. Contains es c.args.event) c.deref.ensures.value (any.0 h)),
+      λ is. any.1 (subst (λ es. Contains es c.args.event) (sym c.deref.ensures.value) (here.1 is)),
     )

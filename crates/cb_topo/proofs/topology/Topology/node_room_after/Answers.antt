@@ -8,7 +8,8 @@ use Rattle.cb_model.specs.Views.{AreEventsOf}
 use Rattle.cb_network.specs.declared.edit.Edit.TheVariants.{Create}
 use Rattle.cb_network.specs.declared.edit.EditRefusal.TheVariants.{NoClass}
 use Rattle.cb_nodes.specs.Table.{room_with}
-use Rattle.cb_topo.specs.Applied.{IsNodeRoomAfter, IsAccepted}
+use Rattle.cb_network.specs.Edits.{IsAccepted}
+use Rattle.cb_topo.specs.Applied.{IsNodeRoomAfter}
 use Rattle.cb_topo.specs.Numbered.{Numbered, topology_of}
 use Rattle.cb_topo.proofs.Asking.{is_there, found_is}
 use Rattle.cb_topo.proofs.Limits.{few_numbers}

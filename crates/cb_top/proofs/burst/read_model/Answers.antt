@@ -1,0 +1,17 @@
+use Rattle.cb_top.specs.declared.files.TheConstants.{MODEL}
+use Rattle.cb_top.specs.Halts.{JudgesModel}
+use Rattle.cb_top.proofs.Reading.{err_is}
+use Rattle.cb_top.proofs.Judged.{unread, stops_by_text, model_is_at}
+use Rattle.cb_top.proofs.burst.read_model.Goals as goal
+
+pub returns-in_err-text-clause-halt : goal.returns-in_err-text-clause-halt
+returns-in_err-text-clause-halt g c =
+    rw (err_is _ _ c.from_residual.ensures.1)
+    (unread MODEL c.args.name.now JudgesModel (g.F.Files.tells c.args.files.now) (g.F.Files.tells c.read_file.new.files) c.in_err-text.field-0.0
+    (λ text at long. long) (λ text. tt) c.in_err-text.ensures.halt)
+
+pub returns-clause-halt : goal.returns-clause-halt
+returns-clause-halt g c =
+    let text = c.in_ok-text.text.items in
+    stops_by_text MODEL c.args.name.now JudgesModel (g.F.Files.tells c.args.files.now) (g.F.Files.tells c.read_file.new.files) c.model_of.result text
+    c.in_ok-text.ensures.text (model_is_at text c.in_ok-text.ensures.short) (λ at j. j) (rw c.deref.ensures.value at c.model_of.ensures.halt)
