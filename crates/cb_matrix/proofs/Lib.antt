@@ -1,3 +1,4 @@
 pub mod Placed
 pub mod Passed
+pub mod ByColumn
 pub mod Matched

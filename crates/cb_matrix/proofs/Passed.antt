@@ -2,7 +2,7 @@
 use Rattle.std.proofs.Common.{◌≡◌, ◌↔◌, ℕ, ◌+◌, ◌<◌, List, Bool, false, true, length, replicate, Option, None, Some, slice_get, sym, ap, subst, ◌∙◌, ◌⊎◌, inl, inr, arith}
 use Rattle.std.specs.Prelude.{slice_set}
 use Rattle.std.proofs.lemmas.Bool.{cases_eq, cases_lt}
-use Rattle.std.proofs.lemmas.List.{length-set, length-replicate, get_or-set_other, get_or_past}
+use Rattle.std.proofs.lemmas.List.{length-set, length-replicate, get_or-set_other}
 use Rattle.std.proofs.lemmas.Option.{slice_get_within}
 use Rattle.cb_nodes.specs.declared.id.NodeId.{NodeId}
 use Rattle.cb_bits.specs.Bits.{IsNextOne, HasNoneFrom}
@@ -22,13 +22,13 @@ none_coded columns reached = record {
   each = λ place node is. (λ has. absurd (nothing (length columns) place has), λ both. absurd (let lt = both.1 in omega arith));
 }
 
-still : (code : List Bool) (p k : ℕ) → p < length code → Has code k → Has (slice_set code p true) k
+pub still : (code : List Bool) (p k : ℕ) → p < length code → Has code k → Has (slice_set code p true) k
 still code p k low has = elim (cases_eq k p) [
   | inl same ↦ subst (Has (slice_set code p true)) (sym same) (has_set code p low)
   | inr other ↦ get_or-set_other code p k true false other ∙ has
 ]
 
-same_number : (columns : List NodeId) (place a b : ℕ) → slice_get columns place ≡ Some (number a) → slice_get columns place ≡ Some (number b) → a ≡ b
+pub same_number : (columns : List NodeId) (place a b : ℕ) → slice_get columns place ≡ Some (number a) → slice_get columns place ≡ Some (number b) → a ≡ b
 same_number columns place a b is at =
     let both : Some (number a) ≡ Some (number b) = sym is ∙ at in
     let e : number a ≡ number b = cc in

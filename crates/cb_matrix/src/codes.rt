@@ -43,8 +43,20 @@ fn places_of(
     Ok(places)
 }
 
-/// For each column, whether the row has it. Only what the row has is looked at.
+/// For each column, whether the row has it. Only what the row has is looked at, or each column, whichever is less.
 pub fn code_of(alloc: Global, columns: &Columns, reached: &Row) -> Result<Row, AllocError>
+    requires { ArePlaces (length reached.now) columns.now.nodes columns.now.places.items }
+    ensures { IfOk result (IsCodeOf columns.now.nodes reached.now) }
+{
+    if reached.ones() < columns.nodes.len() {
+        code_by_nodes(alloc, columns, reached)
+    } else {
+        code_by_columns(alloc, &columns.nodes, reached)
+    }
+}
+
+// The same, by what the row has.
+fn code_by_nodes(alloc: Global, columns: &Columns, reached: &Row) -> Result<Row, AllocError>
     requires { ArePlaces (length reached.now) columns.now.nodes columns.now.places.items }
     ensures { IfOk result (IsCodeOf columns.now.nodes reached.now) }
 {
@@ -55,6 +67,20 @@ pub fn code_of(alloc: Global, columns: &Columns, reached: &Row) -> Result<Row, A
             code.set(place);
         }
         from = node + 1;
+    }
+    Ok(code)
+}
+
+// The same, column by column.
+fn code_by_columns(alloc: Global, nodes: &List<NodeId>, reached: &Row) -> Result<Row, AllocError>
+    requires { IsBelow (length reached.now) nodes.now }
+    ensures { IfOk result (IsCodeOf nodes.now reached.now) }
+{
+    let mut code = Row::zeroed(alloc, nodes.len())?;
+    for place in 0..nodes.len() {
+        if reached.get(nodes.at(place).0 as usize) {
+            code.set(place);
+        }
     }
     Ok(code)
 }

@@ -1,6 +1,6 @@
 use Rattle.std.proofs.Common.{◌-◌, length}
 use Rattle.cb_matrix.proofs.Passed.{IsCodedTo}
-use Rattle.cb_matrix.proofs.codes.code_of.Given as goal
+use Rattle.cb_matrix.proofs.codes.code_by_nodes.Given as goal
 
 abbrev pub invariant-loop-node : goal.invariant-loop-node
 invariant-loop-node l = IsCodedTo l.columns.nodes l.reached l.from l.code
