@@ -1,13 +1,13 @@
 #!/usr/bin/env python3
 """Compares answers on random inputs, good and faulty, with another program that has the same command line.
 
-    bench/compare.py [--peer PROGRAM] [--program PROGRAM] [--seed N] [RUNS]
+    bench/compare.py --peer PROGRAM [--program PROGRAM] [--seed N] [RUNS]
 
 Each run makes a model text (some of them with a fault in their spelling or in their types), a topology with edits of all
 six kinds, some of them refused, and a symptom file, hands them to both programs, and compares the status, the output and the
 line on standard error. A run that the program isn't built for (status 11) is counted apart. It ends with status 1 where two
-answers differ, and says nothing but a word where the other program isn't there. The program is built by `rt run` in
-crates/cb_cli, which leaves it in out/.
+answers differ, and says nothing but a word where the other program isn't there. The program is built by the gate,
+or by `rt run` in crates/cb_cli, which leave it in out/.
 """
 import argparse
 import pathlib
@@ -292,15 +292,15 @@ def compare(program, peer, rng, folder):
 def main():
     parser = argparse.ArgumentParser(description=__doc__, formatter_class=argparse.RawDescriptionHelpFormatter)
     parser.add_argument("--program", type=pathlib.Path, default=ROOT / "crates" / "cb_cli" / "out" / "cb_cli")
-    parser.add_argument("--peer", type=pathlib.Path, default=ROOT.parent / "shared" / "peer" / "correlator")
+    parser.add_argument("--peer", type=pathlib.Path, help="the other program")
     parser.add_argument("--seed", type=int, default=1)
     parser.add_argument("runs", type=int, nargs="?", default=1000)
     words = parser.parse_args()
-    if not words.peer.exists():
-        print(f"skipped: {words.peer} isn't there")
+    if words.peer is None or not words.peer.exists():
+        print("skipped: no other program is there")
         return
     if not words.program.exists():
-        sys.exit(f"{words.program} isn't there: run `rt run` in crates/cb_cli first")
+        sys.exit(f"{words.program} isn't there: run .ci/run first, or `rt run` in crates/cb_cli")
     alike, unbuilt, statuses = 0, 0, {}
     for run in range(words.seed, words.seed + words.runs):
         with tempfile.TemporaryDirectory() as name:

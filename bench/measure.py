@@ -15,14 +15,14 @@ def programs(description, **argument):
     """The words of a script's command line, with the two programs; one more argument may be told."""
     parser = argparse.ArgumentParser(description=description, formatter_class=argparse.RawDescriptionHelpFormatter)
     parser.add_argument("--program", type=pathlib.Path, default=ROOT / "crates" / "cb_cli" / "out" / "cb_cli")
-    parser.add_argument("--peer", type=pathlib.Path, default=ROOT.parent / "shared" / "peer" / "correlator")
+    parser.add_argument("--peer", type=pathlib.Path, help="another program with the same command line")
     if argument:
         parser.add_argument("sizes", **argument)
     words = parser.parse_args()
     if not words.program.exists():
-        sys.exit(f"{words.program} isn't there: run `rt run` in crates/cb_cli first")
+        sys.exit(f"{words.program} isn't there: run .ci/run first, or `rt run` in crates/cb_cli")
     words.program = words.program.resolve()
-    words.peer = words.peer.resolve() if words.peer.exists() else None
+    words.peer = words.peer.resolve() if words.peer and words.peer.exists() else None
     resource.setrlimit(resource.RLIMIT_CORE, (0, 0))
     return words
 
