@@ -6,7 +6,7 @@ use Rattle.cb_top.specs.declared.halt.Halt.{Halt}
 use Rattle.cb_top.specs.declared.halt.Halt.TheVariants as halts
 use Rattle.cb_top.specs.declared.status.Status.{Status}
 use Rattle.cb_top.specs.declared.status.Status.TheVariants.{Done, WriteFault}
-use Rattle.cb_top.specs.Status.{OnDone, OnWriteFault}
+use Rattle.cb_top.specs.Status.{OnDone, OnOutput, OnWriteFault}
 use Rattle.cb_top.specs.Halts.{status_of}
 use Rattle.cb_top.specs.Ends.{MayEnd, MayGive}
 use Rattle.cb_top.specs.Run.{Concludes}
@@ -15,6 +15,10 @@ use Rattle.cb_top.specs.Run.{Concludes}
 pub done_at_no_halt : (halt : Halt) (P : Type 0) → OnDone (status_of halt) P
 done_at_no_halt halts.Usage P = tt
 done_at_no_halt halt P = tt
+
+pub output_at_no_halt : (halt : Halt) (P : Type 0) → OnOutput (status_of halt) P
+output_at_no_halt halts.Usage P = tt
+output_at_no_halt halt P = tt
 
 pub write_fault_at_no_halt : (halt : Halt) (P : Type 0) → OnWriteFault (status_of halt) P
 write_fault_at_no_halt halts.Usage P = tt

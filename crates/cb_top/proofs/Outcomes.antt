@@ -1,19 +1,19 @@
 -- The outcome of the words and the files is one, and a run answers it.
 use Rattle.std.proofs.Common.{◌≡◌, ℕ, List, [], ◌∷◌, refl, sym, ◌∙◌, subst, inl, inr, Result, Ok, Err, Vec, slice_get, Some}
-use Rattle.std.specs.Prelude.{Option, IfSome, IfErr}
+use Rattle.std.specs.Prelude.{Option, IfSome, IfErr, OnOk}
 use Rattle.std.specs.declared.alloc.Global.{Global}
 use Rattle.cb_io.specs.Outside.{SinkTold, FilesTold}
 use Rattle.cb_top.specs.declared.halt.Halt.{Halt}
 use Rattle.cb_top.specs.declared.halt.Halt.TheVariants as halts
 use Rattle.cb_top.specs.declared.status.Status.{Status}
 use Rattle.cb_top.specs.declared.status.Status.TheVariants.{Done, WriteFault}
-use Rattle.cb_top.specs.Status.{OnAnswer, OnDone, OnNoOutput, OnReadFault, OnWriteFault}
+use Rattle.cb_top.specs.Status.{OnAnswer, OnDone, OnOutput, OnNoOutput, OnReadFault, OnWriteFault}
 use Rattle.cb_top.specs.Asked.{Asked, asked}
 use Rattle.cb_top.specs.Faults.{limit_line, long_line, read_line}
 use Rattle.cb_top.specs.Halts.{status_of}
 use Rattle.cb_top.specs.Outcome.{Outcome, IsOutcome, AskGives, UnreadGives, file_after, file_words, done, usage, faulty, wrong_lined, bad_named, too_long, long_lined, not_built}
 use Rattle.cb_top.specs.Run.{Shows, HaltShows, Explains, Concludes, IsFailedRead, ReadsAndJudges, Answers, BlamesFile, TakesFront, TakesNothing, Says, SaysWhy}
-use Rattle.cb_top.proofs.Ends.{done_at_no_halt, write_fault_at_no_halt}
+use Rattle.cb_top.proofs.Ends.{done_at_no_halt, output_at_no_halt, write_fault_at_no_halt}
 use Rattle.cb_top.proofs.Texts.{model_gives_one}
 use Rattle.cb_top.proofs.Bursts.{burst_gives_one}
 use Rattle.cb_top.proofs.Reading.{if_some}
@@ -74,6 +74,17 @@ no_line words (Ok bytes) WriteFault out out' err err' ends = tt
 no_line words (Ok bytes) status out out' err err' ends = absurd ends
 no_line words (Err halt) status out out' err err' ends =
     subst (λ (s : Status). OnDone s (TakesNothing err err')) (sym ends.1) (done_at_no_halt halt _)
+
+on_output : (status : Status) (P : Type 0) → P → OnOutput status P
+on_output Done P p = p
+on_output WriteFault P p = p
+on_output status P p = tt
+
+-- where there is an output, whole or in part, what the command gave was the output
+pub on_given : (words : List (List ℕ)) (P : Type 0) (answer : Result (Vec ℕ Global) Halt) (status : Status) (out out' err err' : SinkTold)
+    → OnOk answer P → Concludes words answer status out out' err err' → OnOutput status P
+on_given words P (Ok bytes) status out out' err err' p ends = on_output status P p
+on_given words P (Err halt) status out out' err err' p ends = subst (λ (s : Status). OnOutput s P) (sym ends.1) (output_at_no_halt halt P)
 
 -- at a place stands one name
 same_name : (names : List (List ℕ)) (place : ℕ) (name other : List ℕ) → slice_get names place ≡ Some name → slice_get names place ≡ Some other → other ≡ name

@@ -34,7 +34,8 @@ abbrev pub NamesItAlone : (t : Topology) (raised : List NodeName) (finding : Fin
 NamesItAlone t raised finding burst = (i : ℕ) → i < length burst.groups → off_by t raised finding burst i ≤ finding.radius
     → (finding.groups ≡ named_groups burst.groups (i ∷ [])) × IsTrue finding.sure
 
--- the output is the lines of what is found for the three texts: exactly the nearest groups, by codes from what causes what
+-- the output is the lines of what is found for the three texts: exactly the nearest groups, by codes from what causes what, and
+-- within the radius the one group alone
 pub record PrintsTheCause (model topology symptoms : List ℕ) (old new : SinkTold) : Type 0 where
   pub finding : Finding
   pub of : IsBurstOf model topology symptoms finding

@@ -26,8 +26,8 @@ TakesNothing old new = WritesAll old new []
 abbrev pub LeavesRest : List ℕ → Option (List ℕ) → Type 0
 LeavesRest bytes left = (front : List ℕ) × (rest : List ℕ) × (bytes ≡ front ++ rest) × (left ≡ Some rest)
 
--- Nothing was taken of a file word behind the one at a place. Those before it were read whole, a front was taken of what they left
--- of its name, and of every other name there is left what they left of it: nothing, where it is one of them, and else all.
+-- Of the file words those before the one at a place were read whole, and a front was taken of what they left of its name. Nothing was
+-- taken of a file of another name behind it: of every other name there is left what they left of it.
 pub record ReadsUpTo (names : List (List ℕ)) (place : ℕ) (old new : FilesTold) : Type 0 where
   pub name : List ℕ
   pub is : slice_get names place ≡ Some name
@@ -46,7 +46,7 @@ HavePassed left (model ∷ topology ∷ []) =
     × IsTopologyText tables (contents left (model ∷ []) topology) network
 HavePassed left names = ⊥
 
--- a read of the file word at a place failed, nothing was taken of a later one, and those before it have passed
+-- a read of the file word at a place failed, nothing was taken of a later one of another name, and those before it have passed
 pub record FailsAt (names : List (List ℕ)) (place : ℕ) (old new : FilesTold) : Type 0 where
   pub last : ReadsUpTo names place old new
   pub failed : ReadFailed old new last.name
@@ -75,7 +75,7 @@ pub record Answers (words : List (List ℕ)) (left : List (List ℕ × List ℕ)
 abbrev pub TakesFront : List (List ℕ) → List (List ℕ × List ℕ) → SinkTold → SinkTold → Type 0
 TakesFront words left old new = (bytes : List ℕ) × IsOutcome words left (done bytes) × WritesFront old new bytes
 
--- what a halt shows of the outcome, by the names of the files
+-- what a halt shows of the outcome, by the names of the files; a failed read and want of memory show nothing of it
 abbrev pub HaltShows : List (List ℕ) → Halt → (Outcome → Type 0) → Type 0
 HaltShows names halts.Usage IsIt = IsIt usage
 HaltShows names (halts.Model fault) IsIt = IsIt (faulty fault)
@@ -91,7 +91,7 @@ abbrev pub Shows : List (List ℕ) → Result (Vec ℕ Global) Halt → (Outcome
 Shows names (Ok bytes) IsIt = IsIt (done bytes.items)
 Shows names (Err halt) IsIt = HaltShows names halt IsIt
 
--- nothing was taken of a file behind the one that a halt tells, if it tells one
+-- nothing was taken of a file of another name behind the one that a halt tells, if it tells one
 abbrev pub IsLastRead : List (List ℕ) → FilesTold → FilesTold → Halt → Type 0
 IsLastRead names old new halt = OnFile halt (λ place. ReadsUpTo names place old new)
 
@@ -100,9 +100,9 @@ abbrev pub IsFailedRead : List (List ℕ) → FilesTold → FilesTold → Halt �
 IsFailedRead names old new (halts.ReadFault place) = FailsAt names place old new
 IsFailedRead names old new halt = Unit {0}
 
--- The files of these names were read and judged, one after the other. With a value all were read, and it is the outcome's output.
--- With a halt, the outcome is the one that it shows, the file that it tells is one of these, and nothing was taken of one behind it;
--- where that couldn't be read, a read of it failed.
+-- What the reading and judging of these files leaves, one after the other. With a value all were read, and it is the outcome's
+-- output. With a halt, the outcome is the one that it shows, if it shows one; the file that it tells is one of these, and nothing was
+-- taken of one of another name behind it; where it is a failed read, a read of that file failed, and those before it have passed.
 pub record ReadsAndJudges (names : List (List ℕ)) (IsIt : List (List ℕ × List ℕ) → Outcome → Type 0) (old new : FilesTold) (result : Result (Vec ℕ Global) Halt) : Type 0 where
   pub shows : IfSome old.left (λ left. Shows names result (IsIt left))
   pub read : OnOk result (ReadsEach old new names)
@@ -137,8 +137,9 @@ abbrev pub Concludes : List (List ℕ) → Result (Vec ℕ Global) Halt → Stat
 Concludes words (Ok bytes) status out out' err err' = Delivers bytes.items status out out' err err'
 Concludes words (Err halt) status out out' err err' = TakesNothing out out' × (status ≡ status_of halt) × Explains (file_words words) halt err err'
 
--- One halt kept the run from its output: the status is that of the halt, the outcome is the one that it shows, the error sink was
--- given its line, nothing was taken of a file behind the one it tells, and where it is a failed read, a read of that file failed.
+-- One halt kept the run from its output: the status is that of the halt, the outcome is the one that it shows, if it shows one, the
+-- error sink was given its line, nothing was taken of a file of another name behind the one it tells, and where it is a failed read,
+-- a read of that file failed, and those before it have passed.
 pub record SaysWhy (words : List (List ℕ)) (status : Status) (old new : FilesTold) (err_old err_new : SinkTold) : Type 0 where
   pub halt : Halt
   pub status_is : status_of halt ≡ status

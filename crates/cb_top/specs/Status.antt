@@ -29,6 +29,12 @@ OnNoOutput Done P = Unit {0}
 OnNoOutput WriteFault P = Unit {0}
 OnNoOutput status P = P
 
+-- a fact at each status at which there is an output, whole or in part: 0 and 9
+abbrev pub OnOutput : Status → Type 0 → Type 0
+OnOutput Done P = P
+OnOutput WriteFault P = P
+OnOutput status P = Unit {0}
+
 -- a fact at one status
 abbrev pub OnDone : Status → Type 0 → Type 0
 OnDone Done P = P

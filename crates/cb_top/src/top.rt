@@ -1,6 +1,6 @@
 //! The top call.
 ghost use Rattle.std.specs.Prelude.{◌≡◌, IfSome};
-ghost use Rattle.cb_top.specs.Status.{OnAnswer, OnDone, OnNoOutput, OnReadFault, OnWriteFault, OnMemory};
+ghost use Rattle.cb_top.specs.Status.{OnAnswer, OnDone, OnOutput, OnNoOutput, OnReadFault, OnWriteFault, OnMemory};
 ghost use Rattle.cb_top.specs.Commands.{IsBuilt, IsInTable, IsUnbuilt, AskForBurst};
 ghost use Rattle.cb_top.specs.Faults.{memory_line};
 ghost use Rattle.cb_top.specs.Outcome.{texts, file_words, IsOutcome};
@@ -47,13 +47,14 @@ pub fn run<F: Files, O: Sink, E: Sink, L: Ledger>(
     // where no more symptoms of one group are lost or spurious than the radius says, that group alone, and it is sure.
     ensures cause { OnDone result (IfSome (F.tells files.old).left (λ left.
         FindsTheCause (texts words.now) left (O.tells out.old) (O.tells out.new))) }
-    ensures read_whole { OnDone result (ReadsEach (F.tells files.old) (F.tells files.new) (file_words (texts words.now))) }
+    // Where there is an output, whole or in part, all files were read whole, and nothing was taken of any other.
+    ensures read_whole { OnOutput result (ReadsEach (F.tells files.old) (F.tells files.new) (file_words (texts words.now))) }
     // Where a read failed, the line names the file, those before it were read whole and have passed, and nothing was taken of a
-    // later one.
+    // later one of another name.
     ensures read_fault { OnReadFault result (BlamesFile (texts words.now) (F.tells files.old) (F.tells files.new) (E.tells err.old) (E.tells err.new)) }
     ensures write_fault { OnWriteFault result (BlamesOut (O.tells out.old) (O.tells out.new) (E.tells err.old) (E.tells err.new)) }
-    // At each other status but 0 the line tells why there is no output, which is what the outcome says, and nothing was taken of a
-    // file behind the one that it tells: one that is refused is refused before bytes of the next one are taken.
+    // At each status but 0 and 9 the line tells why there is no output: what the outcome says, a failed read, or want of memory.
+    // Nothing was taken of a file of another name behind the one that it tells: one that is refused is refused before that.
     ensures line { OnNoOutput result (SaysWhy (texts words.now) result (F.tells files.old) (F.tells files.new) (E.tells err.old) (E.tells err.new)) }
     ensures memory { OnMemory result (Says (E.tells err.old) (E.tells err.new) memory_line) }
     ensures steps { (¬ AskForBurst (texts words.now)) → steps.new ≡ steps.old }

@@ -1,6 +1,6 @@
 use Rattle.cb_top.specs.Outcome.{texts, file_words}
 use Rattle.cb_top.proofs.Cause.{names_the_cause}
-use Rattle.cb_top.proofs.Outcomes.{answers, takes_front, no_output, no_line, says_why, blames_file}
+use Rattle.cb_top.proofs.Outcomes.{answers, takes_front, no_output, no_line, on_given, says_why, blames_file}
 use Rattle.cb_top.proofs.Ends.{may_end}
 use Rattle.cb_top.proofs.top.run.Goals as goal
 
@@ -17,6 +17,9 @@ returns-clause-no_output g c = no_output (texts c.args.words.now) c.answer-answe
 
 pub returns-clause-no_line : goal.returns-clause-no_line
 returns-clause-no_line g c = no_line (texts c.args.words.now) c.answer-answer.result c.conclude.result _ _ _ _ c.conclude.ensures
+
+pub returns-clause-read_whole : goal.returns-clause-read_whole
+returns-clause-read_whole g c = on_given (texts c.args.words.now) _ c.answer-answer.result c.conclude.result _ _ _ _ c.answer-answer.ensures.judged.read c.conclude.ensures
 
 pub returns-clause-line : goal.returns-clause-line
 returns-clause-line g c =
