@@ -8,7 +8,7 @@ use crate::create::are_within;
 use crate::lookup::symptom_at;
 use crate::refusal::allows;
 use cb_model::{Model, Name, RelId, sample_model};
-use cb_net::Net;
+use cb_instances::Net;
 use cb_network::{Edit, EditRefusal};
 use std::alloc::{AllocError, Global};
 use std::process::Abort;

@@ -13,7 +13,8 @@ use Rattle.cb_model.specs.Order.{Rises}
 use Rattle.cb_model.proofs.Rising.{node_cmp_total, node_cmp_exact, node_strict}
 use Rattle.cb_coding.specs.declared.group.Problem.{Problem}
 use Rattle.cb_network.specs.Nodes.{IsColumn, IsProblem, IsSymptomNode, IsWithin}
-use Rattle.cb_network.specs.Matrix.{AreColumns, AreProblems, IsCode}
+use Rattle.cb_network.specs.Nodes.{AreColumns, AreProblems}
+use Rattle.cb_finding.specs.Matrix.{IsCode}
 use Rattle.cb_network.specs.Sound.{Sound, problem_limit, symptom_limit}
 use Rattle.cb_network.proofs.Counts.{count_of_rising}
 use Rattle.cb_network.proofs.Sets.{len_of_part}

@@ -1,7 +1,8 @@
 -- The matrix of a topology, by its columns and its problems with their codes.
 use Rattle.std.specs.Prelude.{◌≤◌, length}
 use Rattle.cb_network.specs.Topology.{Topology}
-use Rattle.cb_network.specs.Matrix.{AreColumns, AreCoded}
+use Rattle.cb_network.specs.Nodes.{AreColumns}
+use Rattle.cb_finding.specs.Matrix.{AreCoded}
 use Rattle.cb_network.specs.Sound.{problem_limit, symptom_limit}
 use Rattle.cb_matrix.specs.declared.matrix.Matrix.{Matrix}
 

@@ -7,8 +7,8 @@ use Rattle.cb_coding.specs.declared.group.Group.{Group}
 use Rattle.cb_coding.specs.Distance.{all_columns}
 use Rattle.cb_coding.specs.Groups.{AreGroups, codes_of}
 use Rattle.cb_coding.specs.Pairs.{IsLeast}
-use Rattle.cb_network.specs.declared.finding.Finding.{Finding}
-use Rattle.cb_network.specs.Finding.{IsFinding, least_or_one}
+use Rattle.cb_finding.specs.declared.finding.Finding.{Finding}
+use Rattle.cb_finding.specs.Finding.{IsFinding, least_or_one}
 
 -- the finding over all columns, at the least distance of the problems' groups
 pub record Finds (columns : List NodeName) (problems : List Problem) (raised : List NodeName) (finding : Finding) : Type 0 where

@@ -4,7 +4,7 @@ ghost use Rattle.std.specs.List.{All};
 ghost use Rattle.cb_model.specs.Order.{Rises};
 ghost use Rattle.cb_model.specs.NodeOrder.{node_cmp};
 ghost use Rattle.cb_coding.specs.Groups.{AreProblems};
-ghost use Rattle.cb_network.specs.Finding.{least_or_one, is_among as is_among_of, word_of as word_of_raised, named_group as named_group_of, named_groups as named_groups_of};
+ghost use Rattle.cb_finding.specs.Finding.{least_or_one, is_among as is_among_of, word_of as word_of_raised, named_group as named_group_of, named_groups as named_groups_of};
 ghost use Rattle.cb_plain.specs.Finds.{Finds};
 
 use crate::closest::least;
@@ -14,7 +14,7 @@ use crate::reduce::every_column;
 use cb_bits::Row;
 use cb_coding::{Book, Group, Pair, Problem};
 use cb_model::{List, NamedGroup, NodeName};
-use cb_network::Finding;
+use cb_finding::Finding;
 use std::alloc::{AllocError, Global};
 
 /// The problems nearest to what is raised, over all columns. The raised nodes are a set, given as its list in order.

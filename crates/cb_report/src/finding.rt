@@ -4,7 +4,7 @@ ghost use Rattle.cb_report.specs.Lines.{burst_text as text_of_burst, group_line,
 
 use crate::piece::{push_node, push_number};
 use cb_model::NamedGroup;
-use cb_network::Finding;
+use cb_finding::Finding;
 use std::alloc::{AllocError, Global};
 
 /// What `burst` prints for a finding: a line of numbers, and a line for each nearest group.

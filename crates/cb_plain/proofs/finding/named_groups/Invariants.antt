@@ -1,5 +1,5 @@
 use Rattle.std.proofs.Common.{◌≡◌, take}
-use Rattle.cb_network.specs.Finding.{named_groups}
+use Rattle.cb_finding.specs.Finding.{named_groups}
 use Rattle.cb_plain.proofs.finding.named_groups.Given as goal
 
 abbrev pub invariant-loop-place : goal.invariant-loop-place

@@ -2,7 +2,7 @@ use Rattle.std.proofs.Common.{◌≡◌, ◌+◌, ◌<◌, ◌≤◌, ◌++◌, 
 use Rattle.std.proofs.lemmas.List.{map-append, take_all}
 use Rattle.cb_model.proofs.Numbers.{take_more}
 use Rattle.cb_bits.proofs.Filled.{IsFilled, none_filled, one_set, one_left, all_filled}
-use Rattle.cb_network.specs.Finding.{is_among}
+use Rattle.cb_finding.specs.Finding.{is_among}
 use Rattle.cb_plain.proofs.finding.word_of.Goals as goal
 use Rattle.cb_plain.proofs.finding.word_of.Goals.{then-is_among, else-is_among}
 

@@ -1,6 +1,6 @@
 use Rattle.std.proofs.Common.{take, map, length}
 use Rattle.cb_bits.proofs.Filled.{IsFilled}
-use Rattle.cb_network.specs.Finding.{is_among}
+use Rattle.cb_finding.specs.Finding.{is_among}
 use Rattle.cb_plain.proofs.finding.word_of.Given as goal
 
 abbrev pub invariant-loop-k : goal.invariant-loop-k

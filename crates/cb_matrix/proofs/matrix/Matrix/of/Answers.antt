@@ -1,6 +1,6 @@
 use Rattle.std.proofs.Common.{List, sym, subst, ◌∙◌}
 use Rattle.std.specs.List.{All}
-use Rattle.cb_network.specs.Matrix.{AreColumns, AreProblems}
+use Rattle.cb_network.specs.Nodes.{AreColumns, AreProblems}
 use Rattle.cb_network.specs.Sound.{Sound}
 use Rattle.cb_nodes.specs.declared.id.NodeId.{NodeId}
 use Rattle.cb_topo.specs.Numbered.{Numbered, topology_of, IsLiveNode, AreNamed, IsWhole}
