@@ -8,14 +8,14 @@ use Rattle.cb_coding.specs.declared.group.Group.{Group}
 use Rattle.cb_coding.specs.declared.group.Problem.{Problem}
 use Rattle.cb_coding.specs.Distance.{all_columns}
 use Rattle.cb_coding.specs.Groups.{AreGroups, codes_of}
-use Rattle.cb_coding.specs.Pairs.{IsLeast}
+use Rattle.cb_coding.specs.Pairs.{IsLeast, least_or_one}
 use Rattle.cb_coding.proofs.One.{groups_are_one, answer_is_one, least_is_one}
 use Rattle.cb_network.specs.Topology.{Topology}
 use Rattle.cb_network.specs.Causes.{Causes}
 use Rattle.cb_network.proofs.One.{same_truth, columns_are_one, problems_are_one}
 use Rattle.cb_finding.specs.declared.finding.Finding.{Finding}
 use Rattle.cb_finding.specs.Matrix.{IsCode, AreCoded, IsMatrix}
-use Rattle.cb_finding.specs.Finding.{IsFinding, IsBurst, least_or_one, named_groups}
+use Rattle.cb_finding.specs.Finding.{IsFinding, IsBurst, named_groups}
 
 pub code_is_one : (t : Topology) (columns : List NodeName) (p : NodeName) (v w : List Bool) → IsCode t columns p v
     → IsCode t columns p w → v ≡ w

@@ -12,7 +12,7 @@ use Rattle.cb_coding.specs.declared.group.Group.{Group}
 use Rattle.cb_coding.specs.Answers.{IsAnswer, radius}
 use Rattle.cb_coding.specs.Distance.{all_columns}
 use Rattle.cb_coding.specs.Groups.{codes_of}
-use Rattle.cb_coding.specs.Pairs.{IsLeast}
+use Rattle.cb_coding.specs.Pairs.{IsLeast, least_or_one}
 use Rattle.cb_finding.specs.declared.finding.Finding.{Finding}
 use Rattle.cb_network.specs.Topology.{Topology}
 use Rattle.cb_finding.specs.Matrix.{IsMatrix}
@@ -50,11 +50,6 @@ pub record IsFinding (columns : List NodeName) (groups : List Group) (book_colum
   pub distance_is : finding.distance ≡ answer.distance
   pub sure_is : finding.sure ≡ answer.sure
   pub groups_are : finding.groups ≡ named_groups groups answer.groups
-
--- the distance of the closest pair, or 1 where there is no pair
-abbrev pub least_or_one : Option Pair → ℕ
-least_or_one None = 1
-least_or_one (Some pair) = pair.distance
 
 -- what is found over all columns of the topology, whose codes are the least distance apart
 pub record IsBurst (t : Topology) (raised : List NodeName) (finding : Finding) : Type 0 where

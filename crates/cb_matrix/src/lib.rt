@@ -2,8 +2,14 @@
 #![tactic(auto)]
 
 mod codes;
+mod grouping;
 mod matrix;
 mod names;
+mod problems;
 mod search;
 
+pub use grouping::groups;
 pub use matrix::Matrix;
+
+#[cfg(test)]
+mod tests;
