@@ -1,7 +1,9 @@
 -- Each definition from codes to findings holds of one value alone.
-use Rattle.std.proofs.Common.{◌≡◌, ℕ, List, [], ◌∷◌, length, map, refl, sym, ap, subst, ◌∙◌, Bool, Option}
+use Rattle.std.proofs.Common.{◌≡◌, ℕ, List, [], ◌∷◌, length, map, refl, sym, ap, subst, ◌∙◌, Bool, Option, arith}
 use Rattle.std.specs.List.{All}
 use Rattle.std.proofs.lemmas.List.Elements.{All-head, All-tail}
+use Rattle.cb_model.specs.declared.node.GroupName.{GroupName}
+use Rattle.cb_model.specs.declared.node.GroupName.TheVariants.{Quiet, Least}
 use Rattle.cb_model.specs.declared.node.NodeName.{NodeName}
 use Rattle.cb_coding.specs.declared.book.Pair.{Pair}
 use Rattle.cb_coding.specs.declared.group.Group.{Group}
@@ -15,7 +17,7 @@ use Rattle.cb_network.specs.Causes.{Causes}
 use Rattle.cb_network.proofs.One.{same_truth, columns_are_one, problems_are_one}
 use Rattle.cb_finding.specs.declared.finding.Finding.{Finding}
 use Rattle.cb_finding.specs.Matrix.{IsCode, AreCoded, IsMatrix}
-use Rattle.cb_finding.specs.Finding.{IsFinding, IsBurst, least_or_one, named_groups}
+use Rattle.cb_finding.specs.Finding.{IsCalled, IsFinding, IsBurst, least_or_one, named_groups}
 
 pub code_is_one : (t : Topology) (columns : List NodeName) (p : NodeName) (v w : List Bool) → IsCode t columns p v
     → IsCode t columns p w → v ≡ w
@@ -72,6 +74,15 @@ finding_is_one columns groups book_columns d raised a b p q =
     let sure = p.sure_is ∙ (ap (λ x. x.sure) answer ∙ sym q.sure_is) in
     let listed = p.groups_are ∙ (ap (λ x. named_groups groups x.groups) answer ∙ sym q.groups_are) in
     λ i. record { raised = raised_are i; unknown = unknown_are i; distance = distance i; radius = radius i; sure = sure i; groups = listed i }
+
+pub group_name_is_one : (groups : List Group) (i : ℕ) (x y : GroupName) → IsCalled groups i x → IsCalled groups i y → x ≡ y
+group_name_is_one groups i Quiet Quiet a b = refl
+group_name_is_one groups i Quiet (Least n) a b = let lt = b.0 in absurd (omega arith)
+group_name_is_one groups i (Least n) Quiet a b = let lt = a.0 in absurd (omega arith)
+group_name_is_one groups i (Least m) (Least n) (_, g, is, first) (_, h, is', first') =
+    let same : g ≡ h = cc in
+    let node : m ≡ n = cc in
+    ap Least node
 
 -- what a burst finds once the columns and groups are known
 record FindsOver (raised : List NodeName) (finding : Finding) (columns : List NodeName) (groups : List Group) : Type 0 where
