@@ -1,7 +1,9 @@
 -- What is found for a set of raised nodes. The set is given as its list in order.
-use Rattle.std.specs.Prelude.{◌≡◌, ℕ, ◌==◌, List, [], length, map, Bool, not, Option, None, Some, slice_index_or}
+use Rattle.std.specs.Prelude.{◌≡◌, ℕ, ◌<◌, ◌==◌, List, [], length, map, Bool, not, Option, None, Some, slice_get, slice_index_or}
 use Rattle.std.specs.List.{count_by, list_any}
 use Rattle.std.specs.Ordering.{eq_by_cmp}
+use Rattle.cb_model.specs.declared.node.GroupName.{GroupName}
+use Rattle.cb_model.specs.declared.node.GroupName.TheVariants.{Quiet, Least}
 use Rattle.cb_model.specs.declared.node.NamedGroup.{NamedGroup}
 use Rattle.cb_model.specs.declared.node.NodeName.{NodeName}
 use Rattle.cb_model.specs.Order.{Rises}
@@ -36,6 +38,11 @@ named_group groups i = record { quiet = i == 0; members = slice_index_or (map (�
 -- the groups at these places
 abbrev pub named_groups : List Group → List ℕ → List NamedGroup
 named_groups groups places = map (named_group groups) places
+
+-- what the group at a place is called: the first one is the quiet one, and any other is called by its least problem
+abbrev pub IsCalled : List Group → ℕ → GroupName → Type 0
+IsCalled groups i Quiet = i ≡ 0
+IsCalled groups i (Least node) = (0 < i) × (g : Group) × (slice_get groups i ≡ Some g) × (slice_get g.members 0 ≡ Some node)
 
 -- The answer to the raised nodes over the columns of a book at which the codes are d apart, with the numbers of raised
 -- and of unknown nodes.

@@ -1,6 +1,6 @@
 //! What holds of codes, matrices and findings, whatever the program does. Each law is the contract of a function that
 //! does nothing.
-ghost use Rattle.cb_finding.specs.Laws.{CodeIsOne, CodedAreOne, MatrixIsOne, FindingIsOne, BurstIsOne, BurstFindsTheCause};
+ghost use Rattle.cb_finding.specs.Laws.{CodeIsOne, CodedAreOne, MatrixIsOne, GroupNameIsOne, FindingIsOne, BurstIsOne, BurstFindsTheCause};
 
 /// Over given columns a problem has one code.
 pub fn code_is_one()
@@ -15,6 +15,11 @@ pub fn coded_are_one()
 /// A topology has one list of columns with one list of groups.
 pub fn matrix_is_one()
     ensures { MatrixIsOne }
+{}
+
+/// A group has one name.
+pub fn group_name_is_one()
+    ensures { GroupNameIsOne }
 {}
 
 /// A set of raised nodes has one finding over given columns, groups and book.

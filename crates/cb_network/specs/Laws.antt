@@ -84,10 +84,3 @@ abbrev pub EditsKeepSound : Type 0
 EditsKeepSound = (t u : Topology) (edits : List Edit) → IsRegular t.model
     → ((edit : Edit) → Contains edits edit → HasGoodName edit) → Sound t
     → IsAfterAll t edits u → Sound u
-
--- group alone is listed, and the finding is sure.
-abbrev pub BurstFindsTheCause : Type 0
-BurstFindsTheCause = (t : Topology) (raised : List NodeName) (finding : Finding) (burst : IsBurst t raised finding) (i : ℕ)
-    → i < length burst.groups
-    → from_word (all_columns (length burst.columns)) (codes_of burst.groups) (word_of burst.columns raised) i ≤ finding.radius
-    → (finding.groups ≡ named_groups burst.groups (i ∷ [])) × IsTrue finding.sure
