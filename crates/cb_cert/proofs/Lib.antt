@@ -1,0 +1,13 @@
+pub mod Pieces
+pub mod Uniques
+pub mod TextLines
+pub mod LineTexts
+pub mod Readings
+pub mod Cutting
+pub mod Allowed
+pub mod Completed
+pub mod Moved
+pub mod Stands
+pub mod Ending
+pub mod Loops
+pub mod Openings

@@ -1,0 +1,29 @@
+-- What holds of the format, whatever the program does.
+use Rattle.std.specs.Prelude.{◌≡◌, ◌↔◌, ℕ, List, Result, Ok}
+use Rattle.cb_cert.specs.declared.certificate.Certificate.{Certificate}
+use Rattle.cb_cert.specs.declared.fault.CertText.{CertText}
+use Rattle.cb_cert.specs.Lines.{certificate_lines, text_of}
+use Rattle.cb_cert.specs.Format.{IsCertificate, Spells}
+use Rattle.cb_cert.specs.declared.line.Line.{Line}
+use Rattle.cb_cert.specs.Ahead.{MayCome, all_places}
+use Rattle.cb_cert.specs.Fronts.{Begins, IsReading}
+
+-- the text of a certificate of the format spells it
+abbrev pub TextSpells : Type 0
+TextSpells = (c : Certificate) → IsCertificate c → Spells (text_of c) c
+
+-- no two certificates have the same lines
+abbrev pub LinesAreOfOne : Type 0
+LinesAreOfOne = (a b : Certificate) → certificate_lines a ≡ certificate_lines b → a ≡ b
+
+-- a text has one reading: one certificate, or one first fault
+abbrev pub ReadingIsOne : Type 0
+ReadingIsOne = (text : List ℕ) (a b : Result Certificate CertText) → IsReading text a → IsReading text b → a ≡ b
+
+-- what is written is read again: the text of a certificate of the format has no other reading
+abbrev pub WrittenIsRead : Type 0
+WrittenIsRead = (c : Certificate) (reading : Result Certificate CertText) → IsCertificate c → IsReading (text_of c) reading → reading ≡ Ok c
+
+-- what may come place by place is exactly what some certificate begins with
+abbrev pub PlacesAreExact : Type 0
+PlacesAreExact = (ls : List Line) → MayCome 0 all_places ls ↔ Begins ls

@@ -1,0 +1,27 @@
+//! What holds of the format, whatever the program does. Each law is the contract of a function that does nothing.
+ghost use Rattle.cb_cert.specs.Laws.{LinesAreOfOne, TextSpells, ReadingIsOne, WrittenIsRead, PlacesAreExact};
+
+/// No two certificates have the same lines.
+pub fn lines_are_of_one()
+    ensures { LinesAreOfOne }
+{}
+
+/// The text of a certificate of the format spells it.
+pub fn text_spells()
+    ensures { TextSpells }
+{}
+
+/// A text has one reading: one certificate, or one first fault.
+pub fn reading_is_one()
+    ensures { ReadingIsOne }
+{}
+
+/// What is written is read again.
+pub fn written_is_read()
+    ensures { WrittenIsRead }
+{}
+
+/// Place by place exactly what some certificate begins with may come.
+pub fn places_are_exact()
+    ensures { PlacesAreExact }
+{}

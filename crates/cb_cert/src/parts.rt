@@ -1,0 +1,86 @@
+//! The parts of a certificate, read: lists whose length their first line tells.
+ghost use Rattle.std.specs.Prelude.{[], ◌∷◌, ◌≤◌, IfOk, length, replicate};
+ghost use Rattle.cb_cert.specs.declared.line.Line.TheVariants as line;
+ghost use Rattle.cb_cert.specs.Ahead.{at_nodes, at_columns, at_spans, at_span, at_side, at_entry};
+ghost use Rattle.cb_cert.specs.Format.{node_limit};
+ghost use Rattle.cb_cert.specs.Lines.{node_lines, column_lines, all_span_lines, span_lines, side_lines};
+ghost use Rattle.cb_cert.specs.Steps.{Reads, ReadsBehind};
+
+use crate::certificate::{Side, Span};
+use crate::fault::CertText;
+use crate::limits::{MOST_COLUMNS, MOST_NODES};
+use crate::reader::Reader;
+use crate::words::is_text;
+use cb_model::{List, NodeName};
+use std::alloc::Global;
+
+impl<'a> Reader<'a> {
+    /// The nodes.
+    pub fn nodes(&mut self, alloc: Global) -> Result<List<NodeName>, CertText>
+        ensures lines { Reads 0 (at_nodes ∷ []) node_lines length self.old self.new result }
+        ensures few { IfOk result (λ nodes. length nodes ≤ node_limit) }
+    {
+        let count = self.number(b"nodes ", 0, MOST_NODES)?;
+        let mut nodes = List::new(alloc);
+        for _ in 0..count {
+            nodes.push(self.node(alloc)?)?;
+        }
+        Ok(nodes)
+    }
+
+    /// The columns, which are numbers of some of the nodes.
+    pub fn columns(&mut self, alloc: Global, nodes: u32) -> Result<List<u32>, CertText>
+        ensures { Reads nodes (at_columns ∷ []) column_lines (λ columns. nodes) self.old self.new result }
+    {
+        let count = self.number(b"columns ", 0, MOST_COLUMNS)?;
+        let mut columns = List::new(alloc);
+        for _ in 0..count {
+            columns.push(self.number(b"column ", 1, nodes)?)?;
+        }
+        Ok(columns)
+    }
+
+    /// The spans of a book.
+    pub fn spans(&mut self, alloc: Global, nodes: u32) -> Result<List<Span>, CertText>
+        ensures { Reads nodes (at_spans ∷ []) all_span_lines (λ spans. nodes) self.old self.new result }
+    {
+        let count = self.number(b"spans ", 0, MOST_COLUMNS)?;
+        let mut spans = List::new(alloc);
+        for _ in 0..count {
+            spans.push(self.span(alloc, nodes)?)?;
+        }
+        Ok(spans)
+    }
+
+    /// A span.
+    pub fn span(&mut self, alloc: Global, nodes: u32) -> Result<Span, CertText>
+        ensures { Reads nodes (at_span ∷ []) span_lines (λ span. nodes) self.old self.new result }
+    {
+        let line = self.next()?;
+        let length = self.span_of(line)?;
+        self.entries(alloc, nodes, length)
+    }
+
+    /// The first side of a thin certificate.
+    pub fn side(&mut self, alloc: Global, nodes: u32) -> Result<Side, CertText>
+        ensures { Reads nodes (at_side ∷ []) side_lines (λ side. nodes) self.old self.new result }
+    {
+        let line = self.next()?;
+        if is_text(line, b"quiet") {
+            return Ok(Side::Quiet);
+        }
+        let length = self.span_of(line)?;
+        Ok(Side::Root(self.entries(alloc, nodes, length)?))
+    }
+
+    // The entries of a span whose first line tells their number.
+    fn entries(&mut self, alloc: Global, nodes: u32, count: u32) -> Result<Span, CertText>
+        ensures { ReadsBehind (line.Span count) nodes (replicate count at_entry) span_lines (λ span. nodes) self.old self.new result }
+    {
+        let mut entries = List::new(alloc);
+        for _ in 0..count {
+            entries.push(self.entry(nodes)?)?;
+        }
+        Ok(Span { entries })
+    }
+}

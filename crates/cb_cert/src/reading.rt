@@ -1,0 +1,80 @@
+//! A whole certificate, read.
+ghost use Rattle.std.specs.Prelude.{◌≡◌, ◌⊎◌, [], ◌∷◌, IfOk, IfErr, length};
+ghost use Rattle.cb_cert.specs.declared.fault.CertText.TheVariants.{NoMemory};
+ghost use Rattle.cb_cert.specs.declared.line.Line.TheVariants as line;
+ghost use Rattle.cb_cert.specs.Ahead.{at_kind, at_wanted, at_distance, at_thin_distance, at_nodes, at_columns, at_spans, at_side, at_span};
+ghost use Rattle.cb_cert.specs.Format.{Spells, nodes_of};
+ghost use Rattle.cb_cert.specs.Fronts.{IsFault};
+ghost use Rattle.cb_cert.specs.Lines.{claim_lines};
+ghost use Rattle.cb_cert.specs.Steps.{Reads, ReadsBehind};
+
+use crate::certificate::Certificate;
+use crate::fault::CertText;
+use crate::limits::{LONGEST_WANTED, MOST_COLUMNS};
+use crate::reader::Reader;
+use crate::words::is_text;
+use std::alloc::Global;
+
+/// The certificate that a text spells. The text is read once, line by line, and no line of it is kept; counts that it
+/// claims take no memory before their lines are there.
+pub fn read(alloc: Global, text: &[u8]) -> Result<Certificate, CertText>
+    ensures certificate { IfOk result (Spells text.now) }
+    ensures fault { IfErr result (λ why. (why ≡ NoMemory) ⊎ IsFault text.now why) }
+{
+    let mut reader = Reader::behind_header(text)?;
+    let certificate = reader.claim(alloc)?;
+    reader.finish()?;
+    Ok(certificate)
+}
+
+impl<'a> Reader<'a> {
+    // What the certificate claims, with its reasons.
+    fn claim(&mut self, alloc: Global) -> Result<Certificate, CertText>
+        ensures { Reads 0 (at_kind ∷ []) claim_lines (λ c. length (nodes_of c)) self.old self.new result }
+    {
+        let kind = self.next()?;
+        if is_text(kind, b"kind book") {
+            return self.book(alloc);
+        }
+        if is_text(kind, b"kind thin") {
+            return self.thin(alloc);
+        }
+        Err(self.bad())
+    }
+
+    // A book, whose kind was read.
+    fn book(&mut self, alloc: Global) -> Result<Certificate, CertText>
+        ensures { ReadsBehind line.Book 0 (at_distance ∷ at_nodes ∷ at_columns ∷ at_spans ∷ []) claim_lines (λ c. length (nodes_of c)) self.old self.new result }
+    {
+        let distance = self.number(b"distance ", 1, LONGEST_WANTED)?;
+        let nodes = self.nodes(alloc)?;
+        let count = nodes.len() as u32;
+        let columns = self.columns(alloc, count)?;
+        let spans = self.spans(alloc, count)?;
+        Ok(Certificate::Book {
+            distance,
+            nodes,
+            columns,
+            spans,
+        })
+    }
+
+    // A thin certificate, whose kind was read.
+    fn thin(&mut self, alloc: Global) -> Result<Certificate, CertText>
+        ensures { ReadsBehind line.Thin 0 (at_wanted ∷ at_thin_distance ∷ at_nodes ∷ at_side ∷ at_span ∷ []) claim_lines (λ c. length (nodes_of c)) self.old self.new result }
+    {
+        let wanted = self.number(b"wanted ", 1, LONGEST_WANTED)?;
+        let distance = self.number(b"distance ", 0, MOST_COLUMNS)?;
+        let nodes = self.nodes(alloc)?;
+        let count = nodes.len() as u32;
+        let first = self.side(alloc, count)?;
+        let second = self.span(alloc, count)?;
+        Ok(Certificate::Thin {
+            wanted,
+            distance,
+            nodes,
+            first,
+            second,
+        })
+    }
+}
