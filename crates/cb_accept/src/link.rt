@@ -8,8 +8,8 @@ ghost use Rattle.cb_network.specs.Edits.{IsAccepted, IsRefused};
 ghost use Rattle.cb_accept.specs.Refusals.{AreEnds};
 
 use crate::lookup::{is_of_kind, is_taken, relation_at};
-use cb_model::RelId;
 use cb_instances::{InstanceId, Net};
+use cb_model::RelId;
 use cb_network::EditRefusal;
 
 // A link, by numbers.

@@ -10,8 +10,8 @@ ghost use Rattle.cb_graph.specs.Walks.{HasPlaces, AllLive, IsEventNumber, Brings
 use crate::instances::InstanceSet;
 use crate::walk::follow;
 use cb_bits::Row;
-use cb_model::{EventId, Rule};
 use cb_instances::InstanceId;
+use cb_model::{EventId, Rule};
 use cb_nodes::NodeId;
 use cb_topo::Topology;
 

@@ -14,8 +14,8 @@ use crate::listed::Listed;
 use crate::lists::{free_all, number_events, number_of, reserve};
 use crate::node::Node;
 use crate::numbers::Numbers;
-use cb_model::{ClassId, EventId};
 use cb_instances::{InstanceId, Net};
+use cb_model::{ClassId, EventId};
 use std::alloc::{AllocError, Global};
 
 /// The nodes of all numbers, and for each instance the numbers of its events.
