@@ -21,7 +21,7 @@ use Rattle.cb_network.specs.Edits.{number_of, with_instance, node_of, IsRelation
 use Rattle.cb_network.proofs.Counts.{count_is_one}
 use Rattle.cb_network.proofs.Kept.{class_of}
 use Rattle.cb_network.proofs.Links.{one_inverse}
-use Rattle.cb_net.specs.Numbered.{Net, LinkAt, IsWhole}
+use Rattle.cb_instances.specs.Net.{Net, LinkAt, IsWhole}
 use Rattle.cb_accept.specs.declared.counts.Counts.{Counts}
 use Rattle.cb_accept.specs.declared.link.Ends.{Ends}
 use Rattle.cb_accept.specs.Counts.{AreCounts, AreWithin}

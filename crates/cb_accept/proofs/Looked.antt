@@ -17,8 +17,8 @@ use Rattle.cb_model.proofs.Rising.{nothing_in_empty, contains_head}
 use Rattle.cb_network.specs.Topology.{IsOf, HasLink}
 use Rattle.cb_network.specs.Nodes.{IsSymptomNode}
 use Rattle.cb_network.specs.Edits.{node_of, IsRelationAt, HasRelationAt, IsTaken}
-use Rattle.cb_net.specs.declared.id.InstanceId.{InstanceId}
-use Rattle.cb_net.specs.Numbered.{Net, IsNamed, LinkAt, IsWhole, name_at, name_or, name_in_row, event_name}
+use Rattle.cb_instances.specs.declared.id.InstanceId.{InstanceId}
+use Rattle.cb_instances.specs.Net.{Net, IsNamed, LinkAt, IsWhole, name_at, name_or, name_in_row, event_name}
 use Rattle.cb_accept.specs.Refusals.{IsClassAt, FitsTarget, IsSymptomAt}
 use Rattle.cb_accept.proofs.Changed.{one_class_of}
 use Rattle.cb_accept.proofs.Members.{one_event}

@@ -9,8 +9,8 @@ use Rattle.cb_model.specs.declared.tables.Tables.{Tables}
 use Rattle.cb_model.specs.declared.tables.ClassRow.{ClassRow}
 use Rattle.cb_model.specs.Classes.{IsA, NamesClass, NamesEvent, NamesRelation}
 use Rattle.cb_model.specs.WellTyped.{WellTyped, Member, Declares}
-use Rattle.cb_net.specs.Numbered.{name_in_row}
-use Rattle.cb_net.proofs.Muting.{event_told}
+use Rattle.cb_instances.specs.Net.{name_in_row}
+use Rattle.cb_instances.proofs.Muting.{event_told}
 use Rattle.cb_model.proofs.Climb.{ancestor_add, class_is}
 
 module _ (t : Tables) (typed : WellTyped t) where

@@ -12,8 +12,8 @@ use Rattle.cb_network.specs.Topology.{Topology, IsOf, IsMuted}
 use Rattle.cb_network.specs.Nodes.{IsSymptomNode}
 use Rattle.cb_network.specs.Sound.{node_limit, problem_limit, symptom_limit}
 use Rattle.cb_network.specs.Edits.{number_of, node_of, IsRelationAt}
-use Rattle.cb_net.specs.declared.id.InstanceId.{InstanceId}
-use Rattle.cb_net.specs.Numbered.{Net, IsNamed, HasEventAt, node_at}
+use Rattle.cb_instances.specs.declared.id.InstanceId.{InstanceId}
+use Rattle.cb_instances.specs.Net.{Net, IsNamed, HasEventAt, node_at}
 use Rattle.cb_accept.specs.declared.counts.Counts.{Counts}
 use Rattle.cb_accept.specs.declared.link.Ends.{Ends}
 

@@ -7,7 +7,7 @@ ghost use Rattle.cb_accept.specs.Refusals.{IsFirstLimit};
 
 use crate::counts::Counts;
 use crate::limits::{MOST_INSTANCES, MOST_NODES, MOST_PROBLEMS, MOST_SYMPTOMS};
-use cb_net::Net;
+use cb_instances::Net;
 use cb_network::EditRefusal;
 
 /// Whether no number is above its limit, and else the first one that is.

@@ -3,13 +3,13 @@ ghost use Rattle.std.specs.Prelude.{OnOk, IfOk, IfErr};
 ghost use Rattle.cb_network.specs.declared.edit.EditRefusal.{EditRefusal as Refusal};
 ghost use Rattle.cb_network.specs.declared.edit.Edit.TheVariants.{Link, Unlink};
 ghost use Rattle.cb_model.specs.WellTyped.{WellTyped};
-ghost use Rattle.cb_net.specs.Numbered.{IsWhole};
+ghost use Rattle.cb_instances.specs.Net.{IsWhole};
 ghost use Rattle.cb_network.specs.Edits.{IsAccepted, IsRefused};
 ghost use Rattle.cb_accept.specs.Refusals.{AreEnds};
 
 use crate::lookup::{is_of_kind, is_taken, relation_at};
+use cb_instances::{InstanceId, Net};
 use cb_model::RelId;
-use cb_net::{InstanceId, Net};
 use cb_network::EditRefusal;
 
 // A link, by numbers.

@@ -6,11 +6,11 @@ ghost use Rattle.cb_model.specs.declared.id.RelId.{RelId as Relation};
 ghost use Rattle.cb_model.specs.WellTyped.{IsRelation, WellTyped};
 ghost use Rattle.cb_network.specs.Nodes.{IsSymptomNode};
 ghost use Rattle.cb_network.specs.Edits.{IsRelationAt, HasRelationAt, IsTaken, node_of};
-ghost use Rattle.cb_net.specs.Numbered.{IsLive, IsNamed};
+ghost use Rattle.cb_instances.specs.Net.{IsLive, IsNamed};
 ghost use Rattle.cb_accept.specs.Refusals.{IsClassAt, FitsTarget, IsSymptomAt};
 
+use cb_instances::{InstanceId, Net};
 use cb_model::{ClassId, EventId, RelId};
-use cb_net::{InstanceId, Net};
 
 // The instance's class, if it is one of the model's. A class that the model lacks would have nothing.
 fn class_at(net: &Net, id: InstanceId) -> Option<ClassId>

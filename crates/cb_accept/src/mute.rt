@@ -5,7 +5,7 @@ ghost use Rattle.cb_network.specs.Edits.{IsAccepted, IsRefused};
 ghost use Rattle.cb_accept.specs.Refusals.{TellsMute};
 
 use crate::lookup::symptom_at;
-use cb_net::Net;
+use cb_instances::Net;
 use cb_network::EditRefusal;
 
 // Whether the symptom is muted. What refuses one edit of a mute because there is no such symptom refuses the other.

@@ -7,7 +7,7 @@ use crate::counts::Counts;
 use crate::create::{may_create, may_delete};
 use crate::link::{may_link, may_unlink};
 use crate::mute::{may_mute, may_unmute};
-use cb_net::Net;
+use cb_instances::Net;
 use cb_network::{Edit, EditRefusal};
 
 /// Whether the edit is accepted, and else the refusal that stands first among those that hold.

@@ -13,7 +13,7 @@ use Rattle.cb_coding.specs.declared.book.Pair.{Pair}
 use Rattle.cb_coding.specs.declared.book.Answer.{Answer}
 use Rattle.cb_coding.specs.declared.group.Problem.{Problem}
 use Rattle.cb_coding.specs.declared.group.Group.{Group}
-use Rattle.cb_coding.specs.Pairs.{IsClosest, IsLeast, ComesBefore}
+use Rattle.cb_coding.specs.Pairs.{IsClosest, IsLeast, IsFirstClose, ComesBefore}
 use Rattle.cb_coding.specs.Answers.{IsAnswer, radius}
 use Rattle.cb_coding.specs.Groups.{IsGroup, AreGroups, same_code, members_of, group_of, zeros, members_cmp}
 
@@ -55,6 +55,19 @@ least_is_one width codes None None a b = refl
 least_is_one width codes None (Some q) a b = let pair = b.is_pair in absurd (omega arith)
 least_is_one width codes (Some p) None a b = let pair = a.is_pair in absurd (omega arith)
 least_is_one width codes (Some p) (Some q) a b = ap Some (closest_is_one _ codes p q a b)
+
+pub first_close_is_one : (columns : List ℕ) (codes : List (List Bool)) (d : ℕ) (p q : Pair) → IsFirstClose columns codes d p
+    → IsFirstClose columns codes d q → p ≡ q
+first_close_is_one columns codes d p q a b =
+    let near = a.close in
+    let near' = b.close in
+    let here = a.distance in
+    let there = b.distance in
+    let after : ComesBefore p.first p.second q.first q.second → ⊥ = λ h. let far = b.first p.first p.second a.is_pair h in absurd (omega arith) in
+    let before : ComesBefore q.first q.second p.first p.second → ⊥ = λ h. let far = a.first q.first q.second b.is_pair h in absurd (omega arith) in
+    let first : p.first ≡ q.first = grind arith in
+    let second : p.second ≡ q.second = grind arith in
+    same_pair p q first second cc
 
 -- the answer
 

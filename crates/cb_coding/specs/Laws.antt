@@ -9,7 +9,7 @@ use Rattle.cb_coding.specs.declared.book.Answer.{Answer}
 use Rattle.cb_coding.specs.declared.group.Problem.{Problem}
 use Rattle.cb_coding.specs.declared.group.Group.{Group}
 use Rattle.cb_coding.specs.Distance.{distance, all_columns}
-use Rattle.cb_coding.specs.Pairs.{IsLeast, Good}
+use Rattle.cb_coding.specs.Pairs.{IsLeast, IsFirstClose, Good}
 use Rattle.cb_coding.specs.Books.{IsBook, IsInUse}
 use Rattle.cb_coding.specs.Answers.{IsAnswer, from_word, radius}
 use Rattle.cb_coding.specs.Groups.{AreProblems, AreGroups, codes_of}
@@ -17,6 +17,11 @@ use Rattle.cb_coding.specs.Groups.{AreProblems, AreGroups, codes_of}
 -- codes have one closest pair
 abbrev pub LeastIsOne : Type 0
 LeastIsOne = (width : ℕ) (codes : List (List Bool)) (p q : Option Pair) → IsLeast width codes p → IsLeast width codes q → p ≡ q
+
+-- codes have one first pair that is closer than wanted
+abbrev pub FirstCloseIsOne : Type 0
+FirstCloseIsOne = (columns : List ℕ) (codes : List (List Bool)) (d : ℕ) (p q : Pair) → IsFirstClose columns codes d p
+    → IsFirstClose columns codes d q → p ≡ q
 
 -- a word has one answer
 abbrev pub AnswerIsOne : Type 0

@@ -1,9 +1,14 @@
 //! Laws of the definitions in `specs/`. Each function does nothing: its contract is the law.
-ghost use Rattle.cb_coding.specs.Laws.{LeastIsOne, AnswerIsOne, GroupsAreOne, BookIsOne, BookInUseIsOne, CodingTheorem, FewerColumnsAreCloser, ProblemIsInOneGroup, GroupsHaveDifferentCodes, OneIsGood, LeastIsPositive, BookIsGood, BookIsTight};
+ghost use Rattle.cb_coding.specs.Laws.{LeastIsOne, FirstCloseIsOne, AnswerIsOne, GroupsAreOne, BookIsOne, BookInUseIsOne, CodingTheorem, FewerColumnsAreCloser, ProblemIsInOneGroup, GroupsHaveDifferentCodes, OneIsGood, LeastIsPositive, BookIsGood, BookIsTight};
 
 /// Codes have at most one closest pair: of the pairs that are as close, the first is meant.
 pub fn least_is_one()
     ensures { LeastIsOne }
+{}
+
+/// Codes have at most one first pair that is closer than wanted.
+pub fn first_close_is_one()
+    ensures { FirstCloseIsOne }
 {}
 
 /// A word has at most one answer.

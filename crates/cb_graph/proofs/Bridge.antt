@@ -18,9 +18,9 @@ use Rattle.cb_model.proofs.Rising.{contains_cases, contains_head, contains_tail,
 use Rattle.cb_network.specs.Topology.{Topology, IsOf}
 use Rattle.cb_network.specs.Nodes.{IsEventAt}
 use Rattle.cb_network.specs.Causes.{Edge}
-use Rattle.cb_net.specs.declared.id.InstanceId.{InstanceId}
-use Rattle.cb_net.specs.Numbered.{IsNamed, name_at, name_or, name_in_row, event_name}
-use Rattle.cb_net.proofs.Muting.{event_told}
+use Rattle.cb_instances.specs.declared.id.InstanceId.{InstanceId}
+use Rattle.cb_instances.specs.Net.{IsNamed, name_at, name_or, name_in_row, event_name}
+use Rattle.cb_instances.proofs.Muting.{event_told}
 use Rattle.cb_nodes.specs.declared.id.NodeId.{NodeId}
 use Rattle.cb_nodes.specs.declared.node.Node.{Node}
 use Rattle.cb_nodes.specs.Table.{IsNode, node_of}

@@ -4,8 +4,8 @@ use Rattle.std.specs.List.{Contains}
 use Rattle.cb_model.specs.declared.id.RelId.{RelId}
 use Rattle.cb_network.specs.Topology.{HasLink}
 use Rattle.cb_network.specs.Causes.{Leads}
-use Rattle.cb_net.specs.declared.id.InstanceId.{InstanceId}
-use Rattle.cb_net.specs.Numbered.{Net, IsNamed, IsLive, LinkAt, IsWhole}
+use Rattle.cb_instances.specs.declared.id.InstanceId.{InstanceId}
+use Rattle.cb_instances.specs.Net.{Net, IsNamed, IsLive, LinkAt, IsWhole}
 use Rattle.cb_reach.specs.Rows.{Has}
 use Rattle.cb_graph.specs.Instances.{Gains, IsNumber}
 use Rattle.cb_graph.specs.Walks.{LeadsAt, IsLinked, IsWhereLeads, HasPlaces, AllLive, instance}

@@ -1,7 +1,7 @@
 -- Sets of instances, and what a row gains.
 use Rattle.std.specs.Prelude.{◌≡◌, ◌↔◌, ◌⊎◌, ℕ, Bool, List, length}
 use Rattle.std.specs.List.{Contains}
-use Rattle.cb_net.specs.declared.id.InstanceId.{InstanceId}
+use Rattle.cb_instances.specs.declared.id.InstanceId.{InstanceId}
 use Rattle.cb_reach.specs.Rows.{Has, ones}
 
 -- the list has each instance that the row has, once

@@ -4,8 +4,8 @@ use Rattle.std.specs.List.{Contains}
 use Rattle.cb_model.specs.declared.id.EventId.{EventId}
 use Rattle.cb_model.specs.declared.id.RelId.{RelId}
 use Rattle.cb_model.specs.declared.rule.Rule.{Rule}
-use Rattle.cb_net.specs.declared.id.InstanceId.{InstanceId}
-use Rattle.cb_net.specs.Numbered.{Net, LinkAt, IsLive}
+use Rattle.cb_instances.specs.declared.id.InstanceId.{InstanceId}
+use Rattle.cb_instances.specs.Net.{Net, LinkAt, IsLive}
 use Rattle.cb_nodes.specs.Table.{IsNode, node_of}
 use Rattle.cb_reach.specs.Rows.{Has}
 use Rattle.cb_topo.specs.Numbered.{Numbered}

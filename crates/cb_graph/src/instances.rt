@@ -1,11 +1,11 @@
 //! Sets of instances.
 ghost use Rattle.std.specs.Prelude.{◌≡◌, ◌<◌, ◌≤◌, ◌-◌, ◌++◌, ◌↔◌, ◌⊎◌, ℕ, length, replicate, false, [], IfOk, OnOk, OnErr, IsOk};
 ghost use Rattle.std.specs.List.{Contains};
-ghost use Rattle.cb_net.specs.declared.id.InstanceId.{InstanceId as Id};
+ghost use Rattle.cb_instances.specs.declared.id.InstanceId.{InstanceId as Id};
 ghost use Rattle.cb_reach.specs.Rows.{Has};
 
 use cb_bits::Row;
-use cb_net::InstanceId;
+use cb_instances::InstanceId;
 use std::alloc::{AllocError, Global};
 
 /// A set of instances, which takes no memory once it has places enough. Its members are listed, so that going over them

@@ -1,6 +1,6 @@
 //! What the rules of a class bring about.
 ghost use Rattle.std.specs.Prelude.{◌≡◌, ◌≤◌, ◌↔◌, ◌⊎◌, ℕ, length};
-ghost use Rattle.cb_net.specs.Numbered.{IsLive};
+ghost use Rattle.cb_instances.specs.Net.{IsLive};
 ghost use Rattle.cb_reach.specs.Rows.{Has};
 ghost use Rattle.cb_topo.specs.Numbered.{IsLiveNode};
 ghost use Rattle.cb_graph.specs.Edges.{EdgeAt};
@@ -10,8 +10,8 @@ ghost use Rattle.cb_graph.specs.Walks.{HasPlaces, AllLive, IsEventNumber, Brings
 use crate::instances::InstanceSet;
 use crate::walk::follow;
 use cb_bits::Row;
+use cb_instances::InstanceId;
 use cb_model::{EventId, Rule};
-use cb_net::InstanceId;
 use cb_nodes::NodeId;
 use cb_topo::Topology;
 

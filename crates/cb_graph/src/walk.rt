@@ -1,14 +1,14 @@
 //! Walks along links.
 ghost use Rattle.std.specs.Prelude.{◌≡◌, ◌<◌, length};
 ghost use Rattle.std.specs.List.{Contains};
-ghost use Rattle.cb_net.specs.declared.id.InstanceId.{InstanceId as Id};
-ghost use Rattle.cb_net.specs.Numbered.{IsLive};
+ghost use Rattle.cb_instances.specs.declared.id.InstanceId.{InstanceId as Id};
+ghost use Rattle.cb_instances.specs.Net.{IsLive};
 ghost use Rattle.cb_graph.specs.Instances.{Gains, IsNumber};
 ghost use Rattle.cb_graph.specs.Walks.{LeadsAt, IsWhereLeads, HasPlaces, AllLive, IsLinked};
 
 use crate::instances::InstanceSet;
+use cb_instances::InstanceId;
 use cb_model::RelId;
-use cb_net::InstanceId;
 use cb_topo::Topology;
 
 // Adds the listed instances to the set.

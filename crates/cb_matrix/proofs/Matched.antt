@@ -1,4 +1,4 @@
--- From numbers to names, and what that makes of a matrix.
+-- From numbers to names, and what that makes of coded problems.
 use Rattle.std.proofs.Common.{◌≡◌, ◌↔◌, ◌⊎◌, ℕ, zero, suc, ◌+◌, ◌<◌, ◌≤◌, List, [], ◌∷◌, ◌++◌, Bool, length, map, take, replicate, Option, None, Some, slice_get, refl, sym, ap, subst, ◌∙◌, inl, inr, arith}
 use Rattle.std.specs.List.{All, AllZip, Contains, slice_index_or}
 use Rattle.std.specs.Prelude.{slice_set}
@@ -12,8 +12,8 @@ use Rattle.cb_model.specs.NodeOrder.{node_cmp}
 use Rattle.cb_model.specs.Order.{Rises}
 use Rattle.cb_model.proofs.Rising.{node_cmp_total, node_cmp_exact, node_strict}
 use Rattle.cb_coding.specs.declared.group.Problem.{Problem}
-use Rattle.cb_network.specs.Nodes.{IsColumn, IsProblem, IsSymptomNode, IsWithin}
-use Rattle.cb_network.specs.Matrix.{AreColumns, AreProblems, IsCode}
+use Rattle.cb_network.specs.Nodes.{IsColumn, IsProblem, IsSymptomNode, AreColumns, AreProblems, IsWithin}
+use Rattle.cb_finding.specs.Matrix.{IsCode}
 use Rattle.cb_network.specs.Sound.{Sound, problem_limit, symptom_limit}
 use Rattle.cb_network.proofs.Counts.{count_of_rising}
 use Rattle.cb_network.proofs.Sets.{len_of_part}
@@ -25,8 +25,8 @@ use Rattle.cb_graph.specs.Edges.{EdgeAt, number}
 use Rattle.cb_graph.proofs.Chains.{named_once, lead_to_caused}
 use Rattle.cb_matrix.specs.Codes.{IsOnce, IsBelow, IsCodeOf}
 use Rattle.cb_matrix.specs.Searched.{IsCodeFrom, AreProblemsAt, HaveRows}
-use Rattle.cb_matrix.specs.Matrix.{IsMatrixOf}
-use Rattle.cb_matrix.specs.declared.matrix.Matrix.{Matrix}
+use Rattle.cb_matrix.specs.Problems.{AreAllCoded}
+use Rattle.cb_matrix.specs.declared.problems.CodedProblems.{CodedProblems}
 
 -- a set's code is a search's, where the set is what was found
 pub code_from : (n : Numbered) (columns : List NodeId) (id : NodeId) (reached code : List Bool) → ((k : ℕ) → Has reached k ↔ LeadsTo (EdgeAt n) id.0 k)
@@ -158,27 +158,27 @@ few_of_rising P Q xs limit rise are part within =
     let low = within.2 in
     omega arith
 
-module _ (n : Numbered) (whole : IsWhole n) (sound : Sound (topology_of n)) (columns ids : List NodeId) (matrix : Matrix) (names problems : List NodeName)
-    (are_columns : AreColumns (topology_of n) names) (named : AreNamed n columns names) (copied : AreNamed n columns matrix.columns)
-    (are_problems : AreProblems (topology_of n) problems) (problems_named : AreNamed n ids problems) (coded : AreProblemsAt n columns ids matrix.problems) where
-  same_columns : names ≡ matrix.columns
-  same_columns = names_are_one n columns names matrix.columns named copied
+module _ (n : Numbered) (whole : IsWhole n) (sound : Sound (topology_of n)) (columns ids : List NodeId) (made : CodedProblems) (names problems : List NodeName)
+    (are_columns : AreColumns (topology_of n) names) (named : AreNamed n columns names) (copied : AreNamed n columns made.columns)
+    (are_problems : AreProblems (topology_of n) problems) (problems_named : AreNamed n ids problems) (coded : AreProblemsAt n columns ids made.problems) where
+  same_columns : names ≡ made.columns
+  same_columns = names_are_one n columns names made.columns named copied
 
-  same_problems : problems ≡ map (λ p. p.name) matrix.problems
-  same_problems = names_are_one n ids problems (map (λ p. p.name) matrix.problems) problems_named (problem_names n columns ids matrix.problems coded)
+  same_problems : problems ≡ map (λ p. p.name) made.problems
+  same_problems = names_are_one n ids problems (map (λ p. p.name) made.problems) problems_named (problem_names n columns ids made.problems coded)
 
-  pub is_matrix : IsMatrixOf (topology_of n) matrix
-  is_matrix =
+  pub all_coded : AreAllCoded (topology_of n) made
+  all_coded =
       let columns_are = subst (AreColumns (topology_of n)) same_columns are_columns in
       let problems_are = subst (AreProblems (topology_of n)) same_problems are_problems in
-      let names_are : length (map (λ p. p.name) matrix.problems) ≡ length matrix.problems = length-map matrix.problems (λ (p : Problem). p.name) in
+      let names_are : length (map (λ p. p.name) made.problems) ≡ length made.problems = length-map made.problems (λ (p : Problem). p.name) in
       record {
         columns = columns_are;
-        problems = record { names = problems_are; codes = all_codes n whole columns matrix.columns copied ids matrix.problems coded };
-        few_columns = few_of_rising (IsSymptomNode (topology_of n)) (IsColumn (topology_of n)) matrix.columns symptom_limit columns_are.rise
+        problems = record { names = problems_are; codes = all_codes n whole columns made.columns copied ids made.problems coded };
+        few_columns = few_of_rising (IsSymptomNode (topology_of n)) (IsColumn (topology_of n)) made.columns symptom_limit columns_are.rise
             (λ q. (columns_are.each q, columns_are.all q)) (λ q column. column.symptom) sound.few_symptoms;
         few_problems = subst (λ k. k ≤ problem_limit) names_are
-            (few_of_rising (IsProblem (topology_of n)) (IsProblem (topology_of n)) (map (λ p. p.name) matrix.problems) problem_limit problems_are.rise
+            (few_of_rising (IsProblem (topology_of n)) (IsProblem (topology_of n)) (map (λ p. p.name) made.problems) problem_limit problems_are.rise
             (λ q. (problems_are.each q, problems_are.all q)) (λ q problem. problem) sound.few_problems);
       }
 

@@ -1,3 +1,4 @@
-pub mod Matrix
+pub mod Problems
 pub mod Codes
 pub mod Searched
+pub mod Grouped

@@ -6,14 +6,16 @@ ghost use Rattle.std.specs.Cmp.Rules.{comparing};
 ghost use Rattle.std.specs.Ordering.{as_partial_cmp};
 ghost use Rattle.cb_model.specs.Order.{name_cmp};
 
+use smallvec::SmallVec;
 use std::alloc::{AllocError, Global};
 use std::cmp::Ordering;
 use std::marker::Model;
 
-/// The name of a class, an event, a relation, a rule, an instance or a source. Names are ordered by their bytes.
+/// The name of a class, an event, a relation, a rule, an instance or a source. Names are ordered by their bytes. A name
+/// of the grammar, which has at most 63 bytes, lies in the value itself and takes no memory; a longer one does.
 #[derive(Debug, Drop)]
 pub struct Name {
-    text: Vec<u8>,
+    text: SmallVec<u8, 63>,
 }
 
 impl Model for Name {
@@ -30,7 +32,7 @@ impl Name {
         ensures { IfOk result (λ name. name ≡ bytes.now) }
     {
         Ok(Name {
-            text: Vec::from_slice(alloc, bytes)?,
+            text: SmallVec::from_slice(alloc, bytes)?,
         })
     }
 
@@ -38,7 +40,7 @@ impl Name {
     pub fn bytes(&self) -> &[u8]
         ensures { result.now ≡ self.now }
     {
-        &self.text
+        self.text.as_slice()
     }
 }
 

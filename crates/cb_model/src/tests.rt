@@ -1,15 +1,8 @@
 ghost use Rattle.std.specs.Prelude.{◌↔◌, IsTrue};
 ghost use Rattle.cb_model.specs.WellTyped.{IsClass, IsEvent};
 
-use crate::{ClassId, EventId, List, Model, Name, NodeName, sample_model};
+use crate::{ClassId, EventId, List, Model, Name, NodeName, RoomyList, sample_model};
 use std::alloc::{AllocError, Global};
-
-fn node(alloc: Global, event: &[u8], instance: &[u8]) -> Result<NodeName, AllocError> {
-    Ok(NodeName {
-        event: Name::of(alloc, event)?,
-        instance: Name::of(alloc, instance)?,
-    })
-}
 
 fn is_class(model: &Model, class: ClassId) -> bool
     ensures { IsTrue result ↔ IsClass model.now class }
@@ -34,7 +27,22 @@ fn lists_and_names(rt: HostRuntime) -> Result<(), AllocError> {
         list.copy(rt.alloc())?.as_slice(),
         [ClassId(3), ClassId(1)].as_slice()
     );
+    assert_eq!(rt; list.remove(0), ClassId(3));
+    assert_eq!(rt; list.as_slice(), [ClassId(1)].as_slice());
+    let long = [b'x'; 64];
     assert_eq!(rt; Name::of(rt.alloc(), b"Port")?.bytes(), b"Port".as_slice());
+    assert_eq!(rt; Name::of(rt.alloc(), &long)?.bytes(), long.as_slice());
+    Ok(())
+}
+
+#[test]
+fn lists_with_room(rt: HostRuntime) -> Result<(), AllocError> {
+    let mut list = RoomyList::new(rt.alloc());
+    list.reserve(2)?;
+    list.push_spare(ClassId(3));
+    list.push_spare(ClassId(1));
+    assert_eq!(rt; list.remove(0), ClassId(3));
+    assert_eq!(rt; list.as_slice(), [ClassId(1)].as_slice());
     Ok(())
 }
 
@@ -47,8 +55,8 @@ fn nodes_in_order(rt: HostRuntime) -> Result<(), AllocError> {
         (b"Z", b"a-", b"A", b"a."),
     ];
     for (event, instance, later_event, later_instance) in table {
-        let first = node(rt.alloc(), event, instance)?;
-        let second = node(rt.alloc(), later_event, later_instance)?;
+        let first = NodeName::of(rt.alloc(), event, instance)?;
+        let second = NodeName::of(rt.alloc(), later_event, later_instance)?;
         assert!(rt; first < second && first != second);
         assert!(rt; first == first.copy(rt.alloc())?);
     }

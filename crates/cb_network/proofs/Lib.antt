@@ -1,6 +1,5 @@
 pub mod Chains
 pub mod One
-pub mod Nearest
 pub mod Sets
 pub mod Decided
 pub mod Counts

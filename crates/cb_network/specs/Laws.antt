@@ -1,4 +1,4 @@
--- What holds of topologies, causes, codes and findings, whatever the program does.
+-- What holds of topologies and causes, whatever the program does.
 use Rattle.std.specs.Prelude.{◌≡◌, ℕ, ◌<◌, ◌≤◌, List, [], ◌∷◌, length, Bool, IsTrue, ⊤, Result, Ok}
 use Rattle.std.specs.FinSet as set
 use Rattle.std.specs.List.{Contains}
@@ -6,23 +6,15 @@ use Rattle.cb_text.specs.Names.{IsInstance}
 use Rattle.cb_model.specs.declared.node.NodeName.{NodeName}
 use Rattle.cb_model.specs.declared.tables.Tables.{Tables}
 use Rattle.cb_model.specs.NodeOrder.{node_cmp}
-use Rattle.cb_coding.specs.declared.group.Group.{Group}
-use Rattle.cb_coding.specs.declared.group.Problem.{Problem}
-use Rattle.cb_coding.specs.Answers.{from_word}
-use Rattle.cb_coding.specs.Distance.{all_columns}
-use Rattle.cb_coding.specs.Groups.{codes_of}
 use Rattle.cb_network.specs.declared.edit.Edit.{Edit}
 use Rattle.cb_network.specs.declared.edit.Edit.TheVariants.{Create}
 use Rattle.cb_network.specs.declared.edit.EditRefusal.{EditRefusal}
-use Rattle.cb_network.specs.declared.finding.Finding.{Finding}
 use Rattle.cb_network.specs.Topology.{Topology, empty_topology}
-use Rattle.cb_network.specs.Nodes.{IsNodeOf, IsProblem, IsSymptomNode, IsCount}
+use Rattle.cb_network.specs.Nodes.{IsNodeOf, IsProblem, IsSymptomNode, AreColumns, AreProblems, IsCount}
 use Rattle.cb_network.specs.Sound.{Sound}
 use Rattle.cb_network.specs.Regular.{IsRegular}
 use Rattle.cb_network.specs.Edits.{IsAfter, IsAfterAll}
 use Rattle.cb_network.specs.Causes.{Edge, Causes, Reaches}
-use Rattle.cb_network.specs.Matrix.{AreColumns, AreProblems, IsCode, AreCoded, IsMatrix}
-use Rattle.cb_network.specs.Finding.{IsFinding, IsBurst, named_groups, word_of}
 
 -- every node causes itself
 abbrev pub CausesItself : Type 0
@@ -56,30 +48,6 @@ ColumnsAreOne = (t : Topology) (xs ys : List NodeName) → AreColumns t xs → A
 -- a topology has one list of problems
 abbrev pub ProblemsAreOne : Type 0
 ProblemsAreOne = (t : Topology) (xs ys : List NodeName) → AreProblems t xs → AreProblems t ys → xs ≡ ys
-
--- over some columns a node has one code
-abbrev pub CodeIsOne : Type 0
-CodeIsOne = (t : Topology) (columns : List NodeName) (p : NodeName) (v w : List Bool) → IsCode t columns p v
-    → IsCode t columns p w → v ≡ w
-
--- over some columns the problems have one list of codes
-abbrev pub CodedAreOne : Type 0
-CodedAreOne = (t : Topology) (columns : List NodeName) (ps qs : List Problem) → AreCoded t columns ps → AreCoded t columns qs
-    → ps ≡ qs
-
--- a topology has one matrix
-abbrev pub MatrixIsOne : Type 0
-MatrixIsOne = (t : Topology) (xs ys : List NodeName) (gs hs : List Group) → IsMatrix t xs gs → IsMatrix t ys hs
-    → (xs ≡ ys) × (gs ≡ hs)
-
--- for a set of raised nodes there is one finding
-abbrev pub FindingIsOne : Type 0
-FindingIsOne = (columns : List NodeName) (groups : List Group) (book_columns : List ℕ) (d : ℕ) (raised : List NodeName)
-    (a b : Finding) → IsFinding columns groups book_columns d raised a → IsFinding columns groups book_columns d raised b → a ≡ b
-
--- a topology and a set of raised nodes have one finding over all columns
-abbrev pub BurstIsOne : Type 0
-BurstIsOne = (t : Topology) (raised : List NodeName) (a b : Finding) → IsBurst t raised a → IsBurst t raised b → a ≡ b
 
 -- nodes are counted in one way
 abbrev pub CountIsOne : Type 0
@@ -116,11 +84,3 @@ abbrev pub EditsKeepSound : Type 0
 EditsKeepSound = (t u : Topology) (edits : List Edit) → IsRegular t.model
     → ((edit : Edit) → Contains edits edit → HasGoodName edit) → Sound t
     → IsAfterAll t edits u → Sound u
-
--- Where what is raised differs from the code of one group at no more columns than the radius says, lost or spurious, that
--- group alone is listed, and the finding is sure.
-abbrev pub BurstFindsTheCause : Type 0
-BurstFindsTheCause = (t : Topology) (raised : List NodeName) (finding : Finding) (burst : IsBurst t raised finding) (i : ℕ)
-    → i < length burst.groups
-    → from_word (all_columns (length burst.columns)) (codes_of burst.groups) (word_of burst.columns raised) i ≤ finding.radius
-    → (finding.groups ≡ named_groups burst.groups (i ∷ [])) × IsTrue finding.sure

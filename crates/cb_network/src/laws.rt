@@ -1,8 +1,7 @@
-//! What holds of topologies, causes, codes and findings, whatever the program does. Each law is the contract of a
-//! function that does nothing.
+//! What holds of topologies and causes, whatever the program does. Each law is the contract of a function that does
+//! nothing.
 ghost use Rattle.cb_network.specs.Laws.{CausesItself, EdgeCauses, CausesFurther, ClosedHasCaused, ReachedIsOne};
-ghost use Rattle.cb_network.specs.Laws.{ColumnsAreOne, ProblemsAreOne, CodeIsOne, CodedAreOne, MatrixIsOne};
-ghost use Rattle.cb_network.specs.Laws.{FindingIsOne, BurstIsOne, BurstFindsTheCause};
+ghost use Rattle.cb_network.specs.Laws.{ColumnsAreOne, ProblemsAreOne};
 ghost use Rattle.cb_network.specs.Laws.{CountIsOne, AfterIsOne, AfterAllIsOne, EmptyIsSound, EditKeepsSound, EditsKeepSound};
 
 /// Every node causes itself, by the chain without an edge.
@@ -41,31 +40,6 @@ pub fn problems_are_one()
     ensures { ProblemsAreOne }
 {}
 
-/// Over given columns a problem has one code.
-pub fn code_is_one()
-    ensures { CodeIsOne }
-{}
-
-/// Over given columns a topology's problems have one list of codes.
-pub fn coded_are_one()
-    ensures { CodedAreOne }
-{}
-
-/// A topology has one list of columns with one list of groups.
-pub fn matrix_is_one()
-    ensures { MatrixIsOne }
-{}
-
-/// A set of raised nodes has one finding over given columns, groups and book.
-pub fn finding_is_one()
-    ensures { FindingIsOne }
-{}
-
-/// A topology and a set of raised nodes have one finding over all columns.
-pub fn burst_is_one()
-    ensures { BurstIsOne }
-{}
-
 /// A topology has one number of nodes, one of problems and one of symptom nodes.
 pub fn count_is_one()
     ensures { CountIsOne }
@@ -96,10 +70,4 @@ pub fn edit_keeps_sound()
 /// A list of edits leaves a sound topology sound, also where some are refused.
 pub fn edits_keep_sound()
     ensures { EditsKeepSound }
-{}
-
-/// Where up to as many symptoms as the radius says were lost or are spurious, the true group alone is listed, and
-/// the finding says that it is sure.
-pub fn burst_finds_the_cause()
-    ensures { BurstFindsTheCause }
 {}

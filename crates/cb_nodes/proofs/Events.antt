@@ -10,7 +10,7 @@ use Rattle.cb_model.specs.declared.tables.Tables.{Tables}
 use Rattle.cb_model.specs.Order.{Rises}
 use Rattle.cb_model.specs.Views.{AreEventsOf}
 use Rattle.cb_model.proofs.Rising.{same_rising, nat_strict}
-use Rattle.cb_net.specs.Numbered.{Once}
+use Rattle.cb_instances.specs.Net.{Once}
 
 module _ (tables : Tables) (class : ClassId) where
   abbrev numbers : List EventId → List ℕ

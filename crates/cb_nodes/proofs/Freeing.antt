@@ -8,8 +8,8 @@ use Rattle.std.proofs.lemmas.Option.{IfSome_then}
 use Rattle.cb_model.specs.declared.id.EventId.{EventId}
 use Rattle.cb_model.proofs.Numbers.{contains_at, place_in}
 use Rattle.cb_model.proofs.Rising.{nothing_in_empty}
-use Rattle.cb_net.specs.declared.id.InstanceId.{InstanceId}
-use Rattle.cb_net.specs.Numbered.{slot}
+use Rattle.cb_instances.specs.declared.id.InstanceId.{InstanceId}
+use Rattle.cb_instances.specs.Net.{slot}
 use Rattle.cb_nodes.specs.declared.id.NodeId.{NodeId}
 use Rattle.cb_nodes.specs.declared.listed.Listed.{Listed}
 use Rattle.cb_nodes.specs.declared.node.Node.{Node}

@@ -10,10 +10,10 @@ use Rattle.std.proofs.lemmas.List.Elements.{Contains-push, Contains-append_left,
 use Rattle.std.proofs.lemmas.Option.{slice_get-get_or, slice_get_read}
 use Rattle.cb_model.specs.declared.id.EventId.{EventId}
 use Rattle.cb_model.proofs.Numbers.{slice_get-set_other}
-use Rattle.cb_net.specs.declared.id.InstanceId.{InstanceId}
-use Rattle.cb_net.proofs.Placing.{same_id, decide_id}
-use Rattle.cb_net.proofs.Showing.{same_inside}
-use Rattle.cb_net.specs.Numbered.{slot, Once}
+use Rattle.cb_instances.specs.declared.id.InstanceId.{InstanceId}
+use Rattle.cb_instances.proofs.Placing.{same_id, decide_id}
+use Rattle.cb_instances.proofs.Showing.{same_inside}
+use Rattle.cb_instances.specs.Net.{slot, Once}
 use Rattle.cb_nodes.specs.declared.id.NodeId.{NodeId}
 use Rattle.cb_nodes.specs.declared.listed.Listed.{Listed}
 use Rattle.cb_nodes.specs.declared.node.Node.{Node}

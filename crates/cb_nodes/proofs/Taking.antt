@@ -4,8 +4,8 @@ use Rattle.std.specs.List.{Contains, count_by, slice_set}
 use Rattle.std.proofs.lemmas.List.{get_or-set_same, get_or-set_other, length-set, length_push}
 use Rattle.std.proofs.lemmas.List.Elements.{Contains-push, Contains-append_left, Contains-push_cases}
 use Rattle.std.proofs.lemmas.List.Sums.{sum_by-set}
-use Rattle.cb_net.proofs.Showing.{slot_within}
-use Rattle.cb_net.specs.Numbered.{slot, Once}
+use Rattle.cb_instances.proofs.Showing.{slot_within}
+use Rattle.cb_instances.specs.Net.{slot, Once}
 use Rattle.cb_nodes.specs.declared.id.NodeId.{NodeId}
 use Rattle.cb_nodes.specs.declared.node.Node.{Node}
 use Rattle.cb_nodes.specs.declared.numbers.Numbers.{Numbers}

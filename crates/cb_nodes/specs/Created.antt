@@ -3,8 +3,8 @@ use Rattle.std.specs.Prelude.{List}
 use Rattle.cb_model.specs.Views.{AreEventsOf}
 use Rattle.cb_model.specs.declared.id.ClassId.{ClassId}
 use Rattle.cb_model.specs.declared.id.EventId.{EventId}
-use Rattle.cb_net.specs.declared.id.InstanceId.{InstanceId}
-use Rattle.cb_net.specs.Numbered.{Net, IsFree}
+use Rattle.cb_instances.specs.declared.id.InstanceId.{InstanceId}
+use Rattle.cb_instances.specs.Net.{Net, IsFree}
 use Rattle.cb_nodes.specs.Table.{Table, HasEvent, Adds}
 
 -- free numbers of instances have no nodes

@@ -2,7 +2,7 @@
 ghost use Rattle.std.specs.Prelude.{◌≡◌, ◌≢◌, ◌+◌, ◌<◌, ◌≤◌, ◌^◌, length, OnOk, IfSome, IfNone, vec_len, vec_capacity};
 ghost use Rattle.std.specs.List.{Contains};
 ghost use Rattle.cb_model.specs.declared.id.EventId.{EventId as Event};
-ghost use Rattle.cb_net.specs.Numbered.{Once};
+ghost use Rattle.cb_instances.specs.Net.{Once};
 ghost use Rattle.cb_nodes.specs.declared.listed.Listed.{Listed as Item};
 ghost use Rattle.cb_nodes.specs.Kept.{AreKept, HasSpareFor, HasSpareIn, SameLists, IsListOf, HaveNumbers, AreApart, NumbersAll, Frees};
 ghost use Rattle.cb_nodes.specs.Table.{HasEvent, IsOne, room_with};
@@ -11,8 +11,8 @@ use crate::id::NodeId;
 use crate::listed::Listed;
 use crate::node::Node;
 use crate::numbers::Numbers;
+use cb_instances::InstanceId;
 use cb_model::EventId;
-use cb_net::InstanceId;
 use std::alloc::{AllocError, Global};
 
 /// Makes room in the instance's list for so many events more.

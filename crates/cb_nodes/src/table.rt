@@ -3,7 +3,7 @@ ghost use Rattle.std.specs.Prelude.{◌≡◌, ◌≤◌, ◌<◌, ◌^◌, ◌�
 ghost use Rattle.cb_model.specs.Views.{AreEventsOf};
 ghost use Rattle.cb_model.specs.WellTyped.{IsClass};
 ghost use Rattle.cb_model.specs.declared.id.EventId.{EventId as Event};
-ghost use Rattle.cb_net.specs.Numbered.{Once, Creates};
+ghost use Rattle.cb_instances.specs.Net.{Once, Creates};
 ghost use Rattle.cb_network.specs.Topology.{IsLive as IsLiveName};
 ghost use Rattle.cb_nodes.specs.Created.{AddsAll, IsFreed};
 ghost use Rattle.cb_nodes.specs.declared.id.NodeId.{NodeId as Id};
@@ -14,8 +14,8 @@ use crate::listed::Listed;
 use crate::lists::{free_all, number_events, number_of, reserve};
 use crate::node::Node;
 use crate::numbers::Numbers;
+use cb_instances::{InstanceId, Net};
 use cb_model::{ClassId, EventId};
-use cb_net::{InstanceId, Net};
 use std::alloc::{AllocError, Global};
 
 /// The nodes of all numbers, and for each instance the numbers of its events.

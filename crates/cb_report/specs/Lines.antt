@@ -3,7 +3,7 @@ use Rattle.std.specs.Prelude.{ℕ, List, [], ◌++◌, length, Bool, true, false
 use Rattle.std.specs.List.{flat_map}
 use Rattle.cb_model.specs.declared.node.NodeName.{NodeName}
 use Rattle.cb_model.specs.declared.node.NamedGroup.{NamedGroup}
-use Rattle.cb_network.specs.declared.finding.Finding.{Finding}
+use Rattle.cb_finding.specs.declared.finding.Finding.{Finding}
 
 -- a node: the event at the instance
 abbrev pub node_text : NodeName → List ℕ

@@ -2,11 +2,11 @@
 use Rattle.std.proofs.Common.{◌≡◌, ◌⊎◌, List, ℕ, sym, ap, ◌∙◌, inl, inr, arith}
 use Rattle.cb_model.specs.declared.node.NodeName.{NodeName}
 use Rattle.cb_model.specs.declared.tables.Tables.{Tables}
-use Rattle.cb_network.specs.declared.finding.Finding.{Finding}
+use Rattle.cb_finding.specs.declared.finding.Finding.{Finding}
 use Rattle.cb_network.specs.Topology.{Topology}
 use Rattle.cb_network.specs.Regular.{IsRegular}
-use Rattle.cb_network.proofs.One.{burst_is_one}
-use Rattle.cb_lines.specs.declared.topology.LineFault.{LineFault}
+use Rattle.cb_finding.proofs.One.{burst_is_one}
+use Rattle.cb_inputs.specs.declared.topology.LineFault.{LineFault}
 use Rattle.cb_text.specs.Lines.{HasShortLines}
 use Rattle.cb_report.specs.Lines.{burst_text}
 use Rattle.cb_top.specs.Model.{HasShortText, IsModelText}

@@ -7,10 +7,10 @@ use Rattle.cb_coding.specs.declared.group.Group.{Group}
 use Rattle.cb_model.specs.declared.node.NodeName.{NodeName}
 use Rattle.cb_model.specs.declared.tables.Tables.{Tables}
 use Rattle.cb_io.specs.Outside.{SinkTold, WritesAll}
-use Rattle.cb_network.specs.declared.finding.Finding.{Finding}
+use Rattle.cb_finding.specs.declared.finding.Finding.{Finding}
 use Rattle.cb_network.specs.Topology.{Topology}
-use Rattle.cb_network.specs.Finding.{IsBurst}
-use Rattle.cb_network.proofs.Nearest.{burst_finds_the_cause}
+use Rattle.cb_finding.specs.Finding.{IsBurst}
+use Rattle.cb_finding.proofs.Nearest.{burst_finds_the_cause}
 use Rattle.cb_report.specs.Lines.{burst_text}
 use Rattle.cb_top.specs.declared.halt.Halt.{Halt}
 use Rattle.cb_top.specs.declared.status.Status.{Status}

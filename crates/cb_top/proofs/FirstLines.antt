@@ -17,11 +17,11 @@ use Rattle.cb_network.specs.Regular.{IsRegular}
 use Rattle.cb_network.proofs.Accepted.{after_is_one, model_stays}
 use Rattle.cb_edits.specs.Spelled.{SpellsEdit}
 use Rattle.cb_edits.proofs.Decoded.{spelled_once}
-use Rattle.cb_lines.specs.declared.topology.LineFault.{LineFault}
-use Rattle.cb_lines.specs.declared.topology.LineFault.TheVariants.{BadWords, Refused}
+use Rattle.cb_inputs.specs.declared.topology.LineFault.{LineFault}
+use Rattle.cb_inputs.specs.declared.topology.LineFault.TheVariants.{BadWords, Refused}
 use Rattle.cb_text.specs.Lines.{IsShort, HasShortLines, IsFirstLong}
-use Rattle.cb_lines.specs.Topologies.{LineMakes, LinesMake, MakesTopology, IsWrong, IsFirstWrong}
-use Rattle.cb_lines.specs.Symptoms.{IsSymptomLine, ListsNodes, IsFirstBad}
+use Rattle.cb_inputs.specs.Topologies.{LineMakes, LinesMake, MakesTopology, IsWrong, IsFirstWrong}
+use Rattle.cb_inputs.specs.Symptoms.{IsSymptomLine, ListsNodes, IsFirstBad}
 
 -- what holds of all items holds of one among them
 of_all : {X : Type 0} (P : X → Type 0) (xs before : List X) (x : X) (after : List X) → xs ≡ before ++ x ∷ after → All P xs → P x

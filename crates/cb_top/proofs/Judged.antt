@@ -4,12 +4,12 @@ use Rattle.std.specs.Prelude.{IfSome, IfErr, IfOk, OnOk}
 use Rattle.std.specs.Result.{IsErrAnd}
 use Rattle.cb_io.specs.Outside.{FilesTold, left_of, TakesAll, ReadsAll}
 use Rattle.cb_model.specs.declared.tables.Tables.{Tables}
-use Rattle.cb_lines.specs.declared.topology.TopologyStop.{TopologyStop}
-use Rattle.cb_lines.specs.declared.topology.TopologyStop.TheVariants as topology
-use Rattle.cb_lines.specs.declared.symptoms.SymptomStop.{SymptomStop}
-use Rattle.cb_lines.specs.declared.symptoms.SymptomStop.TheVariants as symptoms
-use Rattle.cb_lines.specs.Topologies.{Stops as StopsTopology}
-use Rattle.cb_lines.specs.Symptoms.{Stops as StopsSymptoms}
+use Rattle.cb_inputs.specs.declared.topology.TopologyStop.{TopologyStop}
+use Rattle.cb_inputs.specs.declared.topology.TopologyStop.TheVariants as topology
+use Rattle.cb_inputs.specs.declared.symptoms.SymptomStop.{SymptomStop}
+use Rattle.cb_inputs.specs.declared.symptoms.SymptomStop.TheVariants as symptoms
+use Rattle.cb_inputs.specs.Topologies.{Stops as StopsTopology}
+use Rattle.cb_inputs.specs.Symptoms.{Stops as StopsSymptoms}
 use Rattle.cb_top.specs.declared.halt.Halt.{Halt}
 use Rattle.cb_top.specs.declared.halt.Halt.TheVariants as halts
 use Rattle.cb_top.specs.Model.{file_limit, HasShortText}

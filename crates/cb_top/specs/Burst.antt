@@ -2,13 +2,13 @@
 use Rattle.std.specs.Prelude.{List, ℕ}
 use Rattle.cb_model.specs.declared.node.NodeName.{NodeName}
 use Rattle.cb_model.specs.declared.tables.Tables.{Tables}
-use Rattle.cb_network.specs.declared.finding.Finding.{Finding}
+use Rattle.cb_finding.specs.declared.finding.Finding.{Finding}
 use Rattle.cb_network.specs.Topology.{Topology}
-use Rattle.cb_network.specs.Finding.{IsBurst}
-use Rattle.cb_lines.specs.declared.topology.LineFault.{LineFault}
+use Rattle.cb_finding.specs.Finding.{IsBurst}
+use Rattle.cb_inputs.specs.declared.topology.LineFault.{LineFault}
 use Rattle.cb_text.specs.Lines.{IsFirstLong}
-use Rattle.cb_lines.specs.Topologies.{MakesTopology, IsFirstWrong}
-use Rattle.cb_lines.specs.Symptoms.{ListsNodes, IsFirstBad}
+use Rattle.cb_inputs.specs.Topologies.{MakesTopology, IsFirstWrong}
+use Rattle.cb_inputs.specs.Symptoms.{ListsNodes, IsFirstBad}
 use Rattle.cb_top.specs.Model.{HasShortText, IsModelText}
 
 -- the lines of the text make this topology

@@ -7,9 +7,9 @@ use Rattle.cb_coding.specs.Distance.{all_columns}
 use Rattle.cb_coding.specs.Groups.{codes_of}
 use Rattle.cb_coding.specs.Answers.{from_word}
 use Rattle.cb_io.specs.Outside.{SinkTold, WritesAll, contents}
-use Rattle.cb_network.specs.declared.finding.Finding.{Finding}
+use Rattle.cb_finding.specs.declared.finding.Finding.{Finding}
 use Rattle.cb_network.specs.Topology.{Topology}
-use Rattle.cb_network.specs.Finding.{IsBurst, named_groups, word_of}
+use Rattle.cb_finding.specs.Finding.{IsBurst, named_groups, word_of}
 use Rattle.cb_report.specs.Lines.{burst_text}
 use Rattle.cb_top.specs.Burst.{IsBurstOf}
 use Rattle.cb_top.specs.Asked.{Asked, asked}

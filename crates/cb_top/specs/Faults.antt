@@ -4,8 +4,8 @@ use Rattle.cb_rules.specs.declared.rule.TypeRule.{TypeRule}
 use Rattle.cb_rules.specs.declared.rule.TypeRule.TheVariants.{TwoClasses, NoParent, Loop, Depth, TwoNames, NoTarget, BadInverse, NoCause, NoRelation, NoEffect, NoBlocked, NoHidden, TooManyClasses, TooManyMembers}
 use Rattle.cb_network.specs.declared.edit.EditRefusal.{EditRefusal}
 use Rattle.cb_network.specs.declared.edit.EditRefusal.TheVariants as refusals
-use Rattle.cb_lines.specs.declared.topology.LineFault.{LineFault}
-use Rattle.cb_lines.specs.declared.topology.LineFault.TheVariants.{BadWords, Refused}
+use Rattle.cb_inputs.specs.declared.topology.LineFault.{LineFault}
+use Rattle.cb_inputs.specs.declared.topology.LineFault.TheVariants.{BadWords, Refused}
 use Rattle.cb_top.specs.declared.fault.ModelFault.{ModelFault}
 use Rattle.cb_top.specs.declared.fault.ModelFault.TheVariants.{BadByte, Unexpected, LongName, Unfinished, Broken}
 

@@ -3,10 +3,10 @@ use Rattle.cb_syntax.specs.declared.fault.SyntaxFault.{SyntaxFault}
 use Rattle.cb_syntax.specs.declared.fault.SyntaxFault.TheVariants as syntax
 use Rattle.cb_check.specs.declared.fault.TypeFault.{TypeFault}
 use Rattle.cb_check.specs.declared.fault.TypeFault.TheVariants as types
-use Rattle.cb_lines.specs.declared.topology.TopologyStop.{TopologyStop}
-use Rattle.cb_lines.specs.declared.topology.TopologyStop.TheVariants as topology
-use Rattle.cb_lines.specs.declared.symptoms.SymptomStop.{SymptomStop}
-use Rattle.cb_lines.specs.declared.symptoms.SymptomStop.TheVariants as symptoms
+use Rattle.cb_inputs.specs.declared.topology.TopologyStop.{TopologyStop}
+use Rattle.cb_inputs.specs.declared.topology.TopologyStop.TheVariants as topology
+use Rattle.cb_inputs.specs.declared.symptoms.SymptomStop.{SymptomStop}
+use Rattle.cb_inputs.specs.declared.symptoms.SymptomStop.TheVariants as symptoms
 use Rattle.cb_top.specs.declared.files.TheConstants.{TOPOLOGY, SYMPTOMS}
 use Rattle.cb_top.specs.declared.fault.ModelFault.TheVariants.{BadByte, Unexpected, LongName, Unfinished, Broken}
 use Rattle.cb_top.specs.declared.halt.Halt.{Halt}

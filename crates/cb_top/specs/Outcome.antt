@@ -6,10 +6,10 @@ use Rattle.cb_syntax.specs.Canonical.{canonical_text}
 use Rattle.cb_io.specs.Outside.{contents}
 use Rattle.cb_model.specs.declared.node.NodeName.{NodeName}
 use Rattle.cb_model.specs.declared.tables.Tables.{Tables}
-use Rattle.cb_network.specs.declared.finding.Finding.{Finding}
+use Rattle.cb_finding.specs.declared.finding.Finding.{Finding}
 use Rattle.cb_network.specs.Topology.{Topology}
-use Rattle.cb_network.specs.Finding.{IsBurst}
-use Rattle.cb_lines.specs.declared.topology.LineFault.{LineFault}
+use Rattle.cb_finding.specs.Finding.{IsBurst}
+use Rattle.cb_inputs.specs.declared.topology.LineFault.{LineFault}
 use Rattle.cb_report.specs.Lines.{burst_text}
 use Rattle.cb_top.specs.declared.fault.ModelFault.{ModelFault}
 use Rattle.cb_top.specs.Asked.{Asked, asked, files_of}

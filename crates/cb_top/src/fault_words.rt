@@ -2,7 +2,7 @@
 ghost use Rattle.std.specs.Prelude.{◌≡◌};
 ghost use Rattle.cb_top.specs.Faults.{rule_word as word_of_rule, refusal_word as word_of_refusal, fault_word as word_of_fault};
 
-use cb_lines::LineFault;
+use cb_inputs::LineFault;
 use cb_network::EditRefusal;
 use cb_rules::TypeRule;
 

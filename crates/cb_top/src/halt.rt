@@ -8,7 +8,7 @@ use crate::fault::ModelFault;
 use crate::files::{SYMPTOMS, TOPOLOGY};
 use crate::status::Status;
 use cb_check::TypeFault;
-use cb_lines::{LineFault, SymptomStop, TopologyStop};
+use cb_inputs::{LineFault, SymptomStop, TopologyStop};
 use cb_syntax::SyntaxFault;
 use std::alloc::AllocError;
 

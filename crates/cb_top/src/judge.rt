@@ -4,8 +4,8 @@ ghost use Rattle.cb_model.specs.Order.{Rises};
 ghost use Rattle.cb_model.specs.NodeOrder.{node_cmp};
 ghost use Rattle.cb_grammar.specs.declared.tree.Tree.{Tree};
 ghost use Rattle.cb_syntax.specs.Canonical.{canonical_text};
-ghost use Rattle.cb_network.specs.declared.finding.Finding.{Finding};
-ghost use Rattle.cb_network.specs.Finding.{IsBurst};
+ghost use Rattle.cb_finding.specs.declared.finding.Finding.{Finding};
+ghost use Rattle.cb_finding.specs.Finding.{IsBurst};
 ghost use Rattle.cb_topo.specs.Numbered.{topology_of};
 ghost use Rattle.cb_report.specs.Lines.{burst_text as text_of_burst};
 ghost use Rattle.cb_top.specs.Model.{HasShortText, IsModelText, IsTreeText};
@@ -15,11 +15,13 @@ ghost use Rattle.cb_top.specs.Halts.{JudgesModel, JudgesTopology, JudgesSymptoms
 use crate::fault::ModelFault;
 use crate::halt::Halt;
 use cb_check::check;
+use cb_coding::codes;
+use cb_decode::find;
 use cb_graph::Graph;
-use cb_lines::{read_symptoms, read_topology};
+use cb_inputs::{read_symptoms, read_topology};
 use cb_matrix::Matrix;
 use cb_model::{List, Model, NodeName};
-use cb_plain::find;
+use cb_reduce::whole_book;
 use cb_report::burst_text;
 use cb_rules::{Directory, first_fault};
 use cb_steps::Steps;
@@ -95,6 +97,15 @@ fn lines_over<L: Ledger>(
     ensures { IfOk result (λ bytes. (finding : Finding) × IsBurst (topology_of graph.old) raised.now finding × (bytes.items ≡ text_of_burst finding)) }
 {
     let matrix = Matrix::of(alloc, graph, steps)?;
-    let finding = find(alloc, &matrix.columns, &matrix.problems, raised)?;
+    let codes = codes(alloc, &matrix.groups)?;
+    let book = whole_book(alloc, &codes, matrix.columns.len())?;
+    let finding = find(
+        alloc,
+        &matrix.columns,
+        &matrix.groups,
+        &codes,
+        &book,
+        raised,
+    )?;
     burst_text(alloc, &finding)
 }

@@ -14,8 +14,8 @@ use Rattle.cb_network.specs.Topology.{Topology, IsLive as IsLiveName, IsOf, HasL
 use Rattle.cb_network.specs.Nodes.{IsNodeOf, IsEventAt, IsSymptomNode}
 use Rattle.cb_network.specs.Edits.{IsRelationAt, HasRelationAt, NamesPair, HasNamedLink, with_link, without_link, with_mute, without_mute, node_of as name_of}
 use Rattle.cb_network.proofs.Decided.{Decision, decide_true, decide_both}
-use Rattle.cb_net.specs.declared.id.InstanceId.{InstanceId}
-use Rattle.cb_net.specs.Numbered.{Net, IsNamed, LinkAt, IsMutedAt, name_at, node_at, inverse_in, inverse_of, linked, unlinked, muted, unmuted}
+use Rattle.cb_instances.specs.declared.id.InstanceId.{InstanceId}
+use Rattle.cb_instances.specs.Net.{Net, IsNamed, LinkAt, IsMutedAt, name_at, node_at, inverse_in, inverse_of, linked, unlinked, muted, unmuted}
 use Rattle.cb_topo.specs.Made.{Rewires}
 use Rattle.cb_topo.proofs.Named.{one_class_of, one_name, name_is, event_name_is}
 

@@ -13,8 +13,8 @@ use Rattle.cb_network.specs.Nodes.{IsNodeOf, IsEventAt, IsCount}
 use Rattle.cb_network.proofs.Counts.{same_count}
 use Rattle.cb_network.proofs.Kept.{live_of}
 use Rattle.cb_network.proofs.Sets.{in_insert}
-use Rattle.cb_net.specs.declared.id.InstanceId.{InstanceId}
-use Rattle.cb_net.specs.Numbered.{Net, slot, IsLive, HasEventAt, IsWhole as IsWholeNet}
+use Rattle.cb_instances.specs.declared.id.InstanceId.{InstanceId}
+use Rattle.cb_instances.specs.Net.{Net, slot, IsLive, HasEventAt, IsWhole as IsWholeNet}
 use Rattle.cb_nodes.specs.declared.id.NodeId.{NodeId}
 use Rattle.cb_nodes.specs.declared.node.Node.{Node}
 use Rattle.cb_nodes.specs.Table.{Table, IsNode, HasEvent as HasEventIn, IsOne, count_of}

@@ -13,9 +13,9 @@ use Rattle.cb_network.specs.Sound.{node_limit}
 use Rattle.cb_network.specs.Edits.{with_instance, Changes, IsAccepted}
 use Rattle.cb_network.proofs.Kept.{live_of}
 use Rattle.cb_network.proofs.Sets.{got_insert}
-use Rattle.cb_net.specs.declared.id.InstanceId.{InstanceId}
-use Rattle.cb_net.specs.Numbered.{Net, slot, IsNamed, IsLive, IsFree, SetsOnly, Creates, HasEventAt, IsWhole as IsWholeNet, name_at}
-use Rattle.cb_net.proofs.Placing.{decide_id}
+use Rattle.cb_instances.specs.declared.id.InstanceId.{InstanceId}
+use Rattle.cb_instances.specs.Net.{Net, slot, IsNamed, IsLive, IsFree, SetsOnly, Creates, HasEventAt, IsWhole as IsWholeNet, name_at}
+use Rattle.cb_instances.proofs.Placing.{decide_id}
 use Rattle.cb_nodes.specs.declared.id.NodeId.{NodeId}
 use Rattle.cb_nodes.specs.declared.node.Node.{Node}
 use Rattle.cb_nodes.specs.Table.{Table, IsNode, HasEvent as HasEventIn, IsOne, Adds, count_of}

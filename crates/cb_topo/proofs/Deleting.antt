@@ -11,8 +11,8 @@ use Rattle.cb_network.specs.Edits.{without_instance, Changes, IsAccepted}
 use Rattle.cb_network.specs.Sound.{node_limit}
 use Rattle.cb_network.proofs.Kept.{class_of}
 use Rattle.cb_network.proofs.Sets.{got_remove}
-use Rattle.cb_net.specs.declared.id.InstanceId.{InstanceId}
-use Rattle.cb_net.specs.Numbered.{Net, slot, IsNamed, IsLive, HasEventAt, IsWhole as IsWholeNet, name_at, without}
+use Rattle.cb_instances.specs.declared.id.InstanceId.{InstanceId}
+use Rattle.cb_instances.specs.Net.{Net, slot, IsNamed, IsLive, HasEventAt, IsWhole as IsWholeNet, name_at, without}
 use Rattle.cb_nodes.specs.declared.id.NodeId.{NodeId}
 use Rattle.cb_nodes.specs.declared.node.Node.{Node}
 use Rattle.cb_nodes.specs.Table.{Table, IsNode, HasEvent as HasEventIn, IsOne, Removes}
@@ -25,7 +25,7 @@ use Rattle.cb_accept.specs.Counts.{AreCounts, CountWithout}
 use Rattle.cb_network.specs.declared.edit.Edit.TheVariants.{Delete}
 use Rattle.cb_network.proofs.Accepted.{edit_keeps_sound}
 use Rattle.cb_topo.proofs.Named.{name_is, named_at}
-use Rattle.cb_net.proofs.Placing.{same_id}
+use Rattle.cb_instances.proofs.Placing.{same_id}
 
 -- a place that is emptied has nothing
 emptied : {X : Type 0} (xs : List (Option X)) (i : ℕ) → slot (slice_set xs i None) i ≡ None

@@ -11,8 +11,8 @@ use Rattle.cb_network.specs.Topology.{link_cmp, IsOf}
 use Rattle.cb_network.specs.Edits.{link_of}
 use Rattle.cb_network.proofs.Accepted.{empty_is_sound}
 use Rattle.cb_network.proofs.Kept.{class_of}
-use Rattle.cb_net.specs.declared.id.InstanceId.{InstanceId}
-use Rattle.cb_net.specs.Numbered.{Net, empty_net, IsLive, HasEventAt, IsWhole as IsWholeNet}
+use Rattle.cb_instances.specs.declared.id.InstanceId.{InstanceId}
+use Rattle.cb_instances.specs.Net.{Net, empty_net, IsLive, HasEventAt, IsWhole as IsWholeNet}
 use Rattle.cb_nodes.specs.declared.id.NodeId.{NodeId}
 use Rattle.cb_nodes.specs.declared.node.Node.{Node}
 use Rattle.cb_nodes.specs.Table.{Table, IsNode, HasEvent as HasEventIn, IsOne}

@@ -10,7 +10,7 @@ use Rattle.cb_model.specs.WellTyped.{WellTyped}
 use Rattle.cb_network.specs.Nodes.{IsNodeOf, IsProblem, IsSymptomNode, IsCount, IsWithin}
 use Rattle.cb_network.specs.Sound.{node_limit, problem_limit, symptom_limit}
 use Rattle.cb_network.proofs.Counts.{count_is_one}
-use Rattle.cb_net.specs.Numbered.{Net}
+use Rattle.cb_instances.specs.Net.{Net}
 use Rattle.cb_nodes.specs.Table.{Table, count_of, room_with}
 use Rattle.cb_accept.specs.declared.counts.Counts.{Counts}
 use Rattle.cb_accept.specs.Counts.{AreWithin}

@@ -12,17 +12,17 @@ use Rattle.cb_model.specs.declared.node.NodeName.{NodeName}
 use Rattle.cb_model.specs.NodeOrder.{node_cmp}
 use Rattle.cb_model.specs.Order.{Rises}
 use Rattle.cb_model.proofs.Rising.{node_cmp_total, node_cmp_exact}
-use Rattle.cb_network.specs.Nodes.{IsNodeOf}
+use Rattle.cb_network.specs.Nodes.{IsNodeOf, AreInOrder}
 use Rattle.cb_network.specs.Topology.{Topology}
 use Rattle.cb_network.proofs.Sets.{tied, tied_same}
-use Rattle.cb_net.proofs.Showing.{same_inside}
+use Rattle.cb_instances.proofs.Showing.{same_inside}
 use Rattle.cb_nodes.specs.declared.id.NodeId.{NodeId}
 use Rattle.cb_nodes.specs.declared.node.Node.{Node}
 use Rattle.cb_nodes.specs.Table.{IsNode}
 use Rattle.cb_topo.specs.declared.kind.Kind.{Kind}
 use Rattle.cb_topo.specs.declared.kind.Kind.TheVariants.{Column, Problem}
 use Rattle.cb_topo.specs.Numbered.{Numbered, topology_of, IsNodeNamed, AreNamed, IsWhole}
-use Rattle.cb_topo.specs.Ordered.{IsOfKind, AreOfKind, LeadsToKind}
+use Rattle.cb_topo.specs.Ordered.{IsOfKind, LeadsToKind}
 use Rattle.cb_topo.proofs.Naming.{one_name}
 
 -- the map leads from the names of those of the kind whose numbers are below k to these
@@ -109,11 +109,6 @@ leads_all n kind k nodes whole below leads = record {
       subst IsSome (sym (leads.all name id (below id named.node named.is) named is)) refl;
 }
 
-are_of_kind : (kind : Kind) (t : Topology) (names : List NodeName) → Rises node_cmp names
-    → ((name : NodeName) → Contains names name → IsOfKind kind t name) → ((name : NodeName) → IsOfKind kind t name → Contains names name) → AreOfKind kind t names
-are_of_kind Column t names rise each all = record { rise = rise; each = each; all = all }
-are_of_kind Problem t names rise each all = record { rise = rise; each = each; all = all }
-
 some_of : {X : Type 0} (o : Option X) → IsSome o → (x : X) × (o ≡ Some x)
 some_of None is = absurd (false≢true is)
 some_of (Some x) is = (x, refl)
@@ -124,13 +119,14 @@ zipped P (e ∷ es) all = (All-head (λ (e : NodeName × NodeId). P e.1 e.0) e e
 
 -- the names of the map are all of the kind, in order, and its numbers are theirs
 module _ (n : Numbered) (kind : Kind) (nodes : BTreeMap NodeName NodeId) (leads : LeadsToKind n kind nodes) (ordered : IsOrdered node_cmp nodes) where
-  pub names_are : AreOfKind kind (topology_of n) (keys nodes)
+  pub names_are : AreInOrder (IsOfKind kind (topology_of n)) (keys nodes)
   names_are =
       let has = btree_map_contains_key_iff node_cmp_total node_cmp_exact nodes in
-      are_of_kind kind (topology_of n) (keys nodes)
-      (λ i j d below within. Less-from_sorted node_cmp (keys nodes) i j d ordered below within)
-      (λ name there. let (id, is) = some_of (get node_cmp nodes name) ((has name).1 there) in leads.kinds name id is)
-      (λ name is. (has name).0 (leads.all name is))
+      record {
+        rise = λ i j d below within. Less-from_sorted node_cmp (keys nodes) i j d ordered below within;
+        each = λ name there. let (id, is) = some_of (get node_cmp nodes name) ((has name).1 there) in leads.kinds name id is;
+        all = λ name is. (has name).0 (leads.all name is);
+      }
 
   pub numbers_are : AreNamed n (values nodes) (keys nodes)
   numbers_are = zipped (IsNodeNamed n) nodes.entries

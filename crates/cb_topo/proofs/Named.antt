@@ -9,8 +9,8 @@ use Rattle.cb_model.specs.WellTyped.{WellTyped}
 use Rattle.cb_network.specs.Topology.{Topology, IsOf}
 use Rattle.cb_network.specs.Nodes.{IsEventAt}
 use Rattle.cb_network.specs.Edits.{node_of as name_of}
-use Rattle.cb_net.specs.declared.id.InstanceId.{InstanceId}
-use Rattle.cb_net.specs.Numbered.{Net, IsNamed, IsLive, HasEventAt, IsWhole as IsWholeNet, name_or, name_at, name_in_row, event_name}
+use Rattle.cb_instances.specs.declared.id.InstanceId.{InstanceId}
+use Rattle.cb_instances.specs.Net.{Net, IsNamed, IsLive, HasEventAt, IsWhole as IsWholeNet, name_or, name_at, name_in_row, event_name}
 use Rattle.cb_nodes.specs.declared.node.Node.{Node}
 use Rattle.cb_accept.proofs.Members.{one_event}
 

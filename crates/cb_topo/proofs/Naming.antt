@@ -13,10 +13,10 @@ use Rattle.cb_network.specs.Nodes.{IsNodeOf, IsEventAt, IsProblem, IsSymptomNode
 use Rattle.cb_network.specs.Topology.{Topology, IsOf}
 use Rattle.cb_network.proofs.Counts.{Kind, IsAt, of_problems, of_symptoms, problems_are, symptoms_are}
 use Rattle.cb_network.proofs.Kept.{live_of}
-use Rattle.cb_net.specs.declared.id.InstanceId.{InstanceId}
-use Rattle.cb_net.specs.Numbered.{Net, IsNamed, IsLive, HasEventAt, name_at, name_or, name_in_row, node_at, event_name}
-use Rattle.cb_net.proofs.Muting.{event_told}
-use Rattle.cb_net.proofs.Showing.{same_inside}
+use Rattle.cb_instances.specs.declared.id.InstanceId.{InstanceId}
+use Rattle.cb_instances.specs.Net.{Net, IsNamed, IsLive, HasEventAt, name_at, name_or, name_in_row, node_at, event_name}
+use Rattle.cb_instances.proofs.Muting.{event_told}
+use Rattle.cb_instances.proofs.Showing.{same_inside}
 use Rattle.cb_nodes.specs.declared.id.NodeId.{NodeId}
 use Rattle.cb_nodes.specs.declared.node.Node.{Node}
 use Rattle.cb_nodes.specs.Table.{IsNode, HasNumber, node_of}

@@ -12,7 +12,7 @@ use Rattle.cb_network.specs.Edits.{Changes, IsAccepted}
 use Rattle.cb_network.proofs.Accepted.{edit_keeps_sound}
 use Rattle.cb_network.proofs.Counts.{nodes_are, problems_are, symptoms_are, same_count}
 use Rattle.cb_network.proofs.Kept.{live_of}
-use Rattle.cb_net.specs.Numbered.{Net, IsWhole as IsWholeNet}
+use Rattle.cb_instances.specs.Net.{Net, IsWhole as IsWholeNet}
 use Rattle.cb_nodes.specs.Table.{Table}
 use Rattle.cb_accept.specs.declared.counts.Counts.{Counts}
 use Rattle.cb_accept.specs.Counts.{AreCounts}

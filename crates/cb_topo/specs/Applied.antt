@@ -10,8 +10,8 @@ use Rattle.cb_network.specs.declared.edit.Edit.TheVariants.{Create, Link}
 use Rattle.cb_network.specs.Topology.{IsLive}
 use Rattle.cb_network.specs.Nodes.{IsNodeOf}
 use Rattle.cb_network.specs.Edits.{IsAfter, IsAccepted, IsRefused}
-use Rattle.cb_net.specs.declared.id.InstanceId.{InstanceId}
-use Rattle.cb_net.specs.Numbered.{IsNamed}
+use Rattle.cb_instances.specs.declared.id.InstanceId.{InstanceId}
+use Rattle.cb_instances.specs.Net.{IsNamed}
 use Rattle.cb_nodes.specs.declared.id.NodeId.{NodeId}
 use Rattle.cb_nodes.specs.Table.{room_with}
 use Rattle.cb_topo.specs.declared.fault.EditFault.{EditFault}

@@ -1,8 +1,8 @@
 -- How a numbered topology is written as a number.
 use Rattle.std.specs.Prelude.{refl}
 use Rattle.std.specs.Coded.{Coded, code_by, coded×, coded_list, coded_option}
-use Rattle.cb_net.specs.Codes.{net_code}
-use Rattle.cb_net.specs.Numbered.{Net}
+use Rattle.cb_instances.specs.Codes.{net_code}
+use Rattle.cb_instances.specs.Net.{Net}
 use Rattle.cb_nodes.specs.contracts.node.Node as node
 use Rattle.cb_nodes.specs.Table.{Table}
 use Rattle.cb_topo.specs.Numbered.{Numbered}

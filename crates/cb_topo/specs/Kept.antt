@@ -5,8 +5,8 @@ use Rattle.cb_model.specs.declared.id.EventId.{EventId}
 use Rattle.cb_model.specs.WellTyped.{WellTyped, IsClass}
 use Rattle.cb_network.specs.Topology.{Topology, IsOf}
 use Rattle.cb_network.specs.Sound.{Sound, node_limit}
-use Rattle.cb_net.specs.declared.id.InstanceId.{InstanceId}
-use Rattle.cb_net.specs.Numbered.{Net, IsLive, HasEventAt, IsWhole as IsWholeNet}
+use Rattle.cb_instances.specs.declared.id.InstanceId.{InstanceId}
+use Rattle.cb_instances.specs.Net.{Net, IsLive, HasEventAt, IsWhole as IsWholeNet}
 use Rattle.cb_nodes.specs.declared.id.NodeId.{NodeId}
 use Rattle.cb_nodes.specs.declared.node.Node.{Node}
 use Rattle.cb_nodes.specs.Table.{Table, IsNode, HasEvent as HasEventIn, IsOne}

@@ -5,7 +5,7 @@ use Rattle.cb_model.specs.NodeOrder.{node_cmp}
 use Rattle.cb_network.specs.declared.edit.Edit.{Edit}
 use Rattle.cb_network.specs.Topology.{link_cmp}
 use Rattle.cb_network.specs.Edits.{Changes}
-use Rattle.cb_net.specs.Numbered.{Net}
+use Rattle.cb_instances.specs.Net.{Net}
 use Rattle.cb_nodes.specs.Table.{Table}
 use Rattle.cb_accept.specs.declared.counts.Counts.{Counts}
 use Rattle.cb_topo.specs.Applied.{Applies}

@@ -7,7 +7,7 @@ ghost use Rattle.cb_network.specs.Edits.{IsAccepted};
 ghost use Rattle.cb_topo.specs.Made.{Makes};
 
 use cb_accept::Counts;
-use cb_net::Net;
+use cb_instances::Net;
 use cb_nodes::NodeTable;
 use std::alloc::{AllocError, Global};
 

@@ -3,13 +3,13 @@ ghost use Rattle.std.specs.Prelude.{OnOk, OnErr, ◌≡◌};
 ghost use Rattle.cb_model.specs.WellTyped.{WellTyped};
 ghost use Rattle.cb_network.specs.declared.edit.Edit.TheVariants.{Link, Unlink};
 ghost use Rattle.cb_network.specs.Edits.{IsRelationAt, HasRelationAt};
-ghost use Rattle.cb_net.specs.Numbered.{IsLive, name_at};
+ghost use Rattle.cb_instances.specs.Net.{IsLive, name_at};
 ghost use Rattle.cb_topo.specs.Kept.{AreClassed};
 ghost use Rattle.cb_network.specs.Edits.{IsAccepted};
 ghost use Rattle.cb_topo.specs.Made.{Rewires};
 
+use cb_instances::{InstanceId, Net};
 use cb_model::RelId;
-use cb_net::{InstanceId, Net};
 use std::alloc::{AllocError, Global};
 
 // The link from a to b and its inverse are there.

@@ -2,13 +2,13 @@
 ghost use Rattle.cb_network.specs.declared.edit.Edit.TheVariants.{Mute, Unmute};
 ghost use Rattle.cb_network.specs.Edits.{node_of as name_of};
 ghost use Rattle.cb_network.specs.Nodes.{IsNodeOf, IsEventAt};
-ghost use Rattle.cb_net.specs.Numbered.{IsLive, name_at};
+ghost use Rattle.cb_instances.specs.Net.{IsLive, name_at};
 ghost use Rattle.cb_topo.specs.Kept.{AreClassed};
 ghost use Rattle.cb_network.specs.Edits.{IsAccepted};
 ghost use Rattle.cb_topo.specs.Made.{Rewires};
 
+use cb_instances::{InstanceId, Net};
 use cb_model::EventId;
-use cb_net::{InstanceId, Net};
 
 // The event is muted at the instance.
 pub(crate) fn mute(net: &mut Net, event: &[u8], name: &[u8])

@@ -1,9 +1,9 @@
 //! Columns and problems in order.
 ghost use Rattle.std.specs.Prelude.{◌↔◌, List as Items, IfOk, IsTrue};
 ghost use Rattle.cb_model.specs.declared.node.NodeName.{NodeName as Node};
-ghost use Rattle.cb_network.specs.Matrix.{AreColumns, AreProblems};
+ghost use Rattle.cb_network.specs.Nodes.{AreInOrder, AreColumns, AreProblems};
 ghost use Rattle.cb_topo.specs.Numbered.{topology_of, IsNodeNamed, IsLiveNode, AreNamed};
-ghost use Rattle.cb_topo.specs.Ordered.{IsOfKind, AreOfKind, LeadsToKind};
+ghost use Rattle.cb_topo.specs.Ordered.{IsOfKind, LeadsToKind};
 
 use crate::kind::Kind;
 use crate::topology::Topology;
@@ -29,7 +29,7 @@ impl Topology {
 
     // The nodes of the kind, in order.
     fn listed(&self, alloc: Global, kind: Kind) -> Result<List<NodeId>, AllocError>
-        ensures { IfOk result (λ ids. (names : Items Node) × AreOfKind kind (topology_of self.now) names × AreNamed self.now ids names) }
+        ensures { IfOk result (λ ids. (names : Items Node) × AreInOrder (IsOfKind kind (topology_of self.now)) names × AreNamed self.now ids names) }
     {
         let by_name = self.by_name(alloc, kind)?;
         let mut nodes = List::new(alloc);

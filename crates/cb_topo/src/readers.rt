@@ -7,16 +7,16 @@ ghost use Rattle.cb_network.specs.Topology.{IsLive as IsLiveName, IsOf, IsMuted}
 ghost use Rattle.cb_network.specs.Nodes.{IsNodeOf, IsColumn, IsProblem, IsSymptomNode, IsCount};
 ghost use Rattle.cb_network.specs.Sound.{node_limit};
 ghost use Rattle.cb_network.specs.Edits.{node_of as name_of};
-ghost use Rattle.cb_net.specs.declared.id.InstanceId.{InstanceId as Id};
-ghost use Rattle.cb_net.specs.Numbered.{IsNamed, IsLive, LinkAt, Once, HasEventAt};
+ghost use Rattle.cb_instances.specs.declared.id.InstanceId.{InstanceId as Id};
+ghost use Rattle.cb_instances.specs.Net.{IsNamed, IsLive, LinkAt, Once, HasEventAt};
 ghost use Rattle.cb_nodes.specs.declared.id.NodeId.{NodeId as NodeNumber};
 ghost use Rattle.cb_nodes.specs.declared.node.Node.{Node as NodeAt};
 ghost use Rattle.cb_nodes.specs.Table.{IsNode, node_of};
 ghost use Rattle.cb_topo.specs.Numbered.{topology_of, IsNodeNamed, IsLiveNode};
 
 use crate::topology::Topology;
+use cb_instances::InstanceId;
 use cb_model::{ClassId, EventId, Marks, Model, RelId};
-use cb_net::InstanceId;
 use cb_nodes::{Node, NodeId};
 
 impl Topology {

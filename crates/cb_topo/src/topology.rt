@@ -1,6 +1,6 @@
 //! The topology as it is kept.
 use cb_accept::Counts;
-use cb_net::Net;
+use cb_instances::Net;
 use cb_nodes::NodeTable;
 
 /// A model's live instances and their nodes, under numbers, with links and mutes.

@@ -7,8 +7,8 @@ use Rattle.cb_model.specs.WellTyped.{WellTyped}
 use Rattle.cb_network.specs.declared.edit.Edit.TheVariants.{Create}
 use Rattle.cb_network.specs.declared.edit.EditRefusal.TheVariants.{NoClass}
 use Rattle.cb_network.specs.Topology.{IsLive}
-use Rattle.cb_net.specs.declared.id.InstanceId.{InstanceId}
-use Rattle.cb_net.specs.Numbered.{IsNamed}
+use Rattle.cb_instances.specs.declared.id.InstanceId.{InstanceId}
+use Rattle.cb_instances.specs.Net.{IsNamed}
 use Rattle.cb_network.specs.Edits.{IsRefused}
 use Rattle.cb_accept.proofs.Answered.{absent_err, present, was_found, was_absent}
 use Rattle.cb_accept.proofs.Firsts.{no_class, exists, too_many_instances, create_decided, create_refused}

@@ -1,7 +1,7 @@
 use Rattle.std.proofs.Common.{◌≡◌, ◌∙◌, subst, sym, Some, inl, inr}
 use Rattle.std.specs.List.{slice_get}
 use Rattle.cb_model.specs.declared.tables.Tables.{Tables}
-use Rattle.cb_net.specs.Numbered.{LinkAt}
+use Rattle.cb_instances.specs.Net.{LinkAt}
 use Rattle.cb_accept.proofs.Answered.{refuted}
 use Rattle.cb_accept.proofs.Firsts.{wrong_kind, linked, occupied, link_allowed}
 use Rattle.cb_accept.proofs.link.may_link.Goals as goal

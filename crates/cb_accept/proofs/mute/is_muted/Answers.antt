@@ -3,8 +3,8 @@ use Rattle.cb_model.specs.declared.node.NodeName.{NodeName}
 use Rattle.cb_network.specs.declared.edit.Edit.TheVariants.{Mute, Unmute}
 use Rattle.cb_network.specs.declared.edit.EditRefusal.TheVariants.{NoSymptom}
 use Rattle.cb_network.specs.Topology.{IsMuted}
-use Rattle.cb_net.specs.declared.id.InstanceId.{InstanceId}
-use Rattle.cb_net.specs.Numbered.{IsNamed}
+use Rattle.cb_instances.specs.declared.id.InstanceId.{InstanceId}
+use Rattle.cb_instances.specs.Net.{IsNamed}
 use Rattle.cb_network.specs.Edits.{IsRefused}
 use Rattle.cb_accept.proofs.Answered.{absent_err, present}
 use Rattle.cb_accept.proofs.Firsts.{no_symptom_to_mute, no_symptom_to_unmute}

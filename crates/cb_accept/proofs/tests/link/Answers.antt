@@ -1,5 +1,5 @@
 use Rattle.std.proofs.Common.{refl, sym, subst}
-use Rattle.cb_net.specs.Numbered.{Net}
+use Rattle.cb_instances.specs.Net.{Net}
 use Rattle.cb_accept.specs.Counts.{AreCounts}
 use Rattle.cb_accept.proofs.Changed.{counts_stay}
 use Rattle.cb_accept.proofs.tests.link.Goals as goal

@@ -1,7 +1,7 @@
 use Rattle.std.proofs.Common.{sym, subst}
 use Rattle.cb_network.specs.Topology.{empty_topology}
 use Rattle.cb_network.proofs.Accepted.{empty_is_sound}
-use Rattle.cb_net.specs.Numbered.{Net}
+use Rattle.cb_instances.specs.Net.{Net}
 use Rattle.cb_accept.specs.Counts.{AreCounts}
 use Rattle.cb_accept.proofs.Changed.{within_of_sound}
 use Rattle.cb_accept.proofs.tests.try_full.Goals as goal

@@ -2,7 +2,7 @@ use Rattle.std.proofs.Common.{sym, subst}
 use Rattle.cb_model.specs.declared.tables.Tables.{Tables}
 use Rattle.cb_model.specs.Views.{AreRulesOf}
 use Rattle.cb_model.specs.WellTyped.{IsClass}
-use Rattle.cb_net.specs.Numbered.{IsNamed}
+use Rattle.cb_instances.specs.Net.{IsNamed}
 use Rattle.cb_graph.proofs.Bridge.{class_known, edges_gained}
 use Rattle.cb_graph.proofs.rules.add_edges.Goals as goal
 

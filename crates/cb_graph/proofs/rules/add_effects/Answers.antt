@@ -1,5 +1,5 @@
 use Rattle.std.proofs.Common.{sym, ◌∙◌}
-use Rattle.cb_net.proofs.Losing.{event_of, other_event}
+use Rattle.cb_instances.proofs.Losing.{event_of, other_event}
 use Rattle.cb_graph.specs.Walks.{BringsAbout}
 use Rattle.cb_graph.proofs.Bridge.{effects_gained}
 use Rattle.cb_graph.proofs.Gaining.{gained_next, gained_skip}

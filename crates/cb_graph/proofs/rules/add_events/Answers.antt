@@ -1,6 +1,6 @@
 use Rattle.std.proofs.Common.{◌<◌, length, get_or, slice_set, true, arith}
 use Rattle.std.proofs.lemmas.List.{length-set}
-use Rattle.cb_net.proofs.Showing.{slot_within}
+use Rattle.cb_instances.proofs.Showing.{slot_within}
 use Rattle.cb_nodes.specs.Table.{node_of}
 use Rattle.cb_graph.specs.Edges.{number}
 use Rattle.cb_graph.specs.Walks.{IsEventNumber}

@@ -3,7 +3,7 @@ use Rattle.std.proofs.lemmas.List.{get_or-set_same, length-set}
 use Rattle.std.proofs.lemmas.Option.{slice_get-get_or}
 use Rattle.std.specs.Prelude.{slice_set}
 use Rattle.cb_nodes.specs.Kept.{HasSpareIn}
-use Rattle.cb_net.proofs.RowLemmas.{on_ok}
+use Rattle.cb_instances.proofs.RowLemmas.{on_ok}
 use Rattle.cb_nodes.proofs.lists.reserve.Goals as goal
 
 pub returns-clause-spare : goal.returns-clause-spare

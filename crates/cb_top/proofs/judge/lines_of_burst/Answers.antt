@@ -1,6 +1,6 @@
 use Rattle.std.proofs.Common.{◌≡◌, IfOk, subst}
-use Rattle.cb_network.specs.declared.finding.Finding.{Finding}
-use Rattle.cb_network.specs.Finding.{IsBurst}
+use Rattle.cb_finding.specs.declared.finding.Finding.{Finding}
+use Rattle.cb_finding.specs.Finding.{IsBurst}
 use Rattle.cb_report.specs.Lines.{burst_text}
 use Rattle.cb_topo.specs.Numbered.{Numbered, topology_of}
 use Rattle.cb_top.proofs.judge.lines_of_burst.Goals as goal

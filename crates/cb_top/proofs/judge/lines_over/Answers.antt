@@ -1,4 +1,4 @@
-use Rattle.cb_network.proofs.Nearest.{coded_are_wide}
+use Rattle.cb_finding.proofs.Nearest.{coded_are_wide}
 use Rattle.cb_topo.specs.Numbered.{topology_of}
 use Rattle.cb_top.proofs.Judged.{if_ok_more}
 use Rattle.cb_top.proofs.judge.lines_over.Goals as goal

@@ -1,7 +1,7 @@
 use Rattle.std.proofs.Common.{◌≡◌, ap, subst, ◌∙◌}
 use Rattle.cb_model.specs.declared.tables.Tables.{Tables}
 use Rattle.cb_network.specs.declared.edit.EditRefusal.TheVariants.{NoInstance}
-use Rattle.cb_net.specs.Numbered.{Net, IsNamed}
+use Rattle.cb_instances.specs.Net.{Net, IsNamed}
 use Rattle.cb_accept.specs.Counts.{CountWithout}
 use Rattle.cb_topo.proofs.Asking.{is_there, found_is}
 use Rattle.cb_topo.proofs.Deleting.{delete_makes}

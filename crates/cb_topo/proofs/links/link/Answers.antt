@@ -1,8 +1,8 @@
 use Rattle.std.proofs.Common.{sym, subst}
 use Rattle.cb_network.specs.declared.edit.EditRefusal.TheVariants.{NoInstance, NoRelation, Linked}
 use Rattle.cb_network.specs.Edits.{HasRelationAt}
-use Rattle.cb_net.specs.Numbered.{IsNamed}
-use Rattle.cb_net.proofs.RowLemmas.{on_ok}
+use Rattle.cb_instances.specs.Net.{IsNamed}
+use Rattle.cb_instances.proofs.RowLemmas.{on_ok}
 use Rattle.cb_topo.proofs.Asking.{is_there, found_is, is_relation, not_linked, link_rewires}
 use Rattle.cb_topo.proofs.Named.{name_is}
 use Rattle.cb_topo.proofs.links.link.Goals as goal

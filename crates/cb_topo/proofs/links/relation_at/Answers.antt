@@ -3,7 +3,7 @@ use Rattle.std.specs.Prelude.{IfNone}
 use Rattle.cb_model.specs.declared.id.RelId.{RelId}
 use Rattle.cb_model.specs.declared.tables.Tables.{Tables}
 use Rattle.cb_model.specs.Classes.{NamesRelation}
-use Rattle.cb_net.specs.Numbered.{name_at}
+use Rattle.cb_instances.specs.Net.{name_at}
 use Rattle.cb_topo.proofs.Asking.{relation_there, found_is}
 use Rattle.cb_topo.proofs.Named.{named_at}
 use Rattle.cb_topo.proofs.links.relation_at.Goals as goal

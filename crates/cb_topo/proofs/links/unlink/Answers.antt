@@ -1,7 +1,7 @@
 use Rattle.std.proofs.Common.{sym, subst}
 use Rattle.cb_network.specs.declared.edit.EditRefusal.TheVariants.{NoInstance, NoRelation}
 use Rattle.cb_network.specs.Edits.{HasRelationAt}
-use Rattle.cb_net.specs.Numbered.{IsNamed}
+use Rattle.cb_instances.specs.Net.{IsNamed}
 use Rattle.cb_topo.proofs.Asking.{is_there, found_is, is_relation, unlink_rewires}
 use Rattle.cb_topo.proofs.Named.{name_is}
 use Rattle.cb_topo.proofs.links.unlink.Goals as goal

@@ -2,7 +2,7 @@ use Rattle.std.proofs.Common.{sym, subst}
 use Rattle.cb_network.specs.declared.edit.EditRefusal.TheVariants.{NoInstance, NoSymptom, AlreadyMuted}
 use Rattle.cb_network.specs.Nodes.{IsNodeOf}
 use Rattle.cb_network.specs.Edits.{node_of as name_of}
-use Rattle.cb_net.specs.Numbered.{IsNamed}
+use Rattle.cb_instances.specs.Net.{IsNamed}
 use Rattle.cb_topo.proofs.Asking.{is_there, found_is, not_muted, mute_rewires, symptom_is_node}
 use Rattle.cb_topo.proofs.Named.{name_is}
 use Rattle.cb_topo.proofs.mutes.mute.Goals as goal

@@ -1,8 +1,8 @@
 use Rattle.cb_network.specs.declared.edit.Edit.TheVariants.{Link, Unlink}
 use Rattle.cb_network.specs.declared.edit.EditRefusal.TheVariants.{NoRelation}
 use Rattle.cb_network.specs.Edits.{IsRefused}
-use Rattle.cb_net.specs.declared.id.InstanceId.{InstanceId}
-use Rattle.cb_net.specs.Numbered.{IsNamed}
+use Rattle.cb_instances.specs.declared.id.InstanceId.{InstanceId}
+use Rattle.cb_instances.specs.Net.{IsNamed}
 use Rattle.cb_accept.proofs.Answered.{absent_err, present}
 use Rattle.cb_accept.proofs.Firsts.{no_relation_to_link, no_relation_to_unlink}
 use Rattle.cb_accept.proofs.link.Ends.of.Goals as goal

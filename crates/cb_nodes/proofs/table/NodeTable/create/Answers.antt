@@ -3,9 +3,9 @@ use Rattle.std.proofs.lemmas.Option.{slice_get_within, same_Some}
 use Rattle.cb_model.specs.declared.tables.Tables.{Tables}
 use Rattle.cb_model.specs.Views.{AreEventsOf}
 use Rattle.cb_network.specs.Topology.{Topology}
-use Rattle.cb_net.specs.declared.id.InstanceId.{InstanceId}
-use Rattle.cb_net.specs.Numbered.{IsFree, Creates}
-use Rattle.cb_net.proofs.Placing.{same_id}
+use Rattle.cb_instances.specs.declared.id.InstanceId.{InstanceId}
+use Rattle.cb_instances.specs.Net.{IsFree, Creates}
+use Rattle.cb_instances.proofs.Placing.{same_id}
 use Rattle.cb_nodes.specs.Kept.{HasSpareFor, IsListOf, items_in}
 use Rattle.cb_nodes.proofs.Events.{events_once, one_count}
 use Rattle.cb_nodes.proofs.Listing.{same_sound, numbered_sound, list_set, list_read, none_there}

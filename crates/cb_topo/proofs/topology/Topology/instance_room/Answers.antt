@@ -1,6 +1,6 @@
 use Rattle.std.proofs.Common.{◌<◌, subst}
-use Rattle.cb_net.specs.declared.id.InstanceId.{InstanceId}
-use Rattle.cb_net.specs.Numbered.{IsLive}
+use Rattle.cb_instances.specs.declared.id.InstanceId.{InstanceId}
+use Rattle.cb_instances.specs.Net.{IsLive}
 use Rattle.cb_topo.specs.Numbered.{Numbered}
 use Rattle.cb_topo.proofs.topology.Topology.instance_room.Goals as goal
 

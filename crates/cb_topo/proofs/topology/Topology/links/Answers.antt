@@ -1,7 +1,7 @@
 use Rattle.std.proofs.Common.{◌↔◌, subst}
 use Rattle.std.specs.List.{Contains}
-use Rattle.cb_net.specs.declared.id.InstanceId.{InstanceId}
-use Rattle.cb_net.specs.Numbered.{LinkAt}
+use Rattle.cb_instances.specs.declared.id.InstanceId.{InstanceId}
+use Rattle.cb_instances.specs.Net.{LinkAt}
 use Rattle.cb_topo.specs.Numbered.{Numbered}
 use Rattle.cb_topo.proofs.topology.Topology.links.Goals as goal
 

@@ -1,5 +1,5 @@
 use Rattle.std.proofs.Common.{sym, subst}
-use Rattle.cb_net.specs.Numbered.{Net, empty_net}
+use Rattle.cb_instances.specs.Net.{Net, empty_net}
 use Rattle.cb_nodes.specs.Table.{Table}
 use Rattle.cb_topo.specs.Kept.{IsKept}
 use Rattle.cb_topo.proofs.Empty.{empty_kept}

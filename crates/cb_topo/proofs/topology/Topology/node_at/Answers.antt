@@ -1,6 +1,6 @@
 use Rattle.std.proofs.Common.{sym, subst}
 use Rattle.std.specs.Prelude.{IfNone}
-use Rattle.cb_net.specs.Numbered.{IsLive, HasEventAt}
+use Rattle.cb_instances.specs.Net.{IsLive, HasEventAt}
 use Rattle.cb_topo.specs.Numbered.{Numbered}
 use Rattle.cb_topo.proofs.Naming.{none_weaker}
 use Rattle.cb_topo.proofs.topology.Topology.node_at.Goals as goal

@@ -1,0 +1,4 @@
+pub mod AtDistance
+pub mod Named
+pub mod Searched
+pub mod Shared

@@ -1,0 +1,48 @@
+//! Decoding: the groups whose codes are nearest to a word.
+ghost use Rattle.std.specs.Prelude.{◌≡◌, ◌<◌, ◌^◌, length, IfOk};
+ghost use Rattle.cb_coding.specs.Answers.{IsAnswer, radius as radius_of};
+
+use cb_bits::Row;
+use cb_coding::{Answer, Book};
+use cb_model::List;
+use cb_reduce::{are_all, distance_from};
+use std::alloc::{AllocError, Global};
+
+/// The answer for a word over the columns of a book. A code or a word that is too short says false past its end.
+pub fn nearest(
+    alloc: Global,
+    codes: &List<Row>,
+    book: &Book,
+    word: &Row,
+) -> Result<Answer, AllocError>
+    requires some { 0 < length codes.now }
+    requires places_fit { length codes.now < 2 ^ 32 }
+    requires columns_fit { length book.now.columns < 2 ^ 32 }
+    ensures { IfOk result (IsAnswer book.now.columns codes.now book.now.distance word.now) }
+{
+    let all = are_all(&book.columns, word.len());
+    let mut least = distance_from(word, codes.at(0), &book.columns, all);
+    let mut groups = Vec::new(alloc);
+    for i in 0..codes.len() {
+        let distance = distance_from(word, codes.at(i), &book.columns, all);
+        if distance < least {
+            least = distance;
+            groups.clear();
+        }
+        if distance == least {
+            groups.push(i as u32)?;
+        }
+    }
+    Ok(Answer {
+        distance: least,
+        groups: List::of(groups),
+        sure: least <= radius(book.distance),
+    })
+}
+
+// How many lost or spurious symptoms codes that are so far apart put up with.
+pub(crate) fn radius(distance: u32) -> u32
+    ensures { result ≡ radius_of distance }
+{
+    distance.saturating_sub(1) / 2
+}

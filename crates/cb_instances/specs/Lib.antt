@@ -1,0 +1,11 @@
+pub mod Net
+pub mod Items
+pub mod Rows
+pub mod Codes
+pub mod Slots
+pub mod Shown
+pub mod Places
+pub mod Sound
+pub mod Joined
+pub mod Forgotten
+pub mod Muted

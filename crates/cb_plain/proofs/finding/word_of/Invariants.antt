@@ -1,7 +1,0 @@
-use Rattle.std.proofs.Common.{take, map, length}
-use Rattle.cb_bits.proofs.Filled.{IsFilled}
-use Rattle.cb_network.specs.Finding.{is_among}
-use Rattle.cb_plain.proofs.finding.word_of.Given as goal
-
-abbrev pub invariant-loop-k : goal.invariant-loop-k
-invariant-loop-k l = IsFilled (length l.columns) l.k l.word (map (is_among l.raised) (take l.k l.columns))

@@ -1,5 +1,0 @@
-pub mod Closest
-pub mod Holders
-pub mod Sharing
-pub mod Finds
-pub mod Grouped

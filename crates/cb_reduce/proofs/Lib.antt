@@ -1,0 +1,9 @@
+pub mod Places
+pub mod Best
+pub mod Tried
+pub mod Passing
+pub mod Sparse
+pub mod ByColumn
+pub mod FromFirst
+pub mod Counted
+pub mod Turns
