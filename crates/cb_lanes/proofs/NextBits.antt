@@ -5,8 +5,8 @@ use Rattle.std.specs.Slice.Scan.{HoldsNowhere}
 use Rattle.std.proofs.lemmas.Bool.{cases_lt}
 use Rattle.std.proofs.lemmas.Nat.{shr-shr, shr_le, and_le_l}
 use Rattle.std.proofs.lemmas.Nat.Bits.{bit_at_and, bit_at_not, bit_at_above, bit_at-lt, bit_at-zero, bit_at-trailing_zeros}
-use Rattle.cb_bits.specs.Bits.{in_not, IsNextBit}
-use Rattle.cb_bits.proofs.Digits.{each_two}
+use Rattle.cb_lanes.specs.Words.{in_not, IsNextBit}
+use Rattle.cb_lanes.proofs.Digits.{each_two}
 
 left_digits : (x y : ℕ) → x < 2 → y < 2 → (x == 1 && not (y == 1)) ≡ (min x (1 - y) == 1)
 left_digits = each_two (λ x y. (x == 1 && not (y == 1)) ≡ (min x (1 - y) == 1)) refl refl refl refl
