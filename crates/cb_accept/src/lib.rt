@@ -8,9 +8,11 @@ mod link;
 mod lookup;
 mod mute;
 mod refusal;
+mod step;
 
 pub use counts::Counts;
-pub use refusal::allows;
+pub use refusal::decide;
+pub use step::Step;
 
 #[cfg(test)]
 mod tests;

@@ -5,13 +5,13 @@ mod edits;
 mod fault;
 mod instances;
 mod kind;
-mod links;
-mod mutes;
+mod laws;
 mod order;
 mod readers;
 mod topology;
 
 pub use fault::EditFault;
+pub use laws::node_room_is_one;
 pub use topology::Topology;
 
 #[cfg(test)]
