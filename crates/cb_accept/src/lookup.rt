@@ -56,7 +56,6 @@ pub fn is_taken(net: &Net, id: InstanceId, rel: RelId) -> bool
     requires rel { IsRelation net.now.topology.model rel }
     ensures { (a : List ℕ) → IsNamed net.now id a → IsTrue result ↔ IsTaken net.now.topology a rel }
 {
-    net.is_whole();
     let row = net.model().tables().relations.at(rel.0 as usize);
     !row.many && !net.links(id, rel).is_empty()
 }

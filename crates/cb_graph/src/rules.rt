@@ -22,7 +22,6 @@ fn add_events(topology: &Topology, list: &[InstanceId], event: EventId, out: &mu
     ensures length { length out.new ≡ length out.old }
     ensures each { Gains out.old out.new list.now (IsEventNumber topology.now event) }
 {
-    topology.facts();
     for id in list {
         if let Some(node) = topology.node_at(*id, event) {
             out.set(node.0 as usize);
@@ -74,7 +73,6 @@ pub fn add_edges(
     ensures length { length out.new ≡ length out.old }
     ensures each { (k : ℕ) → Has out.new k ↔ (Has out.old k ⊎ EdgeAt topology.now node.0 k) }
 {
-    topology.facts();
     let instance = topology.instance_of(node);
     let class = topology.class_of(instance);
     let rules = topology.model().rules_of(class).as_slice();

@@ -49,13 +49,6 @@ impl NodeTable {
         }
     }
 
-    /// Says that no node has two numbers. It does nothing.
-    pub fn is_one(&self)
-        ensures { IsOne self.now }
-    {
-        let _ = &self.numbers;
-    }
-
     /// Gives each of the events a number that was free, whatever instance there is: tests number events without a net.
     pub(crate) fn add(
         &mut self,
@@ -94,6 +87,7 @@ impl NodeTable {
         requires few { (events : List Event) → AreEventsOf net.old.topology.model class events → room_with self.old (length events) ≤ 2 ^ 32 }
         ensures created { IfOk result (λ id. Creates net.old net.new id name.now class) }
         ensures added { IfOk result (AddsAll net.old class self.old self.new) }
+        ensures one { IsOne self.new }
         ensures net { OnErr result (net.new ≡ net.old) }
         ensures nodes { OnErr result (self.new ≡ self.old) }
     {
