@@ -48,12 +48,7 @@ fn new_name(edit: &Edit) -> &[u8]
 }
 
 // The instance is gone; the counts are those without it.
-pub(crate) fn delete(
-    net: &mut Net,
-    nodes: &mut NodeTable,
-    counts: Counts,
-    id: InstanceId,
-) -> Counts
+pub(crate) fn delete(net: &mut Net, nodes: &mut NodeTable, counts: Counts, id: InstanceId) -> Counts
     requires kept { IsKept net.old nodes.old counts }
     requires live { IsLive net.old id }
     requires accepted { IsAccepted net.old.topology (Delete (name_at net.old id)) }
