@@ -1,5 +1,5 @@
 -- What was found, and what is passed on where nothing was.
-use Rattle.std.proofs.Common.{◌≡◌, Bool, true, false, subst, Option, None, Some, Result, Ok, Err}
+use Rattle.std.proofs.Common.{◌≡◌, Bool, true, false, sym, subst, Option, None, Some, Result, Ok, Err}
 use Rattle.std.specs.Prelude.{IfSome, IfNone, IfErr, IsErrAnd, ok_or, is_some}
 
 pub if_some : {T : Type 0} (o : Option T) (P Q : T → Type 0) → ((x : T) → P x → Q x) → IfSome o P → IfSome o Q
@@ -34,3 +34,8 @@ was_found P (Some x) b is some p = (x, p)
 pub was_absent : {T : Type 0} (Q : Type 0) (o : Option T) (b : Bool) → b ≡ is_some o → b ≡ false → IfNone o Q → Q
 was_absent Q None b is none q = q
 was_absent Q (Some x) b is none q = absurd (cc)
+
+-- an error that was passed on is the one that came
+pub passed_err : {E B : Type 0} (err : E) (exit : Result B E) (Q : E → Type 0) → IsErrAnd exit (λ x. x ≡ err) → Q err → IfErr exit Q
+passed_err err (Err x) Q same q = subst Q (sym same) q
+passed_err err (Ok b) Q same q = tt

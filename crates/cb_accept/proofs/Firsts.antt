@@ -21,11 +21,12 @@ use Rattle.cb_network.specs.Edits.{number_of, with_instance, node_of, IsRelation
 use Rattle.cb_network.proofs.Counts.{count_is_one}
 use Rattle.cb_network.proofs.Kept.{class_of}
 use Rattle.cb_network.proofs.Links.{one_inverse}
-use Rattle.cb_instances.specs.Net.{Net, LinkAt, IsWhole}
+use Rattle.cb_instances.specs.Net.{Net, LinkAt, IsMutedAt, IsWhole}
 use Rattle.cb_accept.specs.declared.counts.Counts.{Counts}
 use Rattle.cb_accept.specs.declared.link.Ends.{Ends}
+use Rattle.cb_accept.specs.declared.mute.Symptom.{Symptom}
 use Rattle.cb_accept.specs.Counts.{AreCounts, AreWithin}
-use Rattle.cb_accept.specs.Refusals.{IsFirstLimit, FitsTarget, AreEnds}
+use Rattle.cb_accept.specs.Refusals.{IsFirstLimit, FitsTarget, AreEnds, IsSymptomNamed}
 use Rattle.cb_accept.proofs.Changed.{one_class_of}
 use Rattle.cb_accept.proofs.Looked.{one_name}
 use Rattle.cb_accept.proofs.Members.{one_class, one_relation}
@@ -262,13 +263,13 @@ module _ (t : Topology) (name class : List ℕ) where
             not_beyond (IsSymptomNode (with_instance t name c)) new.symptoms symptom_limit are.symptoms few
             (changed (λ u. IsBeyond (IsSymptomNode u) symptom_limit) many)
 
-        create_allowed : AreWithin new → IsAccepted t (Create name class)
+        pub create_allowed : AreWithin new → IsAccepted t (Create name class)
         create_allowed within =
             accepted t (Create name class)
             (create_below t name class 16 (λ _. (c, named)) (λ _. fresh) (λ _. enough_instances) (λ _. few_nodes within.nodes) (λ _. few_problems within.problems)
             (λ _. few_symptoms within.symptoms))
 
-        beyond_limit : (why : EditRefusal) → IsFirstLimit new why → IsRefused t (Create name class) why
+        pub beyond_limit : (why : EditRefusal) → IsFirstLimit new why → IsRefused t (Create name class) why
         beyond_limit NodeLimit is = (
           made (λ u. IsBeyond (IsNodeOf u) node_limit) (new.nodes, are.nodes, is.above),
           create_below t name class 13 (λ _. (c, named)) (λ _. fresh) (λ _. enough_instances) (later _ 13 13 (omega arith)) (later _ 14 13 (omega arith))
@@ -288,14 +289,6 @@ module _ (t : Topology) (name class : List ℕ) where
               (later _ 15 15 (omega arith)),
         )
         beyond_limit why is = absurd is.above
-
-        pub create_decided : (result : Result (Unit {0}) EditRefusal) → OnOk result (AreWithin new) → OnOk result (IsAccepted t (Create name class))
-        create_decided (Ok u) within = create_allowed within
-        create_decided (Err why) within = tt
-
-        pub create_refused : (result : Result (Unit {0}) EditRefusal) → IfErr result (IsFirstLimit new) → IfErr result (IsRefused t (Create name class))
-        create_refused (Ok u) first = tt
-        create_refused (Err why) first = beyond_limit why first
 
 -- links that name no relation
 
@@ -318,3 +311,27 @@ module _ (t : Topology) (event name : List ℕ) (live : IsLive t name) where
 
   pub no_symptom_to_unmute : ¬ IsSymptomNode t (node_of event name) → IsRefused t (Unmute event name) NoSymptom
   no_symptom_to_unmute none = (none, unmute_below t event name 9 (λ _. live) (later _ 9 9 (omega arith)) (later _ 11 9 (omega arith)))
+
+module _ (n : Net) (whole : IsWhole n) (event name : List ℕ) (s : Symptom) (are : IsSymptomNamed n event name s) where
+  lives : IsLive n.topology name
+  lives = whole.live s.id name are.named
+
+  mutes : IsMutedAt n s.id s.event → IsMuted n.topology (node_of event name)
+  mutes = subst (IsMuted n.topology) are.symptom.node
+
+  hears : ¬ IsMutedAt n s.id s.event → ¬ IsMuted n.topology (node_of event name)
+  hears heard is = heard (subst (IsMuted n.topology) (sym are.symptom.node) is)
+
+  pub mute_allowed : ¬ IsMutedAt n s.id s.event → IsAccepted n.topology (Mute event name)
+  mute_allowed heard =
+      accepted n.topology (Mute event name) (mute_below n.topology event name 16 (λ _. lives) (λ _. are.symptom.symptom) (λ _. hears heard))
+
+  pub already_muted : IsMutedAt n s.id s.event → IsRefused n.topology (Mute event name) AlreadyMuted
+  already_muted is = (mutes is, mute_below n.topology event name 10 (λ _. lives) (λ _. are.symptom.symptom) (later _ 10 10 (omega arith)))
+
+  pub unmute_allowed : IsMutedAt n s.id s.event → IsAccepted n.topology (Unmute event name)
+  unmute_allowed is =
+      accepted n.topology (Unmute event name) (unmute_below n.topology event name 16 (λ _. lives) (λ _. are.symptom.symptom) (λ _. mutes is))
+
+  pub not_muted : ¬ IsMutedAt n s.id s.event → IsRefused n.topology (Unmute event name) NotMuted
+  not_muted heard = (hears heard, unmute_below n.topology event name 11 (λ _. lives) (λ _. are.symptom.symptom) (later _ 11 11 (omega arith)))

@@ -1,5 +1,5 @@
 -- What is looked up to decide an edit.
-use Rattle.std.specs.Prelude.{◌≡◌, ◌↔◌, ℕ, ◌<◌, List, Some, slice_get, IsTrue, Bool}
+use Rattle.std.specs.Prelude.{◌≡◌, ℕ, ◌<◌, List, Some, slice_get}
 use Rattle.cb_model.specs.declared.id.ClassId.{ClassId}
 use Rattle.cb_model.specs.declared.id.EventId.{EventId}
 use Rattle.cb_model.specs.declared.id.RelId.{RelId}
@@ -8,7 +8,7 @@ use Rattle.cb_model.specs.Classes.{IsA}
 use Rattle.cb_model.specs.WellTyped.{IsClass}
 use Rattle.cb_network.specs.declared.edit.EditRefusal.{EditRefusal}
 use Rattle.cb_network.specs.declared.edit.EditRefusal.TheVariants.{NodeLimit, ProblemLimit, SymptomLimit}
-use Rattle.cb_network.specs.Topology.{Topology, IsOf, IsMuted}
+use Rattle.cb_network.specs.Topology.{Topology, IsOf}
 use Rattle.cb_network.specs.Nodes.{IsSymptomNode}
 use Rattle.cb_network.specs.Sound.{node_limit, problem_limit, symptom_limit}
 use Rattle.cb_network.specs.Edits.{number_of, node_of, IsRelationAt}
@@ -16,6 +16,7 @@ use Rattle.cb_instances.specs.declared.id.InstanceId.{InstanceId}
 use Rattle.cb_instances.specs.Net.{Net, IsNamed, HasEventAt, node_at}
 use Rattle.cb_accept.specs.declared.counts.Counts.{Counts}
 use Rattle.cb_accept.specs.declared.link.Ends.{Ends}
+use Rattle.cb_accept.specs.declared.mute.Symptom.{Symptom}
 
 -- a number is above the limit that this refusal speaks of
 abbrev pub IsAbove : Counts → EditRefusal → Type 0
@@ -56,7 +57,7 @@ pub record IsSymptomAt (n : Net) (id : InstanceId) (event name : List ℕ) (e : 
   pub has : HasEventAt n id e
   pub node : node_at n id e ≡ node_of event name
 
--- the node is a symptom, and whether it is muted
-pub record TellsMute (t : Topology) (event name : List ℕ) (muted : Bool) : Type 0 where
-  pub symptom : IsSymptomNode t (node_of event name)
-  pub tells : IsTrue muted ↔ IsMuted t (node_of event name)
+-- these are the instance and the event of these names, and the event is a symptom of the instance
+pub record IsSymptomNamed (n : Net) (event name : List ℕ) (s : Symptom) : Type 0 where
+  pub named : IsNamed n s.id name
+  pub symptom : IsSymptomAt n s.id event name s.event

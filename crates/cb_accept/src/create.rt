@@ -1,12 +1,14 @@
 //! Whether an instance may be created or deleted.
-ghost use Rattle.std.specs.Prelude.{OnOk, IfErr};
+ghost use Rattle.std.specs.Prelude.{OnOk, IfOk, IfErr};
 ghost use Rattle.cb_network.specs.declared.edit.Edit.TheVariants.{Create, Delete};
 ghost use Rattle.cb_accept.specs.Counts.{AreCounts, AreWithin};
 ghost use Rattle.cb_network.specs.Edits.{IsAccepted, IsRefused};
 ghost use Rattle.cb_accept.specs.Refusals.{IsFirstLimit};
+ghost use Rattle.cb_accept.specs.Steps.{IsStepOf};
 
 use crate::counts::Counts;
 use crate::limits::{MOST_INSTANCES, MOST_NODES, MOST_PROBLEMS, MOST_SYMPTOMS};
+use crate::step::Step;
 use cb_instances::Net;
 use cb_network::EditRefusal;
 
@@ -27,13 +29,13 @@ pub fn are_within(counts: Counts) -> Result<(), EditRefusal>
 }
 
 /// Whether an instance of this name and class may be created.
-pub fn may_create(net: &Net, counts: Counts, name: &[u8], class: &[u8]) -> Result<(), EditRefusal>
+pub fn may_create(net: &Net, counts: Counts, name: &[u8], class: &[u8]) -> Result<Step, EditRefusal>
     requires counts { AreCounts net.now.topology counts }
     requires few { AreWithin counts }
     ensures allowed { OnOk result (IsAccepted net.now.topology (Create name.now class.now)) }
+    ensures step { IfOk result (IsStepOf net.now (Create name.now class.now)) }
     ensures refused { IfErr result (IsRefused net.now.topology (Create name.now class.now)) }
 {
-    net.is_whole();
     let model = net.model();
     let _typed = model.tables();
     let class = model.class_named(class).ok_or(EditRefusal::NoClass)?;
@@ -43,17 +45,18 @@ pub fn may_create(net: &Net, counts: Counts, name: &[u8], class: &[u8]) -> Resul
     if net.count() >= MOST_INSTANCES {
         return Err(EditRefusal::InstanceLimit);
     }
-    are_within(counts.with(model, class))
+    are_within(counts.with(model, class))?;
+    Ok(Step::Create { class })
 }
 
 /// Whether the instance may be deleted.
-pub fn may_delete(net: &Net, name: &[u8]) -> Result<(), EditRefusal>
+pub fn may_delete(net: &Net, name: &[u8]) -> Result<Step, EditRefusal>
     ensures allowed { OnOk result (IsAccepted net.now.topology (Delete name.now)) }
+    ensures step { IfOk result (IsStepOf net.now (Delete name.now)) }
     ensures refused { IfErr result (IsRefused net.now.topology (Delete name.now)) }
 {
-    net.is_whole();
     match net.instance_named(name) {
-        Some(_) => Ok(()),
+        Some(id) => Ok(Step::Delete { id }),
         None => Err(EditRefusal::NoInstance),
     }
 }

@@ -6,10 +6,12 @@ ghost use Rattle.cb_model.specs.WellTyped.{WellTyped};
 ghost use Rattle.cb_instances.specs.Net.{IsWhole};
 ghost use Rattle.cb_network.specs.Edits.{IsAccepted, IsRefused};
 ghost use Rattle.cb_accept.specs.Refusals.{AreEnds};
+ghost use Rattle.cb_accept.specs.Steps.{IsStepOf};
 
 use crate::lookup::{is_of_kind, is_taken, relation_at};
-use cb_model::RelId;
+use crate::step::Step;
 use cb_instances::{InstanceId, Net};
+use cb_model::RelId;
 use cb_network::EditRefusal;
 
 // A link, by numbers.
@@ -29,7 +31,6 @@ impl Ends {
         ensures whole { IsWhole net.now }
         ensures typed { WellTyped net.now.topology.model }
     {
-        net.is_whole();
         let _typed = net.model().tables();
         let from = net.instance_named(a).ok_or(EditRefusal::NoInstance)?;
         let to = net.instance_named(b).ok_or(EditRefusal::NoInstance)?;
@@ -39,8 +40,9 @@ impl Ends {
 }
 
 /// Whether the link may be added.
-pub fn may_link(net: &Net, a: &[u8], rel: &[u8], b: &[u8]) -> Result<(), EditRefusal>
+pub fn may_link(net: &Net, a: &[u8], rel: &[u8], b: &[u8]) -> Result<Step, EditRefusal>
     ensures allowed { OnOk result (IsAccepted net.now.topology (Link a.now rel.now b.now)) }
+    ensures step { IfOk result (IsStepOf net.now (Link a.now rel.now b.now)) }
     ensures refused { IfErr result (IsRefused net.now.topology (Link a.now rel.now b.now)) }
 {
     let Ends { from, rel, to } = Ends::of(net, a, rel, b)?;
@@ -52,18 +54,19 @@ pub fn may_link(net: &Net, a: &[u8], rel: &[u8], b: &[u8]) -> Result<(), EditRef
     } else if is_taken(net, from, rel) || is_taken(net, to, back) {
         Err(EditRefusal::Occupied)
     } else {
-        Ok(())
+        Ok(Step::Link { from, rel, to })
     }
 }
 
 /// Whether the link may be removed.
-pub fn may_unlink(net: &Net, a: &[u8], rel: &[u8], b: &[u8]) -> Result<(), EditRefusal>
+pub fn may_unlink(net: &Net, a: &[u8], rel: &[u8], b: &[u8]) -> Result<Step, EditRefusal>
     ensures allowed { OnOk result (IsAccepted net.now.topology (Unlink a.now rel.now b.now)) }
+    ensures step { IfOk result (IsStepOf net.now (Unlink a.now rel.now b.now)) }
     ensures refused { IfErr result (IsRefused net.now.topology (Unlink a.now rel.now b.now)) }
 {
     let Ends { from, rel, to } = Ends::of(net, a, rel, b)?;
     if net.is_linked(from, rel, to) {
-        Ok(())
+        Ok(Step::Unlink { from, rel, to })
     } else {
         Err(EditRefusal::NotLinked)
     }

@@ -9,8 +9,8 @@ ghost use Rattle.cb_network.specs.Edits.{IsRelationAt, HasRelationAt, IsTaken, n
 ghost use Rattle.cb_instances.specs.Net.{IsLive, IsNamed};
 ghost use Rattle.cb_accept.specs.Refusals.{IsClassAt, FitsTarget, IsSymptomAt};
 
-use cb_model::{ClassId, EventId, RelId};
 use cb_instances::{InstanceId, Net};
+use cb_model::{ClassId, EventId, RelId};
 
 // The instance's class, if it is one of the model's. A class that the model lacks would have nothing.
 fn class_at(net: &Net, id: InstanceId) -> Option<ClassId>
@@ -56,7 +56,6 @@ pub fn is_taken(net: &Net, id: InstanceId, rel: RelId) -> bool
     requires rel { IsRelation net.now.topology.model rel }
     ensures { (a : List ℕ) → IsNamed net.now id a → IsTrue result ↔ IsTaken net.now.topology a rel }
 {
-    net.is_whole();
     let row = net.model().tables().relations.at(rel.0 as usize);
     !row.many && !net.links(id, rel).is_empty()
 }

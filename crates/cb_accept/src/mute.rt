@@ -2,43 +2,60 @@
 ghost use Rattle.std.specs.Prelude.{OnOk, IfOk, IfErr};
 ghost use Rattle.cb_network.specs.declared.edit.Edit.TheVariants.{Mute, Unmute};
 ghost use Rattle.cb_network.specs.Edits.{IsAccepted, IsRefused};
-ghost use Rattle.cb_accept.specs.Refusals.{TellsMute};
+ghost use Rattle.cb_instances.specs.Net.{IsWhole};
+ghost use Rattle.cb_accept.specs.Refusals.{IsSymptomNamed};
+ghost use Rattle.cb_accept.specs.Steps.{IsStepOf};
 
 use crate::lookup::symptom_at;
-use cb_instances::Net;
+use crate::step::Step;
+use cb_instances::{InstanceId, Net};
+use cb_model::EventId;
 use cb_network::EditRefusal;
 
-// Whether the symptom is muted. What refuses one edit of a mute because there is no such symptom refuses the other.
-fn is_muted(net: &Net, event: &[u8], name: &[u8]) -> Result<bool, EditRefusal>
-    ensures found { IfOk result (TellsMute net.now.topology event.now name.now) }
-    ensures mute { IfErr result (IsRefused net.now.topology (Mute event.now name.now)) }
-    ensures unmute { IfErr result (IsRefused net.now.topology (Unmute event.now name.now)) }
-{
-    net.is_whole();
-    let id = net.instance_named(name).ok_or(EditRefusal::NoInstance)?;
-    let event = symptom_at(net, id, event).ok_or(EditRefusal::NoSymptom)?;
-    Ok(net.is_muted(id, event))
+// A symptom of an instance, by numbers.
+#[derive(Clone, Copy, Debug)]
+struct Symptom {
+    id: InstanceId,
+    event: EventId,
+}
+
+impl Symptom {
+    // The one that an edit names. What refuses one edit of a mute for want of it refuses the other.
+    fn of(net: &Net, event: &[u8], name: &[u8]) -> Result<Symptom, EditRefusal>
+        ensures found { IfOk result (IsSymptomNamed net.now event.now name.now) }
+        ensures mute { IfErr result (IsRefused net.now.topology (Mute event.now name.now)) }
+        ensures unmute { IfErr result (IsRefused net.now.topology (Unmute event.now name.now)) }
+        ensures whole { IsWhole net.now }
+    {
+        let id = net.instance_named(name).ok_or(EditRefusal::NoInstance)?;
+        let event = symptom_at(net, id, event).ok_or(EditRefusal::NoSymptom)?;
+        Ok(Symptom { id, event })
+    }
 }
 
 /// Whether the symptom may be muted.
-pub fn may_mute(net: &Net, event: &[u8], name: &[u8]) -> Result<(), EditRefusal>
+pub fn may_mute(net: &Net, event: &[u8], name: &[u8]) -> Result<Step, EditRefusal>
     ensures allowed { OnOk result (IsAccepted net.now.topology (Mute event.now name.now)) }
+    ensures step { IfOk result (IsStepOf net.now (Mute event.now name.now)) }
     ensures refused { IfErr result (IsRefused net.now.topology (Mute event.now name.now)) }
 {
-    if is_muted(net, event, name)? {
+    let Symptom { id, event } = Symptom::of(net, event, name)?;
+    if net.is_muted(id, event) {
         Err(EditRefusal::AlreadyMuted)
     } else {
-        Ok(())
+        Ok(Step::Mute { id, event })
     }
 }
 
 /// Whether the symptom may be observed again.
-pub fn may_unmute(net: &Net, event: &[u8], name: &[u8]) -> Result<(), EditRefusal>
+pub fn may_unmute(net: &Net, event: &[u8], name: &[u8]) -> Result<Step, EditRefusal>
     ensures allowed { OnOk result (IsAccepted net.now.topology (Unmute event.now name.now)) }
+    ensures step { IfOk result (IsStepOf net.now (Unmute event.now name.now)) }
     ensures refused { IfErr result (IsRefused net.now.topology (Unmute event.now name.now)) }
 {
-    if is_muted(net, event, name)? {
-        Ok(())
+    let Symptom { id, event } = Symptom::of(net, event, name)?;
+    if net.is_muted(id, event) {
+        Ok(Step::Unmute { id, event })
     } else {
         Err(EditRefusal::NotMuted)
     }

@@ -1,20 +1,23 @@
-//! Why an edit is refused.
-ghost use Rattle.std.specs.Prelude.{OnOk, IfErr};
+//! What an edit is by numbers, or why it is refused.
+ghost use Rattle.std.specs.Prelude.{OnOk, IfOk, IfErr};
 ghost use Rattle.cb_network.specs.Edits.{IsAccepted, IsRefused};
 ghost use Rattle.cb_accept.specs.Counts.{AreCounts, AreWithin};
+ghost use Rattle.cb_accept.specs.Steps.{IsStepOf};
 
 use crate::counts::Counts;
 use crate::create::{may_create, may_delete};
 use crate::link::{may_link, may_unlink};
 use crate::mute::{may_mute, may_unmute};
+use crate::step::Step;
 use cb_instances::Net;
 use cb_network::{Edit, EditRefusal};
 
-/// Whether the edit is accepted, and else the refusal that stands first among those that hold.
-pub fn allows(net: &Net, counts: Counts, edit: &Edit) -> Result<(), EditRefusal>
+/// What was found of an edit that is accepted, and else the refusal that stands first among those that hold.
+pub fn decide(net: &Net, counts: Counts, edit: &Edit) -> Result<Step, EditRefusal>
     requires counts { AreCounts net.now.topology counts }
     requires few { AreWithin counts }
-    ensures allowed { OnOk result (IsAccepted net.now.topology edit.now) }
+    ensures accepted { OnOk result (IsAccepted net.now.topology edit.now) }
+    ensures step { IfOk result (IsStepOf net.now edit.now) }
     ensures refused { IfErr result (IsRefused net.now.topology edit.now) }
 {
     match edit {

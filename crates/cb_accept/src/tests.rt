@@ -6,9 +6,9 @@ ghost use Rattle.cb_accept.specs.Counts.{AreCounts, AreWithin};
 use crate::counts::Counts;
 use crate::create::are_within;
 use crate::lookup::symptom_at;
-use crate::refusal::allows;
-use cb_model::{Model, Name, RelId, sample_model};
+use crate::refusal::decide;
 use cb_instances::Net;
+use cb_model::{Model, Name, RelId, sample_model};
 use cb_network::{Edit, EditRefusal};
 use std::alloc::{AllocError, Global};
 use std::process::Abort;
@@ -356,7 +356,7 @@ fn try_edits(
 {
     for (word, one, two, three, wanted) in edits {
         let edit = edit_of(alloc, *word, one, two, three)?;
-        let refusal = allows(net, counts, &edit).err();
+        let refusal = decide(net, counts, &edit).err();
         assert_eq!(rt; refusal, *wanted, "{one:?} {two:?} {three:?}");
     }
     Ok(())

@@ -4,7 +4,8 @@ use Rattle.std.specs.Int.{bit_at}
 use Rattle.std.proofs.lemmas.Bool.{cases_lt}
 use Rattle.std.proofs.lemmas.Grind.{div_ceil_times}
 use Rattle.std.proofs.lemmas.List.{take_all, length-append, length-replicate, get_or-replicate, get_or_past, get_or_append_left, get_or-append_right}
-use Rattle.cb_bits.specs.Bits.{bit_of, values, words_for, Holds}
+use Rattle.cb_lanes.specs.Words.{bit_of}
+use Rattle.cb_bits.specs.Bits.{values, words_for, Holds}
 use Rattle.cb_bits.proofs.Values.{values-are, row_len, row_bit}
 use Rattle.cb_bits.proofs.Zeros.{zeros, zero_word}
 

@@ -1,4 +1,3 @@
-pub mod Digits
 pub mod Values
 pub mod Packed
 pub mod Places
@@ -7,9 +6,6 @@ pub mod Zeros
 pub mod Totals
 pub mod Counted
 pub mod United
-pub mod Sums
-pub mod Alike
 pub mod Filled
 pub mod Grown
-pub mod NextBits
 pub mod NextOnes

@@ -1,11 +1,15 @@
 -- What is found over the words of rows is found in the rows.
-use Rattle.std.proofs.Common.{◌≡◌, ℕ, ◌*◌, ◌≤◌, ◌&&◌, ◌==◌, ◌%◌, Bool, true, false, not, List, [], length, slice_index_or, refl, sym, ap, ◌∙◌, inl, inr, Option, Some, None, IfSome, IfNone, arith}
+use Rattle.std.proofs.Common.{◌≡◌, ℕ, ◌-◌, ◌*◌, ◌^◌, ◌<◌, ◌≤◌, ◌&&◌, ◌==◌, ◌%◌, min, bit_and, w64, Bool, true, false, not, List, [], length, slice_index_or, refl, sym, ap, ◌∙◌, inl, inr, Option, Some, None, IfSome, IfNone, arith}
 use Rattle.std.specs.Slice.Scan.{HoldsNowhere}
 use Rattle.std.proofs.lemmas.Bool.{cases_lt}
 use Rattle.std.proofs.lemmas.List.{get_or_past}
-use Rattle.std.proofs.lemmas.Nat.Bits.{bit_at-zero}
+use Rattle.std.specs.Int.{bit_at, bit_not}
+use Rattle.std.proofs.lemmas.Nat.{and_le_l}
+use Rattle.std.proofs.lemmas.Nat.Bits.{bit_at_and, bit_at_not, bit_at-lt, bit_at-zero, same_from_bits_below}
+use Rattle.cb_lanes.proofs.Digits.{each_digit}
 use Rattle.std.proofs.lemmas.Simd.{length-zip2, get_or-zip2}
-use Rattle.cb_bits.specs.Bits.{bit_of, values, without, in_not, Holds, IsNextBit, IsNextOne, HasNoneFrom}
+use Rattle.cb_lanes.specs.Words.{bit_of, in_not, IsNextBit}
+use Rattle.cb_bits.specs.Bits.{values, without, Holds, IsNextOne, HasNoneFrom}
 use Rattle.cb_bits.proofs.Values.{row_len, row_bit}
 
 -- the bits are the values of a row, and those past its end are zero
@@ -68,3 +72,12 @@ module _ (words : List ℕ) (n : ℕ) (row : List Bool) (holds : Holds words n) 
       ap (λ b. b && not (bit_of others k)) (bit_is words n row holds is k)
       ∙ ap (λ b. slice_index_or row k false && not b) (bit_is others m other also is_other k)
       ∙ sym (without_at row other same k)
+
+at_most_one : (x : ℕ) → x < 2 → min x 1 ≡ x
+at_most_one = each_digit (λ x. min x 1 ≡ x) refl refl
+
+-- a word loses no bit where none is taken away
+pub all_left : (word : ℕ) → word < 2 ^ 64 → bit_and word (bit_not w64 0) ≡ word
+all_left word fits =
+    same_from_bits_below 64 (bit_and word (bit_not w64 0)) word (let e = and_le_l word (bit_not w64 0) in omega arith) fits (λ i lt.
+    bit_at_and word (bit_not w64 0) i ∙ ap (min (bit_at word i)) (bit_at_not w64 0 i (omega arith) lt ∙ ap (λ n. 1 - n) (bit_at-zero i)) ∙ at_most_one (bit_at word i) (bit_at-lt word i))

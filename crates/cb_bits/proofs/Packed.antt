@@ -3,9 +3,10 @@ use Rattle.std.proofs.Common.{◌≡◌, ℕ, ◌^◌, ◌<◌, Bool, false, Lis
 use Rattle.std.specs.List.{All}
 use Rattle.std.proofs.lemmas.Bool.{cases_lt}
 use Rattle.std.proofs.lemmas.List.{same_lists, get_or_default, get_or_past}
-use Rattle.cb_bits.specs.Bits.{bit_of, values, Holds, Packs}
+use Rattle.cb_lanes.specs.Words.{bit_of}
+use Rattle.cb_bits.specs.Bits.{values, Holds, Packs}
 use Rattle.cb_bits.proofs.Values.{row_len, row_bit}
-use Rattle.cb_bits.proofs.Alike.{words_alike}
+use Rattle.cb_lanes.proofs.Alike.{words_alike}
 
 -- the words of a row's values
 pub packs : (words : List ℕ) (n : ℕ) (row : List Bool) (shown : List ℕ) → Holds words n → values words n ≡ row → shown ≡ words
@@ -19,7 +20,7 @@ packs words n row shown holds is same small =
     }
 
 -- no word reaches 2^64, where those of the list don't
-small_word : (words : List ℕ) → All (λ word. word < 2 ^ 64) words → (k : ℕ) → slice_index_or words k 0 < 2 ^ 64
+pub small_word : (words : List ℕ) → All (λ word. word < 2 ^ 64) words → (k : ℕ) → slice_index_or words k 0 < 2 ^ 64
 small_word words small k = elim (cases_lt k (length words)) [
   | inl lt ↦ small k 0 lt
   | inr le ↦ subst (λ w. w < 2 ^ 64) (sym (get_or_past words k 0 le)) (omega arith)

@@ -1,45 +1,23 @@
 -- Words that are made of two lists of words, one by one.
-use Rattle.std.proofs.Common.{◌≡◌, ℕ, ◌/◌, ◌%◌, ◌+◌, ◌<◌, ◌≤◌, ◌==◌, ◌||◌, ◌^◌, Bool, false, not, cond, List, length, slice_index_or, bit_or, bit_xor, max, inl, inr, sym, ap, subst, ◌∙◌, refl, arith}
+use Rattle.std.proofs.Common.{◌≡◌, ℕ, ◌<◌, ◌==◌, ◌||◌, ◌^◌, Bool, false, not, cond, List, length, slice_index_or, bit_or, bit_xor, inl, inr, sym, ap, subst, ◌∙◌, refl, arith}
 use Rattle.std.specs.Int.{bit_at}
 use Rattle.std.specs.Simd.Lanes.{zip2}
 use Rattle.std.proofs.lemmas.Bool.{cases_lt}
-use Rattle.std.proofs.lemmas.Grind.{same_number_lists}
-use Rattle.std.proofs.lemmas.List.{get_or_past}
 use Rattle.std.proofs.lemmas.Simd.{length-zip2, get_or-zip2}
-use Rattle.std.proofs.lemmas.Nat.Bits.{bit_at_or, bit_at_xor, bit_at-lt, bit_at-zero}
 use Rattle.std.specs.List.{count_by, range_with_len}
 use Rattle.std.proofs.lemmas.List.FromFn.{fill_by_all}
 use mathlib.Core.Bool.{beq}
-use Rattle.cb_bits.specs.Bits.{bit_of, values, differing, count_bits, HaveSameBits, Holds}
-use Rattle.cb_bits.proofs.Digits.{each_two}
+use Rattle.cb_lanes.specs.Words.{bit_of, count_bits}
+use Rattle.cb_lanes.proofs.Alike.{words_alike}
+use Rattle.cb_lanes.proofs.Zipped.{zip_bit, or_bits, xor_bits}
+use Rattle.cb_bits.specs.Bits.{values, differing, Holds}
 use Rattle.cb_bits.proofs.Totals.{sum_by-map}
 use Rattle.cb_bits.proofs.Counted.{true_values, few_bits}
 use Rattle.cb_bits.proofs.Values.{values-are, row_len, row_bit}
 
--- all words are f of both
-pub united : (f : ℕ → ℕ → ℕ) (a b words : List ℕ) → length words ≡ length a → length a ≡ length b
-    → ((k : ℕ) → k < length a → slice_index_or words k 0 ≡ f (slice_index_or a k 0) (slice_index_or b k 0)) → words ≡ zip2 f a b
-united f a b words len same each =
-    let long = length-zip2 f a b same in
-    same_number_lists words (zip2 f a b) (omega arith)
-    (λ k lt. each k (omega arith) ∙ sym (get_or-zip2 f a b k 0 0 0 (omega arith) (omega arith)))
-
 -- f of two words has the bits g of their bits, which keeps zeros
 module _ (f : ℕ → ℕ → ℕ) (g : Bool → Bool → Bool) (of_zeros : g false false ≡ false)
     (bits : (v w i : ℕ) → (bit_at (f v w) i == 1) ≡ g (bit_at v i == 1) (bit_at w i == 1)) where
-  past : (words : List ℕ) (k : ℕ) → length words ≤ k / 64 → bit_of words k ≡ false
-  past words k le = ap (λ w. bit_at w (k % 64) == 1) (get_or_past words (k / 64) 0 le) ∙ ap (λ b. b == 1) (bit_at-zero (k % 64))
-
-  pub zip_bit : (a b : List ℕ) → length a ≡ length b → (k : ℕ) → bit_of (zip2 f a b) k ≡ g (bit_of a k) (bit_of b k)
-  zip_bit a b same k =
-      let long = length-zip2 f a b same in
-      elim (cases_lt (k / 64) (length a)) [
-        | inl lt ↦ ap (λ w. bit_at w (k % 64) == 1) (get_or-zip2 f a b (k / 64) 0 0 0 lt (omega arith))
-            ∙ bits (slice_index_or a (k / 64) 0) (slice_index_or b (k / 64) 0) (k % 64)
-        | inr le ↦ past (zip2 f a b) k (omega arith) ∙ sym of_zeros
-            ∙ sym (ap (λ x. g x (bit_of b k)) (past a k le) ∙ ap (g false) (past b k (omega arith)))
-      ]
-
   pub zip_holds : (a b : List ℕ) (n : ℕ) → length a ≡ length b → Holds a n → Holds b n → Holds (zip2 f a b) n
   zip_holds a b n same ha hb =
       let long = length-zip2 f a b same in
@@ -47,7 +25,7 @@ module _ (f : ℕ → ℕ → ℕ) (g : Bool → Bool → Bool) (of_zeros : g fa
         fits = ha.fits;
         enough = let e = ha.enough in omega arith;
         no_more = let e = ha.no_more in omega arith;
-        rest = λ k le. zip_bit a b same k ∙ ap (λ x. g x (bit_of b k)) (ha.rest k le) ∙ ap (g false) (hb.rest k le) ∙ of_zeros;
+        rest = λ k le. zip_bit f g of_zeros bits a b same k ∙ ap (λ x. g x (bit_of b k)) (ha.rest k le) ∙ ap (g false) (hb.rest k le) ∙ of_zeros;
       }
 
   pub zip_values : (a b : List ℕ) (n : ℕ) (v w : List Bool) → length a ≡ length b → values a n ≡ v → values b n ≡ w → values (zip2 f a b) n ≡ zip2 g v w
@@ -56,22 +34,10 @@ module _ (f : ℕ → ℕ → ℕ) (g : Bool → Bool → Bool) (of_zeros : g fa
       let lw = row_len b n w is_w in
       let both : length v ≡ length w = lv ∙ sym lw in
       values-are (zip2 f a b) n (zip2 g v w) (length-zip2 g v w both ∙ lv)
-      (λ k lt. zip_bit a b same k
+      (λ k lt. zip_bit f g of_zeros bits a b same k
       ∙ ap (λ x. g x (bit_of b k)) (row_bit a n v is_v k lt)
       ∙ ap (g (slice_index_or v k false)) (row_bit b n w is_w k lt)
       ∙ sym (get_or-zip2 g v w k false false false (omega arith) (omega arith)))
-
-or_digits : (x y : ℕ) → x < 2 → y < 2 → (max x y == 1) ≡ (x == 1 || y == 1)
-or_digits = each_two (λ x y. (max x y == 1) ≡ (x == 1 || y == 1)) refl refl refl refl
-
-pub or_bits : (v w i : ℕ) → (bit_at (bit_or v w) i == 1) ≡ ((bit_at v i == 1) || (bit_at w i == 1))
-or_bits v w i = ap (λ b. b == 1) (bit_at_or v w i) ∙ or_digits (bit_at v i) (bit_at w i) (bit_at-lt v i) (bit_at-lt w i)
-
-xor_digits : (x y : ℕ) → x < 2 → y < 2 → ((x + y) % 2 == 1) ≡ not (beq (x == 1) (y == 1))
-xor_digits = each_two (λ x y. ((x + y) % 2 == 1) ≡ not (beq (x == 1) (y == 1))) refl refl refl refl
-
-pub xor_bits : (v w i : ℕ) → (bit_at (bit_xor v w) i == 1) ≡ not (beq (bit_at v i == 1) (bit_at w i == 1))
-xor_bits v w i = ap (λ b. b == 1) (bit_at_xor v w i) ∙ xor_digits (bit_at v i) (bit_at w i) (bit_at-lt v i) (bit_at-lt w i)
 
 -- what holds of two lists of words holds of slices that are those
 pub through : (a b v w : List ℕ) (P : List ℕ → List ℕ → Type 0) → v ≡ a → w ≡ b → P a b → P v w
@@ -123,11 +89,14 @@ module _ (a b : List ℕ) (n m : ℕ) (v w : List Bool) (ha : Holds a n) (hb : H
   xor_few = few_bits (zip2 bit_xor a b) n (zip2 (λ x y. not (beq x y)) v w) xor_values xor_holds
 
   -- the rows are one exactly where their words have the same bits
-  pub same_bits : v ≡ w → HaveSameBits a b
+  pub same_bits : v ≡ w → (k : ℕ) → bit_of a k ≡ bit_of b k
   same_bits e k = elim (cases_lt k n) [
     | inl lt ↦ row_bit a n v is_v k lt ∙ ap (λ r. slice_index_or r k false) e ∙ sym (row_bit b n w b_is k lt)
     | inr le ↦ ha.rest k le ∙ sym (b_holds.rest k le)
   ]
 
-  pub same_values : HaveSameBits a b → v ≡ w
-  same_values same_bit = sym is_v ∙ values-are a n w (row_len b n w b_is) (λ k lt. same_bit k ∙ row_bit b n w b_is k lt)
+  pub same_words : ((k : ℕ) → slice_index_or a k 0 < 2 ^ 64) → ((k : ℕ) → slice_index_or b k 0 < 2 ^ 64) → v ≡ w → a ≡ b
+  same_words fits_a fits_b e = words_alike a b one_count fits_a fits_b (same_bits e)
+
+  pub same_values : a ≡ b → v ≡ w
+  same_values same = sym is_v ∙ ap (λ words. values words n) same ∙ b_is

@@ -4,7 +4,8 @@ use Rattle.std.proofs.lemmas.Bool.{cases_eq}
 use Rattle.std.proofs.lemmas.Grind.{get_or-set_at}
 use Rattle.std.proofs.lemmas.List.{same_lists, get_or_default, get_or-set_other, length-set}
 use Rattle.std.proofs.lemmas.List.FromFn.{length-map-range_with_len, get_or-map-range_with_len}
-use Rattle.cb_bits.specs.Bits.{bit_of, values, Holds}
+use Rattle.cb_lanes.specs.Words.{bit_of}
+use Rattle.cb_bits.specs.Bits.{values, Holds}
 
 pub length-values : (words : List ℕ) (n : ℕ) → length (values words n) ≡ n
 length-values words n = length-map-range_with_len (bit_of words) 0 n

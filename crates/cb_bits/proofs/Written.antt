@@ -4,7 +4,7 @@ use Rattle.std.specs.Int.{bit_at}
 use Rattle.std.proofs.lemmas.Bool.{cases_eq}
 use Rattle.std.proofs.lemmas.List.{get_or-set_same, get_or-set_other}
 use Rattle.std.proofs.lemmas.Grind.{get_or-set_at}
-use Rattle.cb_bits.specs.Bits.{bit_of}
+use Rattle.cb_lanes.specs.Words.{bit_of}
 use Rattle.cb_bits.proofs.Places.{word_within, bits_apart}
 
 -- a new word in the place of that of bit k, which leaves its other bits

@@ -4,7 +4,8 @@ use Rattle.std.specs.Int.{bit_at}
 use Rattle.std.proofs.lemmas.Bool.{cases_lt}
 use Rattle.std.proofs.lemmas.List.{get_or-replicate, get_or_past, length-replicate}
 use Rattle.std.proofs.lemmas.Nat.Bits.{bit_at-zero}
-use Rattle.cb_bits.specs.Bits.{bit_of, values, Holds}
+use Rattle.cb_lanes.specs.Words.{bit_of}
+use Rattle.cb_bits.specs.Bits.{values, Holds}
 use Rattle.cb_bits.proofs.Values.{values-are}
 
 abbrev pub zeros : ℕ → List ℕ

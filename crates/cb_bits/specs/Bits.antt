@@ -1,36 +1,13 @@
 -- Truth values packed into words of 64 bits.
-use Rattle.std.specs.Prelude.{◌≡◌, ℕ, ◌+◌, ◌*◌, ◌/◌, ◌%◌, ◌<◌, ◌≤◌, ◌^◌, ◌==◌, ◌&&◌, Bool, true, false, not, List, length, map, min, slice_index_or}
+use Rattle.std.specs.Prelude.{◌≡◌, ℕ, ◌+◌, ◌*◌, ◌/◌, ◌%◌, ◌<◌, ◌≤◌, ◌^◌, ◌&&◌, Bool, true, false, not, List, length, map, min, slice_index_or}
 use Rattle.std.specs.List.{All, count_by, range_with_len}
-use Rattle.std.specs.Int.{bit_at}
 use Rattle.std.specs.Simd.Lanes.{zip2}
-use Rattle.std.specs.Slice.Scan.{HoldsNowhere}
 use mathlib.Core.Bool.{beq}
+use Rattle.cb_lanes.specs.Words.{bit_of}
 
--- value k is bit k % 64, counted from the least, of word k / 64
-abbrev pub bit_of : List ℕ → ℕ → Bool
-bit_of words k = bit_at (slice_index_or words (k / 64) 0) (k % 64) == 1
-
--- the first n values
+-- the first n values: value k is bit k of the words
 abbrev pub values : List ℕ → ℕ → List Bool
 values words n = map (bit_of words) (range_with_len 0 n)
-
--- how many bits of the words are one
-abbrev pub count_bits : List ℕ → ℕ
-count_bits words = count_by (bit_of words) (range_with_len 0 (64 * length words))
-
--- all bits are the same
-abbrev pub HaveSameBits : List ℕ → List ℕ → Type 0
-HaveSameBits words other = (k : ℕ) → bit_of words k ≡ bit_of other k
-
--- the bit is one in the first words and zero in the others
-abbrev pub in_not : List ℕ → List ℕ → ℕ → Bool
-in_not words others k = bit_of words k && not (bit_of others k)
-
--- of the bits from a place on, this is the first that is one in the words and zero in the others
-pub record IsNextBit (words others : List ℕ) (from k : ℕ) : Type 0 where
-  pub on : from ≤ k
-  pub is : in_not words others k ≡ true
-  pub first : HoldsNowhere (in_not words others) from k
 
 -- how many words n values need
 abbrev pub words_for : ℕ → ℕ

@@ -4,9 +4,10 @@ ghost use Rattle.std.specs.Simd.Lanes.{zip2};
 ghost use Rattle.cb_bits.specs.Bits.{Packs, differing, without, IsNextOne, HasNoneFrom};
 
 use crate::words::{
-    are_same, as_words, clear_all, clear_bit, count_differing, count_differing_below, count_ones,
-    is_set, next_bit, set_bit, unite, zero_words,
+    as_words, clear_all, clear_bit, count_differing, count_differing_below, count_ones, is_set,
+    next_bit, set_bit, zero_words,
 };
+use cb_lanes::{equal, next_in_a_not_b, or_into};
 use std::alloc::{AllocError, Global};
 use std::marker::Model;
 
@@ -91,7 +92,7 @@ impl Row {
         requires { length self.old ≡ length other.now }
         ensures { self.new ≡ zip2 (λ one other. one || other) self.old other.now }
     {
-        unite(&mut self.words, &other.words);
+        or_into(&mut self.words, &other.words);
     }
 
     /// Whether the two are one list of values.
@@ -99,7 +100,7 @@ impl Row {
         requires { length self.now ≡ length other.now }
         ensures { IsTrue result ↔ (self.now ≡ other.now) }
     {
-        are_same(&self.words, &other.words)
+        equal(as_words(&self.words), as_words(&other.words))
     }
 
     /// The first true place from a place on.
@@ -107,7 +108,7 @@ impl Row {
         ensures next { IfSome result (IsNextOne self.now from) }
         ensures none { IfNone result (HasNoneFrom self.now from) }
     {
-        next_bit(&self.words, &[], from)
+        next_bit(&self.words, from)
     }
 
     /// The first place from a place on that is true here and false in `other`.
@@ -116,7 +117,7 @@ impl Row {
         ensures next { IfSome result (IsNextOne (without self.now other.now) from) }
         ensures none { IfNone result (HasNoneFrom (without self.now other.now) from) }
     {
-        next_bit(&self.words, &other.words, from)
+        next_in_a_not_b(&self.words, &other.words, from)
     }
 
     /// How many values are true.

@@ -1,9 +1,10 @@
 //! Single bits of a slice of words: bit k is bit k % 64, counted from the least, of word k / 64.
-ghost use Rattle.std.specs.Prelude.{◌≡◌, ◌≢◌, ◌<◌, ◌≤◌, ◌↔◌, ◌*◌, ◌^◌, ℕ, length, true, false, replicate, slice_index_or, bit_or, bit_xor, IfOk, IfSome, IfNone, SomeIff, IsTrue};
+ghost use Rattle.std.specs.Prelude.{◌≡◌, ◌≢◌, ◌<◌, ◌≤◌, ◌*◌, ◌^◌, ℕ, [], length, true, false, replicate, bit_xor, IfOk, IfSome, IfNone, SomeIff};
 ghost use Rattle.std.specs.Simd.Lanes.{zip2};
 ghost use Rattle.std.specs.List.{All};
 ghost use Rattle.std.specs.Slice.Scan.{HoldsNowhere};
-ghost use Rattle.cb_bits.specs.Bits.{bit_of, words_for, count_bits, in_not, HaveSameBits, IsNextBit};
+ghost use Rattle.cb_lanes.specs.Words.{bit_of, count_bits, in_not, IsNextBit};
+ghost use Rattle.cb_bits.specs.Bits.{words_for};
 
 use std::alloc::{AllocError, Global};
 
@@ -55,16 +56,6 @@ pub fn zero_words(alloc: Global, n: usize) -> Result<Vec<u64>, AllocError>
     vec![in alloc; 0; n.div_ceil(64)]
 }
 
-/// Makes one what is one in `other`.
-pub fn unite(words: &mut [u64], other: &[u64])
-    requires { length words.old ≡ length other.now }
-    ensures { words.new ≡ zip2 bit_or words.old other.now }
-{
-    for i in 0..words.len() {
-        words[i] |= other[i];
-    }
-}
-
 /// How many bits are one.
 pub fn count_ones(words: &[u64]) -> usize
     requires { count_bits words.now < 2 ^ 64 }
@@ -108,41 +99,18 @@ pub fn count_differing_below(words: &[u64], other: &[u64], limit: usize) -> Opti
     if count < limit { Some(count) } else { None }
 }
 
-/// Whether all bits are the same.
-pub fn are_same(words: &[u64], other: &[u64]) -> bool
-    requires { length words.now ≡ length other.now }
-    ensures { IsTrue result ↔ HaveSameBits words.now other.now }
-{
-    for i in 0..words.len() {
-        if words[i] != other[i] {
-            return false;
-        }
-    }
-    true
-}
-
-/// The first bit, from a place on, that is one in the words and zero in the others. Words that the others lack count as zeros.
-pub fn next_bit(words: &[u64], others: &[u64], from: usize) -> Option<usize>
+/// The first bit, from a place on, that is one.
+pub fn next_bit(words: &[u64], from: usize) -> Option<usize>
     requires { 64 * length words.now ≤ 2 ^ 64 }
-    ensures next { IfSome result (IsNextBit words.now others.now from) }
-    ensures none { IfNone result (HoldsNowhere (in_not words.now others.now) from (64 * length words.now)) }
+    ensures next { IfSome result (IsNextBit words.now [] from) }
+    ensures none { IfNone result (HoldsNowhere (in_not words.now []) from (64 * length words.now)) }
 {
     for i in from / 64..words.len() {
         let start = from.max(64 * i);
-        let left = (words[i] & !word_or_zeros(others, i)) >> (start % 64);
+        let left = words[i] >> (start % 64);
         if left != 0 {
             return Some(start + left.trailing_zeros() as usize);
         }
     }
     None
-}
-
-// The word at a place, or zeros where there is none.
-fn word_or_zeros(words: &[u64], i: usize) -> u64
-    ensures { result ≡ slice_index_or words.now i 0 }
-{
-    match words.get(i) {
-        Some(word) => *word,
-        None => 0,
-    }
 }

@@ -104,10 +104,12 @@ impl Edges for Graph {
 
     fn add_successors<L: Ledger>(&mut self, node: usize, row: &mut Row, steps: &mut Steps<L>) {
         steps.tick();
-        self.topology.facts();
-        let node = NodeId(node as u32);
-        if self.topology.is_live(node) {
-            add_edges(&self.topology, node, &mut self.here, &mut self.spare, row);
+        // Below the room a number fits into that of a node.
+        if node < self.topology.node_room() {
+            let node = NodeId(node as u32);
+            if self.topology.is_live(node) {
+                add_edges(&self.topology, node, &mut self.here, &mut self.spare, row);
+            }
         }
     }
 }

@@ -1,4 +1,16 @@
-//! Edges between the nodes of a topology, found one node at a time.
+//! The edges between the nodes of a topology, one node at a time.
+//!
+//! `Graph::new(alloc, topology)?` takes a topology over. `graph.successors(node, &mut row, &mut steps)` marks what the node
+//! brings about at once, by the rules of its class; cb_reach goes on from there, since a graph is one of its `Edges`.
+//! Edits go through `graph.apply`, which makes room for what they add.
+//!
+//! The specs say of two numbers that an edge leads from one to the other (`EdgeAt`), and how a path leads from instance to
+//! instance (`specs/Walks.antt`). That edges lead to what is caused is a law, `edges_lead_to_caused`.
+//!
+//! Promised: exactly the successors, one step for each call, no memory taken while a graph is searched, and a topology
+//! that is as it was. Not promised: that a node which many paths lead to is found quickly.
+//!
+//! Read `src/rules.rt` first, then `src/walk.rt`. How instances on the way are marked may be changed freely.
 #![tactic(auto)]
 
 mod graph;

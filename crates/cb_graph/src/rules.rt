@@ -10,8 +10,8 @@ ghost use Rattle.cb_graph.specs.Walks.{HasPlaces, AllLive, IsEventNumber, Brings
 use crate::instances::InstanceSet;
 use crate::walk::follow;
 use cb_bits::Row;
-use cb_model::{EventId, Rule};
 use cb_instances::InstanceId;
+use cb_model::{EventId, Rule};
 use cb_nodes::NodeId;
 use cb_topo::Topology;
 
@@ -22,7 +22,6 @@ fn add_events(topology: &Topology, list: &[InstanceId], event: EventId, out: &mu
     ensures length { length out.new ≡ length out.old }
     ensures each { Gains out.old out.new list.now (IsEventNumber topology.now event) }
 {
-    topology.facts();
     for id in list {
         if let Some(node) = topology.node_at(*id, event) {
             out.set(node.0 as usize);
@@ -74,7 +73,6 @@ pub fn add_edges(
     ensures length { length out.new ≡ length out.old }
     ensures each { (k : ℕ) → Has out.new k ↔ (Has out.old k ⊎ EdgeAt topology.now node.0 k) }
 {
-    topology.facts();
     let instance = topology.instance_of(node);
     let class = topology.class_of(instance);
     let rules = topology.model().rules_of(class).as_slice();

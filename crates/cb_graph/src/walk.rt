@@ -7,8 +7,8 @@ ghost use Rattle.cb_graph.specs.Instances.{Gains, IsNumber};
 ghost use Rattle.cb_graph.specs.Walks.{LeadsAt, IsWhereLeads, HasPlaces, AllLive, IsLinked};
 
 use crate::instances::InstanceSet;
-use cb_model::RelId;
 use cb_instances::InstanceId;
+use cb_model::RelId;
 use cb_topo::Topology;
 
 // Adds the listed instances to the set.

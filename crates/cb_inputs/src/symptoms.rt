@@ -5,7 +5,7 @@ ghost use Rattle.cb_inputs.specs.Symptoms.{SpellsNode, IsSymptomLine, ListsNodes
 ghost use Rattle.cb_inputs.specs.Steps.{AddsNodes, StopsSymptomLine};
 
 use crate::nodes::{add, in_order};
-use cb_model::{List, Name, NodeName};
+use cb_model::{List, NodeName};
 use cb_text::{first_long, is_passed_over, lines, node_parts, only_word};
 use std::alloc::{AllocError, Global};
 use std::collections::BTreeSet;
@@ -63,10 +63,6 @@ fn read_line(
     let bad = SymptomStop::BadName { line: number };
     let word = only_word(line).ok_or(bad)?;
     let (event, instance) = node_parts(word).ok_or(bad)?;
-    let node = NodeName {
-        event: Name::of(alloc, event)?,
-        instance: Name::of(alloc, instance)?,
-    };
-    add(raised, node)?;
+    add(raised, NodeName::of(alloc, event, instance)?)?;
     Ok(())
 }

@@ -60,7 +60,8 @@ impl Net {
 
     /// The model whose classes the instances are of.
     pub fn model(&self) -> &Model
-        ensures { result.now ≡ self.now.topology.model }
+        ensures value { result.now ≡ self.now.topology.model }
+        ensures whole { IsWhole self.now }
     {
         &self.model
     }
@@ -69,6 +70,7 @@ impl Net {
     pub fn instance_named(&self, name: &[u8]) -> Option<InstanceId>
         ensures found { IfSome result (λ id. IsNamed self.now id name.now) }
         ensures absent { IfNone result (¬ IsLiveName self.now.topology name.now) }
+        ensures whole { IsWhole self.now }
     {
         match self.places.get(name) {
             Some(place) => Some(InstanceId(*place)),
@@ -115,13 +117,6 @@ impl Net {
         } else {
             back.contains(&from)
         }
-    }
-
-    /// Says that names tell instances apart, and that links end at instances. It does nothing.
-    pub fn is_whole(&self)
-        ensures { IsWhole self.now }
-    {
-        let _ = &self.slots;
     }
 
     /// How many instances there are.

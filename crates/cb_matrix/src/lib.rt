@@ -1,4 +1,4 @@
-//! Columns, and problems with their codes, by a search from each problem.
+//! The matrix of a topology: its columns, and its groups of problems with their codes, by a search from each problem.
 #![tactic(auto)]
 
 mod codes;

@@ -30,7 +30,6 @@ impl CodedProblems {
         ensures coded { IfOk result (AreAllCoded (topology_of graph.old)) }
         ensures same { graph.new ≡ graph.old }
     {
-        graph.topology().facts(); // That a topology is sound keeps columns and problems within their limits.
         let room = graph.topology().node_room();
         let column_nodes = graph.topology().columns(alloc)?;
         let columns = names_of(alloc, graph.topology(), &column_nodes)?;

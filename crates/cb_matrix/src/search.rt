@@ -8,7 +8,6 @@ ghost use Rattle.cb_matrix.specs.Codes.{ArePlaces};
 ghost use Rattle.cb_matrix.specs.Searched.{IsSearched, AreProblemsAt, HaveRows};
 
 use crate::codes::{Columns, code_of};
-use crate::names::name_of;
 use cb_bits::Row;
 use cb_coding::Problem;
 use cb_graph::Graph;
@@ -121,7 +120,7 @@ fn search_from<L: Ledger>(
     ensures done { length done.new ≡ length graph.old.nodes }
     ensures searched { IfOk result (IsSearched graph.old columns.now.nodes node) }
 {
-    let name = name_of(alloc, graph.topology(), node)?;
+    let name = graph.topology().copy_name(alloc, node)?;
     let row = row_from(alloc, graph, node, finished, done, steps)?;
     let code = code_of(alloc, columns, &row)?;
     Ok(Searched {

@@ -11,8 +11,8 @@ use crate::id::NodeId;
 use crate::listed::Listed;
 use crate::node::Node;
 use crate::numbers::Numbers;
-use cb_model::EventId;
 use cb_instances::InstanceId;
+use cb_model::EventId;
 use std::alloc::{AllocError, Global};
 
 /// Makes room in the instance's list for so many events more.

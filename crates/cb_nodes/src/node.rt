@@ -1,6 +1,6 @@
 //! Nodes by numbers.
-use cb_model::EventId;
 use cb_instances::InstanceId;
+use cb_model::EventId;
 
 /// An event of a live instance.
 #[derive(Clone, Copy, Debug, PartialEq, Eq)]

@@ -14,8 +14,8 @@ use crate::listed::Listed;
 use crate::lists::{free_all, number_events, number_of, reserve};
 use crate::node::Node;
 use crate::numbers::Numbers;
-use cb_model::{ClassId, EventId};
 use cb_instances::{InstanceId, Net};
+use cb_model::{ClassId, EventId};
 use std::alloc::{AllocError, Global};
 
 /// The nodes of all numbers, and for each instance the numbers of its events.
@@ -47,13 +47,6 @@ impl NodeTable {
             numbers: Numbers::new(alloc),
             lists: Vec::new(alloc),
         }
-    }
-
-    /// Says that no node has two numbers. It does nothing.
-    pub fn is_one(&self)
-        ensures { IsOne self.now }
-    {
-        let _ = &self.numbers;
     }
 
     /// Gives each of the events a number that was free, whatever instance there is: tests number events without a net.
@@ -94,6 +87,7 @@ impl NodeTable {
         requires few { (events : List Event) → AreEventsOf net.old.topology.model class events → room_with self.old (length events) ≤ 2 ^ 32 }
         ensures created { IfOk result (λ id. Creates net.old net.new id name.now class) }
         ensures added { IfOk result (AddsAll net.old class self.old self.new) }
+        ensures one { IsOne self.new }
         ensures net { OnErr result (net.new ≡ net.old) }
         ensures nodes { OnErr result (self.new ≡ self.old) }
     {

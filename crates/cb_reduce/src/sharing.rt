@@ -1,5 +1,5 @@
 //! The closest pair of codes of which the first is zero. Two others are as far apart as both are from the zero code
-//! together, less two for each column that they share. So no word is looked at, and those that share none need no try.
+//! together, less two for each column that they share. So the words of such two are not compared, and those that share none need no try.
 ghost use Rattle.std.specs.Prelude.{◌≡◌, ◌<◌, ◌≤◌, ◌^◌, ℕ, [], length, replicate, IfOk, slice_index_or};
 ghost use Rattle.std.specs.List.{All, flat_map};
 ghost use Rattle.cb_coding.specs.Distance.{all_columns, code_at};

@@ -3,8 +3,8 @@ ghost use Rattle.std.specs.Prelude.{◌≡◌, ◌++◌, IfOk, OnOk};
 ghost use Rattle.cb_report.specs.Lines.{burst_text as text_of_burst, group_line, group_start, numbers_line, sure_word};
 
 use crate::piece::{push_node, push_number};
-use cb_model::NamedGroup;
 use cb_finding::Finding;
+use cb_model::NamedGroup;
 use std::alloc::{AllocError, Global};
 
 /// What `burst` prints for a finding: a line of numbers, and a line for each nearest group.

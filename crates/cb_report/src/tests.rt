@@ -1,7 +1,7 @@
 //! The lines of a finding, as an operator reads them.
 use crate::burst_text;
-use cb_model::{List, Name, NamedGroup, NodeName};
 use cb_finding::Finding;
+use cb_model::{List, Name, NamedGroup, NodeName};
 use std::alloc::{AllocError, Global};
 use std::test::Fail;
 

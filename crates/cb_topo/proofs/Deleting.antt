@@ -79,8 +79,10 @@ module _ (n : Net) (id : InstanceId) (here : IsLive n id) (whole : IsWholeNet n)
       let left = class_was n.topology gone x d (subst (λ q. IsOf new.topology q d) now of_d) in
       ((x, was.1), (d, subst (λ q. IsOf n.topology q d) (sym old) left.1, has))
 
-  module _ (ns ms : Table) (fits : FitsTable n ns) (one : IsOne ms)
-      (removes : Removes ns ms id) where
+  module _ (ns ms : Table) (fits : FitsTable n ns) (removes : Removes ns ms id) where
+    one : IsOne ms
+    one i j node at_i at_j = fits.one i j node ((removes.each i node).0 at_i).0 ((removes.each j node).0 at_j).0
+
     live : (k : NodeId) (node : Node) → IsNode ms k node → IsLive new node.instance
     live k node is =
         let was = (removes.each k node).0 is in
@@ -123,8 +125,8 @@ module _ (n : Net) (id : InstanceId) (here : IsLive n id) (whole : IsWholeNet n)
 -- an accepted delete is made on the whole
 pub delete_makes : (n m : Net) (ns ms : Table) (counts counts' : Counts) (name : List ℕ) (c : ClassId) (id : InstanceId)
     → IsKept n ns counts → IsAccepted n.topology (Delete name) → IsNamed n id name → IsOf n.topology name c → m ≡ without n id
-    → Removes ns ms id → IsWholeNet m → IsOne ms → CountWithout n.topology.model counts c counts' → Makes n ns (Delete name) m ms counts'
-delete_makes n m ns ms counts counts' name c id kept accepted named of_class same removes whole one less =
+    → Removes ns ms id → IsWholeNet m → CountWithout n.topology.model counts c counts' → Makes n ns (Delete name) m ms counts'
+delete_makes n m ns ms counts counts' name c id kept accepted named of_class same removes whole less =
     let v : Net = without n id in
     let here : IsLive n id = (name, named) in
     let is : name_at n id ≡ name = name_is n id name named in
@@ -144,7 +146,7 @@ delete_makes n m ns ms counts counts' name c id kept accepted named of_class sam
         typed = kept.typed;
         whole = new_whole;
         classed = λ q d of_d. kept.classed q d (class_was n.topology (name_at n id) q d of_d).1;
-        table = deleted_fits n id here kept.whole ns ms kept.table one removes;
+        table = deleted_fits n id here kept.whole ns ms kept.table removes;
         counted = subst (λ t. AreCounts t counts') (ap (without_instance n.topology) (sym is)) (less n.topology name refl of_class kept.counted);
       };
     } in

@@ -5,8 +5,10 @@ pub mod Creating
 pub mod Deleting
 pub mod Rewiring
 pub mod Asking
+pub mod Stepping
 pub mod Limits
 pub mod Empty
 pub mod Naming
 pub mod Listing
 pub mod Rooms
+pub mod OneRoom

@@ -4,3 +4,4 @@ pub mod Applied
 pub mod Kept
 pub mod Made
 pub mod Ordered
+pub mod Laws

@@ -1,21 +1,18 @@
 //! The topology under edits.
-ghost use Rattle.std.specs.Prelude.{◌≡◌, ◌≤◌, ◌<◌, [], length, OnOk, OnErr, IfOk, IfErr};
-ghost use Rattle.cb_model.specs.WellTyped.{WellTyped};
-ghost use Rattle.cb_network.specs.Sound.{Sound, node_limit};
+ghost use Rattle.std.specs.Prelude.{◌≡◌, [], OnOk, OnErr, IfOk, IfErr};
 ghost use Rattle.cb_network.specs.Edits.{IsAccepted, IsRefused};
 ghost use Rattle.cb_network.specs.Laws.{HasGoodName};
+ghost use Rattle.cb_accept.specs.Steps.{IsStepOf};
 ghost use Rattle.cb_instances.specs.Net.{empty_net};
-ghost use Rattle.cb_topo.specs.Numbered.{Numbered, topology_of, IsWhole};
+ghost use Rattle.cb_topo.specs.Numbered.{topology_of};
 ghost use Rattle.cb_topo.specs.Applied.{Applies, Prevents, MayGrow, IsNodeRoomAfter, IsInstanceRoomAfter};
 ghost use Rattle.cb_topo.specs.Kept.{IsKept};
 ghost use Rattle.cb_topo.specs.Made.{Makes};
 
 use crate::fault::EditFault;
 use crate::instances::{create, delete};
-use crate::links::{link, unlink};
-use crate::mutes::{mute, unmute};
 use crate::topology::Topology;
-use cb_accept::{Counts, allows};
+use cb_accept::{Counts, Step, decide};
 use cb_instances::Net;
 use cb_model::Model;
 use cb_network::{Edit, EditRefusal};
@@ -36,16 +33,6 @@ impl Topology {
         }
     }
 
-    /// Says what holds of every topology here. It does nothing.
-    pub fn facts(&self)
-        ensures sound { Sound (topology_of self.now) }
-        ensures whole { IsWhole self.now }
-        ensures typed { WellTyped (topology_of self.now).model }
-        ensures few { length self.now.nodes ≤ node_limit }
-    {
-        let _ = &self.counts;
-    }
-
     /// What `node_room` is once an accepted edit is made.
     pub fn node_room_after(&self, edit: &Edit) -> usize
         requires { IsAccepted (topology_of self.now) edit.now }
@@ -54,8 +41,10 @@ impl Topology {
         match edit {
             Edit::Create { class, .. } => {
                 let model = self.net.model();
-                let class = model.class_named(class.bytes()).unwrap();
-                self.nodes.room_with(model.events_of(class).len())
+                match model.class_named(class.bytes()) {
+                    Some(class) => self.nodes.room_with(model.events_of(class).len()),
+                    None => self.nodes.room(),
+                }
             }
             _ => self.nodes.room(),
         }
@@ -76,7 +65,8 @@ impl Topology {
         ensures allowed { OnOk result (IsAccepted (topology_of self.now) edit.now) }
         ensures refused { IfErr result (IsRefused (topology_of self.now) edit.now) }
     {
-        allows(&self.net, self.counts, edit)
+        decide(&self.net, self.counts, edit)?;
+        Ok(())
     }
 
     /// Makes the edit. Where it is refused, or memory is wanting, nothing is changed.
@@ -86,47 +76,54 @@ impl Topology {
         ensures fault { IfErr result (Prevents self.old edit.now) }
         ensures kept { OnErr result (self.new ≡ self.old) }
     {
-        self.allows(edit)?;
-        self.counts = make(alloc, &mut self.net, &mut self.nodes, self.counts, edit)?;
+        let step = decide(&self.net, self.counts, edit)?;
+        self.counts = make(
+            alloc,
+            &mut self.net,
+            &mut self.nodes,
+            self.counts,
+            edit,
+            step,
+        )?;
         Ok(())
     }
 }
 
-// Makes an edit that is accepted; the counts are those after it.
+// Makes an edit that is accepted, by what was found of it; the counts are those after it.
 fn make(
     alloc: Global,
     net: &mut Net,
     nodes: &mut NodeTable,
     counts: Counts,
     edit: &Edit,
+    step: Step,
 ) -> Result<Counts, AllocError>
     requires kept { IsKept net.old nodes.old counts }
     requires name { HasGoodName edit.now }
     requires accepted { IsAccepted net.old.topology edit.now }
+    requires step { IsStepOf net.old edit.now step }
     ensures ok { IfOk result (Makes net.old nodes.old edit.now net.new nodes.new) }
     ensures grows { OnErr result (MayGrow edit.now) }
     ensures net { OnErr result (net.new ≡ net.old) }
     ensures nodes { OnErr result (nodes.new ≡ nodes.old) }
 {
-    match edit {
-        Edit::Create { name, class } => {
-            create(alloc, net, nodes, counts, name.bytes(), class.bytes())
-        }
-        Edit::Delete { name } => Ok(delete(net, nodes, counts, name.bytes())),
-        Edit::Link { a, rel, b } => {
-            link(alloc, net, a.bytes(), rel.bytes(), b.bytes())?;
+    match step {
+        Step::Create { class } => create(alloc, net, nodes, counts, edit, class),
+        Step::Delete { id } => Ok(delete(net, nodes, counts, id)),
+        Step::Link { from, rel, to } => {
+            net.link(alloc, from, rel, to)?;
             Ok(counts)
         }
-        Edit::Unlink { a, rel, b } => {
-            unlink(net, a.bytes(), rel.bytes(), b.bytes());
+        Step::Unlink { from, rel, to } => {
+            net.unlink(from, rel, to);
             Ok(counts)
         }
-        Edit::Mute { event, name } => {
-            mute(net, event.bytes(), name.bytes());
+        Step::Mute { id, event } => {
+            net.mute(id, event);
             Ok(counts)
         }
-        Edit::Unmute { event, name } => {
-            unmute(net, event.bytes(), name.bytes());
+        Step::Unmute { id, event } => {
+            net.unmute(id, event);
             Ok(counts)
         }
     }

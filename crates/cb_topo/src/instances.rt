@@ -1,50 +1,61 @@
 //! Instances that come and go, with the numbers of their events.
-ghost use Rattle.std.specs.Prelude.{◌≡◌, IfOk, OnErr};
-ghost use Rattle.cb_text.specs.Names.{IsInstance};
+ghost use Rattle.std.specs.Prelude.{◌≡◌, ℕ, List, IfOk, OnErr};
 ghost use Rattle.cb_network.specs.declared.edit.Edit.TheVariants.{Create, Delete};
-ghost use Rattle.cb_topo.specs.Kept.{IsKept};
 ghost use Rattle.cb_network.specs.Edits.{IsAccepted};
+ghost use Rattle.cb_network.specs.Laws.{HasGoodName};
+ghost use Rattle.cb_instances.specs.Net.{IsLive, name_at};
+ghost use Rattle.cb_accept.specs.Steps.{IsStepOf};
+ghost use Rattle.cb_accept.specs.declared.step.Step.TheVariants as step;
+ghost use Rattle.cb_topo.specs.Kept.{IsKept};
 ghost use Rattle.cb_topo.specs.Made.{Makes};
 
 use cb_accept::Counts;
-use cb_instances::Net;
+use cb_instances::{InstanceId, Net};
+use cb_model::ClassId;
+use cb_network::Edit;
 use cb_nodes::NodeTable;
 use std::alloc::{AllocError, Global};
 
-// A new instance of the class; the counts are those with it.
+// The new instance of the edit, which is of the class; the counts are those with it.
 pub(crate) fn create(
     alloc: Global,
     net: &mut Net,
     nodes: &mut NodeTable,
     counts: Counts,
-    name: &[u8],
-    class: &[u8],
+    edit: &Edit,
+    class: ClassId,
 ) -> Result<Counts, AllocError>
     requires kept { IsKept net.old nodes.old counts }
-    requires name { IsInstance name.now }
-    requires accepted { IsAccepted net.old.topology (Create name.now class.now) }
-    ensures ok { IfOk result (Makes net.old nodes.old (Create name.now class.now) net.new nodes.new) }
+    requires name { HasGoodName edit.now }
+    requires accepted { IsAccepted net.old.topology edit.now }
+    requires step { IsStepOf net.old edit.now (step.Create class) }
+    ensures ok { IfOk result (Makes net.old nodes.old edit.now net.new nodes.new) }
     ensures net { OnErr result (net.new ≡ net.old) }
     ensures nodes { OnErr result (nodes.new ≡ nodes.old) }
 {
-    let class = net.model().class_named(class).unwrap();
-    nodes.create(alloc, net, name, class)?;
-    net.is_whole();
-    nodes.is_one();
+    nodes.create(alloc, net, new_name(edit), class)?;
     Ok(counts.with(net.model(), class))
 }
 
-// The instance is gone; the counts are those without it.
-pub(crate) fn delete(net: &mut Net, nodes: &mut NodeTable, counts: Counts, name: &[u8]) -> Counts
-    requires kept { IsKept net.old nodes.old counts }
-    requires accepted { IsAccepted net.old.topology (Delete name.now) }
-    ensures { Makes net.old nodes.old (Delete name.now) net.new nodes.new result }
+// What a new instance is called; other edits name none.
+fn new_name(edit: &Edit) -> &[u8]
+    ensures { (name class : List ℕ) → edit.now ≡ Create name class → result.now ≡ name }
 {
-    let id = net.instance_named(name).unwrap();
+    match edit {
+        Edit::Create { name, .. } => name.bytes(),
+        _ => b"",
+    }
+}
+
+// The instance is gone; the counts are those without it.
+pub(crate) fn delete(net: &mut Net, nodes: &mut NodeTable, counts: Counts, id: InstanceId) -> Counts
+    requires kept { IsKept net.old nodes.old counts }
+    requires live { IsLive net.old id }
+    requires accepted { IsAccepted net.old.topology (Delete (name_at net.old id)) }
+    ensures { Makes net.old nodes.old (Delete (name_at net.old id)) net.new nodes.new result }
+{
     let class = net.class_of(id);
     net.delete(id);
     nodes.remove(id);
-    net.is_whole();
-    nodes.is_one();
     counts.without(net.model(), class)
 }

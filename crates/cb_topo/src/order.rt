@@ -7,7 +7,7 @@ ghost use Rattle.cb_topo.specs.Ordered.{IsOfKind, LeadsToKind};
 
 use crate::kind::Kind;
 use crate::topology::Topology;
-use cb_model::{List, Name, NodeName};
+use cb_model::{List, NodeName};
 use cb_nodes::NodeId;
 use std::alloc::{AllocError, Global};
 use std::collections::BTreeMap;
@@ -63,15 +63,12 @@ impl Topology {
         }
     }
 
-    // A copy of the node's name.
-    fn copy_name(&self, alloc: Global, node: NodeId) -> Result<NodeName, AllocError>
+    /// A copy of the node's name.
+    pub fn copy_name(&self, alloc: Global, node: NodeId) -> Result<NodeName, AllocError>
         requires { IsLiveNode self.now node }
         ensures { IfOk result (IsNodeNamed self.now node) }
     {
         let (event, instance) = self.node_name(node);
-        Ok(NodeName {
-            event: Name::of(alloc, event)?,
-            instance: Name::of(alloc, instance)?,
-        })
+        NodeName::of(alloc, event, instance)
     }
 }

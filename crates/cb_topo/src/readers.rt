@@ -5,14 +5,15 @@ ghost use Rattle.std.specs.FinMap as fin_map;
 ghost use Rattle.cb_model.specs.declared.node.NodeName.{NodeName as Name};
 ghost use Rattle.cb_network.specs.Topology.{IsLive as IsLiveName, IsOf, IsMuted};
 ghost use Rattle.cb_network.specs.Nodes.{IsNodeOf, IsColumn, IsProblem, IsSymptomNode, IsCount};
-ghost use Rattle.cb_network.specs.Sound.{node_limit};
+ghost use Rattle.cb_model.specs.WellTyped.{WellTyped};
+ghost use Rattle.cb_network.specs.Sound.{Sound, node_limit};
 ghost use Rattle.cb_network.specs.Edits.{node_of as name_of};
 ghost use Rattle.cb_instances.specs.declared.id.InstanceId.{InstanceId as Id};
 ghost use Rattle.cb_instances.specs.Net.{IsNamed, IsLive, LinkAt, Once, HasEventAt};
 ghost use Rattle.cb_nodes.specs.declared.id.NodeId.{NodeId as NodeNumber};
 ghost use Rattle.cb_nodes.specs.declared.node.Node.{Node as NodeAt};
 ghost use Rattle.cb_nodes.specs.Table.{IsNode, node_of};
-ghost use Rattle.cb_topo.specs.Numbered.{topology_of, IsNodeNamed, IsLiveNode};
+ghost use Rattle.cb_topo.specs.Numbered.{topology_of, IsNodeNamed, IsLiveNode, IsWhole};
 
 use crate::topology::Topology;
 use cb_instances::InstanceId;
@@ -22,7 +23,10 @@ use cb_nodes::{Node, NodeId};
 impl Topology {
     /// The model, with its tables.
     pub fn model(&self) -> &Model
-        ensures { result.now ≡ (topology_of self.now).model }
+        ensures value { result.now ≡ (topology_of self.now).model }
+        ensures typed { WellTyped (topology_of self.now).model }
+        ensures sound { Sound (topology_of self.now) }
+        ensures whole { IsWhole self.now }
     {
         self.net.model()
     }
@@ -86,6 +90,7 @@ impl Topology {
         requires { IsLive self.now.net instance }
         ensures found { IfSome result (λ id. IsNode self.now.nodes id (node_of instance event)) }
         ensures absent { IfNone result (¬ HasEventAt self.now.net instance event) }
+        ensures whole { IsWhole self.now }
     {
         self.nodes.node_at(instance, event)
     }
@@ -156,6 +161,8 @@ impl Topology {
         ensures value { result ≡ length self.now.nodes }
         ensures above { (id : NodeNumber) → IsLiveNode self.now id → id.0 < result }
         ensures few { result ≤ node_limit }
+        ensures sound { Sound (topology_of self.now) }
+        ensures whole { IsWhole self.now }
     {
         self.nodes.room()
     }

@@ -29,7 +29,7 @@ returns-then-is_taken-2-clause-refused c =
     let are = c.in_ok-from.ensures.found in
     let fits = (c.is_of_kind.ensures c.args.b.now are.to).0 c.if-not-is_of_kind.false in
     let absent = λ (link : LinkAt net ends.from ends.rel ends.to). refuted c.is_linked.result c.if-is_linked.false (c.is_linked.ensures.1 link) in
-    let row = subst (λ (m : Tables). slice_get m.relations ends.rel.0 ≡ Some c.at.result.now) (c.tables.ensures.value ∙ c.model.ensures) c.at.ensures in
+    let row = subst (λ (m : Tables). slice_get m.relations ends.rel.0 ≡ Some c.at.result.now) (c.tables.ensures.value ∙ c.model.ensures.value) c.at.ensures in
     occupied net c.of.ensures.typed c.of.ensures.whole c.args.a.now c.args.rel.now c.args.b.now ends are fits absent c.at.result.now row
     (elim c.if-is_taken.branch [
       | then-is_taken w ↦ inl ((c.is_taken.ensures c.args.a.now are.from).0 w.if-is_taken.true)
@@ -43,7 +43,7 @@ returns-else-is_taken-2-clause-allowed c =
     let are = c.in_ok-from.ensures.found in
     let fits = (c.is_of_kind.ensures c.args.b.now are.to).0 c.if-not-is_of_kind.false in
     let absent = λ (link : LinkAt net ends.from ends.rel ends.to). refuted c.is_linked.result c.if-is_linked.false (c.is_linked.ensures.1 link) in
-    let row = subst (λ (m : Tables). slice_get m.relations ends.rel.0 ≡ Some c.at.result.now) (c.tables.ensures.value ∙ c.model.ensures) c.at.ensures in
+    let row = subst (λ (m : Tables). slice_get m.relations ends.rel.0 ≡ Some c.at.result.now) (c.tables.ensures.value ∙ c.model.ensures.value) c.at.ensures in
     elim c.if-is_taken.branch [
       | then-is_taken w ↦ absurd (refuted c.if-is_taken.value c.if-is_taken-2.false (w.value-is ∙ w.if-is_taken.true))
       | else-is_taken w ↦

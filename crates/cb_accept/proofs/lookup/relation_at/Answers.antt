@@ -11,11 +11,11 @@ returns-in_err-class-clause-absent c =
 pub returns-clause-found : goal.returns-clause-found
 returns-clause-found c =
     if_some c.relation_named.result (NamesRelation c.model.result.now c.in_ok-class.class c.args.name.now) _
-    (relation_found c.args.net.now c.args.id c.model.result.now c.model.ensures c.in_ok-class.class c.in_ok-class.ensures.found c.args.name.now)
+    (relation_found c.args.net.now c.args.id c.model.result.now c.model.ensures.value c.in_ok-class.class c.in_ok-class.ensures.found c.args.name.now)
     c.relation_named.ensures.found
 
 pub returns-clause-absent : goal.returns-clause-absent
 returns-clause-absent c =
     if_none c.relation_named.result _ _
-    (no_relation c.args.net.now c.args.id c.model.result.now c.model.ensures c.in_ok-class.class c.in_ok-class.ensures.found c.args.name.now)
+    (no_relation c.args.net.now c.args.id c.model.result.now c.model.ensures.value c.in_ok-class.class c.in_ok-class.ensures.found c.args.name.now)
     c.relation_named.ensures.absent

@@ -4,8 +4,8 @@ use Rattle.std.specs.List.{sum_by}
 use Rattle.std.specs.Simd.Lanes.{zip2}
 use Rattle.std.proofs.lemmas.List.{take_all}
 use Rattle.std.proofs.lemmas.Simd.{length-zip2}
-use Rattle.cb_bits.proofs.Counted.{ones_of_zip}
-use Rattle.cb_bits.proofs.Sums.{sum_further, sum_further_le}
+use Rattle.cb_lanes.proofs.Ones.{ones_of_zip}
+use Rattle.cb_lanes.proofs.Sums.{sum_further, sum_further_le}
 use Rattle.cb_bits.proofs.words.count_differing_below.Goals as goal
 
 pub returns-then-limit-count : goal.returns-then-limit-count

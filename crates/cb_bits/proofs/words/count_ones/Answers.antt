@@ -3,7 +3,7 @@ use Rattle.std.specs.Prelude.{count_ones}
 use Rattle.std.specs.List.{sum_by}
 use Rattle.std.proofs.lemmas.List.{take_all}
 use Rattle.std.proofs.lemmas.List.Sums.{sum_by_more, sum_by_more_le}
-use Rattle.cb_bits.proofs.Counted.{ones_of_words}
+use Rattle.cb_lanes.proofs.Ones.{ones_of_words}
 use Rattle.cb_bits.proofs.words.count_ones.Goals as goal
 
 pub overflow_add-count : goal.overflow_add-count

@@ -23,8 +23,8 @@ loop-id-preserved c =
           let is = w.in-Some.ensures.found in
           let lt : node.0 < length out = let here = slot_within n.nodes node.0 (node_of x event) is in omega (arith, here, c.requires.out, c.loop-id.invariant.len) in
           rw (w.out-is, w.set.ensures) (gained_next (IsEventNumber n event) c.args.out.now list c.loop-id.id-index out c.loop-id.invariant x c.loop-id-test.true read
-          (slice_set out node.0 true) (length-set out node.0 true) (number_gained n c.facts.ensures.whole out node x event is lt))
+          (slice_set out node.0 true) (length-set out node.0 true) (number_gained n c.node_at.ensures.whole out node x event is lt))
       | in_default w ↦
           rw w.out-is (gained_skip (IsEventNumber n event) c.args.out.now list c.loop-id.id-index out c.loop-id.invariant x c.loop-id-test.true read
-          (λ k is. w.in_default.ensures.absent (c.facts.ensures.whole.had (number k) (node_of x event) is)))
+          (λ k is. w.in_default.ensures.absent (c.node_at.ensures.whole.had (number k) (node_of x event) is)))
     ]

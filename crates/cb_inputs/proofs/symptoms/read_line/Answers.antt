@@ -4,7 +4,7 @@ use Rattle.cb_inputs.proofs.Listed.{spelled_is_added}
 use Rattle.cb_inputs.proofs.symptoms.read_line.Goals as goal
 
 -- the line spells the node that is added
-spells : (c : goal.In_ok-add) → SpellsNode c.args.line.now (record { event = c.in_ok-of.field-0; instance = c.in_ok-of-2.field-0 })
+spells : (c : goal.In_ok-add) → SpellsNode c.args.line.now c.in_ok-of.field-0
 spells c = search rules
 
 pub returns-clause-good : goal.returns-clause-good

@@ -4,8 +4,8 @@ use Rattle.cb_topo.specs.Numbered.{IsLiveNode, IsNodeNamed, AreNamed}
 use Rattle.cb_matrix.proofs.Matched.{zip_more}
 use Rattle.cb_matrix.proofs.names.names_of.Goals as goal
 
-pub name_of-requires : goal.name_of-requires
-name_of-requires c =
+pub copy_name-requires : goal.copy_name-requires
+copy_name-requires c =
     let zero : NodeId = record { 0 = 0 } in
     let i = c.loop-node.node-index in
     subst (λ items. IsLiveNode c.args.topology.now (slice_index_or items i zero)) (sym c.as_slice-node-items.ensures)
@@ -17,7 +17,7 @@ loop-node-preserved c =
     let i = c.loop-node.node-index in
     let n = c.args.topology.now in
     let nodes = c.args.nodes.now in
-    let name = c.in_ok-name_of.field-0 in
-    let here = subst (λ items. IsNodeNamed n (slice_index_or items i zero) name) c.as_slice-node-items.ensures c.in_ok-name_of.ensures in
+    let name = c.in_ok-copy_name.field-0 in
+    let here = subst (λ items. IsNodeNamed n (slice_index_or items i zero) name) c.as_slice-node-items.ensures c.in_ok-copy_name.ensures in
     subst (AreNamed n (take (i + 1) nodes)) (sym c.in_ok-push.ensures.ok)
     (zip_more (IsNodeNamed n) nodes c.loop-node.names i zero name (omega (arith, c.loop-node-test.true, ap length c.as_slice-node-items.ensures)) c.loop-node.invariant here)

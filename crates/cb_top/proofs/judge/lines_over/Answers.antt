@@ -1,27 +1,55 @@
+use Rattle.std.proofs.Common.{ap, arith, length}
+use Rattle.std.proofs.lemmas.List.{length-map}
+use Rattle.std.proofs.lemmas.List.FromFn.{length-range_with_len}
+use Rattle.cb_coding.specs.declared.group.Group.{Group}
+use Rattle.cb_coding.proofs.GroupLaws.{groups_are_wide}
 use Rattle.cb_finding.proofs.Nearest.{coded_are_wide}
 use Rattle.cb_topo.specs.Numbered.{topology_of}
 use Rattle.cb_top.proofs.Judged.{if_ok_more}
 use Rattle.cb_top.proofs.judge.lines_over.Goals as goal
 
-pub find-requires-clause-problems : goal.find-requires-clause-problems
-find-requires-clause-problems g c =
-    coded_are_wide (topology_of c.args.graph.now) c.in_ok-matrix.matrix.columns c.in_ok-matrix.matrix.problems c.in_ok-matrix.ensures.matrix.problems
+pub whole_book-requires-clause-have_width : goal.whole_book-requires-clause-have_width
+whole_book-requires-clause-have_width g c =
+    let matrix = c.in_ok-matrix.ensures.matrix in
+    let columns = c.in_ok-matrix.matrix.columns in
+    let wide = coded_are_wide (topology_of c.args.graph.now) columns matrix.problems matrix.problems_are in
+    rw (c.in_ok-codes.ensures, c.len.ensures) (groups_are_wide (length columns) matrix.problems wide c.in_ok-matrix.matrix.groups matrix.groups_are)
+
+pub whole_book-requires-clause-few : goal.whole_book-requires-clause-few
+whole_book-requires-clause-few g c =
+    let few = c.in_ok-matrix.ensures.few_groups in
+    let same = ap length c.in_ok-codes.ensures in
+    let all = length-map c.in_ok-matrix.matrix.groups (λ (group : Group). group.code) in
+    omega arith
+
+pub find-requires-clause-columns : goal.find-requires-clause-columns
+find-requires-clause-columns g c = c.in_ok-matrix.ensures.matrix.columns_are.rise
+
+pub find-requires-clause-some : goal.find-requires-clause-some
+find-requires-clause-some g c =
+    let quiet = ap length c.in_ok-matrix.ensures.matrix.groups_are.quiet in
+    omega arith
+
+pub find-requires-clause-narrow : goal.find-requires-clause-narrow
+find-requires-clause-narrow g c =
+    let few = c.in_ok-matrix.ensures.few_columns in
+    let same = ap length c.in_ok-book.ensures.columns in
+    let all = length-range_with_len 0 c.len.result in
+    let wide = c.len.ensures in
+    omega arith
 
 pub returns : goal.returns
-returns g c = if_ok_more c.burst_text.result _ _ (λ bytes text. (
-  c.in_ok-finding.finding,
-  record {
-    columns = c.in_ok-matrix.matrix.columns;
-    groups = c.in_ok-finding.ensures.groups;
-    matrix = record {
-      problems = c.in_ok-matrix.matrix.problems;
-      columns_are = c.in_ok-matrix.ensures.matrix.columns;
-      problems_are = c.in_ok-matrix.ensures.matrix.problems;
-      groups_are = c.in_ok-finding.ensures.groups_are;
-    };
-    least = c.in_ok-finding.ensures.least;
-    least_is = c.in_ok-finding.ensures.least_is;
-    found = c.in_ok-finding.ensures.found;
-  },
-  text,
-)) c.burst_text.ensures
+returns g c =
+    let least = c.in_ok-book.ensures.distance in
+    if_ok_more c.burst_text.result _ _ (λ bytes text. (
+      c.in_ok-finding.finding,
+      record {
+        columns = c.in_ok-matrix.matrix.columns;
+        groups = c.in_ok-matrix.matrix.groups;
+        matrix = c.in_ok-matrix.ensures.matrix;
+        least = least.0;
+        least_is = rw (c.in_ok-codes.ensures, c.len.ensures) at least.1.0;
+        found = rw (c.in_ok-book.ensures.columns, c.len.ensures, least.1.1) at c.in_ok-finding.ensures;
+      },
+      text,
+    )) c.burst_text.ensures

@@ -1,76 +1,130 @@
-use Rattle.std.proofs.Common.{◌≡◌, subst, sym, refl}
-use Rattle.cb_network.specs.declared.edit.Edit.TheVariants.{Create, Delete, Link, Unlink, Mute, Unmute}
+use Rattle.std.proofs.Common.{◌≡◌, subst, sym}
+use Rattle.cb_network.specs.declared.edit.Edit.{Edit}
+use Rattle.cb_network.specs.declared.edit.Edit.TheVariants.{Delete}
 use Rattle.cb_network.specs.Edits.{IsAccepted}
+use Rattle.cb_accept.specs.declared.step.Step.TheVariants as step
+use Rattle.cb_accept.specs.Steps.{IsStepOf}
 use Rattle.cb_topo.specs.Made.{Makes}
-use Rattle.cb_topo.proofs.Rewiring.{rewires_makes}
+use Rattle.cb_topo.proofs.Stepping.{delete_step, linkable, unlinkable, link_is_new, link_makes, unlink_makes, mutable, unmutable, mute_is_new, mute_makes, unmute_makes}
 use Rattle.cb_topo.proofs.edits.make.Goals as goal
 
-pub create-requires-clause-accepted : goal.create-requires-clause-accepted
-create-requires-clause-accepted c =
-    let same : c.args.edit.now ≡ Create c.bytes.result.now c.bytes-in-Create.result.now = cc in
-    subst (IsAccepted c.args.net.now.topology) same c.requires.accepted
+pub create-requires-clause-step : goal.create-requires-clause-step
+create-requires-clause-step c =
+    let same : c.args.step ≡ step.Create c.in-Create.class = cc in
+    subst (IsStepOf c.args.net.now c.args.edit.now) same c.requires.step
+
+pub delete-requires-clause-live : goal.delete-requires-clause-live
+delete-requires-clause-live c =
+    let same : c.args.step ≡ step.Delete c.in-Delete.id = cc in
+    let is = subst (IsStepOf c.args.net.now c.args.edit.now) same c.requires.step in
+    (delete_step c.args.net.now c.args.edit.now c.in-Delete.id is).0
 
 pub delete-requires-clause-accepted : goal.delete-requires-clause-accepted
 delete-requires-clause-accepted c =
-    let same : c.args.edit.now ≡ Delete c.bytes-in-Delete.result.now = cc in
-    subst (IsAccepted c.args.net.now.topology) same c.requires.accepted
+    let same : c.args.step ≡ step.Delete c.in-Delete.id = cc in
+    let is = subst (IsStepOf c.args.net.now c.args.edit.now) same c.requires.step in
+    let edit = (delete_step c.args.net.now c.args.edit.now c.in-Delete.id is).1 in
+    subst (IsAccepted c.args.net.now.topology) edit c.requires.accepted
 
-pub link-requires-clause-accepted : goal.link-requires-clause-accepted
-link-requires-clause-accepted c =
-    let same : c.args.edit.now ≡ Link c.bytes-in-Link.result.now c.bytes-in-Link-2.result.now c.bytes-in-Link-3.result.now = cc in
-    subst (IsAccepted c.args.net.now.topology) same c.requires.accepted
+pub returns-in-Delete-clause-ok : goal.returns-in-Delete-clause-ok
+returns-in-Delete-clause-ok c =
+    let same : c.args.step ≡ step.Delete c.in-Delete.id = cc in
+    let is = subst (IsStepOf c.args.net.now c.args.edit.now) same c.requires.step in
+    let edit = (delete_step c.args.net.now c.args.edit.now c.in-Delete.id is).1 in
+    subst (λ (e : Edit). Makes c.args.net.now c.args.nodes.now e c.delete.new.net c.delete.new.nodes c.delete.result) (sym edit) c.delete.ensures
 
-pub unlink-requires-clause-accepted : goal.unlink-requires-clause-accepted
-unlink-requires-clause-accepted c =
-    let same : c.args.edit.now ≡ Unlink c.bytes-in-Unlink.result.now c.bytes-in-Unlink-2.result.now c.bytes-in-Unlink-3.result.now = cc in
-    subst (IsAccepted c.args.net.now.topology) same c.requires.accepted
+pub link-requires-clause-from : goal.link-requires-clause-from
+link-requires-clause-from c =
+    let same : c.args.step ≡ step.Link c.in-Link.from c.in-Link.rel c.in-Link.to = cc in
+    let is = subst (IsStepOf c.args.net.now c.args.edit.now) same c.requires.step in
+    (linkable c.args.net.now c.in-Link.from c.in-Link.rel c.in-Link.to c.args.edit.now is).from
 
-pub mute-requires-clause-accepted : goal.mute-requires-clause-accepted
-mute-requires-clause-accepted c =
-    let same : c.args.edit.now ≡ Mute c.bytes-in-Mute.result.now c.bytes-in-Mute-2.result.now = cc in
-    subst (IsAccepted c.args.net.now.topology) same c.requires.accepted
+pub link-requires-clause-rel : goal.link-requires-clause-rel
+link-requires-clause-rel c =
+    let same : c.args.step ≡ step.Link c.in-Link.from c.in-Link.rel c.in-Link.to = cc in
+    let is = subst (IsStepOf c.args.net.now c.args.edit.now) same c.requires.step in
+    (linkable c.args.net.now c.in-Link.from c.in-Link.rel c.in-Link.to c.args.edit.now is).rel
 
-pub unmute-requires-clause-accepted : goal.unmute-requires-clause-accepted
-unmute-requires-clause-accepted c =
-    let same : c.args.edit.now ≡ Unmute c.bytes-in-Unmute.result.now c.bytes-in-Unmute-2.result.now = cc in
-    subst (IsAccepted c.args.net.now.topology) same c.requires.accepted
+pub link-requires-clause-to : goal.link-requires-clause-to
+link-requires-clause-to c =
+    let same : c.args.step ≡ step.Link c.in-Link.from c.in-Link.rel c.in-Link.to = cc in
+    let is = subst (IsStepOf c.args.net.now c.args.edit.now) same c.requires.step in
+    (linkable c.args.net.now c.in-Link.from c.in-Link.rel c.in-Link.to c.args.edit.now is).to
+
+pub link-requires-clause-absent : goal.link-requires-clause-absent
+link-requires-clause-absent c =
+    let same : c.args.step ≡ step.Link c.in-Link.from c.in-Link.rel c.in-Link.to = cc in
+    let is = subst (IsStepOf c.args.net.now c.args.edit.now) same c.requires.step in
+    link_is_new c.args.net.now c.in-Link.from c.in-Link.rel c.in-Link.to c.args.edit.now is c.requires.accepted
 
 pub returns-in_ok-link-in-Link-clause-ok : goal.returns-in_ok-link-in-Link-clause-ok
 returns-in_ok-link-in-Link-clause-ok c =
-    let n = c.args.net.now in
-    let m = c.link.new.net in
-    let nodes = c.args.nodes.now in
-    let same : c.args.edit.now ≡ Link c.bytes-in-Link.result.now c.bytes-in-Link-2.result.now c.bytes-in-Link-3.result.now = cc in
-    let accepted = subst (IsAccepted n.topology) same c.requires.accepted in
-    subst (λ edit. Makes n nodes edit m nodes c.args.counts) (sym same)
-    (rewires_makes n m nodes c.args.counts (Link c.bytes-in-Link.result.now c.bytes-in-Link-2.result.now c.bytes-in-Link-3.result.now) c.requires.kept tt accepted refl refl c.in_ok-link-in-Link.ensures.ok)
+    let same : c.args.step ≡ step.Link c.in-Link.from c.in-Link.rel c.in-Link.to = cc in
+    let is = subst (IsStepOf c.args.net.now c.args.edit.now) same c.requires.step in
+    link_makes c.args.net.now c.in-Link.from c.in-Link.rel c.in-Link.to c.link.new.self c.args.nodes.now c.args.counts c.requires.kept c.args.edit.now c.requires.name c.requires.accepted is c.in_ok-link-in-Link.ensures.ok
+
+pub unlink-requires-clause-from : goal.unlink-requires-clause-from
+unlink-requires-clause-from c =
+    let same : c.args.step ≡ step.Unlink c.in-Unlink.from c.in-Unlink.rel c.in-Unlink.to = cc in
+    let is = subst (IsStepOf c.args.net.now c.args.edit.now) same c.requires.step in
+    (unlinkable c.args.net.now c.in-Unlink.from c.in-Unlink.rel c.in-Unlink.to c.args.edit.now is).from
+
+pub unlink-requires-clause-rel : goal.unlink-requires-clause-rel
+unlink-requires-clause-rel c =
+    let same : c.args.step ≡ step.Unlink c.in-Unlink.from c.in-Unlink.rel c.in-Unlink.to = cc in
+    let is = subst (IsStepOf c.args.net.now c.args.edit.now) same c.requires.step in
+    (unlinkable c.args.net.now c.in-Unlink.from c.in-Unlink.rel c.in-Unlink.to c.args.edit.now is).rel
+
+pub unlink-requires-clause-to : goal.unlink-requires-clause-to
+unlink-requires-clause-to c =
+    let same : c.args.step ≡ step.Unlink c.in-Unlink.from c.in-Unlink.rel c.in-Unlink.to = cc in
+    let is = subst (IsStepOf c.args.net.now c.args.edit.now) same c.requires.step in
+    (unlinkable c.args.net.now c.in-Unlink.from c.in-Unlink.rel c.in-Unlink.to c.args.edit.now is).to
 
 pub returns-in-Unlink-clause-ok : goal.returns-in-Unlink-clause-ok
 returns-in-Unlink-clause-ok c =
-    let n = c.args.net.now in
-    let m = c.unlink.new.net in
-    let nodes = c.args.nodes.now in
-    let same : c.args.edit.now ≡ Unlink c.bytes-in-Unlink.result.now c.bytes-in-Unlink-2.result.now c.bytes-in-Unlink-3.result.now = cc in
-    let accepted = subst (IsAccepted n.topology) same c.requires.accepted in
-    subst (λ edit. Makes n nodes edit m nodes c.args.counts) (sym same)
-    (rewires_makes n m nodes c.args.counts (Unlink c.bytes-in-Unlink.result.now c.bytes-in-Unlink-2.result.now c.bytes-in-Unlink-3.result.now) c.requires.kept tt accepted refl refl c.unlink.ensures)
+    let same : c.args.step ≡ step.Unlink c.in-Unlink.from c.in-Unlink.rel c.in-Unlink.to = cc in
+    let is = subst (IsStepOf c.args.net.now c.args.edit.now) same c.requires.step in
+    unlink_makes c.args.net.now c.in-Unlink.from c.in-Unlink.rel c.in-Unlink.to c.unlink.new.self c.args.nodes.now c.args.counts c.requires.kept c.args.edit.now c.requires.name c.requires.accepted is c.unlink.ensures
+
+pub mute-requires-clause-live : goal.mute-requires-clause-live
+mute-requires-clause-live c =
+    let same : c.args.step ≡ step.Mute c.in-Mute.id c.in-Mute.event = cc in
+    let is = subst (IsStepOf c.args.net.now c.args.edit.now) same c.requires.step in
+    (mutable c.args.net.now c.in-Mute.id c.in-Mute.event c.args.edit.now is).0
+
+pub mute-requires-clause-event : goal.mute-requires-clause-event
+mute-requires-clause-event c =
+    let same : c.args.step ≡ step.Mute c.in-Mute.id c.in-Mute.event = cc in
+    let is = subst (IsStepOf c.args.net.now c.args.edit.now) same c.requires.step in
+    (mutable c.args.net.now c.in-Mute.id c.in-Mute.event c.args.edit.now is).1
+
+pub mute-requires-clause-absent : goal.mute-requires-clause-absent
+mute-requires-clause-absent c =
+    let same : c.args.step ≡ step.Mute c.in-Mute.id c.in-Mute.event = cc in
+    let is = subst (IsStepOf c.args.net.now c.args.edit.now) same c.requires.step in
+    mute_is_new c.args.net.now c.in-Mute.id c.in-Mute.event c.args.edit.now is c.requires.accepted
 
 pub returns-in-Mute-clause-ok : goal.returns-in-Mute-clause-ok
 returns-in-Mute-clause-ok c =
-    let n = c.args.net.now in
-    let m = c.mute.new.net in
-    let nodes = c.args.nodes.now in
-    let same : c.args.edit.now ≡ Mute c.bytes-in-Mute.result.now c.bytes-in-Mute-2.result.now = cc in
-    let accepted = subst (IsAccepted n.topology) same c.requires.accepted in
-    subst (λ edit. Makes n nodes edit m nodes c.args.counts) (sym same)
-    (rewires_makes n m nodes c.args.counts (Mute c.bytes-in-Mute.result.now c.bytes-in-Mute-2.result.now) c.requires.kept tt accepted refl refl c.mute.ensures)
+    let same : c.args.step ≡ step.Mute c.in-Mute.id c.in-Mute.event = cc in
+    let is = subst (IsStepOf c.args.net.now c.args.edit.now) same c.requires.step in
+    mute_makes c.args.net.now c.in-Mute.id c.in-Mute.event c.mute.new.self c.args.nodes.now c.args.counts c.requires.kept c.args.edit.now c.requires.name c.requires.accepted is c.mute.ensures
+
+pub unmute-requires-clause-live : goal.unmute-requires-clause-live
+unmute-requires-clause-live c =
+    let same : c.args.step ≡ step.Unmute c.in-Unmute.id c.in-Unmute.event = cc in
+    let is = subst (IsStepOf c.args.net.now c.args.edit.now) same c.requires.step in
+    (unmutable c.args.net.now c.in-Unmute.id c.in-Unmute.event c.args.edit.now is).0
+
+pub unmute-requires-clause-event : goal.unmute-requires-clause-event
+unmute-requires-clause-event c =
+    let same : c.args.step ≡ step.Unmute c.in-Unmute.id c.in-Unmute.event = cc in
+    let is = subst (IsStepOf c.args.net.now c.args.edit.now) same c.requires.step in
+    (unmutable c.args.net.now c.in-Unmute.id c.in-Unmute.event c.args.edit.now is).1
 
 pub returns-in-Unmute-clause-ok : goal.returns-in-Unmute-clause-ok
 returns-in-Unmute-clause-ok c =
-    let n = c.args.net.now in
-    let m = c.unmute.new.net in
-    let nodes = c.args.nodes.now in
-    let same : c.args.edit.now ≡ Unmute c.bytes-in-Unmute.result.now c.bytes-in-Unmute-2.result.now = cc in
-    let accepted = subst (IsAccepted n.topology) same c.requires.accepted in
-    subst (λ edit. Makes n nodes edit m nodes c.args.counts) (sym same)
-    (rewires_makes n m nodes c.args.counts (Unmute c.bytes-in-Unmute.result.now c.bytes-in-Unmute-2.result.now) c.requires.kept tt accepted refl refl c.unmute.ensures)
+    let same : c.args.step ≡ step.Unmute c.in-Unmute.id c.in-Unmute.event = cc in
+    let is = subst (IsStepOf c.args.net.now c.args.edit.now) same c.requires.step in
+    unmute_makes c.args.net.now c.in-Unmute.id c.in-Unmute.event c.unmute.new.self c.args.nodes.now c.args.counts c.requires.kept c.args.edit.now c.requires.name c.requires.accepted is c.unmute.ensures

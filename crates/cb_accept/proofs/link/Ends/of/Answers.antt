@@ -14,7 +14,7 @@ returns-in_err-rel-clause-link c =
     let b = present (λ (id : InstanceId). IsNamed net id c.args.b.now) c.instance_named-2.result c.in_ok-to.to c.in_ok-to.ensures.ok_part c.instance_named-2.ensures.found in
     absent_err c.relation_at.result NoRelation _ c.from_residual-in_err-rel.result _ (IsRefused net.topology (Link c.args.a.now c.args.rel.now c.args.b.now))
     c.in_err-rel.ensures.value c.from_residual-in_err-rel.ensures.1 c.relation_at.ensures.absent
-    (λ none. no_relation_to_link net.topology c.args.a.now c.args.rel.now c.args.b.now (c.is_whole.ensures.live _ _ a) (c.is_whole.ensures.live _ _ b) (none c.args.a.now a))
+    (λ none. no_relation_to_link net.topology c.args.a.now c.args.rel.now c.args.b.now (c.instance_named.ensures.whole.live _ _ a) (c.instance_named.ensures.whole.live _ _ b) (none c.args.a.now a))
 
 pub returns-in_err-rel-clause-unlink : goal.returns-in_err-rel-clause-unlink
 returns-in_err-rel-clause-unlink c =
@@ -23,4 +23,4 @@ returns-in_err-rel-clause-unlink c =
     let b = present (λ (id : InstanceId). IsNamed net id c.args.b.now) c.instance_named-2.result c.in_ok-to.to c.in_ok-to.ensures.ok_part c.instance_named-2.ensures.found in
     absent_err c.relation_at.result NoRelation _ c.from_residual-in_err-rel.result _ (IsRefused net.topology (Unlink c.args.a.now c.args.rel.now c.args.b.now))
     c.in_err-rel.ensures.value c.from_residual-in_err-rel.ensures.1 c.relation_at.ensures.absent
-    (λ none. no_relation_to_unlink net.topology c.args.a.now c.args.rel.now c.args.b.now (c.is_whole.ensures.live _ _ a) (c.is_whole.ensures.live _ _ b) (none c.args.a.now a))
+    (λ none. no_relation_to_unlink net.topology c.args.a.now c.args.rel.now c.args.b.now (c.instance_named.ensures.whole.live _ _ a) (c.instance_named.ensures.whole.live _ _ b) (none c.args.a.now a))

@@ -1,6 +1,7 @@
 use Rattle.std.proofs.Common.{◌≡◌, false, length, slice_set, sym, ap, subst, ◌∙◌, arith}
 use Rattle.std.proofs.lemmas.List.{with_items_is}
-use Rattle.cb_bits.specs.Bits.{bit_of, values, Holds}
+use Rattle.cb_lanes.specs.Words.{bit_of}
+use Rattle.cb_bits.specs.Bits.{values, Holds}
 use Rattle.cb_bits.proofs.Values.{row_len, set_value, set_holds}
 use Rattle.cb_bits.proofs.row.Row.clear.Goals as goal
 

@@ -1,6 +1,6 @@
 use Rattle.std.proofs.Common.{◌≡◌, ◌<◌, ◌^◌, SomeIff, length, bit_xor, ap, ◌∙◌, subst}
 use Rattle.std.specs.Simd.Lanes.{zip2}
-use Rattle.cb_bits.specs.Bits.{count_bits}
+use Rattle.cb_lanes.specs.Words.{count_bits}
 use Rattle.cb_bits.proofs.United.{through, one_count, xor_count, xor_few}
 use Rattle.cb_bits.proofs.row.Row.distance_below.Goals as goal
 

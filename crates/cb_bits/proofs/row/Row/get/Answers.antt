@@ -1,5 +1,5 @@
 use Rattle.std.proofs.Common.{length, ap, ◌∙◌, arith}
-use Rattle.cb_bits.specs.Bits.{bit_of}
+use Rattle.cb_lanes.specs.Words.{bit_of}
 use Rattle.cb_bits.proofs.Values.{row_len, row_bit}
 use Rattle.cb_bits.proofs.row.Row.get.Goals as goal
 

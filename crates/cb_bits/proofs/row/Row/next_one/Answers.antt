@@ -1,5 +1,5 @@
 use Rattle.std.proofs.Common.{[], length, ap, ◌∙◌, arith}
-use Rattle.cb_bits.specs.Bits.{in_not}
+use Rattle.cb_lanes.specs.Words.{in_not}
 use Rattle.cb_bits.proofs.NextOnes.{alone, long_enough, next_found, none_found}
 use Rattle.cb_bits.proofs.row.Row.next_one.Goals as goal
 

@@ -1,5 +1,5 @@
 use Rattle.std.proofs.Common.{◌<◌, ◌^◌, ap, subst, sym, ◌∙◌}
-use Rattle.cb_bits.specs.Bits.{count_bits}
+use Rattle.cb_lanes.specs.Words.{count_bits}
 use Rattle.cb_bits.proofs.Counted.{true_values, few_bits}
 use Rattle.cb_bits.proofs.row.Row.ones.Goals as goal
 

@@ -6,17 +6,17 @@ use Rattle.cb_bits.specs.Bits.{values, Holds}
 use Rattle.cb_bits.proofs.United.{one_count, or_holds, or_values}
 use Rattle.cb_bits.proofs.row.Row.or_from.Goals as goal
 
-pub unite-requires : goal.unite-requires
-unite-requires c =
+pub or_into-requires : goal.or_into-requires
+or_into-requires c =
     ap length c.deref_mut.ensures.value
     ∙ one_count _ _ c.self.inside.len c.other.inside.len _ _ c.self.invariant c.other.invariant c.self.view_is c.other.view_is c.requires
     ∙ sym (ap length c.deref.ensures.value)
 
 -- the words that are written are those of both rows
-written : (c : goal.After-self-1) → (with_items c.self.inside.words c.unite.new.words).items ≡ zip2 bit_or c.self.inside.words.items c.other.inside.words.items
+written : (c : goal.After-self-1) → (with_items c.self.inside.words c.or_into.new.a).items ≡ zip2 bit_or c.self.inside.words.items c.other.inside.words.items
 written c =
-    with_items_is c.self.inside.words c.unite.new.words (c.unite.auto.words ∙ c.deref_mut.ensures.len)
-    ∙ c.unite.ensures
+    with_items_is c.self.inside.words c.or_into.new.a (c.or_into.auto.a ∙ c.deref_mut.ensures.len)
+    ∙ c.or_into.ensures.union
     ∙ ap (λ a. zip2 bit_or a c.deref.result.now) c.deref_mut.ensures.value
     ∙ ap (zip2 bit_or c.self.inside.words.items) c.deref.ensures.value
 

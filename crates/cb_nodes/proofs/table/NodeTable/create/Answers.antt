@@ -54,7 +54,7 @@ number_events-requires-clause-new c =
 pub number_events-requires-clause-once : goal.number_events-requires-clause-once
 number_events-requires-clause-once c =
     let made = c.in_ok-create.ensures.created.made in
-    let model : c.model-2.result.now ≡ c.model.result.now = c.model-2.ensures ∙ (ap (λ (t : Topology). t.model) made ∙ sym c.model.ensures) in
+    let model : c.model-2.result.now ≡ c.model.result.now = c.model-2.ensures.value ∙ (ap (λ (t : Topology). t.model) made ∙ sym c.model.ensures.value) in
     let events = c.as_slice-events.result.now in
     let are = subst (λ (t : Tables). AreEventsOf t c.args.class events) model (subst (λ es. AreEventsOf c.model-2.result.now c.args.class es) (sym c.as_slice-events.ensures) c.events_of-2.ensures) in
     events_once c.model.result.now c.args.class events are
@@ -62,7 +62,7 @@ number_events-requires-clause-once c =
 pub number_events-requires-clause-spare : goal.number_events-requires-clause-spare
 number_events-requires-clause-spare c =
     let made = c.in_ok-create.ensures.created.made in
-    let model : c.model-2.result.now ≡ c.model.result.now = c.model-2.ensures ∙ (ap (λ (t : Topology). t.model) made ∙ sym c.model.ensures) in
+    let model : c.model-2.result.now ≡ c.model.result.now = c.model-2.ensures.value ∙ (ap (λ (t : Topology). t.model) made ∙ sym c.model.ensures.value) in
     let events = c.as_slice-events.result.now in
     let are = subst (λ (t : Tables). AreEventsOf t c.args.class events) model (subst (λ es. AreEventsOf c.model-2.result.now c.args.class es) (sym c.as_slice-events.ensures) c.events_of-2.ensures) in
     let count : c.len-count.result ≡ length events = c.len-count.ensures ∙ one_count c.model.result.now c.args.class c.events_of.result.now events c.events_of.ensures are in
@@ -75,7 +75,7 @@ number_events-requires-clause-list_spare c =
     let at = c.next-instance.result in
     let lt = slice_get_within lists at.0 fits.list fits.is in
     let made = c.in_ok-create.ensures.created.made in
-    let model : c.model-2.result.now ≡ c.model.result.now = c.model-2.ensures ∙ (ap (λ (t : Topology). t.model) made ∙ sym c.model.ensures) in
+    let model : c.model-2.result.now ≡ c.model.result.now = c.model-2.ensures.value ∙ (ap (λ (t : Topology). t.model) made ∙ sym c.model.ensures.value) in
     let events = c.as_slice-events.result.now in
     let are = subst (λ (t : Tables). AreEventsOf t c.args.class events) model (subst (λ es. AreEventsOf c.model-2.result.now c.args.class es) (sym c.as_slice-events.ensures) c.events_of-2.ensures) in
     let count : c.len-count.result ≡ length events = c.len-count.ensures ∙ one_count c.model.result.now c.args.class c.events_of.result.now events c.events_of.ensures are in

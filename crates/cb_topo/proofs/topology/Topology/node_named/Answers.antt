@@ -17,7 +17,7 @@ returns-in_err-event-clause-absent c =
     let instance = c.args.instance.now in
     let class = c.class_of-class.result in
     let of_class = c.class_of-class.ensures instance c.in_ok-id.ensures.found in
-    let none = subst (λ (t : Tables). (e : EventId) → ¬ NamesEvent t class event e) c.model.ensures c.in_err-event.ensures.absent in
+    let none = subst (λ (t : Tables). (e : EventId) → ¬ NamesEvent t class event e) c.model.ensures.value c.in_err-event.ensures.absent in
     let absent = no_node c.self.inside.net.topology class event instance of_class none in
     rw c.from_residual-in_err-event.ensures (subst (λ (m : Numbered). ¬ IsNodeOf (topology_of m) (name_of event instance)) c.self.view_is absent)
 
@@ -25,7 +25,7 @@ pub returns-clause-found : goal.returns-clause-found
 returns-clause-found c =
     let event = c.args.event.now in
     let instance = c.args.instance.now in
-    let named = subst (λ (t : Tables). NamesEvent t c.class_of-class.result event c.in_ok-event.event) c.model.ensures c.in_ok-event.ensures.found in
+    let named = subst (λ (t : Tables). NamesEvent t c.class_of-class.result event c.in_ok-event.event) c.model.ensures.value c.in_ok-event.ensures.found in
     let name = event_name_is c.self.inside.net.topology.model c.in_ok-event.event named.0.row named.0.is ∙ named.1 in
     subst (λ (m : Numbered). IfSome c.node_at.result (λ id. IsNodeNamed m id (name_of event instance))) c.self.view_is
     (IfSome_then c.node_at.result c.node_at.ensures.found (λ id is. record {

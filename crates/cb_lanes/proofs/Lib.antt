@@ -1,0 +1,9 @@
+pub mod Digits
+pub mod Totals
+pub mod Sums
+pub mod Zipped
+pub mod Ones
+pub mod Alike
+pub mod NextBits
+pub mod Common
+pub mod Lanes

@@ -1,0 +1,5 @@
+pub mod Placed
+pub mod Apart
+pub mod Taking
+pub mod Rows
+pub mod Views

@@ -1,0 +1,92 @@
+//! Rows of one width in a block of words, one after the other.
+ghost use Rattle.std.specs.Prelude.{◌≡◌, ◌<◌, ◌≤◌, ◌+◌, ◌-◌, ◌*◌, ◌++◌, ℕ, length, replicate, vec_capacity, OnOk, IfOk};
+ghost use Rattle.cb_pool.specs.Pool.{row_at};
+ghost use Rattle.cb_pool.specs.Kept.{Clears};
+
+use std::alloc::{AllocError, Global};
+
+/// Makes room for this many rows.
+pub fn reserve_rows(words: &mut Vec<u64>, width: usize, rows: usize) -> Result<(), AllocError>
+    ensures words { words.new.items ≡ words.old.items }
+    ensures more { vec_capacity words.old ≤ vec_capacity words.new }
+    ensures room { OnOk result (width * rows ≤ vec_capacity words.new) }
+{
+    let Some(size) = width.checked_mul(rows) else {
+        return Err(AllocError);
+    };
+    words.reserve_exact(size.saturating_sub(words.len()))
+}
+
+/// The words of a row.
+pub fn row_in(words: &[u64], width: usize, i: usize) -> &[u64]
+    requires { width * i + width ≤ length words.now }
+    ensures row { result.now ≡ row_at width words.now i }
+    ensures width { length result.now ≡ width }
+{
+    let start = width * i;
+    &words[start..start + width]
+}
+
+/// Makes the words of a row zero.
+pub fn wipe_row(words: &mut [u64], width: usize, i: usize)
+    requires { width * i + width ≤ length words.old }
+    ensures { Clears width words.old words.new i }
+{
+    let start = width * i;
+    wipe(&mut words[start..start + width]);
+}
+
+// Makes all words zero.
+fn wipe(words: &mut [u64])
+    ensures { words.new ≡ replicate (length words.old) 0 }
+{
+    words.fill(0);
+}
+
+/// Adds a row of zeros, for which there is room.
+pub fn add_row(words: &mut Vec<u64>, width: usize, i: usize)
+    requires behind { length words.old.items ≡ width * i }
+    requires room { width * i + width ≤ vec_capacity words.old }
+    ensures clears { Clears width words.old.items words.new.items i }
+    ensures words { length words.new.items ≡ width * i + width }
+    ensures room { vec_capacity words.old ≤ vec_capacity words.new }
+{
+    words.resize(words.len() + width, 0).unwrap();
+}
+
+/// The rows with zeros behind each, in a block with room for more.
+pub fn widened(
+    alloc: Global,
+    words: &[u64],
+    width: usize,
+    wider: usize,
+    rows: usize,
+    room: usize,
+) -> Result<Vec<u64>, AllocError>
+    requires block { length words.now ≡ width * rows }
+    requires wider { width ≤ wider }
+    requires fits { rows ≤ room }
+    ensures words { IfOk result (λ made. length made.items ≡ wider * rows) }
+    ensures room { IfOk result (λ made. wider * room ≤ vec_capacity made) }
+    ensures rows { IfOk result (λ made. (i : ℕ) → i < rows → row_at wider made.items i ≡ row_at width words.now i ++ replicate (wider - width) 0) }
+{
+    let mut made = Vec::new(alloc);
+    reserve_rows(&mut made, wider, room)?;
+    for i in 0..rows {
+        add_wider(&mut made, row_in(words, width, i), wider, i);
+    }
+    Ok(made)
+}
+
+// Adds a row with zeros behind it, for which there is room.
+fn add_wider(made: &mut Vec<u64>, row: &[u64], wider: usize, i: usize)
+    requires behind { length made.old.items ≡ wider * i }
+    requires room { wider * i + wider ≤ vec_capacity made.old }
+    requires wider { length row.now ≤ wider }
+    ensures words { made.new.items ≡ made.old.items ++ row.now ++ replicate (wider - length row.now) 0 }
+    ensures room { vec_capacity made.old ≤ vec_capacity made.new }
+{
+    let end = made.len() + wider;
+    made.extend_from_slice(row).unwrap();
+    made.resize(end, 0).unwrap();
+}

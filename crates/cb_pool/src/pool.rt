@@ -1,0 +1,144 @@
+//! The block and its slots.
+ghost use Rattle.std.specs.Prelude.{◌≡◌, ◌≢◌, ◌<◌, ◌≤◌, ◌+◌, ◌^◌, [], length, replicate, OnOk, OnErr};
+ghost use Rattle.std.specs.Borrow.{sem, Lends, Array, u64 as word};
+ghost use Rattle.cb_pool.specs.Pool.{HasRow, IsTaken, SameRows, SameOthers, WiderRows, row_of, taken_count, with_row};
+ghost use Rattle.cb_pool.specs.contracts.pool.RowPool.{the_row};
+
+use crate::block::{add_row, reserve_rows, row_in, widened, wipe_row};
+use crate::slot::Slot;
+use crate::slots::Slots;
+use std::alloc::{AllocError, Global};
+use std::marker::Model;
+
+/// Rows of one width, under slots. Contracts see the words, and which slots are taken.
+#[derive(Drop)]
+pub struct RowPool {
+    alloc: Global,
+    width: usize,
+    words: Vec<u64>,
+    slots: Slots,
+}
+
+impl Model for RowPool {
+    ghost use Rattle.std.specs.Prelude.{length};
+    ghost use Rattle.cb_pool.specs.Pool.{Pool};
+
+    ghost Value = { Pool };
+
+    ghost use Rattle.cb_pool.specs.Kept.{spare_of, IsKept};
+
+    ghost view = { λ p. record { width = p.width; words = p.words.items; taken = p.slots.taken.items; spare = spare_of p.slots } };
+
+    ghost invariant = { λ p. IsKept p.width p.words p.slots };
+}
+
+impl RowPool {
+    /// No row.
+    pub fn new(alloc: Global, width: usize) -> RowPool
+        ensures width { result.width ≡ width }
+        ensures none { result.taken ≡ [] }
+        ensures spare { result.spare ≡ 0 }
+    {
+        RowPool {
+            alloc,
+            width,
+            words: Vec::new(alloc),
+            slots: Slots::new(alloc),
+        }
+    }
+
+    /// How many words each row has.
+    pub fn width(&self) -> usize
+        ensures { result ≡ self.now.width }
+    {
+        self.width
+    }
+
+    /// How many rows can be taken without memory.
+    pub fn spare(&self) -> usize
+        ensures { result ≡ self.now.spare }
+    {
+        self.slots.spare()
+    }
+
+    /// Makes room, so that this many rows can be taken without memory.
+    pub fn reserve(&mut self, rows: usize) -> Result<(), AllocError>
+        requires { rows + taken_count self.old < 2 ^ 32 }
+        ensures width { self.new.width ≡ self.old.width }
+        ensures rows { SameRows self.old self.new }
+        ensures spare { OnOk result (rows ≤ self.new.spare) }
+        ensures err { OnErr result (self.new ≡ self.old) }
+    {
+        let spare = self.slots.spare();
+        if rows <= spare {
+            return Ok(());
+        }
+        let room = self.slots.room + (rows - spare);
+        reserve_rows(&mut self.words, self.width, room)?;
+        self.slots.reserve(room)
+    }
+
+    /// Makes each row longer, by zeros.
+    pub fn widen(&mut self, width: usize) -> Result<(), AllocError>
+        requires { self.old.width ≤ width }
+        ensures width { OnOk result (self.new.width ≡ width) }
+        ensures rows { OnOk result (WiderRows self.old self.new) }
+        ensures spare { self.new.spare ≡ self.old.spare }
+        ensures err { OnErr result (self.new ≡ self.old) }
+    {
+        let rows = self.slots.taken.len();
+        let room = self.slots.room;
+        self.words = widened(self.alloc, &self.words, self.width, width, rows, room)?;
+        self.width = width;
+        Ok(())
+    }
+
+    /// Takes a free slot, whose row is then zero. It takes no memory.
+    pub fn take(&mut self) -> Slot
+        requires { 0 < self.old.spare }
+        ensures width { self.new.width ≡ self.old.width }
+        ensures free { ¬ IsTaken self.old result }
+        ensures zero { HasRow self.new result (replicate self.old.width 0) }
+        ensures others { SameOthers self.old self.new result }
+        ensures spare { self.old.spare ≡ self.new.spare + 1 }
+    {
+        if self.slots.free.is_empty() {
+            add_row(&mut self.words, self.width, self.slots.taken.len());
+            return self.slots.take_next();
+        }
+        let slot = self.slots.take_again();
+        wipe_row(&mut self.words, self.width, slot.0 as usize);
+        slot
+    }
+
+    /// Gives a slot back, which is free then.
+    pub fn give(&mut self, slot: Slot)
+        requires { IsTaken self.old slot }
+        ensures width { self.new.width ≡ self.old.width }
+        ensures free { ¬ IsTaken self.new slot }
+        ensures others { SameOthers self.old self.new slot }
+        ensures spare { self.new.spare ≡ self.old.spare + 1 }
+    {
+        self.slots.give_back(slot);
+    }
+
+    /// The words of a row.
+    pub fn row(&self, slot: Slot) -> &[u64]
+        requires { IsTaken self.now slot }
+        ensures row { HasRow self.now slot result.now }
+        ensures width { length result.now ≡ self.now.width }
+    {
+        row_in(&self.words, self.width, slot.0 as usize)
+    }
+
+    /// The words of a row, to be written.
+    pub fn row_mut(&mut self, slot: Slot) -> &mut [u64]
+        requires { IsTaken self.old slot }
+        ensures* writes_back { sem 𝓛 (Lends the_row (Array word 0) self.entry result (with_row self.old slot)) }
+        ensures row { HasRow self.old slot result.now }
+        ensures width { length result.now ≡ self.old.width }
+    {
+        let start = self.width * slot.0 as usize;
+        self.words.slice_mut(start..start + self.width)
+    }
+}
