@@ -1,5 +1,6 @@
 -- A node that is raised: in the source's window, or in a new one.
 use Rattle.std.proofs.Common.{◌≡◌, ◌≢◌, ◌⊎◌, ◌↔◌, ◌+◌, ◌<◌, ◌≤◌, ◌||◌, ℕ, List, [], ◌∷◌, max, refl, sym, ap, subst, ◌∙◌, inl, inr, arith, Bool, true, false, cond, Option, None, Some, Ok, Err, Result}
+use Rattle.std.proofs.lemmas.Bool.{cases_lt}
 use Rattle.std.specs.Prelude.{OnOk, OnErr}
 use Rattle.std.specs.BTreeMap as tree
 use Rattle.std.specs.BTreeMap.{BTreeMap, is_at}
@@ -101,13 +102,12 @@ puts_in s n k u t =
       | inr ne ↦
           let at : is_at (turn_cmp k) t ≡ false = not_same (is_at (turn_cmp k) t) (λ e. ne (tied turn_total turn_exact k t e)) in
           let stays : tree_set.contains turn_cmp n t ≡ tree_set.contains turn_cmp s t = is ∙ ap (λ (b : Bool). cond b true (tree_set.contains turn_cmp s t)) at in
-          (λ h. inr (sym stays ∙ h), λ e. elim e [ | inl same ↦ absurd (ne (sym same)) | inr had ↦ stays ∙ had ])
+          (λ h. inr (sym stays ∙ h), λ e. elim e [ inl same ↦ absurd (ne (sym same)) | inr had ↦ stays ∙ had ])
     ]
 
 -- a queue to which a turn of the source was added
 module _ (live : BTreeMap (List ℕ) Open) (queue more : BTreeSet Turn) (turn : Turn) (from : List ℕ) (its : turn.from ≡ from)
-  (queued : IsQueued live queue) (updates : tree_set.Updates turn_cmp queue more turn true) where
-
+    (queued : IsQueued live queue) (updates : tree_set.Updates turn_cmp queue more turn true) where
   -- the source had no window
   pub first_turn : tree.get name_cmp live from ≡ None → (t : Turn)
       → (tree_set.contains turn_cmp more t ≡ true) ↔ ((t ≡ turn) ⊎ ((t.from ≢ from) × (tree_set.contains turn_cmp queue t ≡ true)))
@@ -120,7 +120,7 @@ module _ (live : BTreeMap (List ℕ) Open) (queue more : BTreeSet Turn) (turn : 
             had,
           )
         ],
-        λ e. puts.1 (elim e [ | inl same ↦ inl same | inr both ↦ inr both.1 ]),
+        λ e. puts.1 (elim e [ inl same ↦ inl same | inr both ↦ inr both.1 ]),
       )
 
   -- the source had a window, whose turn is taken out
@@ -254,7 +254,7 @@ module _ (w now time : ℕ) (old new : BTreeMap (List ℕ) Open) (from : List �
 -- a window that isn't open still was opened before
 pub over_before : (w time : ℕ) (windows : BTreeMap (List ℕ) Open) (from : List ℕ) → 1 ≤ w → (¬ IsOpenStill windows from w time) → OpenedBefore windows from time
 over_before w time windows from some over o is =
-    elim (cases (time) (o.opened + w)) [ | inl late ↦ absurd (over (o, is, late)) | inr due ↦ omega arith ]
+    elim (cases (time) (o.opened + w)) [ inl late ↦ absurd (over (o, is, late)) | inr due ↦ omega arith ]
   where
     cases : (m n : ℕ) → (m < n) ⊎ (n ≤ m)
     cases = Rattle.std.proofs.lemmas.Bool.cases_lt
