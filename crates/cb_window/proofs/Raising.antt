@@ -1,5 +1,6 @@
 -- A node that is raised: in the source's window, or in a new one.
 use Rattle.std.proofs.Common.{◌≡◌, ◌≢◌, ◌⊎◌, ◌↔◌, ◌+◌, ◌<◌, ◌≤◌, ◌||◌, ℕ, List, [], ◌∷◌, max, refl, sym, ap, subst, ◌∙◌, inl, inr, arith, Bool, true, false, cond, Option, None, Some, Ok, Err, Result}
+use Rattle.std.proofs.lemmas.Bool.{cases_lt}
 use Rattle.std.specs.Prelude.{OnOk, OnErr}
 use Rattle.std.specs.BTreeMap as tree
 use Rattle.std.specs.BTreeMap.{BTreeMap, is_at}

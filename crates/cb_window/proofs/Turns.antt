@@ -6,9 +6,10 @@ use Rattle.std.specs.BTreeSet as tree_set
 use Rattle.std.specs.BTreeSet.{BTreeSet}
 use Rattle.std.specs.Cmp.{IsTotalOrder}
 use Rattle.std.specs.Cmp.Rules.{comparing}
+use Rattle.std.specs.declared.cmp.Ordering.{Ordering}
 use Rattle.std.specs.FinSet as set
 use Rattle.std.specs.List.{list_any}
-use Rattle.std.specs.Ordering.{eq_by_cmp, nat_cmp}
+use Rattle.std.specs.Ordering.{nat_cmp}
 use Rattle.cb_model.specs.declared.node.NodeName.{NodeName}
 use Rattle.cb_model.specs.Order.{name_cmp}
 use Rattle.cb_model.proofs.Rising.{then_ties, name_cmp_total, name_cmp_exact}
@@ -23,8 +24,8 @@ turn_total = search (comparing, rules)
 -- only equal turns tie
 pub turn_exact : set.IsAntisymmetric turn_cmp
 turn_exact s t e =
-    let by_time : Turn → Turn → Rattle.std.specs.declared.cmp.Ordering.Ordering = λ s t. nat_cmp s.opened t.opened in
-    let by_source : Turn → Turn → Rattle.std.specs.declared.cmp.Ordering.Ordering = λ s t. name_cmp s.from t.from in
+    let by_time : Turn → Turn → Ordering = λ s t. nat_cmp s.opened t.opened in
+    let by_source : Turn → Turn → Ordering = λ s t. name_cmp s.from t.from in
     let ties = then_ties by_time by_source s t e in
     let opened = set.nat_cmp-IsAntisymmetric s.opened t.opened ties.0 in
     let from = name_cmp_exact s.from t.from ties.1 in

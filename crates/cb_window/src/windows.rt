@@ -26,7 +26,7 @@ pub(crate) struct Open {
     pub nodes: BTreeSet<NodeName, Global>,
 }
 
-/// The windows of sources over the records so far. Contracts see what is kept of them: the time, and each source's open window.
+/// The windows of sources over the records so far. Times and the length are counted in one unit, the log's.
 #[derive(Drop)]
 pub struct Windows {
     length: u64,
@@ -98,7 +98,8 @@ impl Windows {
         self.go_to(at);
     }
 
-    /// The windows that a record of that time closes, by their opening times and then by their sources.
+    /// The windows that a record of that time closes, by their opening times and then by their sources. They stay until the
+    /// log goes on.
     pub fn due(&self, alloc: Global, at: u64) -> Result<List<Closed>, AllocError>
         ensures { IfOk result (λ closing. (records : Items Record) (r : Record) → r.at ≡ at → StandsFor self.now records
             → AreClosing (records ++ r ∷ []) self.now.length (length records) closing) }
@@ -124,7 +125,7 @@ impl Windows {
         told_all(alloc, &self.live, &self.queue, self.time)
     }
 
-    /// Goes on by a raise of that time. Where memory is wanting, all stays as it was.
+    /// Goes on by a raise of that time: the node goes into the source's window, or opens one.
     pub fn raise(
         &mut self,
         alloc: Global,
@@ -160,7 +161,7 @@ impl Windows {
         }
     }
 
-    /// Goes on by a clear of that time.
+    /// Goes on by a clear of that time, which does nothing where the source has no window.
     pub fn clear(&mut self, at: u64, from: &Name, node: &NodeName)
         ensures length { self.new.length ≡ self.old.length }
         ensures stands { (records : Items Record) (r : Record) → r.at ≡ at → r.body ≡ Clear from.now node.now → StandsFor self.old records

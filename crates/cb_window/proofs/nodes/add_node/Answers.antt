@@ -1,9 +1,8 @@
-use Rattle.std.proofs.Common.{◌≡◌, List, ℕ, refl, sym, ap, subst, rules, true}
+use Rattle.std.proofs.Common.{◌≡◌, List, refl, sym, ap, subst, rules, true}
 use Rattle.std.specs.BTreeSet.{Updates}
 use Rattle.std.specs.FinSet as set
 use Rattle.cb_model.specs.declared.node.NodeName.{NodeName}
 use Rattle.cb_model.specs.NodeOrder.{node_cmp}
-use Rattle.cb_log.specs.Kept.{OpenWindow}
 use Rattle.cb_window.specs.Kept.{LooksSame, shown}
 use Rattle.cb_window.specs.declared.windows.Open.{Open}
 use Rattle.cb_window.proofs.Raising.{on_err, same_under, gains_in}

@@ -1,5 +1,5 @@
-use Rattle.std.proofs.Common.{◌≡◌, ◌<◌, ℕ, List, refl, sym, ap, subst, ◌∙◌, Option, None, Some}
-use Rattle.std.specs.BTreeMap.{BTreeMap, Updates, get}
+use Rattle.std.proofs.Common.{◌≡◌, ◌<◌, ℕ, List, refl, sym, ap, subst, ◌∙◌, None, Some}
+use Rattle.std.specs.BTreeMap.{Updates, get}
 use Rattle.cb_model.specs.Order.{name_cmp}
 use Rattle.cb_window.specs.Kept.{OpenedBefore}
 use Rattle.cb_window.specs.declared.turn.Turn.{Turn}
