@@ -6,7 +6,7 @@ use cb_network::EditRefusal;
 /// Why a line has no record. Where several of these hold, the answer is the one that stands first here.
 #[derive(Clone, Copy, Debug, PartialEq, Eq)]
 pub enum SkipKind {
-    /// The line is no JSON.
+    /// The line is no JSON, by its bytes or because it nests too deep.
     NotJson,
     /// It is no object.
     NotObject,
@@ -16,9 +16,9 @@ pub enum SkipKind {
     BadSource,
     /// It says not exactly one thing, or says it in a wrong form.
     BadBody,
-    /// What is raised or cleared is no node.
+    /// What is raised or cleared isn't written as a node. Whether the topology has that node is not asked here.
     BadName,
-    /// The edit is none.
+    /// What stands as the edit spells none. Whether the topology allows an edit is not asked here.
     BadEdit,
 }
 
@@ -53,14 +53,14 @@ pub enum Event {
         line: u64,
         why: RefusedWhy,
     },
-    /// Two groups are closer than wanted; these are the first two.
+    /// Two groups are closer than wanted over all columns; these are the first two, and `distance` is theirs.
     Thin {
         wanted: u32,
         first: GroupName,
         second: GroupName,
         distance: u32,
     },
-    /// From now on this codebook is in use.
+    /// From now on a codebook is in use, with so many columns of all columns, at which so many groups are that far apart.
     BookMade {
         columns: u32,
         of: u32,

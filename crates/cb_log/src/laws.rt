@@ -55,7 +55,7 @@ pub fn closing_stays()
     ensures { ClosingStays }
 {}
 
-/// From a topology of a checked model, a log has one list of events.
+/// From a topology of a checked model, a log has at most one list of events.
 pub fn events_are_one()
     ensures { EventsAreOne }
 {}
@@ -80,7 +80,8 @@ pub fn sources_are_independent()
     ensures { SourcesAreIndependent }
 {}
 
-/// Which record brings a codebook into use, and which takes it out of use.
+/// For a wanted distance: a codebook is in use after a record exactly where the record is no accepted edit, and a codebook
+/// was in use before it or the record closes a window.
 pub fn book_in_use_steps()
     ensures { BookInUseSteps }
 {}

@@ -9,11 +9,12 @@
 //! What comes of lines is told of *entries*, which know nothing of bytes. `StandsFor` (`specs/Kept.antt`) says what is
 //! enough to keep of the records so far, and the laws `fresh_stands` to `open_are_closing` are its steps.
 //!
-//! The main laws: a log has one list of events, with one diagnosis for each window; within the radius the true group
-//! alone is named; and a source's diagnoses don't depend on what other sources say.
+//! The main laws: a log has at most one list of events, with one diagnosis for each window; within the radius the true
+//! group alone is named; and a source's diagnoses don't depend on what other sources say. Not promised: that each log has
+//! a list of events, and that a thin event tells the truth (its definition says it, no law does).
 //!
-//! Read `Records`, `Windows`, `Closing`, `Kept`, `Events` first. Only `Basis` speaks of codebooks and distances, so another
-//! way to choose the codebook changes that file, and the laws on events.
+//! Read `Records`, `Windows`, `Closing`, `Kept`, `Events` first. `Basis` says which codebook is in use and `Events` when one
+//! is made, so another way to choose the codebook changes these two, and the laws on events.
 #![tactic(auto)]
 
 mod closed;
