@@ -43,24 +43,25 @@ pub enum RefusedWhy {
 /// One thing that comes of a log.
 #[derive(Debug, Drop)]
 pub enum Event {
-    /// The line of this number has no record.
+    /// The line has no record. Lines are numbered from 1.
     Skipped {
         line: u64,
         why: SkipWhy,
     },
-    /// The edit of the line of this number changes nothing.
+    /// The edit of the line changes nothing.
     Refused {
         line: u64,
         why: RefusedWhy,
     },
-    /// Two groups are closer than wanted; these are the first two.
+    /// Two groups are at a distance below the one wanted, over all columns; these are the first two.
     Thin {
         wanted: u32,
         first: GroupName,
         second: GroupName,
         distance: u32,
     },
-    /// From now on this codebook is in use.
+    /// From now on a codebook is in use that has so many columns of all, over which that many groups are so far apart; up to
+    /// `radius` lost or spurious symptoms leave the cause certain.
     BookMade {
         columns: u32,
         of: u32,
@@ -68,7 +69,7 @@ pub enum Event {
         radius: u32,
         groups: u32,
     },
-    /// What explains the nodes of a window that closes.
+    /// A source's window closes: its times, and what explains its nodes.
     Diagnosis {
         from: Name,
         opened: u64,
