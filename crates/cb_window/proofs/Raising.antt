@@ -254,10 +254,7 @@ module _ (w now time : ℕ) (old new : BTreeMap (List ℕ) Open) (from : List �
 -- a window that isn't open still was opened before
 pub over_before : (w time : ℕ) (windows : BTreeMap (List ℕ) Open) (from : List ℕ) → 1 ≤ w → (¬ IsOpenStill windows from w time) → OpenedBefore windows from time
 over_before w time windows from some over o is =
-    elim (cases (time) (o.opened + w)) [ inl late ↦ absurd (over (o, is, late)) | inr due ↦ omega arith ]
-  where
-    cases : (m n : ℕ) → (m < n) ⊎ (n ≤ m)
-    cases = Rattle.std.proofs.lemmas.Bool.cases_lt
+    elim (cases_lt time (o.opened + w)) [ inl late ↦ absurd (over (o, is, late)) | inr due ↦ omega arith ]
 
 -- the node is put in, and then time goes by
 pub put_then_passed : (old mid new : Kept) (at time : ℕ) (source : List ℕ) (node : NodeName) → 1 ≤ old.length → time ≡ max old.now at
