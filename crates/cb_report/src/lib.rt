@@ -1,10 +1,18 @@
-//! The lines that the program prints. What they are stands in `specs/`; the printers write exactly that.
+//! The lines that the program prints: those of its output, and the one that tells what is wrong. What they are stands in
+//! `specs/`; the printers write exactly that.
 #![tactic(auto)]
 
+mod fault;
+mod fault_line;
+mod fault_words;
 mod finding;
 mod piece;
+mod status;
 
+pub use fault::Fault;
+pub use fault_line::say_fault;
 pub use finding::burst_text;
+pub use status::Status;
 
 #[cfg(test)]
 mod tests;

@@ -1,13 +1,3 @@
-pub mod Status
-pub mod Asked
-pub mod Commands
+pub mod Kinds
 pub mod Faults
-pub mod Model
-pub mod Burst
-pub mod Halts
-pub mod Judged
-pub mod Outcome
-pub mod Run
-pub mod Ends
-pub mod Cause
-pub mod Laws
+pub mod Ending

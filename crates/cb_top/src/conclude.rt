@@ -1,30 +1,23 @@
-//! The end of a run: the output is written, or one line on the error sink says why there is none.
-ghost use Rattle.std.specs.Prelude.{IfErr};
-ghost use Rattle.cb_top.specs.Halts.{IsPlaced};
-ghost use Rattle.cb_top.specs.Outcome.{texts, file_words};
-ghost use Rattle.cb_top.specs.Run.{Concludes, Delivers};
+//! The end of a run: the output is written, or one line on the error sink tells what is wrong.
+ghost use Rattle.cb_top.specs.Ending.{Concludes, Delivers};
 
-use crate::fault_line::{explain, say};
-use crate::halt::Halt;
-use crate::status::Status;
 use cb_io::{Sink, write_all};
+use cb_report::{Fault, Status, say_fault};
 
-/// Writes the bytes, or says on the error sink why there are none, and answers how that went. A failing error sink
+/// Writes the bytes, or tells on the error sink why there are none, and answers how that went. A failing error sink
 /// changes no status.
 pub fn conclude<O: Sink, E: Sink>(
-    words: &[String],
-    answer: Result<Vec<u8>, Halt>,
+    answer: Result<Vec<u8>, Fault<'_>>,
     out: &mut O,
     err: &mut E,
 ) -> Status
-    requires { IfErr answer (IsPlaced (file_words (texts words.now))) }
-    ensures { Concludes (texts words.now) answer result (O.tells out.old) (O.tells out.new) (E.tells err.old) (E.tells err.new) }
+    ensures { Concludes answer.entry result (O.tells out.old) (O.tells out.new) (E.tells err.old) (E.tells err.new) }
 {
     match answer {
         Ok(bytes) => deliver(&bytes, out, err),
-        Err(halt) => {
-            explain(err, words, halt);
-            halt.status()
+        Err(fault) => {
+            say_fault(err, &fault);
+            fault.status()
         }
     }
 }
@@ -36,6 +29,6 @@ fn deliver<O: Sink, E: Sink>(bytes: &[u8], out: &mut O, err: &mut E) -> Status
     if write_all(out, bytes).is_ok() {
         return Status::Done;
     }
-    say(err, &[b"error 9 write\n"]);
+    say_fault(err, &Fault::WriteFault);
     Status::WriteFault
 }

@@ -2,21 +2,17 @@
 #![tactic(auto)]
 
 mod burst;
-mod command;
 mod conclude;
-mod fault;
-mod fault_line;
-mod fault_words;
-mod files;
-mod halt;
 mod judge;
-mod laws;
+mod kind;
 mod model;
-mod status;
+mod model_file;
+mod perform;
+mod symptom_file;
 mod top;
+mod topology_file;
 
-pub use laws::outcome_is_one;
-pub use status::Status;
+pub use cb_report::Status;
 pub use top::run;
 
 #[cfg(test)]

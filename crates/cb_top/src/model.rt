@@ -1,20 +1,23 @@
 //! The command `model`.
-ghost use Rattle.std.specs.Prelude.{[], ◌∷◌, IfErr};
-ghost use Rattle.cb_top.specs.Halts.{IsOfFiles};
-ghost use Rattle.cb_top.specs.Outcome.{ModelAnswers};
-ghost use Rattle.cb_top.specs.Run.{ReadsAndJudges};
+ghost use Rattle.cb_request.specs.declared.request.Request.TheVariants.{Model as ModelRequest};
+ghost use Rattle.cb_top.specs.Ending.{Comes};
 
-use crate::files::{MODEL, read_file};
-use crate::halt::Halt;
-use crate::judge::canonical_of;
+use crate::kind::read_as;
+use crate::model_file::TreeFile;
 use cb_io::Files;
+use cb_report::Fault;
+use cb_request::FileName;
+use cb_syntax::print;
 use std::alloc::Global;
 
 /// Reads the file, and gives what `model` prints.
-pub fn model<F: Files>(alloc: Global, files: &mut F, name: &str) -> Result<Vec<u8>, Halt>
-    ensures judged { ReadsAndJudges (name.now ∷ []) (λ left. ModelAnswers left name.now) (F.tells files.old) (F.tells files.new) result }
-    ensures of_files { IfErr result IsOfFiles }
+pub fn model<'w, F: Files>(
+    alloc: Global,
+    files: &mut F,
+    model: FileName<'w>,
+) -> Result<Vec<u8>, Fault<'w>>
+    ensures { Comes (ModelRequest model.entry) (F.tells files.old) (F.tells files.new) result }
 {
-    let text = read_file(alloc, files, name, MODEL)?;
-    canonical_of(alloc, &text)
+    let tree = read_as(alloc, files, model, TreeFile)?;
+    Ok(print(alloc, &tree)?)
 }

@@ -1,7 +1,7 @@
 //! The top call, over files and sinks in memory.
 ghost use Rattle.std.specs.Prelude.{◌≡◌, ◌<◌};
 
-use crate::files::MOST_BYTES;
+use crate::kind::MOST_BYTES;
 use crate::{Status, run};
 use cb_io::{MemFiles, MemSink};
 use cb_steps::Steps;

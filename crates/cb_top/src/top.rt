@@ -1,21 +1,18 @@
 //! The top call.
-ghost use Rattle.std.specs.Prelude.{◌≡◌, IfSome};
-ghost use Rattle.cb_top.specs.Status.{OnAnswer, OnDone, OnOutput, OnNoOutput, OnReadFault, OnWriteFault, OnMemory};
-ghost use Rattle.cb_top.specs.Commands.{IsBuilt, IsInTable, IsUnbuilt, AskForBurst};
-ghost use Rattle.cb_top.specs.Faults.{memory_line};
-ghost use Rattle.cb_top.specs.Outcome.{texts, file_words, IsOutcome};
-ghost use Rattle.cb_top.specs.Cause.{FindsTheCause};
-ghost use Rattle.cb_top.specs.Ends.{MayEnd, MayGive};
-ghost use Rattle.cb_io.specs.Outside.{ReadsEach};
-ghost use Rattle.cb_top.specs.Run.{Answers, TakesFront, TakesNothing, BlamesFile, BlamesOut, ReadsAndJudges, Says, SaysWhy};
+ghost use Rattle.std.specs.Prelude.{◌≡◌};
+ghost use Rattle.cb_request.specs.Commands.{asked};
+ghost use Rattle.cb_outcome.specs.Clauses.{AnswersOutcome, WritesDue, KeepsQuiet, SaysStatus, ReadsInOrder, Blames};
+ghost use Rattle.cb_outcome.specs.Ends.{MayEnd, IsBuilt};
+ghost use Rattle.cb_outcome.specs.Finds.{Finds};
+ghost use Rattle.cb_outcome.specs.Seen.{seen};
+ghost use Rattle.cb_outcome.specs.Steps.{Counts};
+ghost use Rattle.cb_top.specs.Ending.{AskedComes};
 
-use crate::burst::burst;
-use crate::command::Command;
 use crate::conclude::conclude;
-use crate::halt::Halt;
-use crate::model::model;
-use crate::status::Status;
+use crate::perform::perform;
 use cb_io::{Files, Sink};
+use cb_report::{Fault, Status};
+use cb_request::Request;
 use cb_steps::Steps;
 use std::alloc::Global;
 use std::sync::ledger::Ledger;
@@ -30,63 +27,39 @@ pub fn run<F: Files, O: Sink, E: Sink, L: Ledger>(
     err: &mut E,
     steps: &mut Steps<L>,
 ) -> Status
-    // Status, output and line are those of the outcome, unless a read or a write failed or memory ran out.
-    ensures answer { OnAnswer result (IfSome (F.tells files.old).left (λ left.
-        Answers (texts words.now) left result (O.tells out.old) (O.tells out.new) (E.tells err.old) (E.tells err.new))) }
-    // Where a write failed, the outcome is a whole output, of which a front was written; at each other status but 0 there is none.
-    ensures front { OnWriteFault result (IfSome (F.tells files.old).left (λ left. TakesFront (texts words.now) left (O.tells out.old) (O.tells out.new))) }
-    ensures no_output { OnNoOutput result (TakesNothing (O.tells out.old) (O.tells out.new)) }
-    ensures no_line { OnDone result (TakesNothing (E.tells err.old) (E.tells err.new)) }
-    // Which words end how, whatever the files tell: 2 comes exactly where they are none of the table, 11 exactly where they are
-    // those of a command that isn't built, 4 for `burst` alone, and nothing is read but for a command that is built.
-    ensures ends { MayEnd (texts words.now) result }
-    ensures unread { (¬ IsBuilt (texts words.now)) → files.new ≡ files.old }
-    ensures usage { (¬ IsInTable (texts words.now)) → result ≡ Status.Usage }
-    ensures unbuilt { IsUnbuilt (texts words.now) → result ≡ Status.NotBuilt }
-    // The headline: what `burst` prints are exactly the groups nearest to what is raised, by codes from what causes what; and
-    // where no more symptoms of one group are lost or spurious than the radius says, that group alone, and it is sure.
-    ensures cause { OnDone result (IfSome (F.tells files.old).left (λ left.
-        FindsTheCause (texts words.now) left (O.tells out.old) (O.tells out.new))) }
-    // Where there is an output, whole or in part, all files were read whole, and nothing was taken of any other.
-    ensures read_whole { OnOutput result (ReadsEach (F.tells files.old) (F.tells files.new) (file_words (texts words.now))) }
-    // Where a read failed, the line names the file, those before it were read whole and have passed, and nothing was taken of a
-    // later one of another name.
-    ensures read_fault { OnReadFault result (BlamesFile (texts words.now) (F.tells files.old) (F.tells files.new) (E.tells err.old) (E.tells err.new)) }
-    ensures write_fault { OnWriteFault result (BlamesOut (O.tells out.old) (O.tells out.new) (E.tells err.old) (E.tells err.new)) }
-    // At each status but 0 and 9 the line tells why there is no output: what the outcome says, a failed read, or want of memory.
-    // Nothing was taken of a file of another name behind the one that it tells: one that is refused is refused before that.
-    ensures line { OnNoOutput result (SaysWhy (texts words.now) result (F.tells files.old) (F.tells files.new) (E.tells err.old) (E.tells err.new)) }
-    ensures memory { OnMemory result (Says (E.tells err.old) (E.tells err.new) memory_line) }
-    ensures steps { (¬ AskForBurst (texts words.now)) → steps.new ≡ steps.old }
+    // What comes out: status, output, line and files read are those of the outcome, or, at 8, 9 and 10, a front of what was due. Nothing
+    // is written where a word or a judged file is to blame. The line is that of a fault of this status, and there is none at 0.
+    ensures answer { AnswersOutcome (asked words.now) result (seen F.tells O.tells E.tells files.old files.new out.old out.new err.old err.new) }
+    ensures front { WritesDue (asked words.now) (F.tells files.old) (O.tells out.old) (O.tells out.new) }
+    ensures quiet { KeepsQuiet (asked words.now) result (O.tells out.old) (O.tells out.new) }
+    ensures line { SaysStatus (asked words.now) result (E.tells err.old) (E.tells err.new) }
+    // Which words end how, whatever the files tell, and that nothing is read for words of no command that is built.
+    ensures ends { MayEnd (asked words.now) result }
+    ensures unread { (¬ IsBuilt (asked words.now)) → files.new ≡ files.old }
+    // What was read, in which order; and which read failed at 8, and that a write did at 9, once all files had passed.
+    ensures order { ReadsInOrder (asked words.now) (F.tells files.old) (F.tells files.new) }
+    ensures fault { Blames (asked words.now) result (seen F.tells O.tells E.tells files.old files.new out.old out.new err.old err.new) }
+    // The cause: at 0 the groups printed are exactly those nearest to what is raised. And what it cost.
+    ensures finds { Finds (asked words.now) result (F.tells files.old) (O.tells out.old) (O.tells out.new) }
+    ensures steps { Counts (asked words.now) steps.old steps.new }
 {
     let answer = answer(alloc, words, files, steps);
-    conclude(words, answer, out, err)
+    conclude(answer, out, err)
 }
 
-// Reads and judges the files of a command, and gives its output.
-fn answer<F: Files, L: Ledger>(
+// Reads and judges the files of what is asked for, and makes its output.
+fn answer<'w, F: Files, L: Ledger>(
     alloc: Global,
-    words: &[String],
+    words: &'w [String],
     files: &mut F,
     steps: &mut Steps<L>,
-) -> Result<Vec<u8>, Halt>
-    ensures judged { ReadsAndJudges (file_words (texts words.now)) (IsOutcome (texts words.now)) (F.tells files.old) (F.tells files.new) result }
-    ensures ends { MayGive (texts words.now) result }
-    ensures unread { (¬ IsBuilt (texts words.now)) → files.new ≡ files.old }
-    ensures usage { (¬ IsInTable (texts words.now)) → result ≡ Err Halt.Usage }
-    ensures unbuilt { IsUnbuilt (texts words.now) → result ≡ Err Halt.NotBuilt }
-    ensures steps { (¬ AskForBurst (texts words.now)) → steps.new ≡ steps.old }
+) -> Result<Vec<u8>, Fault<'w>>
+    ensures comes { AskedComes (asked words.now) (F.tells files.old) (F.tells files.new) result }
+    ensures unread { (¬ IsBuilt (asked words.now)) → files.new ≡ files.old }
+    ensures steps { Counts (asked words.now) steps.old steps.new }
 {
-    match Command::of(words) {
-        Some(
-            Command::Burst {
-                model,
-                topology,
-                symptoms,
-            },
-        ) => burst(alloc, files, model, topology, symptoms, steps),
-        Some(Command::Model { model: name }) => model(alloc, files, name),
-        Some(Command::NotBuilt) => Err(Halt::NotBuilt),
-        None => Err(Halt::Usage),
+    match Request::of(words) {
+        Some(request) => perform(alloc, request, files, steps),
+        None => Err(Fault::Usage),
     }
 }

@@ -1,142 +1,111 @@
 -- What each way out of `burst` shows.
-use Rattle.std.proofs.Common.{List, ℕ, [], ◌∷◌, refl, ap, subst, inr, arith}
-use Rattle.cb_model.specs.declared.tables.Tables.{Tables}
-use Rattle.cb_network.specs.Topology.{Topology}
+use Rattle.std.proofs.Common.{◌≡◌, List, ℕ, [], ◌∷◌, refl, ap, inl, inr, subst}
 use Rattle.cb_topo.specs.Numbered.{topology_of}
-use Rattle.cb_io.proofs.Told.{NoCountFalls-trans, ReadsEach-nil, ReadsEach-next, ReadsEach-gives}
-use Rattle.cb_top.specs.declared.files.TheConstants.{MODEL, TOPOLOGY, SYMPTOMS}
-use Rattle.cb_top.specs.declared.halt.Halt.TheVariants.{Memory}
-use Rattle.cb_top.specs.Model.{IsModelText}
-use Rattle.cb_top.specs.Burst.{IsTopologyText, IsSymptomText}
-use Rattle.cb_top.specs.Halts.{JudgesModel, JudgesTopology, JudgesSymptoms}
-use Rattle.cb_top.specs.Outcome.{BurstAnswers, file_after, done}
-use Rattle.cb_top.proofs.Reading.{counts_stay, if_some, if_some2, if_some3, of_any, of_all, ends_there, memory_ends, err_is}
-use Rattle.cb_top.proofs.Shown.{refused_for_burst, topology_refused_for_burst, symptoms_refused_for_burst}
+use Rattle.cb_request.specs.Files.{Role}
+use Rattle.cb_request.specs.declared.request.Request.TheVariants.{Burst}
+use Rattle.cb_report.specs.declared.fault.Fault.TheVariants.{Memory}
+use Rattle.cb_outcome.specs.Outcome.{done}
+use Rattle.cb_outcome.specs.Judged.{Known, nothing, raised, AllSay}
+use Rattle.cb_outcome.specs.Answer.{files_from}
+use Rattle.cb_outcome.specs.Reading.{Told}
+use Rattle.cb_top.proofs.Chain.{passed_none, passed_next, stops_there, err_is, reads_all}
 use Rattle.cb_top.proofs.burst.burst.Goals as goal
 
-pub returns-in_err-model-clause-judged : goal.returns-in_err-model-clause-judged
-returns-in_err-model-clause-judged g c =
+pub returns-in_err-model : goal.returns-in_err-model
+returns-in_err-model g c =
     let old = g.F.Files.tells c.args.files.now in
-    let m = c.args.model.now in
-    let t = c.args.topology.now in
-    let s = c.args.symptoms.now in
-    let read = c.in_err-model.ensures in
+    let one = g.F.Files.tells c.read_as.new.files in
+    let m = c.args.model in
+    let t = c.args.topology in
+    let s = c.args.symptoms in
     rw (err_is _ _ c.from_residual.ensures.1)
-    (ends_there (m ∷ t ∷ s ∷ []) [] m MODEL JudgesModel refl old old (g.F.Files.tells c.read_model.new.files) (ReadsEach-nil old) (λ left. BurstAnswers left m t s)
-    c.in_err-model.field-0.0 refl (omega arith) (of_any old.left)
-    (of_all old.left _ (λ left halt j. refused_for_burst (file_after left [] m) (file_after left (m ∷ []) t) (file_after left (m ∷ t ∷ []) s) halt j))
-    (counts_stay old) read.others read.front read.halt)
+    (stops_there [] Role.model m nothing old old one (passed_none old) c.in_err-model.ensures.only (Burst m t s)
+    ((Role.topology, t) ∷ (Role.symptoms, s) ∷ []) refl _ _ refl c.in_err-model.ensures.stops)
 
-pub returns-in_err-topology-clause-judged : goal.returns-in_err-topology-clause-judged
-returns-in_err-topology-clause-judged g c =
+pub returns-in_err-topology : goal.returns-in_err-topology
+returns-in_err-topology g c =
     let old = g.F.Files.tells c.args.files.now in
-    let m = c.args.model.now in
-    let t = c.args.topology.now in
-    let s = c.args.symptoms.now in
-    let one = g.F.Files.tells c.read_model.new.files in
-    let model_text = c.in_ok-model.ensures.model in
-    let model_is = ReadsEach-gives old old one [] m model_text.0 (ReadsEach-nil old) model_text.1 in
-    let first = ReadsEach-next old old one [] m model_text.0 (ReadsEach-nil old) c.in_ok-model.ensures.others model_text.1 in
-    let tables : Tables = c.in_ok-model.model in
-    let read = c.in_err-topology.ensures in
+    let one = g.F.Files.tells c.read_as.new.files in
+    let m = c.args.model in
+    let t = c.args.topology in
+    let s = c.args.symptoms in
+    let first = c.in_ok-model.ensures.value in
+    let (tree, tree_is, first_says) = first.says nothing refl in
+    let after_model = passed_next [] Role.model m nothing old old one (passed_none old) c.in_ok-model.ensures.only first.text tree first.read first_says in
+    let two = g.F.Files.tells c.read_as-2.new.files in
     rw (err_is _ _ c.from_residual-in_err-topology.ensures.1)
-    (ends_there (m ∷ t ∷ s ∷ []) (m ∷ []) t TOPOLOGY (JudgesTopology tables) refl old one (g.F.Files.tells c.read_topology_file.new.files) first (λ left. BurstAnswers left m t s)
-    c.in_err-topology.field-0.0 refl (omega arith)
-    (if_some old.left _ _ (λ left is. (tables, subst (λ (x : List ℕ). IsModelText x tables) is model_text.2)) model_is)
-    (if_some old.left _ _ (λ left is halt j. topology_refused_for_burst (file_after left [] m) (file_after left (m ∷ []) t) (file_after left (m ∷ t ∷ []) s) tables
-    (subst (λ (x : List ℕ). IsModelText x tables) is model_text.2) halt j) model_is)
-    c.in_ok-model.ensures.counts read.others read.front read.halt)
+    (stops_there ((Role.model, m) ∷ []) Role.topology t tree old one two after_model c.in_err-topology.ensures.only (Burst m t s)
+    ((Role.symptoms, s) ∷ []) refl _ _ tree_is c.in_err-topology.ensures.stops)
 
-pub returns-in_err-raised-clause-judged : goal.returns-in_err-raised-clause-judged
-returns-in_err-raised-clause-judged g c =
+pub returns-in_err-raised : goal.returns-in_err-raised
+returns-in_err-raised g c =
     let old = g.F.Files.tells c.args.files.now in
-    let m = c.args.model.now in
-    let t = c.args.topology.now in
-    let s = c.args.symptoms.now in
-    let one = g.F.Files.tells c.read_model.new.files in
-    let model_text = c.in_ok-model.ensures.model in
-    let model_is = ReadsEach-gives old old one [] m model_text.0 (ReadsEach-nil old) model_text.1 in
-    let first = ReadsEach-next old old one [] m model_text.0 (ReadsEach-nil old) c.in_ok-model.ensures.others model_text.1 in
-    let tables : Tables = c.in_ok-model.model in
-    let two = g.F.Files.tells c.read_topology_file.new.files in
-    let topology_text = c.in_ok-topology.ensures.topology in
-    let topology_is = ReadsEach-gives old one two (m ∷ []) t topology_text.0 first topology_text.1 in
-    let second = ReadsEach-next old one two (m ∷ []) t topology_text.0 first c.in_ok-topology.ensures.others topology_text.1 in
-    let network : Topology = topology_of c.in_ok-topology.topology in
-    let read = c.in_err-raised.ensures in
+    let one = g.F.Files.tells c.read_as.new.files in
+    let m = c.args.model in
+    let t = c.args.topology in
+    let s = c.args.symptoms in
+    let first = c.in_ok-model.ensures.value in
+    let (tree, tree_is, first_says) = first.says nothing refl in
+    let after_model = passed_next [] Role.model m nothing old old one (passed_none old) c.in_ok-model.ensures.only first.text tree first.read first_says in
+    let two = g.F.Files.tells c.read_as-2.new.files in
+    let second = c.in_ok-topology.ensures.value in
+    let (net, net_is, second_says) = second.says tree tree_is in
+    let after_topology = passed_next ((Role.model, m) ∷ []) Role.topology t tree old one two after_model c.in_ok-topology.ensures.only second.text net second.read second_says in
+    let three = g.F.Files.tells c.read_as-3.new.files in
     rw (err_is _ _ c.from_residual-in_err-raised.ensures.1)
-    (ends_there (m ∷ t ∷ s ∷ []) (m ∷ t ∷ []) s SYMPTOMS JudgesSymptoms refl old two (g.F.Files.tells c.read_symptom_file.new.files) second (λ left. BurstAnswers left m t s)
-    c.in_err-raised.field-0.0 refl (omega arith)
-    (if_some2 old.left _ _ _ (λ left is_m is_t. (
-      tables,
-      subst (λ (x : List ℕ). IsModelText x tables) is_m model_text.2,
-      network,
-      subst (λ (x : List ℕ). IsTopologyText tables x network) is_t topology_text.2,
-    )) model_is topology_is)
-    (if_some2 old.left _ _ _ (λ left is_m is_t halt j. symptoms_refused_for_burst (file_after left [] m) (file_after left (m ∷ []) t) (file_after left (m ∷ t ∷ []) s) tables
-    (subst (λ (x : List ℕ). IsModelText x tables) is_m model_text.2) network (subst (λ (x : List ℕ). IsTopologyText tables x network) is_t topology_text.2) halt j)
-    model_is topology_is)
-    (NoCountFalls-trans old one two c.in_ok-model.ensures.counts c.in_ok-topology.ensures.counts) read.others read.front read.halt)
+    (stops_there ((Role.model, m) ∷ (Role.topology, t) ∷ []) Role.symptoms s net old two three after_topology c.in_err-raised.ensures.only (Burst m t s)
+    [] refl _ _ net_is c.in_err-raised.ensures.stops)
 
-pub returns-clause-judged : goal.returns-clause-judged
-returns-clause-judged g c =
+pub lines_of_burst-requires : goal.lines_of_burst-requires
+lines_of_burst-requires g c =
+    let (tree, tree_is, first_says) = c.in_ok-model.ensures.value.says nothing refl in
+    let (net, net_is, second_says) = c.in_ok-topology.ensures.value.says tree tree_is in
+    let (nodes, nodes_are, third_says) = c.in_ok-raised.ensures.value.says net net_is in
+    nodes_are.1
+
+pub returns-in_err-lines_of_burst : goal.returns-in_err-lines_of_burst
+returns-in_err-lines_of_burst g c =
     let old = g.F.Files.tells c.args.files.now in
-    let m = c.args.model.now in
-    let t = c.args.topology.now in
-    let s = c.args.symptoms.now in
-    let one = g.F.Files.tells c.read_model.new.files in
-    let model_text = c.in_ok-model.ensures.model in
-    let model_is = ReadsEach-gives old old one [] m model_text.0 (ReadsEach-nil old) model_text.1 in
-    let first = ReadsEach-next old old one [] m model_text.0 (ReadsEach-nil old) c.in_ok-model.ensures.others model_text.1 in
-    let tables : Tables = c.in_ok-model.model in
-    let two = g.F.Files.tells c.read_topology_file.new.files in
-    let topology_text = c.in_ok-topology.ensures.topology in
-    let topology_is = ReadsEach-gives old one two (m ∷ []) t topology_text.0 first topology_text.1 in
-    let second = ReadsEach-next old one two (m ∷ []) t topology_text.0 first c.in_ok-topology.ensures.others topology_text.1 in
-    let network : Topology = topology_of c.in_ok-topology.topology in
-    let three = g.F.Files.tells c.read_symptom_file.new.files in
-    let raised_text = c.in_ok-raised.ensures.raised in
-    let raised_are = ReadsEach-gives old two three (m ∷ t ∷ []) s raised_text.0 second raised_text.1 in
-    let found = c.in_ok-lines_of_burst.ensures in record {
-      shows = if_some3 old.left _ _ _ _ (λ left is_m is_t is_s. inr (
-        tables,
-        subst (λ (x : List ℕ). IsModelText x tables) is_m model_text.2,
-        inr (
-          network,
-          subst (λ (x : List ℕ). IsTopologyText tables x network) is_t topology_text.2,
-          inr (
-            c.in_ok-raised.raised,
-            subst (λ (x : List ℕ). IsSymptomText x c.in_ok-raised.raised) is_s raised_text.2,
-            (found.0, found.1, ap done found.2),
-          ),
-        ),
-      )) model_is topology_is raised_are;
-      read = ReadsEach-next old two three (m ∷ t ∷ []) s raised_text.0 second c.in_ok-raised.ensures.others raised_text.1;
-      placed = tt;
-      last = tt;
-      failed = tt;
-    }
-
-pub returns-in_err-lines_of_burst-clause-judged : goal.returns-in_err-lines_of_burst-clause-judged
-returns-in_err-lines_of_burst-clause-judged g c =
-    let m = c.args.model.now in
-    let t = c.args.topology.now in
-    let s = c.args.symptoms.now in
+    let one = g.F.Files.tells c.read_as.new.files in
+    let m = c.args.model in
+    let t = c.args.topology in
+    let s = c.args.symptoms in
+    let first = c.in_ok-model.ensures.value in
+    let (tree, tree_is, first_says) = first.says nothing refl in
+    let after_model = passed_next [] Role.model m nothing old old one (passed_none old) c.in_ok-model.ensures.only first.text tree first.read first_says in
+    let two = g.F.Files.tells c.read_as-2.new.files in
+    let second = c.in_ok-topology.ensures.value in
+    let (net, net_is, second_says) = second.says tree tree_is in
+    let after_topology = passed_next ((Role.model, m) ∷ []) Role.topology t tree old one two after_model c.in_ok-topology.ensures.only second.text net second.read second_says in
+    let three = g.F.Files.tells c.read_as-3.new.files in
+    let third = c.in_ok-raised.ensures.value in
+    let (nodes, nodes_are, third_says) = third.says net net_is in
+    let after_symptoms = passed_next ((Role.model, m) ∷ (Role.topology, t) ∷ []) Role.symptoms s net old two three after_topology c.in_ok-raised.ensures.only third.text nodes third.read third_says in
     rw (err_is c.from_residual-in_err-lines_of_burst.result Memory c.from_residual-in_err-lines_of_burst.ensures.1)
-    (memory_ends (m ∷ t ∷ s ∷ []) (λ left. BurstAnswers left m t s) (g.F.Files.tells c.args.files.now) (g.F.Files.tells c.read_symptom_file.new.files))
+    (inl (record { is = refl; whole = 3; read = reads_all old three (m ∷ t ∷ s ∷ []) after_symptoms.read }))
 
-pub returns-in_err-model-clause-of_files : goal.returns-in_err-model-clause-of_files
-returns-in_err-model-clause-of_files g c =
-    rw (err_is _ _ c.from_residual.ensures.1) c.in_err-model.ensures.halt.of_files
-
-pub returns-in_err-topology-clause-of_files : goal.returns-in_err-topology-clause-of_files
-returns-in_err-topology-clause-of_files g c =
-    rw (err_is _ _ c.from_residual-in_err-topology.ensures.1) c.in_err-topology.ensures.halt.of_files
-
-pub returns-in_err-raised-clause-of_files : goal.returns-in_err-raised-clause-of_files
-returns-in_err-raised-clause-of_files g c =
-    rw (err_is _ _ c.from_residual-in_err-raised.ensures.1) c.in_err-raised.ensures.halt.of_files
-
-pub returns-in_err-lines_of_burst-clause-of_files : goal.returns-in_err-lines_of_burst-clause-of_files
-returns-in_err-lines_of_burst-clause-of_files g c =
-    rw (err_is c.from_residual-in_err-lines_of_burst.result Memory c.from_residual-in_err-lines_of_burst.ensures.1) tt
+pub returns : goal.returns
+returns g c =
+    let old = g.F.Files.tells c.args.files.now in
+    let one = g.F.Files.tells c.read_as.new.files in
+    let m = c.args.model in
+    let t = c.args.topology in
+    let s = c.args.symptoms in
+    let first = c.in_ok-model.ensures.value in
+    let (tree, tree_is, first_says) = first.says nothing refl in
+    let after_model = passed_next [] Role.model m nothing old old one (passed_none old) c.in_ok-model.ensures.only first.text tree first.read first_says in
+    let two = g.F.Files.tells c.read_as-2.new.files in
+    let second = c.in_ok-topology.ensures.value in
+    let (net, net_is, second_says) = second.says tree tree_is in
+    let after_topology = passed_next ((Role.model, m) ∷ []) Role.topology t tree old one two after_model c.in_ok-topology.ensures.only second.text net second.read second_says in
+    let three = g.F.Files.tells c.read_as-3.new.files in
+    let third = c.in_ok-raised.ensures.value in
+    let (nodes, nodes_are, third_says) = third.says net net_is in
+    let after_symptoms = passed_next ((Role.model, m) ∷ (Role.topology, t) ∷ []) Role.symptoms s net old two three after_topology c.in_ok-raised.ensures.only third.text nodes third.read third_says in
+    let (finding, found, text) = c.in_ok-lines_of_burst.ensures in
+    record {
+      known = raised (topology_of c.in_ok-topology.topology) c.in_ok-raised.raised;
+      said = subst (λ (k : Known). Told old (λ left. AllSay nothing (files_from left (Burst m t s)) k)) nodes_are.0 after_symptoms.said;
+      gives = λ whole. (finding, found, ap (λ (bytes : List ℕ). done bytes whole) text);
+      read = after_symptoms.read;
+    }

@@ -5,7 +5,7 @@ use Rattle.cb_coding.specs.declared.group.Group.{Group}
 use Rattle.cb_coding.proofs.GroupLaws.{groups_are_wide}
 use Rattle.cb_finding.proofs.Nearest.{coded_are_wide}
 use Rattle.cb_topo.specs.Numbered.{topology_of}
-use Rattle.cb_top.proofs.Judged.{if_ok_more}
+use Rattle.cb_top.proofs.Chain.{if_ok_more}
 use Rattle.cb_top.proofs.judge.lines_over.Goals as goal
 
 pub whole_book-requires-clause-have_width : goal.whole_book-requires-clause-have_width
@@ -48,8 +48,8 @@ returns g c =
         groups = c.in_ok-matrix.matrix.groups;
         matrix = c.in_ok-matrix.ensures.matrix;
         least = least.0;
-        least_is = rw (c.in_ok-codes.ensures, c.len.ensures) at least.1.0;
-        found = rw (c.in_ok-book.ensures.columns, c.len.ensures, least.1.1) at c.in_ok-finding.ensures;
+        least_is = rw (c.in_ok-codes.ensures, c.len.ensures) at least.1;
+        found = rw (c.in_ok-book.ensures.columns, c.len.ensures, least.2) at c.in_ok-finding.ensures;
       },
       text,
     )) c.burst_text.ensures

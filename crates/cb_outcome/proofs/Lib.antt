@@ -1,0 +1,4 @@
+pub mod FirstLines
+pub mod Regular
+pub mod Once
+pub mod Outcomes

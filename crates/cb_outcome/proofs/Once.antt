@@ -1,0 +1,198 @@
+-- A file says one thing at most, is refused in one way at most, and never both.
+use Rattle.std.proofs.Common.{◌≡◌, ◌⊎◌, ◌≤◌, List, ℕ, length, refl, sym, ap, subst, ◌∙◌, inl, inr, Ok, Err, arith}
+use Rattle.cb_text.specs.Lines.{HasShortLines}
+use Rattle.cb_model.specs.declared.node.NodeName.{NodeName}
+use Rattle.cb_model.specs.declared.tables.Tables.{Tables}
+use Rattle.cb_grammar.specs.declared.tree.Tree.{Tree}
+use Rattle.cb_syntax.specs.declared.fault.SyntaxFault.{SyntaxFault}
+use Rattle.cb_syntax.specs.Spells.{Spells, IsFault as IsSyntaxFault}
+use Rattle.cb_syntax.specs.Laws.{IsAnswer}
+use Rattle.cb_syntax.proofs.One.{one_answer, names_fit}
+use Rattle.cb_rules.specs.declared.rule.BrokenRule.{BrokenRule}
+use Rattle.cb_rules.specs.Fault.{IsFault as IsTypeFault}
+use Rattle.cb_rules.proofs.Order.{one_fault_is}
+use Rattle.cb_check.specs.Stands.{Stands}
+use Rattle.cb_check.specs.declared.fault.TypeFault.TheVariants.{Broken}
+use Rattle.cb_check.proofs.One.{one_model}
+use Rattle.cb_check.proofs.Typed.{stands_is_typed}
+use Rattle.cb_network.specs.Regular.{IsRegular}
+use Rattle.cb_network.specs.Topology.{Topology}
+use Rattle.cb_inputs.specs.declared.topology.LineFault.{LineFault}
+use Rattle.cb_inputs.specs.declared.topology.LineFault.TheVariants.{BadWords, Refused}
+use Rattle.cb_inputs.specs.Topologies.{IsFirstWrong, MakesTopology}
+use Rattle.cb_inputs.specs.Symptoms.{ListsNodes, IsFirstBad}
+use Rattle.cb_request.specs.Files.{Role, byte_limit}
+use Rattle.cb_report.specs.declared.fault.Fault.{Fault}
+use Rattle.cb_report.specs.declared.fault.Fault.TheVariants as faults
+use Rattle.cb_outcome.specs.Texts.{IsTreeText, IsTopologyText}
+use Rattle.cb_outcome.specs.Judged.{File, Known, nothing, parsed, network, raised, IsShortFor, Means, Says, IsModelFault, IsWrongLine, IsTopologyFault, IsSymptomFault, HasFault, IsTooLong, HasLongLine, IsFaulty, Refuses}
+use Rattle.cb_outcome.proofs.FirstLines.{long_is_one, long_or_short, bad_is_one, bad_or_listed, nodes_are_one, topology_is_one, wrong_is_one, wrong_or_makes}
+use Rattle.cb_outcome.proofs.Regular.{typed_is_regular}
+
+-- ---- a model
+
+-- a text spells one tree
+same_tree : (text : List ℕ) (one other : Tree) → Spells text one → Spells text other → one ≡ other
+same_tree text one other s s' = let e = one_answer text (Ok one) (Ok other) s s' in cc
+
+-- a text doesn't both spell a tree and have a fault of its tokens
+no_tree : (text : List ℕ) (tree : Tree) (fault : SyntaxFault) → Spells text tree → IsAnswer text (Err fault) → ⊥
+no_tree text tree fault s f = let e = one_answer text (Ok tree) (Err fault) s f in cc
+
+-- a fault of tokens
+record OfTokens (text : List ℕ) (fault : Fault) : Type 0 where
+  syntax : SyntaxFault
+  is : fault ≡ faults.Syntax syntax
+  answer : IsAnswer text (Err syntax)
+
+-- a broken rule
+record OfRules (text : List ℕ) (fault : Fault) : Type 0 where
+  broken : BrokenRule
+  is : fault ≡ faults.Kind (Broken broken)
+  tree : Tree
+  spelled : Spells text tree
+  breaks : IsTypeFault tree broken
+
+kind_of : (text : List ℕ) (fault : Fault) → IsModelFault text fault → OfTokens text fault ⊎ OfRules text fault
+kind_of text (faults.Syntax syntax) f = inl (record { syntax = syntax; is = refl; answer = f })
+kind_of text (faults.Kind (Broken broken)) (tree, spelled, breaks) =
+    inr (record { broken = broken; is = refl; tree = tree; spelled = spelled; breaks = breaks })
+kind_of text fault f = absurd f
+
+same_kind : (text : List ℕ) (one other : Fault) → OfTokens text one ⊎ OfRules text one → OfTokens text other ⊎ OfRules text other → one ≡ other
+same_kind text one other (inl a) (inl b) =
+    let e = one_answer text (Err a.syntax) (Err b.syntax) a.answer b.answer in
+    let same : a.syntax ≡ b.syntax = cc in
+    a.is ∙ (ap (λ (s : SyntaxFault). faults.Syntax s) same ∙ sym b.is)
+same_kind text one other (inl a) (inr b) = absurd (no_tree text b.tree a.syntax b.spelled a.answer)
+same_kind text one other (inr a) (inl b) = absurd (no_tree text a.tree b.syntax a.spelled b.answer)
+same_kind text one other (inr a) (inr b) =
+    let trees = same_tree text a.tree b.tree a.spelled b.spelled in
+    let breaks : IsTypeFault b.tree a.broken = subst (λ (t : Tree). IsTypeFault t a.broken) trees a.breaks in
+    a.is ∙ (ap (λ (r : BrokenRule). faults.Kind (Broken r)) (one_fault_is b.tree a.broken b.broken breaks b.breaks) ∙ sym b.is)
+
+kept_or_broken : (text : List ℕ) (fault : Fault) (tree : Tree) → OfTokens text fault ⊎ OfRules text fault → IsTreeText text tree → ⊥
+kept_or_broken text fault tree (inl a) t = no_tree text tree a.syntax t.spelled a.answer
+kept_or_broken text fault tree (inr a) t =
+    let trees = same_tree text a.tree tree a.spelled t.spelled in
+    let breaks : IsTypeFault tree a.broken = subst (λ (x : Tree). IsTypeFault x a.broken) trees a.breaks in
+    t.keeps a.broken.rule a.broken.line breaks.broken
+
+-- ---- a topology, after a tree that a text says
+
+module _ (model_text : List ℕ) (tree : Tree) (is : IsTreeText model_text tree) where
+  one_tables : (a b : Tables) → Stands tree a → Stands tree b → a ≡ b
+  one_tables a b s s' = one_model tree a b is.keeps s s'
+
+  regular : (tables : Tables) → Stands tree tables → IsRegular tables
+  regular tables s = typed_is_regular tables (stands_is_typed tree tables is.keeps s (names_fit model_text (Ok tree) is.spelled))
+
+  one_topology : (text : List ℕ) (t u : Topology) → IsTopologyText tree text t → IsTopologyText tree text u → t ≡ u
+  one_topology text t u a b =
+      let same : a.tables ≡ b.tables = one_tables a.tables b.tables a.stands b.stands in
+      topology_is_one b.tables (regular b.tables b.stands) text t u (subst (λ (x : Tables). MakesTopology x text t) same a.makes) b.makes
+
+  -- what is wrong on which line
+  fault_at : ℕ → LineFault → Fault
+  fault_at line BadWords = faults.EditWords line
+  fault_at line (Refused why) = faults.Edit line why
+
+  record OfLine (text : List ℕ) (fault : Fault) : Type 0 where
+    line : ℕ
+    why : LineFault
+    wrong : IsWrongLine tree text line why
+    at : fault ≡ fault_at line why
+
+  line_of : (text : List ℕ) (fault : Fault) → IsTopologyFault tree text fault → OfLine text fault
+  unfolding fault_at
+  line_of text (faults.EditWords line) w = record { line = line; why = BadWords; wrong = w; at = refl }
+  line_of text (faults.Edit line why) w = record { line = line; why = Refused why; wrong = w; at = refl }
+  line_of text fault w = absurd w
+
+  one_wrong_line : (text : List ℕ) (f g : Fault) → OfLine text f → OfLine text g → f ≡ g
+  one_wrong_line text f g a b =
+      let (tables, stands, first) = a.wrong in
+      let (others, stands', first') = b.wrong in
+      let same : others ≡ tables = one_tables others tables stands' stands in
+      let one = wrong_is_one tables (regular tables stands) text a.line b.line a.why b.why first (subst (λ (x : Tables). IsFirstWrong x text b.line b.why) same first') in
+      a.at ∙ ((λ i. fault_at (one.0 i) (one.1 i)) ∙ sym b.at)
+
+  wrong_or_topology : (text : List ℕ) (f : Fault) (t : Topology) → OfLine text f → IsTopologyText tree text t → ⊥
+  wrong_or_topology text f t a b =
+      let (tables, stands, first) = a.wrong in
+      let same : b.tables ≡ tables = one_tables b.tables tables b.stands stands in
+      wrong_or_makes tables (regular tables stands) text a.line a.why t first (subst (λ (x : Tables). MakesTopology x text t) same b.makes)
+
+-- ---- symptoms
+
+bad_line : (text : List ℕ) (fault : Fault) → IsSymptomFault text fault → (line : ℕ) × IsFirstBad text line × (fault ≡ faults.SymptomLine line)
+bad_line text (faults.SymptomLine line) f = (line, f, refl)
+bad_line text fault f = absurd f
+
+one_bad_line : (text : List ℕ) (f g : Fault) → IsSymptomFault text f → IsSymptomFault text g → f ≡ g
+one_bad_line text f g a b =
+    let (m, bad, e) = bad_line text f a in
+    let (n, bad', h) = bad_line text g b in
+    e ∙ (ap (λ (line : ℕ). faults.SymptomLine line) (bad_is_one text m n bad bad') ∙ sym h)
+
+bad_or_nodes : (text : List ℕ) (fault : Fault) (nodes : List NodeName) → IsSymptomFault text fault → ListsNodes text nodes → ⊥
+bad_or_nodes text fault nodes f lists = let (line, bad, e) = bad_line text fault f in bad_or_listed text line nodes bad lists
+
+-- ---- a file
+
+-- what is known came from a text, where it is a tree
+abbrev pub IsSound : Known → Type 0
+IsSound (parsed tree) = (text : List ℕ) × IsTreeText text tree
+IsSound known = Unit {0}
+
+means_one : (role : Role) (known : Known) (text : List ℕ) → IsSound known → (a b : Known) → Means role known text a → Means role known text b → a ≡ b
+means_one Role.model nothing text sound a b (t, is, e) (u, is', h) = e ∙ (ap (λ (x : Tree). parsed x) (same_tree text t u is.spelled is'.spelled) ∙ sym h)
+means_one Role.topology (parsed tree) text (from, says) a b (t, is, e) (u, is', h) =
+    e ∙ (ap (λ (x : Topology). network x) (one_topology from tree says text t u is is') ∙ sym h)
+means_one Role.symptoms (network t) text sound a b (xs, is, e) (ys, is', h) =
+    e ∙ (ap (λ (x : List NodeName). raised t x) (nodes_are_one text xs ys is is') ∙ sym h)
+means_one role known text sound a b p q = absurd p
+
+fault_one : (role : Role) (known : Known) (text : List ℕ) → IsSound known → (f g : Fault) → HasFault role known text f → HasFault role known text g → f ≡ g
+fault_one Role.model nothing text sound f g a b = same_kind text f g (kind_of text f a) (kind_of text g b)
+fault_one Role.topology (parsed tree) text (from, says) f g a b =
+    one_wrong_line from tree says text f g (line_of from tree says text f a) (line_of from tree says text g b)
+fault_one Role.symptoms (network t) text sound f g a b = one_bad_line text f g a b
+fault_one role known text sound f g a b = absurd a
+
+means_or_fault : (role : Role) (known : Known) (text : List ℕ) → IsSound known → (a : Known) (f : Fault) → Means role known text a → HasFault role known text f → ⊥
+means_or_fault Role.model nothing text sound a f (t, is, e) h = kept_or_broken text f t (kind_of text f h) is
+means_or_fault Role.topology (parsed tree) text (from, says) a f (t, is, e) h = wrong_or_topology from tree says text f t (line_of from tree says text f h) is
+means_or_fault Role.symptoms (network t) text sound a f (xs, is, e) h = bad_or_nodes text f xs h is
+means_or_fault role known text sound a f p h = p
+
+means_sound : (role : Role) (known : Known) (text : List ℕ) (next : Known) → Means role known text next → IsSound next
+means_sound Role.model nothing text next (t, is, e) = subst IsSound (sym e) (text, is)
+means_sound Role.topology (parsed tree) text next (t, is, e) = subst IsSound (sym e) tt
+means_sound Role.symptoms (network t) text next (xs, is, e) = subst IsSound (sym e) tt
+means_sound role known text next p = absurd p
+
+-- what a file says is sound
+pub says_sound : (known : Known) (file : File) (next : Known) → Says known file next → IsSound next
+says_sound known file next s = means_sound file.role known file.text next s.means
+
+module _ (known : Known) (sound : IsSound known) (file : File) where
+  pub says_one : (a b : Known) → Says known file a → Says known file b → a ≡ b
+  says_one a b p q = means_one file.role known file.text sound a b p.means q.means
+
+  pub refused_one : (a b : Fault) → Refuses known file a → Refuses known file b → a ≡ b
+  refused_one a b (inl p) (inl q) = p.is ∙ sym q.is
+  refused_one a b (inl p) (inr (inl q)) = let long = p.bytes in let short = q.bytes in absurd (omega (arith, long, short))
+  refused_one a b (inl p) (inr (inr q)) = let long = p.bytes in let short = q.short.bytes in absurd (omega (arith, long, short))
+  refused_one a b (inr (inl p)) (inl q) = let long = q.bytes in let short = p.bytes in absurd (omega (arith, long, short))
+  refused_one a b (inr (inl p)) (inr (inl q)) =
+      p.is ∙ (ap (λ (line : ℕ). faults.LimitLine file.name line) (long_is_one file.text p.line q.line p.first q.first) ∙ sym q.is)
+  refused_one a b (inr (inl p)) (inr (inr q)) = absurd (long_or_short file.text p.line p.first (q.short.lines p.limited))
+  refused_one a b (inr (inr p)) (inl q) = let long = q.bytes in let short = p.short.bytes in absurd (omega (arith, long, short))
+  refused_one a b (inr (inr p)) (inr (inl q)) = absurd (long_or_short file.text q.line q.first (p.short.lines q.limited))
+  refused_one a b (inr (inr p)) (inr (inr q)) = fault_one file.role known file.text sound a b p.has q.has
+
+  pub not_both : (next : Known) (fault : Fault) → Says known file next → Refuses known file fault → ⊥
+  not_both next fault s (inl p) = let long = p.bytes in let short = s.short.bytes in omega (arith, long, short)
+  not_both next fault s (inr (inl p)) = long_or_short file.text p.line p.first (s.short.lines p.limited)
+  not_both next fault s (inr (inr p)) = means_or_fault file.role known file.text sound next fault s.means p.has

@@ -1,0 +1,13 @@
+pub mod Texts
+pub mod Outcome
+pub mod Judged
+pub mod Jobs
+pub mod Point
+pub mod Answer
+pub mod Laws
+pub mod Seen
+pub mod Reading
+pub mod Ends
+pub mod Clauses
+pub mod Finds
+pub mod Steps

@@ -1,0 +1,6 @@
+//! The outcome of words and files: what a run of the program is to answer.
+#![tactic(auto)]
+
+mod laws;
+
+pub use laws::{done_reads_all, due_is_front, outcome_is_one};

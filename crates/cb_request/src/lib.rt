@@ -1,0 +1,11 @@
+//! What the words of the command line ask for.
+#![tactic(auto)]
+
+mod file_name;
+pub mod laws;
+mod numbers;
+mod request;
+mod table;
+
+pub use file_name::FileName;
+pub use request::Request;

@@ -1,0 +1,43 @@
+//! Words that are numbers.
+ghost use Rattle.std.specs.Prelude.{◌≡◌};
+ghost use Rattle.cb_request.specs.Numbers.{number_in as number_of, distance_in as distance_of, window_in as window_of, sites_in as sites_of, start_in as start_of};
+
+use cb_text::decimal_of;
+
+/// A wanted distance.
+pub fn distance_in(word: &str) -> Option<u64>
+    ensures { result ≡ distance_of word.now }
+{
+    number_in(1, 9_999, word)
+}
+
+/// The length of a window.
+pub fn window_in(word: &str) -> Option<u64>
+    ensures { result ≡ window_of word.now }
+{
+    number_in(1, 1_000_000_000_000, word)
+}
+
+/// A number of sites.
+pub fn sites_in(word: &str) -> Option<u64>
+    ensures { result ≡ sites_of word.now }
+{
+    number_in(1, 256, word)
+}
+
+/// Where a generator starts.
+pub fn start_in(word: &str) -> Option<u64>
+    ensures { result ≡ start_of word.now }
+{
+    number_in(0, u64::MAX, word)
+}
+
+// The number that the word is, if it is one from the least to the most.
+fn number_in(least: u64, most: u64, word: &str) -> Option<u64>
+    ensures { result ≡ number_of least most word.now }
+{
+    match decimal_of(word.as_bytes()) {
+        Some(number) if least <= number && number <= most => Some(number),
+        _ => None,
+    }
+}

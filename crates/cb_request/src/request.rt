@@ -1,0 +1,55 @@
+//! What may be asked for.
+use crate::file_name::FileName;
+
+/// A command with the names of its files and with its numbers, in the order of its words.
+#[derive(Debug, Drop)]
+pub enum Request<'w> {
+    /// What causes the symptoms of a file.
+    Burst {
+        model: FileName<'w>,
+        topology: FileName<'w>,
+        symptoms: FileName<'w>,
+    },
+    /// The canonical text of a model.
+    Model {
+        model: FileName<'w>,
+    },
+    /// Columns, groups and codes.
+    Matrix {
+        model: FileName<'w>,
+        topology: FileName<'w>,
+    },
+    /// A certificate of the codebook for a wanted distance.
+    Codebook {
+        model: FileName<'w>,
+        topology: FileName<'w>,
+        distance: u64,
+    },
+    /// What a certificate shows.
+    Verify {
+        model: FileName<'w>,
+        topology: FileName<'w>,
+        certificate: FileName<'w>,
+    },
+    /// The events of a log, by the codebook of a certificate.
+    Decode {
+        model: FileName<'w>,
+        topology: FileName<'w>,
+        certificate: FileName<'w>,
+        log: FileName<'w>,
+        window: u64,
+    },
+    /// The events of a log, by codebooks for a wanted distance.
+    Correlate {
+        model: FileName<'w>,
+        topology: FileName<'w>,
+        log: FileName<'w>,
+        distance: u64,
+        window: u64,
+    },
+    /// A summary of a generated log.
+    Grow {
+        sites: u64,
+        start: u64,
+    },
+}

@@ -1,0 +1,140 @@
+//! The table of commands.
+ghost use Rattle.std.specs.Prelude.{◌≡◌, ◌∷◌};
+ghost use Rattle.cb_request.specs.Commands.{asked, texts, request_of, burst_of, model_of, matrix_of, codebook_of, verify_of, decode_of, correlate_of, grow_of};
+
+use crate::file_name::FileName;
+use crate::numbers::{distance_in, sites_in, start_in, window_in};
+use crate::request::Request;
+
+impl<'w> Request<'w> {
+    /// What the words of the command line ask for, if they ask for something.
+    pub fn of(words: &'w [String]) -> Option<Request<'w>>
+        ensures { result ≡ asked words.now }
+    {
+        match words.split_first() {
+            Some((command, words)) => read(command.as_str(), words),
+            None => None,
+        }
+    }
+}
+
+// What the words behind a command ask for.
+fn read<'w>(command: &str, words: &'w [String]) -> Option<Request<'w>>
+    ensures { result ≡ request_of (command.now ∷ texts words.now) }
+{
+    match command {
+        "burst" => burst(words),
+        "model" => model(words),
+        "matrix" => matrix(words),
+        "codebook" => codebook(words),
+        "verify" => verify(words),
+        "decode" => decode(words),
+        "correlate" => correlate(words),
+        "grow" => grow(words),
+        _ => None,
+    }
+}
+
+fn burst<'w>(words: &'w [String]) -> Option<Request<'w>>
+    ensures { result ≡ burst_of (texts words.now) }
+{
+    match words {
+        [model, topology, symptoms] => Some(Request::Burst {
+            model: FileName(model.as_str()),
+            topology: FileName(topology.as_str()),
+            symptoms: FileName(symptoms.as_str()),
+        }),
+        _ => None,
+    }
+}
+
+fn model<'w>(words: &'w [String]) -> Option<Request<'w>>
+    ensures { result ≡ model_of (texts words.now) }
+{
+    match words {
+        [model] => Some(Request::Model {
+            model: FileName(model.as_str()),
+        }),
+        _ => None,
+    }
+}
+
+fn matrix<'w>(words: &'w [String]) -> Option<Request<'w>>
+    ensures { result ≡ matrix_of (texts words.now) }
+{
+    match words {
+        [model, topology] => Some(Request::Matrix {
+            model: FileName(model.as_str()),
+            topology: FileName(topology.as_str()),
+        }),
+        _ => None,
+    }
+}
+
+fn codebook<'w>(words: &'w [String]) -> Option<Request<'w>>
+    ensures { result ≡ codebook_of (texts words.now) }
+{
+    match words {
+        [model, topology, distance] => Some(Request::Codebook {
+            model: FileName(model.as_str()),
+            topology: FileName(topology.as_str()),
+            distance: distance_in(distance.as_str())?,
+        }),
+        _ => None,
+    }
+}
+
+fn verify<'w>(words: &'w [String]) -> Option<Request<'w>>
+    ensures { result ≡ verify_of (texts words.now) }
+{
+    match words {
+        [model, topology, certificate] => Some(Request::Verify {
+            model: FileName(model.as_str()),
+            topology: FileName(topology.as_str()),
+            certificate: FileName(certificate.as_str()),
+        }),
+        _ => None,
+    }
+}
+
+fn decode<'w>(words: &'w [String]) -> Option<Request<'w>>
+    ensures { result ≡ decode_of (texts words.now) }
+{
+    match words {
+        [model, topology, certificate, log, window] => Some(Request::Decode {
+            model: FileName(model.as_str()),
+            topology: FileName(topology.as_str()),
+            certificate: FileName(certificate.as_str()),
+            log: FileName(log.as_str()),
+            window: window_in(window.as_str())?,
+        }),
+        _ => None,
+    }
+}
+
+fn correlate<'w>(words: &'w [String]) -> Option<Request<'w>>
+    ensures { result ≡ correlate_of (texts words.now) }
+{
+    match words {
+        [model, topology, log, distance, window] => Some(Request::Correlate {
+            model: FileName(model.as_str()),
+            topology: FileName(topology.as_str()),
+            log: FileName(log.as_str()),
+            distance: distance_in(distance.as_str())?,
+            window: window_in(window.as_str())?,
+        }),
+        _ => None,
+    }
+}
+
+fn grow<'w>(words: &'w [String]) -> Option<Request<'w>>
+    ensures { result ≡ grow_of (texts words.now) }
+{
+    match words {
+        [sites, start] => Some(Request::Grow {
+            sites: sites_in(sites.as_str())?,
+            start: start_in(start.as_str())?,
+        }),
+        _ => None,
+    }
+}
