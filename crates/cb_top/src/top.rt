@@ -27,20 +27,30 @@ pub fn run<F: Files, O: Sink, E: Sink, L: Ledger>(
     err: &mut E,
     steps: &mut Steps<L>,
 ) -> Status
-    // What comes out: status, output, line and files read are those of the outcome, or, at 8, 9 and 10, a front of what was due. Nothing
-    // is written where a word or a judged file is to blame. The line is that of a fault of this status, and there is none at 0.
+    // What comes out. At every status but 8, 9 and 10 status, output, line and the files read are those of the outcome.
     ensures answer { AnswersOutcome (asked words.now) result (seen F.tells O.tells E.tells files.old files.new out.old out.new err.old err.new) }
+    // At each, what was written is a front of what was due at some point of the run.
     ensures front { WritesDue (asked words.now) (F.tells files.old) (O.tells out.old) (O.tells out.new) }
+    // Nothing was written at any status but 0, 6 and 9; at 7, 8 and 10 that is said of commands without a log.
     ensures quiet { KeepsQuiet (asked words.now) result (O.tells out.old) (O.tells out.new) }
+    // The line is that of a fault of this status, which names no file but a file word; at 0 there is none.
     ensures line { SaysStatus (asked words.now) result (E.tells err.old) (E.tells err.new) }
-    // Which words end how, whatever the files tell, and that nothing is read for words of no command that is built.
+
+    // Which words end how, whatever the files tell: 2 comes exactly where they are none of the table, 11 exactly where they are
+    // those of a command that isn't built, 4 for `burst` alone.
     ensures ends { MayEnd (asked words.now) result }
+    // Nothing is read but for a command that is built.
     ensures unread { (¬ IsBuilt (asked words.now)) → files.new ≡ files.old }
-    // What was read, in which order; and which read failed at 8, and that a write did at 9, once all files had passed.
+
+    // What was read: files in the order of the words, each whole before the next, and no other.
     ensures order { ReadsInOrder (asked words.now) (F.tells files.old) (F.tells files.new) }
+    // At 8 a read of the file failed that the line names, and those before it have passed; at 9 a write failed, once all have passed.
     ensures fault { Blames (asked words.now) result (seen F.tells O.tells E.tells files.old files.new out.old out.new err.old err.new) }
-    // The cause: at 0 the groups printed are exactly those nearest to what is raised. And what it cost.
+
+    // The headline: what `burst` prints at 0 are exactly the groups nearest to what is raised, by codes from what causes what; and
+    // where no more symptoms of one group are lost or spurious than the radius says, that group alone, and it is sure.
     ensures finds { Finds (asked words.now) result (F.tells files.old) (O.tells out.old) (O.tells out.new) }
+    // No command but `burst` counts a step.
     ensures steps { Counts (asked words.now) steps.old steps.new }
 {
     let answer = answer(alloc, words, files, steps);
