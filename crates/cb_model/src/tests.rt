@@ -63,35 +63,55 @@ fn nodes_in_order(rt: HostRuntime) -> Result<(), AllocError> {
     Ok(())
 }
 
+// What the look-ups tell of the class of this name: its number, how many events and rules it has, and whether it has the event T, shows T,
+// has the relations ports and owner, is a Mid, and is above Mid.
+fn told(model: &Model, name: &[u8]) -> Option<(ClassId, usize, usize, [bool; 6])> {
+    let class = model.class_named(name)?;
+    let symptom = EventId(2);
+    let middle = ClassId(1);
+    if !is_class(model, class) || !is_class(model, middle) || !is_event(model, symptom) {
+        return None;
+    }
+    let marks = model.marks(class, symptom);
+    Some((
+        class,
+        model.events_of(class).len(),
+        model.rules_of(class).len(),
+        [
+            model.event_named(class, b"T").is_some(),
+            marks.symptom && !marks.problem,
+            model.relation_named(class, b"ports").is_some(),
+            model.relation_named(class, b"owner").is_some(),
+            model.is_a(class, middle),
+            model.is_a(middle, class),
+        ],
+    ))
+}
+
 #[test]
 fn look_ups(rt: HostRuntime) -> Result<(), AllocError> {
     let model = sample_model(rt.alloc())?;
-    let symptom = EventId(2);
-    assert!(rt; is_event(&model, symptom) && is_class(&model, ClassId(1)));
-    assert_eq!(rt; model.class_named(b"Part"), None);
-    // name, events, whether T is a symptom, rules, whether it has the relation ports, is a Mid, Mid is one
-    let table: [(&[u8], usize, bool, usize, bool, bool, bool); 4] = [
-        (b"Base", 3, true, 2, true, false, true),
-        (b"Mid", 3, true, 1, true, true, true),
-        (b"Low", 3, false, 1, true, true, false),
-        (b"Port", 0, false, 0, false, false, false),
+    let table: [(&[u8], Option<(ClassId, usize, usize, [bool; 6])>); 5] = [
+        (
+            b"Base",
+            Some((ClassId(0), 3, 2, [true, true, true, false, false, true])),
+        ),
+        (
+            b"Mid",
+            Some((ClassId(1), 3, 1, [true, true, true, false, true, true])),
+        ),
+        (
+            b"Low",
+            Some((ClassId(2), 3, 1, [true, false, true, false, true, false])),
+        ),
+        (
+            b"Port",
+            Some((ClassId(3), 0, 0, [false, false, false, true, false, false])),
+        ),
+        (b"Part", None),
     ];
-    for (place, (name, events, shows, rules, ports, below, above)) in table
-        .into_iter()
-        .enumerate()
-    {
-        let class = ClassId(place as u16);
-        assert_eq!(rt; model.class_named(name), Some(class));
-        assert!(rt; is_class(&model, class));
-        assert_eq!(rt; model.events_of(class).len(), events);
-        assert_eq!(rt; model.event_named(class, b"T").is_some(), events == 3);
-        assert_eq!(rt; model.marks(class, symptom).symptom, shows);
-        assert_eq!(rt; model.marks(class, symptom).problem, false);
-        assert_eq!(rt; model.rules_of(class).len(), rules);
-        assert_eq!(rt; model.relation_named(class, b"ports").is_some(), ports);
-        assert_eq!(rt; model.relation_named(class, b"owner").is_some(), !ports);
-        assert_eq!(rt; model.is_a(class, ClassId(1)), below);
-        assert_eq!(rt; model.is_a(ClassId(1), class), above);
+    for (name, want) in table {
+        assert_eq!(rt; told(&model, name), want);
     }
     Ok(())
 }
