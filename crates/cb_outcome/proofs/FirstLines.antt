@@ -135,6 +135,14 @@ line_keeps_model t line u (inr (edit, _, after)) = model_stays t u edit after.1
 regular_next : (t : Topology) (line : List ℕ) (u : Topology) → IsRegular t.model → LineMakes t line u → IsRegular u.model
 regular_next t line u regular makes = subst IsRegular (sym (line_keeps_model t line u makes)) regular
 
+lines_keep_model : (t : Topology) (lines : List (List ℕ)) (u : Topology) → LinesMake t lines u → u.model ≡ t.model
+lines_keep_model t [] u same = ap (λ (v : Topology). v.model) (sym same)
+lines_keep_model t (line ∷ lines) u (x, makes, rest) = lines_keep_model x lines u rest ∙ line_keeps_model t line x makes
+
+-- a text makes a topology of the model that it begins with
+pub made_of : (tables : Tables) (text : List ℕ) (u : Topology) → MakesTopology tables text u → u.model ≡ tables
+made_of tables text u m = lines_keep_model (empty_topology tables) (lines_of text) u m.makes
+
 -- lines make one topology
 lines_are_one : (t : Topology) (lines : List (List ℕ)) (u v : Topology) → IsRegular t.model → LinesMake t lines u → LinesMake t lines v → u ≡ v
 lines_are_one t [] u v regular a b = sym a ∙ b

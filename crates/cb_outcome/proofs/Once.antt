@@ -1,5 +1,5 @@
 -- A file says one thing at most, is refused in one way at most, and never both.
-use Rattle.std.proofs.Common.{◌≡◌, ◌⊎◌, ◌≤◌, List, ℕ, length, refl, sym, ap, subst, ◌∙◌, inl, inr, Ok, Err, arith}
+use Rattle.std.proofs.Common.{◌≡◌, ◌⊎◌, ◌≤◌, List, [], ◌∷◌, ℕ, length, refl, sym, ap, subst, ◌∙◌, inl, inr, Ok, Err, arith}
 use Rattle.cb_text.specs.Lines.{HasShortLines}
 use Rattle.cb_model.specs.declared.node.NodeName.{NodeName}
 use Rattle.cb_model.specs.declared.tables.Tables.{Tables}
@@ -21,12 +21,21 @@ use Rattle.cb_inputs.specs.declared.topology.LineFault.{LineFault}
 use Rattle.cb_inputs.specs.declared.topology.LineFault.TheVariants.{BadWords, Refused}
 use Rattle.cb_inputs.specs.Topologies.{IsFirstWrong, MakesTopology}
 use Rattle.cb_inputs.specs.Symptoms.{ListsNodes, IsFirstBad}
+use Rattle.cb_cert.specs.declared.certificate.Certificate.{Certificate}
+use Rattle.cb_cert.specs.declared.fault.CertText.{CertText}
+use Rattle.cb_cert.specs.Format.{Spells as SpellsCertificate}
+use Rattle.cb_cert.specs.Fronts.{IsReading}
+use Rattle.cb_cert.proofs.Readings.{reading_is_one}
+use Rattle.cb_claim.specs.declared.verdict.Rejected.{Rejected}
+use Rattle.cb_claim.specs.Checks.{IsFirstFail}
+use Rattle.cb_claim.proofs.Firsts.{first_fail_is_one}
+use Rattle.cb_claim.proofs.Passing.{valid_is_not_rejected}
 use Rattle.cb_request.specs.Files.{Role, byte_limit}
 use Rattle.cb_report.specs.declared.fault.Fault.{Fault}
 use Rattle.cb_report.specs.declared.fault.Fault.TheVariants as faults
-use Rattle.cb_outcome.specs.Texts.{IsTreeText, IsTopologyText}
-use Rattle.cb_outcome.specs.Judged.{File, Known, nothing, parsed, network, raised, IsShortFor, Means, Says, IsModelFault, IsWrongLine, IsTopologyFault, IsSymptomFault, HasFault, IsTooLong, HasLongLine, IsFaulty, Refuses}
-use Rattle.cb_outcome.proofs.FirstLines.{long_is_one, long_or_short, bad_is_one, bad_or_listed, nodes_are_one, topology_is_one, wrong_is_one, wrong_or_makes}
+use Rattle.cb_outcome.specs.Texts.{IsTreeText, IsTopologyText, IsValidText, IsBookKind}
+use Rattle.cb_outcome.specs.Judged.{File, Known, nothing, parsed, network, raised, certified, IsShortFor, Means, Says, IsModelFault, IsWrongLine, IsTopologyFault, IsSymptomFault, IsCertificateFault, IsBookFault, HasFault, IsTooLong, HasLongLine, IsFaulty, Refuses, PassFrom}
+use Rattle.cb_outcome.proofs.FirstLines.{long_is_one, long_or_short, bad_is_one, bad_or_listed, nodes_are_one, topology_is_one, made_of, wrong_is_one, wrong_or_makes}
 use Rattle.cb_outcome.proofs.Regular.{typed_is_regular}
 
 -- ---- a model
@@ -123,6 +132,9 @@ module _ (model_text : List ℕ) (tree : Tree) (is : IsTreeText model_text tree)
       let same : b.tables ≡ tables = one_tables b.tables tables b.stands stands in
       wrong_or_makes tables (regular tables stands) text a.line a.why t first (subst (λ (x : Tables). MakesTopology x text t) same b.makes)
 
+  topology_regular : (text : List ℕ) (t : Topology) → IsTopologyText tree text t → IsRegular t.model
+  topology_regular text t a = subst IsRegular (sym (made_of a.tables text t a.makes)) (regular a.tables a.stands)
+
 -- ---- symptoms
 
 bad_line : (text : List ℕ) (fault : Fault) → IsSymptomFault text fault → (line : ℕ) × IsFirstBad text line × (fault ≡ faults.SymptomLine line)
@@ -138,12 +150,75 @@ one_bad_line text f g a b =
 bad_or_nodes : (text : List ℕ) (fault : Fault) (nodes : List NodeName) → IsSymptomFault text fault → ListsNodes text nodes → ⊥
 bad_or_nodes text fault nodes f lists = let (line, bad, e) = bad_line text fault f in bad_or_listed text line nodes bad lists
 
+-- ---- a certificate
+
+-- a text spells one certificate
+same_certificate : (text : List ℕ) (c d : Certificate) → SpellsCertificate text c → SpellsCertificate text d → c ≡ d
+same_certificate text c d s s' = let e = reading_is_one text (Ok c) (Ok d) s s' in cc
+
+-- a text that spells a certificate has no fault
+no_certificate : (text : List ℕ) (c : Certificate) (fault : CertText) → SpellsCertificate text c → IsReading text (Err fault) → ⊥
+no_certificate text c fault s f = let e = reading_is_one text (Ok c) (Err fault) s f in cc
+
+-- what is wrong with a certificate
+data IsWrongClaim (t : Topology) (text : List ℕ) (fault : Fault) : Type 0 where
+  unread : (why : CertText) → fault ≡ faults.CertBad why → IsReading text (Err why) → IsWrongClaim t text fault
+  untrue : (why : Rejected) → fault ≡ faults.CertRejected why → (c : Certificate) → SpellsCertificate text c → IsFirstFail t c why → IsWrongClaim t text fault
+
+-- the same, or that it is no book
+data IsWrongBook (t : Topology) (text : List ℕ) (fault : Fault) : Type 0 where
+  claim : IsWrongClaim t text fault → IsWrongBook t text fault
+  thin : fault ≡ faults.NotBook → (c : Certificate) → IsValidText t text c → (¬ IsBookKind c) → IsWrongBook t text fault
+
+module _ (t : Topology) (text : List ℕ) where
+  wrong_claim : (fault : Fault) → IsCertificateFault t text fault → IsWrongClaim t text fault
+  wrong_claim (faults.CertBad why) f = unread why refl f
+  wrong_claim (faults.CertRejected why) (c, spells, fails) = untrue why refl c spells fails
+  wrong_claim fault f = absurd f
+
+  wrong_book : (fault : Fault) → IsBookFault t text fault → IsWrongBook t text fault
+  wrong_book faults.NotBook (c, valid, none) = thin refl c valid none
+  wrong_book (faults.CertBad why) f = claim (unread why refl f)
+  wrong_book (faults.CertRejected why) (c, spells, fails) = claim (untrue why refl c spells fails)
+  wrong_book fault f = absurd f
+
+  one_claim : (f g : Fault) → IsWrongClaim t text f → IsWrongClaim t text g → f ≡ g
+  one_claim f g (unread why e a) (unread why' h b) =
+      let one = reading_is_one text (Err why) (Err why') a b in
+      let same : why ≡ why' = cc in
+      e ∙ (ap (λ (x : CertText). faults.CertBad x) same ∙ sym h)
+  one_claim f g (unread why e a) (untrue why' h c spells fails) = absurd (no_certificate text c why spells a)
+  one_claim f g (untrue why e c spells fails) (unread why' h b) = absurd (no_certificate text c why' spells b)
+  one_claim f g (untrue why e c spells fails) (untrue why' h d spells' fails') =
+      let same = same_certificate text d c spells' spells in
+      let one = first_fail_is_one t c why why' fails (subst (λ (x : Certificate). IsFirstFail t x why') same fails') in
+      e ∙ (ap (λ (x : Rejected). faults.CertRejected x) one ∙ sym h)
+
+  claim_or_valid : (f : Fault) (c : Certificate) → IsWrongClaim t text f → IsValidText t text c → ⊥
+  claim_or_valid f c (unread why e a) valid = no_certificate text c why valid.spelled a
+  claim_or_valid f c (untrue why e d spells fails) valid =
+      valid_is_not_rejected t c why valid.valid (subst (λ (x : Certificate). IsFirstFail t x why) (same_certificate text d c spells valid.spelled) fails)
+
+  one_book : (f g : Fault) → IsWrongBook t text f → IsWrongBook t text g → f ≡ g
+  one_book f g (claim a) (claim b) = one_claim f g a b
+  one_book f g (claim a) (thin h c valid none) = absurd (claim_or_valid f c a valid)
+  one_book f g (thin e c valid none) (claim b) = absurd (claim_or_valid g c b valid)
+  one_book f g (thin e c valid none) (thin h d valid' none') = e ∙ sym h
+
+  book_or_valid : (f : Fault) (c : Certificate) → IsWrongBook t text f → IsValidText t text c → IsBookKind c → ⊥
+  book_or_valid f c (claim a) valid kind = claim_or_valid f c a valid
+  book_or_valid f c (thin e d valid' none) valid kind =
+      none (subst IsBookKind (same_certificate text c d valid.spelled valid'.spelled) kind)
+
 -- ---- a file
 
--- what is known came from a text, where it is a tree
+-- what is known came from texts: a tree from one that keeps the rules, and a topology is of a checked model
 abbrev pub IsSound : Known → Type 0
+IsSound nothing = Unit {0}
 IsSound (parsed tree) = (text : List ℕ) × IsTreeText text tree
-IsSound known = Unit {0}
+IsSound (network t) = IsRegular t.model
+IsSound (raised t nodes) = IsRegular t.model
+IsSound (certified t c) = IsRegular t.model
 
 means_one : (role : Role) (known : Known) (text : List ℕ) → IsSound known → (a b : Known) → Means role known text a → Means role known text b → a ≡ b
 means_one Role.model nothing text sound a b (t, is, e) (u, is', h) = e ∙ (ap (λ (x : Tree). parsed x) (same_tree text t u is.spelled is'.spelled) ∙ sym h)
@@ -151,6 +226,10 @@ means_one Role.topology (parsed tree) text (from, says) a b (t, is, e) (u, is', 
     e ∙ (ap (λ (x : Topology). network x) (one_topology from tree says text t u is is') ∙ sym h)
 means_one Role.symptoms (network t) text sound a b (xs, is, e) (ys, is', h) =
     e ∙ (ap (λ (x : List NodeName). raised t x) (nodes_are_one text xs ys is is') ∙ sym h)
+means_one Role.certificate (network t) text sound a b (c, is, e) (d, is', h) =
+    e ∙ (ap (λ (x : Certificate). certified t x) (same_certificate text c d is.spelled is'.spelled) ∙ sym h)
+means_one Role.book (network t) text sound a b (c, is, kind, e) (d, is', kind', h) =
+    e ∙ (ap (λ (x : Certificate). certified t x) (same_certificate text c d is.spelled is'.spelled) ∙ sym h)
 means_one role known text sound a b p q = absurd p
 
 fault_one : (role : Role) (known : Known) (text : List ℕ) → IsSound known → (f g : Fault) → HasFault role known text f → HasFault role known text g → f ≡ g
@@ -158,23 +237,34 @@ fault_one Role.model nothing text sound f g a b = same_kind text f g (kind_of te
 fault_one Role.topology (parsed tree) text (from, says) f g a b =
     one_wrong_line from tree says text f g (line_of from tree says text f a) (line_of from tree says text g b)
 fault_one Role.symptoms (network t) text sound f g a b = one_bad_line text f g a b
+fault_one Role.certificate (network t) text sound f g a b = one_claim t text f g (wrong_claim t text f a) (wrong_claim t text g b)
+fault_one Role.book (network t) text sound f g a b = one_book t text f g (wrong_book t text f a) (wrong_book t text g b)
 fault_one role known text sound f g a b = absurd a
 
 means_or_fault : (role : Role) (known : Known) (text : List ℕ) → IsSound known → (a : Known) (f : Fault) → Means role known text a → HasFault role known text f → ⊥
 means_or_fault Role.model nothing text sound a f (t, is, e) h = kept_or_broken text f t (kind_of text f h) is
 means_or_fault Role.topology (parsed tree) text (from, says) a f (t, is, e) h = wrong_or_topology from tree says text f t (line_of from tree says text f h) is
 means_or_fault Role.symptoms (network t) text sound a f (xs, is, e) h = bad_or_nodes text f xs h is
+means_or_fault Role.certificate (network t) text sound a f (c, is, e) h = claim_or_valid t text f c (wrong_claim t text f h) is
+means_or_fault Role.book (network t) text sound a f (c, is, kind, e) h = book_or_valid t text f c (wrong_book t text f h) is kind
 means_or_fault role known text sound a f p h = p
 
-means_sound : (role : Role) (known : Known) (text : List ℕ) (next : Known) → Means role known text next → IsSound next
-means_sound Role.model nothing text next (t, is, e) = subst IsSound (sym e) (text, is)
-means_sound Role.topology (parsed tree) text next (t, is, e) = subst IsSound (sym e) tt
-means_sound Role.symptoms (network t) text next (xs, is, e) = subst IsSound (sym e) tt
-means_sound role known text next p = absurd p
+means_sound : (role : Role) (known : Known) (text : List ℕ) (next : Known) → IsSound known → Means role known text next → IsSound next
+means_sound Role.model nothing text next sound (t, is, e) = subst IsSound (sym e) (text, is)
+means_sound Role.topology (parsed tree) text next (from, says) (t, is, e) = subst IsSound (sym e) (topology_regular from tree says text t is)
+means_sound Role.symptoms (network t) text next sound (xs, is, e) = subst IsSound (sym e) sound
+means_sound Role.certificate (network t) text next sound (c, is, e) = subst IsSound (sym e) sound
+means_sound Role.book (network t) text next sound (c, is, kind, e) = subst IsSound (sym e) sound
+means_sound role known text next sound p = absurd p
 
 -- what a file says is sound
-pub says_sound : (known : Known) (file : File) (next : Known) → Says known file next → IsSound next
-says_sound known file next s = means_sound file.role known file.text next s.means
+pub says_sound : (known : Known) (file : File) (next : Known) → IsSound known → Says known file next → IsSound next
+says_sound known file next sound s = means_sound file.role known file.text next sound s.means
+
+-- and what files say that pass
+pub pass_sound : (known : Known) (files : List File) (last : Known) → IsSound known → PassFrom known files last → IsSound last
+pass_sound known [] last sound same = subst IsSound same sound
+pass_sound known (file ∷ files) last sound (next, says, pass) = pass_sound next files last (says_sound known file next sound says) pass
 
 module _ (known : Known) (sound : IsSound known) (file : File) where
   pub says_one : (a b : Known) → Says known file a → Says known file b → a ≡ b

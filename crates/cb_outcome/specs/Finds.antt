@@ -1,5 +1,5 @@
 -- The headline: what the output says of causes.
-use Rattle.std.specs.Prelude.{◌≡◌, ◌↔◌, ℕ, ◌<◌, ◌≤◌, List, [], ◌∷◌, length, Option, Some, IsTrue}
+use Rattle.std.specs.Prelude.{◌≡◌, ◌↔◌, ℕ, ◌<◌, ◌≤◌, ◌++◌, List, [], ◌∷◌, length, Option, IsSomeAnd, IsTrue}
 use Rattle.std.specs.List.{Contains}
 use Rattle.std.specs.List.Sorted.{IsStrictlyIncreasing}
 use Rattle.cb_io.specs.Outside.{FilesTold, SinkTold, WritesAll}
@@ -11,25 +11,31 @@ use Rattle.cb_coding.specs.Groups.{codes_of}
 use Rattle.cb_finding.specs.declared.finding.Finding.{Finding}
 use Rattle.cb_finding.specs.Finding.{IsBurst, named_groups, word_of}
 use Rattle.cb_network.specs.Topology.{Topology}
+use Rattle.cb_cert.specs.declared.certificate.Certificate.{Certificate}
+use Rattle.cb_log.specs.declared.closed.Closed.{Closed}
+use Rattle.cb_log.specs.declared.event.Event.{Event}
+use Rattle.cb_log.specs.Entries.{records_of}
+use Rattle.cb_log.specs.Sources.{SourceAlone}
+use Rattle.cb_log.specs.Whole.{Explains, OneForEach}
+use Rattle.cb_alarm.specs.Lines.{LogGives}
 use Rattle.cb_report.specs.Lines.{burst_text}
 use Rattle.cb_report.specs.declared.status.Status.{Status}
-use Rattle.cb_report.specs.declared.status.Status.TheVariants.{Done}
+use Rattle.cb_report.specs.declared.status.Status.TheVariants as statuses
+use Rattle.cb_report.specs.EventTexts.{events_text}
 use Rattle.cb_request.specs.declared.request.Request.{Request}
-use Rattle.cb_request.specs.declared.request.Request.TheVariants.{Burst}
-use Rattle.cb_outcome.specs.Judged.{Known, nothing, raised, AllSay}
-use Rattle.cb_outcome.specs.Answer.{files_from}
+use Rattle.cb_request.specs.declared.request.Request.TheVariants.{Burst, Codebook, Decode, Correlate}
+use Rattle.cb_outcome.specs.Texts.{IsValidText}
+use Rattle.cb_outcome.specs.Judged.{Known, nothing, network, raised, PassFrom}
+use Rattle.cb_outcome.specs.Contents.{Left, files_from, log_from}
+use Rattle.cb_outcome.specs.LogJobs.{Watch, IsWatch}
 use Rattle.cb_outcome.specs.Reading.{Told}
 
--- how many columns of a codebook differ between a word and the code of the group at a place
-abbrev pub Far : Type 0
-Far = ℕ → ℕ
-
--- no group is nearer than the one at a place
-abbrev pub IsNearest : List Group → Far → ℕ → Type 0
+-- no group is nearer than the one at a place, where `far` tells how far each is
+abbrev pub IsNearest : List Group → (ℕ → ℕ) → ℕ → Type 0
 IsNearest groups far i = (i < length groups) × ((j : ℕ) → j < length groups → far i ≤ far j)
 
 -- a group is listed exactly where none is nearer, and where one is no farther than the radius, it alone, and surely
-pub record ListsTheNearest (groups : List Group) (far : Far) (finding : Finding) : Type 0 where
+pub record ListsTheNearest (groups : List Group) (far : ℕ → ℕ) (finding : Finding) : Type 0 where
   pub places : List ℕ
   pub rise : IsStrictlyIncreasing places
   pub nearest : (i : ℕ) → Contains places i ↔ IsNearest groups far i
@@ -37,21 +43,55 @@ pub record ListsTheNearest (groups : List Group) (far : Far) (finding : Finding)
   pub alone : (i : ℕ) → i < length groups → far i ≤ finding.radius
       → (finding.groups ≡ named_groups groups (i ∷ [])) × IsTrue finding.sure
 
+-- at how many of a codebook's columns the raised nodes differ from the code of the group at a place
+abbrev pub far_from : List ℕ → List NodeName → List Group → List NodeName → ℕ → ℕ
+far_from book columns groups nodes i = from_word book (codes_of groups) (word_of columns nodes) i
+
 -- `burst` printed exactly the groups nearest to the nodes, by codes from what causes what
 pub record PrintsFinding (t : Topology) (nodes : List NodeName) (out out' : SinkTold) : Type 0 where
   pub finding : Finding
   pub burst : IsBurst t nodes finding
   pub printed : WritesAll out out' (burst_text finding)
-  pub lists : ListsTheNearest burst.groups (from_word (all_columns (length burst.columns)) (codes_of burst.groups) (word_of burst.columns nodes)) finding
+  pub lists : ListsTheNearest burst.groups (far_from (all_columns (length burst.columns)) burst.columns burst.groups nodes) finding
+
+-- The events of a log were printed: there is one diagnosis for each window, in the order in which the windows close, and each lists exactly
+-- the groups nearest to the window's nodes; and of each source they are those of the log that it alone would have made.
+pub record PrintsEvents (watch : Watch) (log : List ℕ) (out out' : SinkTold) : Type 0 where
+  pub events : List Event
+  pub gives : LogGives watch.from watch.mode watch.window log events
+  pub printed : WritesAll out out' (watch.opening ++ events_text events)
+  pub one_each : OneForEach watch.from watch.mode watch.window (records_of gives.entries) events
+  pub lists : (c : Closed) (event : Event) (e : Explains watch.from watch.mode watch.window (records_of gives.entries) c event)
+      → ListsTheNearest e.basis.groups (far_from e.basis.book.columns e.basis.columns e.basis.groups c.nodes) e.is.finding
+  pub alone : (source : List ℕ) → SourceAlone watch.from watch.mode watch.window source gives.entries events
+
+-- the same of the log of a request
+abbrev pub PrintsLog : Left → Request → List ℕ → Known → SinkTold → SinkTold → Type 0
+PrintsLog left request name known out out' =
+    (watch : Watch) × IsWatch request known watch × PrintsEvents watch (log_from left request name) out out'
+
+-- what was printed spells a certificate that is valid for the topology
+abbrev pub PrintsValid : Topology → SinkTold → SinkTold → Type 0
+PrintsValid t out out' = (text : List ℕ) × (c : Certificate) × IsValidText t text c × WritesAll out out' text
 
 -- what the output finds, by what is known from the files
-abbrev pub FindsFor : Request → Known → SinkTold → SinkTold → Type 0
-FindsFor (Burst one two three) (raised t nodes) out out' = PrintsFinding t nodes out out'
-FindsFor (Burst one two three) known out out' = ⊥
-FindsFor request known out out' = Unit {0}
+abbrev pub FindsFor : Left → Request → Known → SinkTold → SinkTold → Type 0
+FindsFor left (Burst one two three) (raised t nodes) out out' = PrintsFinding t nodes out out'
+FindsFor left (Burst one two three) known out out' = ⊥
+FindsFor left (Codebook one two distance) (network t) out out' = PrintsValid t out out'
+FindsFor left (Codebook one two distance) known out out' = ⊥
+FindsFor left (Decode one two three log window) known out out' = PrintsLog left (Decode one two three log window) log known out out'
+FindsFor left (Correlate one two log distance window) known out out' =
+    PrintsLog left (Correlate one two log distance window) log known out out'
+FindsFor left request known out out' = Unit {0}
 
--- at 0 the output finds the causes
+-- what is asked for finds this
+abbrev pub FindsCause : Option Request → SinkTold → SinkTold → Left → Type 0
+FindsCause asked out out' left = IsSomeAnd asked (λ request.
+    (known : Known) × PassFrom nothing (files_from left request) known × FindsFor left request known out out')
+
+-- what the output finds at 0, and at 6, where there is one beside the fault
 abbrev pub Finds : Option Request → Status → FilesTold → SinkTold → SinkTold → Type 0
-Finds asked Done old out out' = Told old (λ left. (request : Request) × (asked ≡ Some request)
-    × ((known : Known) × AllSay nothing (files_from left request) known × FindsFor request known out out'))
+Finds asked statuses.Done old out out' = Told old (FindsCause asked out out')
+Finds asked statuses.Distance old out out' = Told old (FindsCause asked out out')
 Finds asked status old out out' = Unit {0}

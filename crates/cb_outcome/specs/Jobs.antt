@@ -1,15 +1,38 @@
 -- What comes of a request whose files have been judged.
-use Rattle.std.specs.Prelude.{◌≡◌, ℕ, List, Bool, true, false}
+use Rattle.std.specs.Prelude.{◌≡◌, ◌⊎◌, ℕ, ◌<◌, ◌≤◌, List, length, Bool, true, false, Option, None, Some}
+use Rattle.cb_model.specs.declared.node.GroupName.{GroupName}
+use Rattle.cb_model.specs.declared.node.GroupName.TheVariants.{Quiet, Least}
 use Rattle.cb_model.specs.declared.node.NodeName.{NodeName}
+use Rattle.cb_coding.specs.declared.book.Book.{Book}
+use Rattle.cb_coding.specs.declared.book.Pair.{Pair}
+use Rattle.cb_coding.specs.declared.group.Group.{Group}
+use Rattle.cb_coding.specs.Books.{IsBook}
+use Rattle.cb_coding.specs.Distance.{all_columns}
+use Rattle.cb_coding.specs.Groups.{codes_of}
+use Rattle.cb_coding.specs.Pairs.{IsLeast, IsFirstClose}
 use Rattle.cb_finding.specs.declared.finding.Finding.{Finding}
-use Rattle.cb_finding.specs.Finding.{IsBurst}
+use Rattle.cb_finding.specs.Finding.{IsBurst, IsCalled}
+use Rattle.cb_finding.specs.Matrix.{IsMatrix}
 use Rattle.cb_network.specs.Topology.{Topology}
 use Rattle.cb_syntax.specs.Canonical.{canonical_text}
+use Rattle.cb_cert.specs.declared.certificate.Certificate.{Certificate}
+use Rattle.cb_cert.specs.Format.{entry_limit}
+use Rattle.cb_cert.specs.Lines.{text_of}
+use Rattle.cb_claim.specs.declared.verdict.Accepted.{Accepted}
+use Rattle.cb_claim.specs.Canonical.{IsCanonicalBook, IsCanonicalThin}
+use Rattle.cb_claim.specs.Laws.{HavePlaces}
+use Rattle.cb_claim.specs.Totals.{IsTotalReach}
+use Rattle.cb_claim.specs.Verdicts.{Shows}
+use Rattle.cb_report.specs.declared.fault.Fault.TheVariants as faults
+use Rattle.cb_report.specs.CertificateTexts.{accepted_text}
 use Rattle.cb_report.specs.Lines.{burst_text}
+use Rattle.cb_report.specs.MatrixText.{matrix_text}
 use Rattle.cb_request.specs.declared.request.Request.{Request}
-use Rattle.cb_request.specs.declared.request.Request.TheVariants.{Burst, Model}
-use Rattle.cb_outcome.specs.Outcome.{Outcome, done}
-use Rattle.cb_outcome.specs.Judged.{Known, parsed, raised}
+use Rattle.cb_request.specs.declared.request.Request.TheVariants.{Burst, Model, Matrix, Codebook, Verify, Decode, Correlate}
+use Rattle.cb_outcome.specs.Outcome.{Outcome, done, done_with, refused}
+use Rattle.cb_outcome.specs.Judged.{Known, parsed, network, raised, certified}
+use Rattle.cb_outcome.specs.Contents.{Left}
+use Rattle.cb_outcome.specs.LogJobs.{Follows}
 
 -- the commands that are built
 abbrev pub is_built : Request → Bool
@@ -21,8 +44,83 @@ is_built request = false
 abbrev pub BurstGives : Topology → List NodeName → ℕ → Outcome → Type 0
 BurstGives t nodes whole outcome = (finding : Finding) × IsBurst t nodes finding × (outcome ≡ done (burst_text finding) whole)
 
--- the job of a request, after what is known from its files
-abbrev pub JobGives : Request → Known → ℕ → Outcome → Type 0
-JobGives (Burst one two three) (raised t nodes) whole outcome = BurstGives t nodes whole outcome
-JobGives (Model one) (parsed tree) whole outcome = outcome ≡ done (canonical_text tree) whole
-JobGives request known whole outcome = ⊥
+-- `matrix`: the columns, the groups with their codes, and how far the closest two are apart
+pub record MatrixGives (t : Topology) (whole : ℕ) (outcome : Outcome) : Type 0 where
+  pub columns : List NodeName
+  pub groups : List Group
+  pub matrix : IsMatrix t columns groups
+  pub least : Option Pair
+  pub least_is : IsLeast (length columns) (codes_of groups) least
+  pub gives : outcome ≡ done (matrix_text columns groups least) whole
+
+-- the codebook of a topology for a distance has the columns of these names
+pub record AreBookColumns (t : Topology) (distance : ℕ) (columns : List NodeName) : Type 0 where
+  pub all : List NodeName
+  pub groups : List Group
+  pub matrix : IsMatrix t all groups
+  pub book : Book
+  pub is_book : IsBook (length all) (codes_of groups) book
+  pub distance_is : book.distance ≡ distance
+  pub named : HavePlaces all columns book.columns
+
+-- the certificate is written, unless so many entries are too many
+abbrev pub Writes : Certificate → ℕ → ℕ → Outcome → Type 0
+Writes certificate entries whole outcome =
+    ((entries ≤ entry_limit) × (outcome ≡ done (text_of certificate) whole))
+    ⊎ ((entry_limit < entries) × (outcome ≡ refused faults.LimitEntries whole))
+
+-- there is a codebook for the distance, and its canonical certificate is written
+pub record WritesBook (t : Topology) (distance whole : ℕ) (outcome : Outcome) : Type 0 where
+  pub columns : List NodeName
+  pub are_columns : AreBookColumns t distance columns
+  pub certificate : Certificate
+  pub canonical : IsCanonicalBook t columns distance certificate
+  pub entries : ℕ
+  pub entries_are : IsTotalReach t entries
+  pub gives : Writes certificate entries whole outcome
+
+-- the least member of a group; the quiet one is called by none
+abbrev pub least_of : GroupName → Option NodeName
+least_of Quiet = None
+least_of (Least node) = Some node
+
+-- the first two groups that are closer than wanted, by what they are called
+pub record AreFirstClose (t : Topology) (wanted : ℕ) (first : GroupName) (second : NodeName) (distance : ℕ) : Type 0 where
+  pub columns : List NodeName
+  pub groups : List Group
+  pub matrix : IsMatrix t columns groups
+  pub pair : Pair
+  pub is_first : IsFirstClose (all_columns (length columns)) (codes_of groups) wanted pair
+  pub first_is : IsCalled groups pair.first first
+  pub second_is : IsCalled groups pair.second (Least second)
+  pub distance_is : distance ≡ pair.distance
+
+-- there is none, and the canonical certificate that two groups are too close is written beside the fault
+pub record WritesThin (t : Topology) (wanted whole : ℕ) (outcome : Outcome) : Type 0 where
+  pub first : GroupName
+  pub second : NodeName
+  pub distance : ℕ
+  pub close : AreFirstClose t wanted first second distance
+  pub certificate : Certificate
+  pub canonical : IsCanonicalThin t (least_of first) second wanted distance certificate
+  pub gives : outcome ≡ done_with (text_of certificate) (faults.Distance wanted first (Least second) distance) whole
+
+-- `codebook`: a certificate of the codebook for a distance, or one that there is none
+abbrev pub CodebookGives : Topology → ℕ → ℕ → Outcome → Type 0
+CodebookGives t distance whole outcome = WritesBook t distance whole outcome ⊎ WritesThin t distance whole outcome
+
+-- `verify`: what the certificate shows
+abbrev pub VerifyGives : Topology → Certificate → ℕ → Outcome → Type 0
+VerifyGives t c whole outcome = (accepted : Accepted) × Shows t c accepted × (outcome ≡ done (accepted_text accepted) whole)
+
+-- the job of a request, by the bytes left of each name, after what is known from its judged files
+abbrev pub JobGives : Left → Request → Known → ℕ → Outcome → Type 0
+JobGives left (Burst one two three) (raised t nodes) whole outcome = BurstGives t nodes whole outcome
+JobGives left (Model one) (parsed tree) whole outcome = outcome ≡ done (canonical_text tree) whole
+JobGives left (Matrix one two) (network t) whole outcome = MatrixGives t whole outcome
+JobGives left (Codebook one two distance) (network t) whole outcome = CodebookGives t distance whole outcome
+JobGives left (Verify one two three) (certified t c) whole outcome = VerifyGives t c whole outcome
+JobGives left (Decode one two three log window) known whole outcome = Follows left (Decode one two three log window) log known whole outcome
+JobGives left (Correlate one two log distance window) known whole outcome =
+    Follows left (Correlate one two log distance window) log known whole outcome
+JobGives left request known whole outcome = ⊥

@@ -1,6 +1,8 @@
 pub mod Texts
 pub mod Outcome
 pub mod Judged
+pub mod Contents
+pub mod LogJobs
 pub mod Jobs
 pub mod Point
 pub mod Answer

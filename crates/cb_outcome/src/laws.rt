@@ -1,10 +1,15 @@
 //! What holds of outcomes.
-ghost use Rattle.cb_outcome.specs.Laws.{OutcomeIsOne, DueIsFront, DoneReadsAll};
+ghost use Rattle.cb_outcome.specs.Laws.{OutcomeIsOne, FrontIsFront, DueIsFront, DoneReadsAll};
 
 /// The words of the command line and the bytes of the files have one outcome: in how large pieces the files give their
 /// bytes makes no difference.
 pub fn outcome_is_one()
     ensures { OutcomeIsOne }
+{}
+
+/// The events of the first bytes of a log are its first events.
+pub fn front_is_front()
+    ensures { FrontIsFront }
 {}
 
 /// What is due at any point of a run is a front of the outcome's output.

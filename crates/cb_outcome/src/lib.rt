@@ -3,4 +3,4 @@
 
 mod laws;
 
-pub use laws::{done_reads_all, due_is_front, outcome_is_one};
+pub use laws::{done_reads_all, due_is_front, front_is_front, outcome_is_one};

@@ -6,14 +6,9 @@ use Rattle.cb_syntax.specs.declared.fault.SyntaxFault.{SyntaxFault}
 use Rattle.cb_syntax.specs.declared.fault.SyntaxFault.TheVariants as syntax
 use Rattle.cb_report.specs.declared.fault.Fault.{Fault}
 use Rattle.cb_report.specs.declared.fault.Fault.TheVariants as faults
-use Rattle.cb_report.specs.FaultWords.{rule_word, refusal_word}
-
--- the number of a line, and what is wrong there
-abbrev pub at_line : ℕ → List ℕ → List ℕ
-at_line line what = decimal line ++ (codes " " ++ (what ++ codes "\n"))
-
-abbrev pub memory_text : List ℕ
-memory_text = codes "error 10 memory\n"
+use Rattle.cb_report.specs.CertificateTexts.{bad_text, rejected_text}
+use Rattle.cb_report.specs.FaultWords.{memory_text, rule_word, refusal_word}
+use Rattle.cb_report.specs.Lines.{at_line, counted_pair}
 
 -- what is wrong on a line of a model
 abbrev pub model_text : ℕ → List ℕ → List ℕ
@@ -46,8 +41,13 @@ fault_text (faults.Kind fault) = type_text fault
 fault_text (faults.Edit line why) = codes "error 4 topology line " ++ at_line line (refusal_word why)
 fault_text (faults.EditWords line) = codes "error 4 topology line " ++ at_line line (codes "bad-words")
 fault_text (faults.SymptomLine line) = codes "error 4 symptoms line " ++ at_line line (codes "bad-name")
+fault_text (faults.CertBad fault) = bad_text fault
+fault_text (faults.CertRejected why) = rejected_text why
+fault_text faults.NotBook = codes "error 5 certificate not-book\n"
+fault_text (faults.Distance wanted first second distance) = counted_pair (codes "error 6 distance wanted ") wanted first second distance
 fault_text (faults.LimitBytes name) = codes "error 7 limit bytes " ++ (name ++ codes "\n")
 fault_text (faults.LimitLine name line) = long_line_text name line
+fault_text faults.LimitEntries = codes "error 7 limit entries\n"
 fault_text (faults.ReadFault name) = codes "error 8 read " ++ (name ++ codes "\n")
 fault_text faults.WriteFault = codes "error 9 write\n"
 fault_text faults.Memory = memory_text

@@ -5,6 +5,10 @@ use Rattle.cb_rules.specs.declared.rule.TypeRule.TheVariants.{TwoClasses, NoPare
 use Rattle.cb_network.specs.declared.edit.EditRefusal.{EditRefusal}
 use Rattle.cb_network.specs.declared.edit.EditRefusal.TheVariants as refusals
 
+-- the line for want of memory
+abbrev pub memory_text : List ℕ
+memory_text = codes "error 10 memory\n"
+
 -- the word of a type rule
 abbrev pub rule_word : TypeRule → List ℕ
 rule_word TwoClasses = codes "two-classes"

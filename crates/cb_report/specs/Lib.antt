@@ -1,6 +1,9 @@
 pub mod Lines
 pub mod Status
 pub mod FaultWords
+pub mod CertificateTexts
 pub mod FaultTexts
 pub mod Faults
 pub mod Said
+pub mod MatrixText
+pub mod EventTexts

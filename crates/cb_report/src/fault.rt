@@ -1,10 +1,13 @@
 //! What is wrong, where a run has no whole output.
 ghost use Rattle.std.specs.Prelude.{◌≡◌};
 ghost use Rattle.cb_report.specs.Faults.{status_of};
-ghost use Rattle.cb_report.specs.declared.fault.Fault.TheVariants.{Syntax, Kind, Memory};
+ghost use Rattle.cb_report.specs.declared.fault.Fault.TheVariants.{Syntax, Kind, CertBad, CertRejected, Memory};
 
 use crate::status::Status;
+use cb_cert::CertText;
 use cb_check::TypeFault;
+use cb_claim::Rejected;
+use cb_model::GroupName;
 use cb_network::EditRefusal;
 use cb_request::FileName;
 use cb_syntax::SyntaxFault;
@@ -20,17 +23,46 @@ pub enum Fault<'w> {
     /// The model breaks a type rule.
     Kind(TypeFault),
     /// The edit of the topology's line is refused.
-    Edit { line: u64, why: EditRefusal },
+    Edit {
+        line: u64,
+        why: EditRefusal,
+    },
     /// The topology's line is no edit.
-    EditWords { line: u64 },
+    EditWords {
+        line: u64,
+    },
     /// The symptom file's line is no node.
-    SymptomLine { line: u64 },
+    SymptomLine {
+        line: u64,
+    },
+    /// The text is no certificate.
+    CertBad(CertText),
+    /// The certificate isn't valid.
+    CertRejected(Rejected),
+    /// The certificate is valid, and no book.
+    NotBook,
+    /// These are the first two groups that are closer than wanted, and how far they are apart.
+    Distance {
+        wanted: u32,
+        first: GroupName,
+        second: GroupName,
+        distance: u32,
+    },
     /// The file has too many bytes.
-    LimitBytes { name: FileName<'w> },
+    LimitBytes {
+        name: FileName<'w>,
+    },
     /// The line of the file is the first that has too many bytes.
-    LimitLine { name: FileName<'w>, line: u64 },
+    LimitLine {
+        name: FileName<'w>,
+        line: u64,
+    },
+    /// A certificate would have too many entries.
+    LimitEntries,
     /// A read of the file failed.
-    ReadFault { name: FileName<'w> },
+    ReadFault {
+        name: FileName<'w>,
+    },
     /// A write of the output failed.
     WriteFault,
     /// Memory ran out.
@@ -51,6 +83,11 @@ impl<'w> Fault<'w> {
             Fault::Edit { .. } | Fault::EditWords { .. } | Fault::SymptomLine { .. } => {
                 Status::Topology
             }
+            Fault::CertBad(fault) => status_of_text(fault),
+            Fault::CertRejected(why) => status_of_rejected(why),
+            Fault::NotBook => Status::Certificate,
+            Fault::Distance { .. } => Status::Distance,
+            Fault::LimitEntries => Status::Limit,
             Fault::LimitBytes { .. } | Fault::LimitLine { .. } => Status::Limit,
             Fault::ReadFault { .. } => Status::ReadFault,
             Fault::WriteFault => Status::WriteFault,
@@ -78,6 +115,24 @@ fn status_of_type(fault: &TypeFault) -> Status
     }
 }
 
+fn status_of_text(fault: &CertText) -> Status
+    ensures { result ≡ status_of (CertBad fault.now) }
+{
+    match fault {
+        CertText::NoMemory => Status::Memory,
+        _ => Status::Certificate,
+    }
+}
+
+fn status_of_rejected(why: &Rejected) -> Status
+    ensures { result ≡ status_of (CertRejected why.now) }
+{
+    match why {
+        Rejected::NoMemory => Status::Memory,
+        _ => Status::Certificate,
+    }
+}
+
 impl<'w> From<AllocError> for Fault<'w> {
     ghost from_gives = { λ _ fault. fault ≡ Memory };
 
@@ -99,5 +154,21 @@ impl<'w> From<TypeFault> for Fault<'w> {
 
     fn from(fault: TypeFault) -> Fault<'w> {
         Fault::Kind(fault)
+    }
+}
+
+impl<'w> From<CertText> for Fault<'w> {
+    ghost from_gives = { λ fault result. result ≡ CertBad fault };
+
+    fn from(fault: CertText) -> Fault<'w> {
+        Fault::CertBad(fault)
+    }
+}
+
+impl<'w> From<Rejected> for Fault<'w> {
+    ghost from_gives = { λ why result. result ≡ CertRejected why };
+
+    fn from(why: Rejected) -> Fault<'w> {
+        Fault::CertRejected(why)
     }
 }

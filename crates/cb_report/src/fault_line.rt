@@ -1,19 +1,20 @@
 //! The one line that tells what is wrong. It is written in parts and takes no memory.
-ghost use Rattle.std.specs.Prelude.{◌++◌, codes};
-ghost use Rattle.std.specs.List.{flat_map};
-ghost use Rattle.cb_report.specs.FaultTexts.{fault_text, syntax_text, type_text, model_text, at_line, unexpected_text, long_line_text};
-ghost use Rattle.cb_report.specs.Said.{Says};
+ghost use Rattle.cb_report.specs.FaultTexts.{fault_text, syntax_text, type_text, model_text, unexpected_text, long_line_text};
+ghost use Rattle.cb_report.specs.Said.{TakesLine};
 
+use crate::certificate_line::{say_bad_text, say_rejected};
 use crate::fault::Fault;
 use crate::fault_words::{refusal_word, rule_word};
+use crate::pair::say_counted_pair;
+use crate::parts::{say, say_line, say_named};
 use cb_check::TypeFault;
-use cb_io::{Sink, write_all};
+use cb_io::Sink;
 use cb_syntax::SyntaxFault;
 use itoa::Buffer;
 
 /// Writes the line of the fault, or a front of it before a write that fails.
 pub fn say_fault<E: Sink>(err: &mut E, fault: &Fault<'_>)
-    ensures { Says (E.tells err.old) (E.tells err.new) (fault_text fault.now) }
+    ensures { TakesLine (E.tells err.old) (E.tells err.new) (fault_text fault.now) }
 {
     match fault {
         Fault::Usage => say(err, &[b"error 2 usage\n"]),
@@ -28,8 +29,25 @@ pub fn say_fault<E: Sink>(err: &mut E, fault: &Fault<'_>)
         Fault::SymptomLine { line } => {
             say_line(err, b"error 4 symptoms line ", *line, b"bad-name")
         }
+        Fault::CertBad(fault) => say_bad_text(err, fault),
+        Fault::CertRejected(why) => say_rejected(err, why),
+        Fault::NotBook => say(err, &[b"error 5 certificate not-book\n"]),
+        Fault::Distance {
+            wanted,
+            first,
+            second,
+            distance,
+        } => say_counted_pair(
+            err,
+            b"error 6 distance wanted ",
+            *wanted,
+            first,
+            second,
+            *distance,
+        ),
         Fault::LimitBytes { name } => say_named(err, b"error 7 limit bytes ", name.as_str()),
         Fault::LimitLine { name, line } => say_long_line(err, name.as_str(), *line),
+        Fault::LimitEntries => say(err, &[b"error 7 limit entries\n"]),
         Fault::ReadFault { name } => say_named(err, b"error 8 read ", name.as_str()),
         Fault::WriteFault => say(err, &[b"error 9 write\n"]),
         Fault::Memory => say(err, &[b"error 10 memory\n"]),
@@ -37,27 +55,9 @@ pub fn say_fault<E: Sink>(err: &mut E, fault: &Fault<'_>)
     }
 }
 
-// Writes the parts of a line one after the other, or a front of them before a fault.
-fn say<E: Sink>(err: &mut E, parts: &[&[u8]])
-    ensures { Says (E.tells err.old) (E.tells err.new) (flat_map (λ part. part.now) parts.now) }
-{
-    for part in parts {
-        if write_all(err, part).is_err() {
-            return;
-        }
-    }
-}
-
-// Says which file.
-fn say_named<E: Sink>(err: &mut E, front: &[u8], name: &str)
-    ensures { Says (E.tells err.old) (E.tells err.new) (front.now ++ (name.now ++ codes "\n")) }
-{
-    say(err, &[front, name.as_bytes(), b"\n"]);
-}
-
 // Says what is wrong with the tokens of a model.
 fn say_syntax<E: Sink>(err: &mut E, fault: &SyntaxFault)
-    ensures { Says (E.tells err.old) (E.tells err.new) (syntax_text fault.now) }
+    ensures { TakesLine (E.tells err.old) (E.tells err.new) (syntax_text fault.now) }
 {
     match fault {
         SyntaxFault::BadByte { line } => say_model_line(err, *line, b"bad-byte"),
@@ -70,7 +70,7 @@ fn say_syntax<E: Sink>(err: &mut E, fault: &SyntaxFault)
 
 // Says which rule a model breaks.
 fn say_type<E: Sink>(err: &mut E, fault: &TypeFault)
-    ensures { Says (E.tells err.old) (E.tells err.new) (type_text fault.now) }
+    ensures { TakesLine (E.tells err.old) (E.tells err.new) (type_text fault.now) }
 {
     match fault {
         TypeFault::Broken(broken) => say_model_line(err, broken.line, rule_word(broken.rule)),
@@ -80,25 +80,14 @@ fn say_type<E: Sink>(err: &mut E, fault: &TypeFault)
 
 // Says what is wrong on a line of a model.
 fn say_model_line<E: Sink>(err: &mut E, line: u32, what: &[u8])
-    ensures { Says (E.tells err.old) (E.tells err.new) (model_text line what.now) }
+    ensures { TakesLine (E.tells err.old) (E.tells err.new) (model_text line what.now) }
 {
     say_line(err, b"error 3 model line ", u64::from(line), what);
 }
 
-// Says what is wrong on a line of a file.
-fn say_line<E: Sink>(err: &mut E, front: &[u8], line: u64, what: &[u8])
-    ensures { Says (E.tells err.old) (E.tells err.new) (front.now ++ at_line line what.now) }
-{
-    let mut digits = Buffer::new();
-    say(
-        err,
-        &[front, digits.format(line).as_bytes(), b" ", what, b"\n"],
-    );
-}
-
 // Says which line of which file is too long.
 fn say_long_line<E: Sink>(err: &mut E, name: &str, line: u64)
-    ensures { Says (E.tells err.old) (E.tells err.new) (long_line_text name.now line) }
+    ensures { TakesLine (E.tells err.old) (E.tells err.new) (long_line_text name.now line) }
 {
     let mut digits = Buffer::new();
     say(
@@ -115,7 +104,7 @@ fn say_long_line<E: Sink>(err: &mut E, name: &str, line: u64)
 
 // Says where a token stands that no model has there.
 fn say_unexpected<E: Sink>(err: &mut E, line: u32, column: u32)
-    ensures { Says (E.tells err.old) (E.tells err.new) (unexpected_text line column) }
+    ensures { TakesLine (E.tells err.old) (E.tells err.new) (unexpected_text line column) }
 {
     let mut line_digits = Buffer::new();
     let mut column_digits = Buffer::new();

@@ -2,10 +2,13 @@
 //! `specs/`; the printers write exactly that.
 #![tactic(auto)]
 
+mod certificate_line;
 mod fault;
 mod fault_line;
 mod fault_words;
 mod finding;
+mod pair;
+mod parts;
 mod piece;
 mod status;
 

@@ -23,15 +23,15 @@ HasLineLimit Role.model = ⊥
 HasLineLimit role = Unit {0}
 
 -- the files that are judged, each by its role and its name, in the order in which they are read
-abbrev pub files_of : Request → List (Role × List ℕ)
-files_of (requests.Burst one two three) = (Role.model, one) ∷ (Role.topology, two) ∷ (Role.symptoms, three) ∷ []
-files_of (requests.Model one) = (Role.model, one) ∷ []
-files_of (requests.Matrix one two) = (Role.model, one) ∷ (Role.topology, two) ∷ []
-files_of (requests.Codebook one two d) = (Role.model, one) ∷ (Role.topology, two) ∷ []
-files_of (requests.Verify one two three) = (Role.model, one) ∷ (Role.topology, two) ∷ (Role.certificate, three) ∷ []
-files_of (requests.Decode one two three log w) = (Role.model, one) ∷ (Role.topology, two) ∷ (Role.book, three) ∷ []
-files_of (requests.Correlate one two log d w) = (Role.model, one) ∷ (Role.topology, two) ∷ []
-files_of (requests.Grow sites start) = []
+abbrev pub judged_of : Request → List (Role × List ℕ)
+judged_of (requests.Burst one two three) = (Role.model, one) ∷ (Role.topology, two) ∷ (Role.symptoms, three) ∷ []
+judged_of (requests.Model one) = (Role.model, one) ∷ []
+judged_of (requests.Matrix one two) = (Role.model, one) ∷ (Role.topology, two) ∷ []
+judged_of (requests.Codebook one two d) = (Role.model, one) ∷ (Role.topology, two) ∷ []
+judged_of (requests.Verify one two three) = (Role.model, one) ∷ (Role.topology, two) ∷ (Role.certificate, three) ∷ []
+judged_of (requests.Decode one two three log w) = (Role.model, one) ∷ (Role.topology, two) ∷ (Role.book, three) ∷ []
+judged_of (requests.Correlate one two log d w) = (Role.model, one) ∷ (Role.topology, two) ∷ []
+judged_of (requests.Grow sites start) = []
 
 -- the log that is read behind them, if there is one
 abbrev pub logs_of : Request → List (List ℕ)
@@ -41,7 +41,7 @@ logs_of request = []
 
 -- the names of all files of a request, in the order in which they are read
 abbrev pub names_of : Request → List (List ℕ)
-names_of request = map (λ file. file.1) (files_of request) ++ logs_of request
+names_of request = map (λ file. file.1) (judged_of request) ++ logs_of request
 
 -- the words that name files, by what is asked for
 abbrev pub file_words : Option Request → List (List ℕ)

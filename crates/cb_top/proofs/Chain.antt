@@ -7,10 +7,10 @@ use Rattle.std.proofs.lemmas.List.{length-map}
 use Rattle.cb_io.specs.Outside.{FilesTold, contents, left_of, TakesAll, ReadsAll, ReadsEach, ReadsFront, KeepsOthers, NoCountFalls, ReadFailed}
 use Rattle.cb_io.proofs.Told.{NoCountFalls-trans, ReadFailed-after, ReadsEach-nil, ReadsEach-next, ReadsEach-gives, ReadsEach-others}
 use Rattle.cb_request.specs.declared.request.Request.{Request}
-use Rattle.cb_request.specs.Files.{Role, files_of, logs_of, names_of}
+use Rattle.cb_request.specs.Files.{Role, judged_of, logs_of, names_of}
 use Rattle.cb_report.specs.declared.fault.Fault.{Fault}
-use Rattle.cb_outcome.specs.Judged.{File, Known, nothing, Says, Refuses, AllSay}
-use Rattle.cb_outcome.specs.Answer.{Left, with_texts}
+use Rattle.cb_outcome.specs.Judged.{File, Known, nothing, Says, Refuses, PassFrom}
+use Rattle.cb_outcome.specs.Contents.{Left, with_texts}
 use Rattle.cb_outcome.specs.Reading.{Told, LeavesRest, ReadsTo}
 use Rattle.cb_top.specs.Kinds.{file_of, IsWant, ReadsOnly, FailsToRead, IsRefused, StopsReading}
 use Rattle.cb_top.specs.Ending.{names, WantsMemory, IsRefusedThere, StopsAt}
@@ -133,8 +133,8 @@ module _ (old now new : FilesTold) (front rest : List (List ℕ)) (name : List �
 
 -- one more file says something
 all_say_next : (left : Left) (before : List (List ℕ)) (files : List (Role × List ℕ)) (role : Role) (name : List ℕ) (known mid next : Known)
-    → AllSay known (with_texts left before files) mid → Says mid (file_of role name (contents left (before ++ names files) name)) next
-    → AllSay known (with_texts left before (files ++ (role, name) ∷ [])) next
+    → PassFrom known (with_texts left before files) mid → Says mid (file_of role name (contents left (before ++ names files) name)) next
+    → PassFrom known (with_texts left before (files ++ (role, name) ∷ [])) next
 all_say_next left before [] role name known mid next same says =
     let says_here = subst (λ (ns : List (List ℕ)). Says mid (file_of role name (contents left ns name)) next) (append_nil before) says in
     (next, subst (λ (k : Known). Says k (file_of role name (contents left before name)) next) (sym same) says_here, refl)
@@ -148,7 +148,7 @@ all_say_next left before (file ∷ files) role name known mid next (first, said,
 
 -- the files of a request up to a place were read and have passed: this is known from them
 pub record Passed (earlier : List (Role × List ℕ)) (known : Known) (old now : FilesTold) : Type 0 where
-  pub said : Told old (λ left. AllSay nothing (with_texts left [] earlier) known)
+  pub said : Told old (λ left. PassFrom nothing (with_texts left [] earlier) known)
   pub read : ReadsEach old now (names earlier)
   pub counts : NoCountFalls old now
 
@@ -173,10 +173,10 @@ module _ (earlier : List (Role × List ℕ)) (role : Role) (name : List ℕ) (kn
     counts = NoCountFalls-trans old now new passed.counts only.counts;
   }
 
-  module _ (request : Request) (later : List (Role × List ℕ)) (files_are : files_of request ≡ earlier ++ (role, name) ∷ later) where
+  module _ (request : Request) (later : List (Role × List ℕ)) (files_are : judged_of request ≡ earlier ++ (role, name) ∷ later) where
     names_are : names_of request ≡ names earlier ++ name ∷ (names later ++ logs_of request)
     names_are =
-        let first : names (files_of request) ≡ names earlier ++ name ∷ names later =
+        let first : names (judged_of request) ≡ names earlier ++ name ∷ names later =
         ap names files_are ∙ map_append (λ (file : Role × List ℕ). file.1) earlier ((role, name) ∷ later) in
         ap (λ (ns : List (List ℕ)). ns ++ logs_of request) first ∙ append_assoc (names earlier) (name ∷ names later) (logs_of request)
 

@@ -1,5 +1,6 @@
 pub mod Chain
 pub mod Made
 pub mod Judging
-pub mod Clauses
 pub mod Finding
+pub mod Plain
+pub mod Clauses

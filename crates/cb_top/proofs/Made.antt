@@ -5,13 +5,13 @@ use Rattle.cb_io.specs.Outside.{contents}
 use Rattle.cb_request.specs.Files.{Role}
 use Rattle.cb_report.specs.declared.fault.Fault.{Fault}
 use Rattle.cb_outcome.specs.Outcome.{Outcome, refused}
-use Rattle.cb_outcome.specs.Judged.{File, Known, Says, Refuses, Job, Gives, AllSay}
-use Rattle.cb_outcome.specs.Answer.{Left, with_texts}
+use Rattle.cb_outcome.specs.Judged.{File, Known, Says, Refuses, Job, Gives, PassFrom}
+use Rattle.cb_outcome.specs.Contents.{Left, with_texts}
 use Rattle.cb_top.specs.Kinds.{file_of}
 use Rattle.cb_top.specs.Ending.{names}
 
 -- where all files say something, the outcome is the job's
-pub gives_job : (job : Job) (files : List File) (known last : Known) (whole : ℕ) (outcome : Outcome) → AllSay known files last
+pub gives_job : (job : Job) (files : List File) (known last : Known) (whole : ℕ) (outcome : Outcome) → PassFrom known files last
     → ((w : ℕ) → w ≡ whole + length files → job last w outcome) → Gives job known whole files outcome
 gives_job job [] known last whole outcome same job_is =
     subst (λ (k : Known). job k whole outcome) (sym same) (job_is whole (omega arith))
@@ -24,7 +24,7 @@ append_nil {X} (x ∷ xs) = ap (λ (ys : List X). x ∷ ys) (append_nil xs)
 
 -- a file that is refused behind others that say something decides the outcome
 pub gives_refused : (job : Job) (left : Left) (before : List (List ℕ)) (earlier : List (Role × List ℕ)) (file : Role × List ℕ) (later : List (Role × List ℕ))
-    (known last : Known) (whole : ℕ) (text : List ℕ) (fault : Fault) → AllSay known (with_texts left before earlier) last
+    (known last : Known) (whole : ℕ) (text : List ℕ) (fault : Fault) → PassFrom known (with_texts left before earlier) last
     → text ≡ contents left (before ++ names earlier) file.1 → Refuses last (file_of file.0 file.1 text) fault
     → Gives job known whole (with_texts left before (earlier ++ file ∷ later)) (refused fault (whole + length earlier))
 gives_refused job left before [] file later known last whole text fault same is refuses =

@@ -1,33 +1,33 @@
 -- What a command leaves whose output is made before it is written. `old` is told before its files are read, `new` after that.
-use Rattle.std.specs.Prelude.{◌≡◌, ◌⊎◌, ℕ, List, [], ◌∷◌, ◌++◌, length, map, Bool, true, false, Option, None, Some, Result, Ok, Err, Vec}
-use Rattle.std.specs.declared.alloc.Global.{Global}
+use Rattle.std.specs.Prelude.{◌≡◌, ◌⊎◌, ℕ, List, [], ◌∷◌, ◌++◌, length, map, Bool, true, false, Option, None, Some, Result, Ok, Err}
 use Rattle.cb_io.specs.Outside.{FilesTold, SinkTold, contents, ReadsEach, ReadFailed, WritesAll, WritesFront, WriteFailed}
 use Rattle.cb_request.specs.declared.request.Request.{Request}
-use Rattle.cb_request.specs.Files.{Role, files_of, names_of}
+use Rattle.cb_request.specs.Files.{Role, judged_of, logs_of, names_of}
 use Rattle.cb_report.specs.declared.fault.Fault.{Fault}
 use Rattle.cb_report.specs.declared.fault.Fault.TheVariants as faults
 use Rattle.cb_report.specs.declared.status.Status.{Status}
 use Rattle.cb_report.specs.declared.status.Status.TheVariants as statuses
-use Rattle.cb_report.specs.Faults.{status_of}
-use Rattle.cb_report.specs.FaultTexts.{fault_text}
-use Rattle.cb_report.specs.Said.{Says}
-use Rattle.cb_outcome.specs.Outcome.{Outcome, done}
-use Rattle.cb_outcome.specs.Judged.{Known, nothing, Refuses, AllSay}
+use Rattle.cb_report.specs.Faults.{ending}
+use Rattle.cb_report.specs.FaultTexts.{fault_text, line_text}
+use Rattle.cb_report.specs.Said.{TakesLine}
+use Rattle.cb_outcome.specs.Judged.{Known, nothing, Refuses, PassFrom}
 use Rattle.cb_outcome.specs.Jobs.{is_built, JobGives}
-use Rattle.cb_outcome.specs.Answer.{with_texts, files_from}
+use Rattle.cb_outcome.specs.Contents.{Left, with_texts, files_from}
 use Rattle.cb_outcome.specs.Reading.{Told, ReadsTo}
+use Rattle.cb_top.specs.declared.output.Output.{Output}
 use Rattle.cb_top.specs.Kinds.{file_of, IsWant, FailsToRead}
 
 -- the names of these files
 abbrev pub names : List (Role × List ℕ) → List (List ℕ)
 names files = map (λ file. file.1) files
 
--- all files say something, after which the job gives these bytes, and all were read
-pub record Makes (request : Request) (old new : FilesTold) (bytes : List ℕ) : Type 0 where
+-- All files pass, behind which the job gives these bytes, with this fault, if there is one; all were read, and no log follows them.
+pub record Makes (request : Request) (old new : FilesTold) (bytes : List ℕ) (fault : Option Fault) : Type 0 where
   pub known : Known
-  pub said : Told old (λ left. AllSay nothing (files_from left request) known)
-  pub gives : (whole : ℕ) → JobGives request known whole (done bytes whole)
+  pub said : Told old (λ left. PassFrom nothing (files_from left request) known)
+  pub gives : (left : Left) (whole : ℕ) → JobGives left request known whole (record { out = bytes; fault = fault; whole = whole })
   pub read : ReadsEach old new (names_of request)
+  pub alone : logs_of request ≡ []
 
 -- memory ran out, the files being read so far
 pub record WantsMemory (request : Request) (old new : FilesTold) (fault : Fault) : Type 0 where
@@ -46,38 +46,50 @@ pub record StopsAt (request : Request) (old new : FilesTold) (fault : Fault) : T
   pub earlier : List (Role × List ℕ)
   pub file : Role × List ℕ
   pub later : List (Role × List ℕ)
-  pub files_are : files_of request ≡ earlier ++ file ∷ later
+  pub files_are : judged_of request ≡ earlier ++ file ∷ later
   pub known : Known
-  pub passed : Told old (λ left. AllSay nothing (with_texts left [] earlier) known)
+  pub passed : Told old (λ left. PassFrom nothing (with_texts left [] earlier) known)
   pub read : ReadsTo (length earlier) (names_of request) old new
   pub why : FailsToRead file.1 old new fault ⊎ IsRefusedThere earlier file known old fault
 
 -- what comes of a request whose command is built
-abbrev pub Comes : Request → FilesTold → FilesTold → Result (Vec ℕ Global) Fault → Type 0
-Comes request old new (Ok bytes) = Makes request old new bytes.items
+abbrev pub Comes : Request → FilesTold → FilesTold → Result Output Fault → Type 0
+Comes request old new (Ok output) = Makes request old new output.bytes.items output.fault
 Comes request old new (Err fault) = WantsMemory request old new fault ⊎ StopsAt request old new fault
 
 -- no file is read, and there is this fault
-pub record ReadsNothing (old new : FilesTold) (result : Result (Vec ℕ Global) Fault) (fault : Fault) : Type 0 where
+pub record ReadsNothing (old new : FilesTold) (result : Result Output Fault) (fault : Fault) : Type 0 where
   pub same : new ≡ old
   pub is : result ≡ Err fault
 
-abbrev pub RequestComes : Bool → Request → FilesTold → FilesTold → Result (Vec ℕ Global) Fault → Type 0
+abbrev pub RequestComes : Bool → Request → FilesTold → FilesTold → Result Output Fault → Type 0
 RequestComes true request old new result = Comes request old new result
 RequestComes false request old new result = ReadsNothing old new result faults.NotBuilt
 
 -- what comes of what is asked for
-abbrev pub AskedComes : Option Request → FilesTold → FilesTold → Result (Vec ℕ Global) Fault → Type 0
+abbrev pub AskedComes : Option Request → FilesTold → FilesTold → Result Output Fault → Type 0
 AskedComes None old new result = ReadsNothing old new result faults.Usage
 AskedComes (Some request) old new result = RequestComes (is_built request) request old new result
 
--- how the bytes of the output are written
-abbrev pub Delivers : List ℕ → Status → SinkTold → SinkTold → SinkTold → SinkTold → Type 0
-Delivers bytes statuses.Done out out' err err' = WritesAll out out' bytes × WritesAll err err' []
-Delivers bytes statuses.WriteFault out out' err err' = WritesFront out out' bytes × WriteFailed out out' × Says err err' (fault_text faults.WriteFault)
-Delivers bytes status out out' err err' = ⊥
+-- all bytes were written, and the run ends with the fault, if there is one
+pub record IsDelivered (bytes : List ℕ) (fault : Option Fault) (status : Status) (out out' err err' : SinkTold) : Type 0 where
+  pub written : WritesAll out out' bytes
+  pub status_is : status ≡ ending fault
+  pub says : TakesLine err err' (line_text fault)
 
--- how a run ends, once the output is made or there is none
-abbrev pub Concludes : Result (Vec ℕ Global) Fault → Status → SinkTold → SinkTold → SinkTold → SinkTold → Type 0
-Concludes (Ok bytes) status out out' err err' = Delivers bytes.items status out out' err err'
-Concludes (Err fault) status out out' err err' = WritesAll out out' [] × (status ≡ status_of fault) × Says err err' (fault_text fault)
+-- a write failed, and the run ends with that
+pub record IsCutOff (bytes : List ℕ) (status : Status) (out out' err err' : SinkTold) : Type 0 where
+  pub front : WritesFront out out' bytes
+  pub failed : WriteFailed out out'
+  pub status_is : status ≡ statuses.WriteFault
+  pub says : TakesLine err err' (fault_text faults.WriteFault)
+
+-- how an output is written
+abbrev pub Delivers : Output → Status → SinkTold → SinkTold → SinkTold → SinkTold → Type 0
+Delivers output status out out' err err' =
+    IsDelivered output.bytes.items output.fault status out out' err err' ⊎ IsCutOff output.bytes.items status out out' err err'
+
+-- how a run ends, once there is an output, or a fault and no output
+abbrev pub Concludes : Result Output Fault → Status → SinkTold → SinkTold → SinkTold → SinkTold → Type 0
+Concludes (Ok output) status out out' err err' = Delivers output status out out' err err'
+Concludes (Err fault) status out out' err err' = IsDelivered [] (Some fault) status out out' err err'

@@ -5,6 +5,7 @@ ghost use Rattle.cb_top.specs.Ending.{Comes};
 use crate::judge::lines_of_burst;
 use crate::kind::read_as;
 use crate::model_file::ModelFile;
+use crate::output::Output;
 use crate::symptom_file::SymptomFile;
 use crate::topology_file::TopologyFile;
 use cb_io::Files;
@@ -22,7 +23,7 @@ pub fn burst<'w, F: Files, L: Ledger>(
     topology: FileName<'w>,
     symptoms: FileName<'w>,
     steps: &mut Steps<L>,
-) -> Result<Vec<u8>, Fault<'w>>
+) -> Result<Output<'w>, Fault<'w>>
     ensures { Comes (Burst model.entry topology.entry symptoms.entry) (F.tells files.old) (F.tells files.new) result }
 {
     let model = read_as(alloc, files, model, ModelFile)?;
@@ -31,5 +32,8 @@ pub fn burst<'w, F: Files, L: Ledger>(
         topology: &topology,
     };
     let raised = read_as(alloc, files, symptoms, kind)?;
-    Ok(lines_of_burst(alloc, topology, &raised, steps)?)
+    Ok(Output {
+        bytes: lines_of_burst(alloc, topology, &raised, steps)?,
+        fault: None,
+    })
 }

@@ -7,6 +7,7 @@ mod judge;
 mod kind;
 mod model;
 mod model_file;
+mod output;
 mod perform;
 mod symptom_file;
 mod top;

@@ -4,6 +4,7 @@ ghost use Rattle.cb_top.specs.Ending.{Comes};
 
 use crate::kind::read_as;
 use crate::model_file::TreeFile;
+use crate::output::Output;
 use cb_io::Files;
 use cb_report::Fault;
 use cb_request::FileName;
@@ -15,9 +16,12 @@ pub fn model<'w, F: Files>(
     alloc: Global,
     files: &mut F,
     model: FileName<'w>,
-) -> Result<Vec<u8>, Fault<'w>>
+) -> Result<Output<'w>, Fault<'w>>
     ensures { Comes (ModelRequest model.entry) (F.tells files.old) (F.tells files.new) result }
 {
     let tree = read_as(alloc, files, model, TreeFile)?;
-    Ok(print(alloc, &tree)?)
+    Ok(Output {
+        bytes: print(alloc, &tree)?,
+        fault: None,
+    })
 }

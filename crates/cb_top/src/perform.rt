@@ -6,6 +6,7 @@ ghost use Rattle.cb_top.specs.Ending.{RequestComes};
 
 use crate::burst::burst;
 use crate::model::model;
+use crate::output::Output;
 use cb_io::Files;
 use cb_report::Fault;
 use cb_request::Request;
@@ -19,7 +20,7 @@ pub fn perform<'w, F: Files, L: Ledger>(
     request: Request<'w>,
     files: &mut F,
     steps: &mut Steps<L>,
-) -> Result<Vec<u8>, Fault<'w>>
+) -> Result<Output<'w>, Fault<'w>>
     ensures comes { RequestComes (is_built request.entry) request.entry (F.tells files.old) (F.tells files.new) result }
     ensures unread { (¬ (is_built request.entry ≡ true)) → files.new ≡ files.old }
     ensures steps { Counts (Some request.entry) steps.old steps.new }

@@ -1,7 +1,7 @@
 //! The top call.
 ghost use Rattle.std.specs.Prelude.{◌≡◌};
 ghost use Rattle.cb_request.specs.Commands.{asked};
-ghost use Rattle.cb_outcome.specs.Clauses.{AnswersOutcome, WritesDue, KeepsQuiet, SaysStatus, ReadsInOrder, Blames};
+ghost use Rattle.cb_outcome.specs.Clauses.{AnswersOutcome, WritesDue, KeepsQuiet, SaysStatus, ReadsInOrder, Blames, IsComplete};
 ghost use Rattle.cb_outcome.specs.Ends.{MayEnd, IsBuilt};
 ghost use Rattle.cb_outcome.specs.Finds.{Finds};
 ghost use Rattle.cb_outcome.specs.Seen.{seen};
@@ -9,6 +9,7 @@ ghost use Rattle.cb_outcome.specs.Steps.{Counts};
 ghost use Rattle.cb_top.specs.Ending.{AskedComes};
 
 use crate::conclude::conclude;
+use crate::output::Output;
 use crate::perform::perform;
 use cb_io::{Files, Sink};
 use cb_report::{Fault, Status};
@@ -31,8 +32,8 @@ pub fn run<F: Files, O: Sink, E: Sink, L: Ledger>(
     ensures answer { AnswersOutcome (asked words.now) result (seen F.tells O.tells E.tells files.old files.new out.old out.new err.old err.new) }
     // At each, what was written is a front of what was due at some point of the run.
     ensures front { WritesDue (asked words.now) (F.tells files.old) (O.tells out.old) (O.tells out.new) }
-    // Nothing was written at any status but 0, 6 and 9; at 7, 8 and 10 that is said of commands without a log.
-    ensures quiet { KeepsQuiet (asked words.now) result (O.tells out.old) (O.tells out.new) }
+    // Nothing was written at any status but 0, 6 and 9; at 7, 8 and 10 unless the run has come to a log.
+    ensures quiet { KeepsQuiet (asked words.now) result (F.tells files.old) (F.tells files.new) (O.tells out.old) (O.tells out.new) }
     // The line is that of a fault of this status, which names no file but a file word; at 0 there is none.
     ensures line { SaysStatus (asked words.now) result (E.tells err.old) (E.tells err.new) }
 
@@ -46,6 +47,9 @@ pub fn run<F: Files, O: Sink, E: Sink, L: Ledger>(
     ensures order { ReadsInOrder (asked words.now) (F.tells files.old) (F.tells files.new) }
     // At 8 a read of the file failed that the line names, and those before it have passed; at 9 a write failed, once all have passed.
     ensures fault { Blames (asked words.now) result (seen F.tells O.tells E.tells files.old files.new out.old out.new err.old err.new) }
+
+    // Where no read of a file word and no write fails, the run answers the outcome, or 10.
+    ensures complete { IsComplete (asked words.now) result (seen F.tells O.tells E.tells files.old files.new out.old out.new err.old err.new) }
 
     // The headline: what `burst` prints at 0 are exactly the groups nearest to what is raised, by codes from what causes what; and
     // where no more symptoms of one group are lost or spurious than the radius says, that group alone, and it is sure.
@@ -63,7 +67,7 @@ fn answer<'w, F: Files, L: Ledger>(
     words: &'w [String],
     files: &mut F,
     steps: &mut Steps<L>,
-) -> Result<Vec<u8>, Fault<'w>>
+) -> Result<Output<'w>, Fault<'w>>
     ensures comes { AskedComes (asked words.now) (F.tells files.old) (F.tells files.new) result }
     ensures unread { (¬ IsBuilt (asked words.now)) → files.new ≡ files.old }
     ensures steps { Counts (asked words.now) steps.old steps.new }

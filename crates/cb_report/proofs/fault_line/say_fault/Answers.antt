@@ -29,3 +29,12 @@ returns-in-Memory g c = rw c.in-Memory.is c.say-in-Memory.ensures
 
 pub returns-in-NotBuilt : goal.returns-in-NotBuilt
 returns-in-NotBuilt g c = rw c.in-NotBuilt.is c.say-in-NotBuilt.ensures
+
+pub returns-in-NotBook : goal.returns-in-NotBook
+returns-in-NotBook g c = rw c.in-NotBook.is c.say-in-NotBook.ensures
+
+pub returns-in-Distance : goal.returns-in-Distance
+returns-in-Distance g c = rw c.in-Distance.is c.say_counted_pair.ensures
+
+pub returns-in-LimitEntries : goal.returns-in-LimitEntries
+returns-in-LimitEntries g c = rw c.in-LimitEntries.is c.say-in-LimitEntries.ensures

@@ -5,8 +5,8 @@ use Rattle.cb_request.specs.Files.{Role}
 use Rattle.cb_request.specs.declared.request.Request.TheVariants.{Burst}
 use Rattle.cb_report.specs.declared.fault.Fault.TheVariants.{Memory}
 use Rattle.cb_outcome.specs.Outcome.{done}
-use Rattle.cb_outcome.specs.Judged.{Known, nothing, raised, AllSay}
-use Rattle.cb_outcome.specs.Answer.{files_from}
+use Rattle.cb_outcome.specs.Judged.{Known, nothing, raised, PassFrom}
+use Rattle.cb_outcome.specs.Contents.{files_from}
 use Rattle.cb_outcome.specs.Reading.{Told}
 use Rattle.cb_top.proofs.Chain.{passed_none, passed_next, stops_there, err_is, reads_all}
 use Rattle.cb_top.proofs.burst.burst.Goals as goal
@@ -105,7 +105,8 @@ returns g c =
     let (finding, found, text) = c.in_ok-lines_of_burst.ensures in
     record {
       known = raised (topology_of c.in_ok-topology.topology) c.in_ok-raised.raised;
-      said = subst (λ (k : Known). Told old (λ left. AllSay nothing (files_from left (Burst m t s)) k)) nodes_are.0 after_symptoms.said;
-      gives = λ whole. (finding, found, ap (λ (bytes : List ℕ). done bytes whole) text);
+      said = subst (λ (k : Known). Told old (λ left. PassFrom nothing (files_from left (Burst m t s)) k)) nodes_are.0 after_symptoms.said;
+      gives = λ left whole. (finding, found, ap (λ (bytes : List ℕ). done bytes whole) text);
       read = after_symptoms.read;
+      alone = refl;
     }

@@ -1,5 +1,6 @@
 use Rattle.cb_request.specs.Commands.{asked}
 use Rattle.cb_outcome.specs.Seen.{seen}
+use Rattle.cb_outcome.proofs.Complete.{complete}
 use Rattle.cb_top.proofs.Clauses.{story, answer, front, quiet, line, ends, order, fault, finds}
 use Rattle.cb_top.proofs.top.run.Goals as goal
 
@@ -42,3 +43,10 @@ pub returns-clause-finds : goal.returns-clause-finds
 returns-clause-finds g c =
     let s = seen g.F.Files.tells g.O.Sink.tells g.E.Sink.tells c.args.files.now c.answer-answer.new.files c.args.out.now c.conclude.new.out c.args.err.now c.conclude.new.err in
     finds s (asked c.args.words.now) c.conclude.result (story s (asked c.args.words.now) c.answer-answer.result c.conclude.result c.answer-answer.ensures.comes c.conclude.ensures)
+
+pub returns-clause-complete : goal.returns-clause-complete
+returns-clause-complete g c =
+    let s = seen g.F.Files.tells g.O.Sink.tells g.E.Sink.tells c.args.files.now c.answer-answer.new.files c.args.out.now c.conclude.new.out c.args.err.now c.conclude.new.err in
+    let told = story s (asked c.args.words.now) c.answer-answer.result c.conclude.result c.answer-answer.ensures.comes c.conclude.ensures in
+    complete (asked c.args.words.now) c.conclude.result s (answer s (asked c.args.words.now) c.conclude.result told)
+    (fault s (asked c.args.words.now) c.conclude.result told)

@@ -1,0 +1,96 @@
+-- What comes of a log, and of its first bytes.
+use Rattle.std.specs.Prelude.{◌≡◌, ◌⊎◌, ℕ, suc, ◌^◌, ◌<◌, ◌≤◌, ◌++◌, List, [], take, length}
+use Rattle.cb_model.specs.declared.node.NodeName.{NodeName}
+use Rattle.cb_coding.specs.declared.book.Book.{Book}
+use Rattle.cb_network.specs.Nodes.{AreColumns}
+use Rattle.cb_network.specs.Topology.{Topology}
+use Rattle.cb_cert.specs.declared.certificate.Certificate.{Certificate}
+use Rattle.cb_cert.specs.declared.certificate.Certificate.TheVariants.{Book as BookClaim, Thin as ThinClaim}
+use Rattle.cb_claim.specs.declared.verdict.Accepted.{Accepted}
+use Rattle.cb_claim.specs.Reading.{ArePlaces}
+use Rattle.cb_claim.specs.Verdicts.{Shows}
+use Rattle.cb_log.specs.declared.event.Event.{Event}
+use Rattle.cb_log.specs.Basis.{Mode, wanted, fixed}
+use Rattle.cb_alarm.specs.Lines.{LogGives, FrontGives}
+use Rattle.cb_report.specs.declared.fault.Fault.TheVariants as faults
+use Rattle.cb_report.specs.CertificateTexts.{accepted_text}
+use Rattle.cb_report.specs.EventTexts.{events_text}
+use Rattle.cb_request.specs.declared.request.Request.{Request}
+use Rattle.cb_request.specs.declared.request.Request.TheVariants.{Decode, Correlate}
+use Rattle.cb_outcome.specs.Outcome.{Outcome, done, done_with}
+use Rattle.cb_outcome.specs.Judged.{Known, network, certified}
+use Rattle.cb_outcome.specs.Contents.{Left, log_from}
+
+-- a log has at most so many bytes
+abbrev pub log_limit : ℕ
+log_limit = 2 ^ 40
+
+-- how a log is followed: from a topology, in a mode, by windows of a length, behind some bytes of the output
+pub record Watch : Type 0 where
+  pub opening : List ℕ
+  pub from : Topology
+  pub mode : Mode
+  pub window : ℕ
+
+-- the codebook that a certificate states, by the places of its columns among all
+pub record StatesBook (t : Topology) (distance : ℕ) (nodes : List NodeName) (numbers : List ℕ) (book : Book) : Type 0 where
+  pub columns : List NodeName
+  pub columns_are : AreColumns t columns
+  pub places : ArePlaces nodes columns numbers book.columns
+  pub distance_is : book.distance ≡ distance
+
+-- the same of any certificate; only a book states one
+abbrev pub States : Topology → Certificate → Book → Type 0
+States t (BookClaim distance nodes numbers spans) book = StatesBook t distance nodes numbers book
+States t (ThinClaim close distance nodes first second) book = ⊥
+
+-- by the codebook of a certificate, behind the line that accepts it
+pub record IsFixedWatch (t : Topology) (c : Certificate) (window : ℕ) (watch : Watch) : Type 0 where
+  pub accepted : Accepted
+  pub shows : Shows t c accepted
+  pub book : Book
+  pub states : States t c book
+  pub is : watch ≡ record { opening = accepted_text accepted; from = t; mode = fixed book; window = window }
+
+-- by codebooks for a wanted distance
+abbrev pub IsWantedWatch : Topology → ℕ → ℕ → Watch → Type 0
+IsWantedWatch t distance window watch = watch ≡ record { opening = []; from = t; mode = wanted distance; window = window }
+
+-- how the log of a request is followed, after what is known from its judged files
+abbrev pub IsWatch : Request → Known → Watch → Type 0
+IsWatch (Correlate one two log distance window) (network t) watch = IsWantedWatch t distance window watch
+IsWatch (Decode one two three log window) (certified t c) watch = IsFixedWatch t c window watch
+IsWatch request known watch = ⊥
+
+-- the output of a whole log
+abbrev pub WholeTells : Watch → List ℕ → List ℕ → Type 0
+WholeTells watch log out =
+    (events : List Event) × LogGives watch.from watch.mode watch.window log events × (out ≡ watch.opening ++ events_text events)
+
+-- the output of the lines that ended within the first bytes of a log
+abbrev pub FrontTells : Watch → List ℕ → List ℕ → Type 0
+FrontTells watch front out =
+    (events : List Event) × FrontGives watch.from watch.mode watch.window front events × (out ≡ watch.opening ++ events_text events)
+
+-- a log that isn't too long gives its whole output
+pub record GivesWhole (watch : Watch) (log : List ℕ) (whole : ℕ) (outcome : Outcome) : Type 0 where
+  pub short : length log ≤ log_limit
+  pub out : List ℕ
+  pub tells : WholeTells watch log out
+  pub gives : outcome ≡ done out (suc whole)
+
+-- and one that is gives the output of the lines before the first byte too many
+pub record GivesFront (watch : Watch) (name log : List ℕ) (whole : ℕ) (outcome : Outcome) : Type 0 where
+  pub long : log_limit < length log
+  pub out : List ℕ
+  pub tells : FrontTells watch (take log_limit log) out
+  pub gives : outcome ≡ done_with out (faults.LimitBytes name) whole
+
+-- what a log of this name gives that is followed so
+abbrev pub LogTells : Watch → List ℕ → List ℕ → ℕ → Outcome → Type 0
+LogTells watch name log whole outcome = GivesWhole watch log whole outcome ⊎ GivesFront watch name log whole outcome
+
+-- `correlate` and `decode`: the log is followed
+abbrev pub Follows : Left → Request → List ℕ → Known → ℕ → Outcome → Type 0
+Follows left request name known whole outcome =
+    (watch : Watch) × IsWatch request known watch × LogTells watch name (log_from left request name) whole outcome
