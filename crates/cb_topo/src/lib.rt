@@ -1,7 +1,7 @@
 //! A topology whose instances and nodes have numbers that stay, changed by edits.
 //!
 //! `Topology::new(alloc, model)` has no instance; `topology.apply(alloc, &edit)?` makes an edit. Readers go by numbers, and
-//! `columns` and `problems` list the numbers of such nodes in the order of their names, which `copy_name` tells.
+//! `columns`, `problems` and `nodes`, which are all, list numbers in the order of their names, which `copy_name` tells.
 //!
 //! The specs see a topology as `Numbered`: the net of cb_instances with the table of cb_nodes. `topology_of` is what it
 //! shows without numbers, and `Applies` says what an edit makes of both.
