@@ -22,6 +22,9 @@ mod order;
 mod readers;
 mod topology;
 
+pub use cb_instances::InstanceId;
+pub use cb_network::{Edit, EditRefusal};
+pub use cb_nodes::NodeId;
 pub use fault::EditFault;
 pub use laws::node_room_is_one;
 pub use topology::Topology;
