@@ -77,8 +77,8 @@ def place_of(page, room):
 
 def tell(command, folder, found):
     """What a command prints."""
-    made = subprocess.run(command, cwd=folder, env=found, stdin=subprocess.DEVNULL, stdout=subprocess.PIPE, text=True, timeout=300, check=False)
-    return made.stdout
+    outside = {"stdin": subprocess.DEVNULL, "stdout": subprocess.PIPE}
+    return subprocess.run(command, cwd=folder, env=found, text=True, timeout=300, check=False, **outside).stdout
 
 
 def try_page(page, program):
@@ -95,7 +95,8 @@ def try_page(page, program):
     for (command, wanted), printed in zip(steps, told):
         if wanted != printed.splitlines():
             wrong += 1
-            print(f"{page}: $ {command}", *difflib.unified_diff(wanted, printed.splitlines(), "stands there", "is printed", lineterm=""), sep="\n")
+            differs = difflib.unified_diff(wanted, printed.splitlines(), "stands there", "is printed", lineterm="")
+            print(f"{page}: $ {command}", *differs, sep="\n")
     print(f"{page}: {len(steps)} commands, {wrong} wrong" + (f", {unrun} blocks of shell not run" if unrun else ""))
     return wrong
 
