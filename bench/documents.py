@@ -10,8 +10,8 @@ A block that begins with ```console has commands and what they print, standard e
     a line that is printed
 
 A block whose first line names a file, as ```csv inventory.csv, is written under that name. The blocks of a document run in order, in
-one shell, in a copy of the repository without its crates: at the top, for an example's page in its folder, and for the tutorial in an
-empty folder. `jeknaule` is the program that `.ci/run` or `rt run` left in crates/cb_cli/out. Other blocks and indented lines aren't
+one shell, in a copy of the repository without its crates, which is $R: at the top, for an example's page in its folder, and for the
+tutorial and the recipes in an empty folder. `jeknaule` is the program that `.ci/run` or `rt run` left in crates/cb_cli/out. Other blocks and indented lines aren't
 run; blocks of shell among them (```sh) are counted. The status is 1 where something else is printed.
 """
 import argparse
@@ -70,7 +70,7 @@ def copy(program, room):
 
 def place_of(page, room):
     """The folder in which the commands of a page are typed."""
-    if page.name == "tutorial.md":
+    if page.name in ("tutorial.md", "recipes.md"):
         return room / "empty"
     return room / "top" / (page.parent if page.parts[0] == "examples" else "")
 
@@ -88,7 +88,7 @@ def try_page(page, program):
         room = pathlib.Path(name)
         copy(program, room)
         (room / "commands").write_text(script)
-        found = {"PATH": f"{room / 'bin'}:{os.environ['PATH']}", "HOME": name, "LC_ALL": "C.UTF-8"}
+        found = {"PATH": f"{room / 'bin'}:{os.environ['PATH']}", "R": str(room / "top"), "LC_ALL": "C.UTF-8"}
         told = tell(["bash", room / "commands"], place_of(page, room), found).split(f"\n{MARK}\n")[: len(steps)]
     told += ["-- the shell ended before --"] * (len(steps) - len(told))
     wrong = 0
