@@ -113,7 +113,7 @@ def main():
     if not said.program.exists():
         sys.exit(f"{said.program} isn't there: run `.ci/run`, or `rt run` in crates/cb_cli, first")
     examples = sorted(page.relative_to(ROOT) for page in ROOT.glob("examples/*/README.md"))
-    pages = said.documents or [*map(pathlib.Path, PAGES), *examples]
+    pages = [page.resolve().relative_to(ROOT) for page in said.documents] or [*map(pathlib.Path, PAGES), *examples]
     sys.exit(1 if sum(try_page(page, said.program.resolve()) for page in pages) else 0)
 
 
