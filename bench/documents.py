@@ -9,10 +9,11 @@ A block that begins with ```console has commands and what they print, standard e
     > that goes on in a second line
     a line that is printed
 
-A block whose first line names a file, as ```csv inventory.csv, is written under that name. The blocks of a document run in order, in
-one shell, in a copy of the repository without its crates, which is $R: at the top, for an example's page in its folder, and for the
-tutorial and the recipes in an empty folder. `jeknaule` is the program that `.ci/run` or `rt run` left in crates/cb_cli/out. Other blocks and indented lines aren't
-run; blocks of shell among them (```sh) are counted. The status is 1 where something else is printed.
+A block whose first line names a file, as ```csv inventory.csv, is written under that name, which the text before it must tell too. The
+blocks of a document run in order, in one shell, in a copy of the repository without its crates, which is $R: at the top, for an
+example's page in its folder, and for the tutorial and the recipes in an empty folder. `jeknaule` is the program that `.ci/run` or
+`rt run` left in crates/cb_cli/out. Other blocks and indented lines aren't run; blocks of shell among them (```sh) are counted. The
+status is 1 where something else is printed.
 """
 import argparse
 import difflib
@@ -46,7 +47,10 @@ def steps_of(block):
 def script_of(text):
     """What the shell is given for a document, its commands with the lines wanted, and how many blocks of shell aren't run."""
     script, steps, unrun = ["exec 2>&1"], [], 0
-    for kind, file, block in BLOCK.findall(text):
+    for match in BLOCK.finditer(text):
+        kind, file, block = match.groups()
+        if file and f"`{file}`" not in text[: match.start()]:
+            sys.exit(f"`{file}` isn't told before its block, whose first line a reader doesn't see")
         if file:
             script.append(f"cat > {file} <<'END OF FILE'\n{block}END OF FILE")
         elif kind == "console":
@@ -109,7 +113,7 @@ def main():
     if not said.program.exists():
         sys.exit(f"{said.program} isn't there: run `.ci/run`, or `rt run` in crates/cb_cli, first")
     examples = sorted(page.relative_to(ROOT) for page in ROOT.glob("examples/*/README.md"))
-    pages = said.documents or [*map(pathlib.Path, PAGES), *examples]
+    pages = [page.resolve().relative_to(ROOT) for page in said.documents] or [*map(pathlib.Path, PAGES), *examples]
     sys.exit(1 if sum(try_page(page, said.program.resolve()) for page in pages) else 0)
 
 
