@@ -37,8 +37,8 @@ whole edge root room place visits found grown all = record {
   edges = grown.edges;
   once = grown.once;
   closed = λ i v node at e.
-  let within = slice_get_within visits i v at in
-  (grown.found_are node).0 (grown.settled i v node (omega arith) at e);
+      let within = slice_get_within visits i v at in
+      (grown.found_are node).0 (grown.settled i v node (omega arith) at e);
   parents = grown.parents;
   siblings = grown.siblings;
   first = grown.first;
@@ -191,8 +191,8 @@ module _ (edge : ℕ → ℕ → Type 0) (root room : ℕ) (fits : root < room) 
         | inr had ↦ absurd (nothing room node had)
       ],
       λ there.
-      let same : root ≡ node = ap (λ (x : Visit). x.node) (only_item (visit root 0) there.place (visit node there.parent) there.is).1 in
-      subst (Has start) same (has_set (replicate room false) root fits_row),
+          let same : root ≡ node = ap (λ (x : Visit). x.node) (only_item (visit root 0) there.place (visit node there.parent) there.is).1 in
+          subst (Has start) same (has_set (replicate room false) root fits_row),
     );
     settled = λ i v node low a e. absurd (omega arith);
     low = λ i v a. let same : 0 ≡ v.parent = ap (λ (x : Visit). x.parent) (only_item (visit root 0) i v a).1 in omega arith;
