@@ -5,7 +5,6 @@ pool of cb_pool with 64 MiB reserved and ten rows taken. It makes a small progra
 """
 import argparse
 import pathlib
-import shutil
 import subprocess
 import tempfile
 
@@ -127,19 +126,11 @@ def with_rounds(text):
 
 def build(folder):
     """The program over the two crates, and its peer in C."""
-    crates = folder / "crates"
-    for name in ("cb_lanes", "cb_pool"):
-        shutil.copytree(measure.ROOT / "crates" / name, crates / name, ignore=shutil.ignore_patterns("out"))
-    source = crates / "lanes_bench" / "src"
-    source.mkdir(parents=True)
-    (source / "main.rt").write_text(with_rounds(MAIN))
-    (source / "kernels.rt").write_text(CALLS)
-    (source / "pool.rt").write_text(POOL)
-    (folder / "crates.txt").write_text("cb_lanes:\ncb_pool:\nlanes_bench: cb_lanes cb_pool\n")
-    subprocess.run(["rt", "run"], cwd=crates / "lanes_bench", check=True, stdout=subprocess.DEVNULL, stderr=subprocess.DEVNULL)
+    sources = {"main.rt": with_rounds(MAIN), "kernels.rt": CALLS, "pool.rt": POOL}
+    program = measure.build(folder, "lanes_bench", ["cb_lanes", "cb_pool"], sources)
     (folder / "peer.c").write_text(with_rounds(PEER))
     subprocess.run(["gcc", "-O3", "-march=x86-64-v2", "-o", folder / "peer", folder / "peer.c"], check=True)
-    return crates / "lanes_bench" / "out" / "lanes_bench", folder / "peer"
+    return program, folder / "peer"
 
 
 def least(program, words, rounds, folder):

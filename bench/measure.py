@@ -3,6 +3,7 @@ import argparse
 import os
 import pathlib
 import resource
+import shutil
 import subprocess
 import sys
 import tempfile
@@ -52,3 +53,34 @@ def compare(what, command, programs_of, folder):
         line += f" | peer {peer_seconds:8.3f} s, {peer_memory:8.1f} MiB"
         line += f" | ratio {seconds / max(peer_seconds, 0.001):7.1f}, {memory / peer_memory:5.1f} | {alike}"
     print(line, flush=True)
+
+
+def _below(name, lines, found):
+    """Adds a crate of the repository and those that it stands on, lowest first."""
+    if name in lines and name not in found:
+        for other in lines[name]:
+            _below(other, lines, found)
+        found.append(name)
+
+
+def build(folder, name, on, sources):
+    """A small program of these sources over copies of the crates that it stands on, proved and built in a folder of its own."""
+    lines = {}
+    for line in (ROOT / "crates.txt").read_text().splitlines():
+        if ":" in line and not line.startswith("#"):
+            crate, others = line.split(":")
+            lines[crate] = others.split()
+    names = []
+    for crate in on:
+        _below(crate, lines, names)
+    crates = folder / "crates"
+    for crate in names:
+        shutil.copytree(ROOT / "crates" / crate, crates / crate, ignore=shutil.ignore_patterns("out"))
+    source = crates / name / "src"
+    source.mkdir(parents=True)
+    for file, text in sources.items():
+        (source / file).write_text(text)
+    listed = "".join(f"{crate}: {' '.join(lines[crate])}\n" for crate in names)
+    (folder / "crates.txt").write_text(listed + f"{name}: {' '.join(on)}\n")
+    subprocess.run(["rt", "run"], cwd=crates / name, check=True, stdout=subprocess.DEVNULL, stderr=subprocess.DEVNULL)
+    return crates / name / "out" / name

@@ -5,8 +5,6 @@ cb_alarm in a temporary folder; where cb_alarm isn't proved on this machine yet,
 """
 import argparse
 import pathlib
-import shutil
-import subprocess
 import tempfile
 
 import measure
@@ -61,42 +59,13 @@ pub fn read(alloc: Global, line: &[u8], alone: bool) -> u32 {
 """
 
 
-def below(name, lines, found):
-    """The crates of the repository that this one stands on, itself included."""
-    if name in lines and name not in found:
-        found.append(name)
-        for other in lines[name]:
-            below(other, lines, found)
-    return found
-
-
-def build(folder, rounds):
-    text = (measure.ROOT / "crates.txt").read_text()
-    lines = {}
-    for line in text.splitlines():
-        if ":" in line and not line.startswith("#"):
-            name, others = line.split(":")
-            lines[name] = others.split()
-    names = below("cb_alarm", lines, [])
-    crates = folder / "crates"
-    for name in names:
-        shutil.copytree(measure.ROOT / "crates" / name, crates / name, ignore=shutil.ignore_patterns("out"))
-    source = crates / "records_bench" / "src"
-    source.mkdir(parents=True)
-    (source / "main.rt").write_text(MAIN.replace("ROUNDS", str(rounds)))
-    (source / "reading.rt").write_text(READING)
-    listed = "".join(f"{name}: {' '.join(lines[name])}\n" for name in names)
-    (folder / "crates.txt").write_text(listed + "records_bench: cb_alarm serde_json json\n")
-    subprocess.run(["rt", "run"], cwd=crates / "records_bench", check=True, stdout=subprocess.DEVNULL, stderr=subprocess.DEVNULL)
-    return crates / "records_bench" / "out" / "records_bench"
-
-
 def main():
     parser = argparse.ArgumentParser(description=__doc__)
     parser.add_argument("--rounds", type=int, default=1_000_000)
     rounds = parser.parse_args().rounds
     with tempfile.TemporaryDirectory() as name:
-        program = build(pathlib.Path(name), rounds)
+        sources = {"main.rt": MAIN.replace("ROUNDS", str(rounds)), "reading.rt": READING}
+        program = measure.build(pathlib.Path(name), "records_bench", ["cb_alarm", "serde_json", "json"], sources)
         print("line        microseconds   of that its JSON")
         for kind, line in LINES.items():
             whole, json = (min(measure.run(program, [mode, line], name)[2] for _ in range(3)) for mode in ("r", "j"))

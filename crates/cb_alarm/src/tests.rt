@@ -181,3 +181,123 @@ fn reads_lines(rt: HostRuntime) -> Result<(), Fail> {
     }
     Ok(())
 }
+
+// What stands before and behind a piece, the piece, how often it is doubled, and what the line says.
+type Long = (
+    &'static [u8],
+    &'static [u8],
+    &'static [u8],
+    u32,
+    Result<Said, SkipKind>,
+);
+
+const LONG: [Long; 14] = [
+    (b"", b"", b"x", 16, Err(SkipKind::NotJson)),
+    (b"", b"", b"[", 16, Err(SkipKind::NotJson)),
+    (b"", b"0", b"{\"\":", 14, Err(SkipKind::NotJson)),
+    (
+        b"{\"at\":1,\"tick\":true,\"x\":",
+        b"}",
+        b"[",
+        16,
+        Err(SkipKind::NotJson),
+    ),
+    (
+        b"{\"at\":1",
+        b",\"tick\":true}",
+        b"0",
+        16,
+        Err(SkipKind::NotJson),
+    ),
+    (
+        b"{\"at\":0.",
+        b"1,\"tick\":true}",
+        b"0",
+        16,
+        Err(SkipKind::BadAt),
+    ),
+    (
+        b"{\"at\":1,\"tick\":true,\"x\":\"",
+        b"\"}",
+        b"\\u0000",
+        13,
+        Ok((1, b"tick", b"", b"", b"")),
+    ),
+    (
+        b"{\"at\":1,\"tick\":true,\"x\":\"",
+        b"\"}",
+        b"\\ud800",
+        13,
+        Err(SkipKind::NotJson),
+    ),
+    (
+        b"{\"at\":1,\"tick\":true,\"x\":\"",
+        b"\"}",
+        b"\xff",
+        16,
+        Err(SkipKind::NotJson),
+    ),
+    (
+        b"{\"at\":1,\"tick\":true,\"x\":\"",
+        b"\"}",
+        b"\0",
+        16,
+        Err(SkipKind::NotJson),
+    ),
+    (
+        b"{",
+        b"\"at\":2,\"tick\":true}",
+        b"\"at\":1,",
+        13,
+        Ok((2, b"tick", b"", b"", b"")),
+    ),
+    (
+        b"{\"at\":1,\"raise\":\"A@b\",\"from\":\"",
+        b"\"}",
+        b"a",
+        16,
+        Err(SkipKind::BadSource),
+    ),
+    (
+        b"{\"at\":1,\"from\":\"c\",\"raise\":\"A@",
+        b"\"}",
+        b"b",
+        16,
+        Err(SkipKind::BadName),
+    ),
+    (
+        b"{\"at\":1,\"edit\":\"delete ",
+        b"\"}",
+        b"p",
+        16,
+        Err(SkipKind::BadEdit),
+    ),
+];
+
+// A line with a piece that is doubled so often.
+fn long_line(
+    alloc: Global,
+    before: &[u8],
+    behind: &[u8],
+    piece: &[u8],
+    doublings: u32,
+) -> Result<Vec<u8>, AllocError> {
+    let mut middle = Vec::from_slice(alloc, piece)?;
+    for _ in 0..doublings {
+        let half = Vec::from_slice(alloc, middle.as_slice())?;
+        middle.extend_from_slice(half.as_slice())?;
+    }
+    let mut line = Vec::from_slice(alloc, before)?;
+    line.extend_from_slice(middle.as_slice())?;
+    line.extend_from_slice(behind)?;
+    Ok(line)
+}
+
+#[test]
+fn reads_long_lines(rt: HostRuntime) -> Result<(), Fail> {
+    for (before, behind, piece, doublings, wanted) in LONG {
+        let line = long_line(rt.alloc(), before, behind, piece, doublings)?;
+        check(&rt, rt.alloc(), line.as_slice(), wanted)?;
+    }
+    Ok(())
+}

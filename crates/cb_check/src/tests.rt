@@ -1,5 +1,5 @@
 //! A tree with members of every kind, and trees that break a rule.
-ghost use Rattle.std.specs.Prelude.{IfOk, IfSome};
+ghost use Rattle.std.specs.Prelude.{IfOk, IfSome, IsTrue};
 ghost use Rattle.std.specs.List.{All};
 ghost use Rattle.cb_grammar.specs.Grammar.{NameFits, NamesFit};
 
@@ -94,24 +94,41 @@ fn lexeme(alloc: Global, word: &[u8], line: u32) -> Result<Lexeme, AllocError>
     }))
 }
 
-// What is read after a line more.
+// Reads a line more, and says whether a model goes on like that.
 fn read_line(
     alloc: Global,
-    start: Machine,
+    machine: &mut Machine,
     line: &[u8],
     number: u32,
-) -> Result<Option<Machine>, AllocError>
-    requires { All NameFits start }
-    ensures { IfOk result (λ after. IfSome after (All NameFits)) }
+) -> Result<bool, AllocError>
+    requires { All NameFits machine.old }
+    ensures { IfOk result (λ reads. IsTrue reads → All NameFits machine.new) }
 {
-    let mut machine = start;
     for word in words(line) {
-        match machine.read(alloc, lexeme(alloc, word, number)?)? {
-            Some(after) => machine = after,
-            None => return Ok(None),
+        if !machine.read(alloc, lexeme(alloc, word, number)?)? {
+            return Ok(false);
         }
     }
-    Ok(Some(machine))
+    Ok(true)
+}
+
+// Reads the text, with another line at one place, and says whether a model goes on like that.
+fn read_text(
+    alloc: Global,
+    machine: &mut Machine,
+    place: usize,
+    instead: &[u8],
+) -> Result<bool, AllocError>
+    requires { All NameFits machine.old }
+    ensures { IfOk result (λ reads. IsTrue reads → All NameFits machine.new) }
+{
+    for (i, line) in TEXT.iter().enumerate() {
+        let line = if i == place { instead } else { *line };
+        if !read_line(alloc, machine, line, i as u32 + 1)? {
+            return Ok(false);
+        }
+    }
+    Ok(true)
 }
 
 // The tree of the text, with another line at one place.
@@ -119,14 +136,12 @@ fn tree_of(alloc: Global, place: usize, instead: &[u8]) -> Result<Option<Tree>, 
     ensures { IfOk result (λ tree. IfSome tree NamesFit) }
 {
     let mut machine = Machine::new(alloc);
-    for (i, line) in TEXT.iter().enumerate() {
-        let line = if i == place { instead } else { *line };
-        match read_line(alloc, machine, line, i as u32 + 1)? {
-            Some(after) => machine = after,
-            None => return Ok(None),
-        }
+    let reads = read_text(alloc, &mut machine, place, instead);
+    let tree = machine.finish();
+    if !reads? {
+        return Ok(None);
     }
-    Ok(machine.finish())
+    Ok(tree)
 }
 
 // The rows of the tables but for their names, a line each.
@@ -163,7 +178,11 @@ fn told(alloc: Global, place: usize, instead: &[u8]) -> Result<String, AllocErro
         return String::from_str(alloc, "no tree");
     };
     match check(alloc, &tree) {
-        Ok(model) => shown(alloc, model.tables()),
+        Ok(model) => {
+            let rows = shown(alloc, model.tables());
+            drop(model);
+            rows
+        }
         Err(TypeFault::Broken(fault)) => format!(in alloc; "{:?} {}", fault.rule, fault.line),
         Err(TypeFault::NoMemory) => Err(AllocError),
     }

@@ -4,6 +4,7 @@
 mod decode;
 mod finding;
 
+pub use cb_coding::Answer;
 pub use decode::nearest;
 pub use finding::find;
 

@@ -19,6 +19,10 @@ use Rattle.cb_grammar.specs.declared.machine.Part.{Part}
 use Rattle.cb_grammar.specs.declared.machine.Part.TheVariants as parts
 use Rattle.cb_grammar.specs.declared.machine.State.{State}
 
+-- the state before any token
+abbrev pub nothing_read : State
+nothing_read = record { classes = []; part = parts.Between }
+
 -- a member after its first token
 abbrev pub begun : Lexeme → Grown
 begun lexemes.Problem = More (places.Event events.Problem)

@@ -119,6 +119,26 @@ const AT_LAST: [Dry; 4] = [
     (b"e", &[b"b", b"c", b"d"]),
 ];
 
+// Why this edit isn't made, if it isn't.
+fn try_edit(alloc: Global, graph: &mut Graph, edit: &Edit) -> Option<EditFault> {
+    if !has_good_name(edit) {
+        return None;
+    }
+    graph.apply(alloc, edit).err()
+}
+
+// Why the edit of these words isn't made, if it isn't.
+fn fault_of(
+    alloc: Global,
+    graph: &mut Graph,
+    words: Words,
+) -> Result<Option<EditFault>, AllocError> {
+    let edit = edit_of(alloc, words)?;
+    let fault = try_edit(alloc, graph, &edit);
+    drop(edit);
+    Ok(fault)
+}
+
 // Makes the edits in turn. Each must come to what its step says.
 fn make_all(
     rt: &impl Abort,
@@ -127,11 +147,8 @@ fn make_all(
     steps: &[Step],
 ) -> Result<(), AllocError> {
     for (words, wanted) in steps {
-        let edit = edit_of(alloc, *words)?;
-        if has_good_name(&edit) {
-            let fault = graph.apply(alloc, &edit).err();
-            assert_eq!(rt; fault, wanted.map(EditFault::Refused), "{words:?}");
-        }
+        let fault = fault_of(alloc, graph, *words)?;
+        assert_eq!(rt; fault, wanted.map(EditFault::Refused), "{words:?}");
     }
     Ok(())
 }
@@ -191,5 +208,7 @@ fn empty_graph(alloc: Global) -> Result<Graph, AllocError> {
 fn successors_under_edits(rt: HostRuntime) -> Result<(), AllocError> {
     let alloc = rt.alloc();
     let mut graph = empty_graph(alloc)?;
-    work_through::<Brand>(&rt, alloc, Blank::new(1), &mut graph)
+    let done = work_through::<Brand>(&rt, alloc, Blank::new(1), &mut graph);
+    drop(graph);
+    done
 }

@@ -7,6 +7,7 @@ mod measure;
 mod reduce;
 mod sharing;
 
+pub use cb_coding::{Book, Pair};
 pub use closest::least;
 pub use measure::{are_all, distance, distance_from, distance_over};
 pub use reduce::{book, every_column, is_good, whole_book};

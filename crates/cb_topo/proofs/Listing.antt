@@ -20,7 +20,7 @@ use Rattle.cb_nodes.specs.declared.id.NodeId.{NodeId}
 use Rattle.cb_nodes.specs.declared.node.Node.{Node}
 use Rattle.cb_nodes.specs.Table.{IsNode}
 use Rattle.cb_topo.specs.declared.kind.Kind.{Kind}
-use Rattle.cb_topo.specs.declared.kind.Kind.TheVariants.{Column, Problem}
+use Rattle.cb_topo.specs.declared.kind.Kind.TheVariants.{Column, Problem, Any}
 use Rattle.cb_topo.specs.Numbered.{Numbered, topology_of, IsNodeNamed, AreNamed, IsWhole}
 use Rattle.cb_topo.specs.Ordered.{IsOfKind, LeadsToKind}
 use Rattle.cb_topo.proofs.Naming.{one_name}
@@ -97,6 +97,7 @@ module _ (n : Numbered) (kind : Kind) (k : ℕ) (old : BTreeMap NodeName NodeId)
 of_topology : (kind : Kind) (t : Topology) (name : NodeName) → IsOfKind kind t name → IsNodeOf t name
 of_topology Column t name is = (is.symptom.event, record { class = is.symptom.class; of_class = is.symptom.of_class; named = (is.symptom.symptom.has, is.symptom.named) })
 of_topology Problem t name is = (is.event, record { class = is.class; of_class = is.of_class; named = (is.problem.has, is.named) })
+of_topology Any t name is = is
 
 -- all numbers were gone through
 pub leads_all : (n : Numbered) (kind : Kind) (k : ℕ) (nodes : BTreeMap NodeName NodeId) → IsWhole n → ((id : NodeId) (node : Node) → IsNode n.nodes id node → id.0 < k)

@@ -6,4 +6,6 @@ pub enum Kind {
     /// The symptoms that are not muted.
     Column,
     Problem,
+    /// All nodes.
+    Any,
 }

@@ -1,7 +1,7 @@
 //! A topology whose instances and nodes have numbers that stay, changed by edits.
 //!
 //! `Topology::new(alloc, model)` has no instance; `topology.apply(alloc, &edit)?` makes an edit. Readers go by numbers, and
-//! `columns` and `problems` list the numbers of such nodes in the order of their names, which `copy_name` tells.
+//! `columns`, `problems` and `nodes`, which are all, list numbers in the order of their names, which `copy_name` tells.
 //!
 //! The specs see a topology as `Numbered`: the net of cb_instances with the table of cb_nodes. `topology_of` is what it
 //! shows without numbers, and `Applies` says what an edit makes of both.
@@ -22,6 +22,9 @@ mod order;
 mod readers;
 mod topology;
 
+pub use cb_instances::InstanceId;
+pub use cb_network::{Edit, EditRefusal};
+pub use cb_nodes::NodeId;
 pub use fault::EditFault;
 pub use laws::node_room_is_one;
 pub use topology::Topology;

@@ -1,7 +1,7 @@
-//! Columns and problems in order.
+//! Columns, problems and all nodes in order.
 ghost use Rattle.std.specs.Prelude.{◌↔◌, List as Items, IfOk, IsTrue};
 ghost use Rattle.cb_model.specs.declared.node.NodeName.{NodeName as Node};
-ghost use Rattle.cb_network.specs.Nodes.{AreInOrder, AreColumns, AreProblems};
+ghost use Rattle.cb_network.specs.Nodes.{AreInOrder, AreColumns, AreProblems, IsNodeOf};
 ghost use Rattle.cb_topo.specs.Numbered.{topology_of, IsNodeNamed, IsLiveNode, AreNamed};
 ghost use Rattle.cb_topo.specs.Ordered.{IsOfKind, LeadsToKind};
 
@@ -25,6 +25,13 @@ impl Topology {
         ensures { IfOk result (λ ids. (names : Items Node) × AreProblems (topology_of self.now) names × AreNamed self.now ids names) }
     {
         self.listed(alloc, Kind::Problem)
+    }
+
+    /// All nodes in order, of any kind, muted or not.
+    pub fn nodes(&self, alloc: Global) -> Result<List<NodeId>, AllocError>
+        ensures { IfOk result (λ ids. (names : Items Node) × AreInOrder (IsNodeOf (topology_of self.now)) names × AreNamed self.now ids names) }
+    {
+        self.listed(alloc, Kind::Any)
     }
 
     // The nodes of the kind, in order.
@@ -60,6 +67,7 @@ impl Topology {
         match kind {
             Kind::Column => self.is_column(node),
             Kind::Problem => self.is_problem(node),
+            Kind::Any => self.nodes.node(node).is_some(),
         }
     }
 

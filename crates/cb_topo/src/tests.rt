@@ -55,7 +55,15 @@ fn has_good_name(edit: &Edit) -> bool
     }
 }
 
-// Why the edit isn't made, if it isn't.
+// Why this edit isn't made, if it isn't.
+fn try_edit(alloc: Global, topology: &mut Topology, edit: &Edit) -> Option<EditFault> {
+    if !has_good_name(edit) {
+        return None;
+    }
+    topology.apply(alloc, edit).err()
+}
+
+// Why the edit of these words isn't made, if it isn't.
 fn fault_of(
     alloc: Global,
     topology: &mut Topology,
@@ -63,10 +71,9 @@ fn fault_of(
     words: Words,
 ) -> Result<Option<EditFault>, AllocError> {
     let edit = edit_of(alloc, kind, words)?;
-    if !has_good_name(&edit) {
-        return Ok(None);
-    }
-    Ok(topology.apply(alloc, &edit).err())
+    let fault = try_edit(alloc, topology, &edit);
+    drop(edit);
+    Ok(fault)
 }
 
 // What is done in turn, and why it isn't done.
@@ -225,5 +232,7 @@ fn work_through(rt: &impl Abort, alloc: Global, topology: &mut Topology) -> Resu
 fn edits_in_turn(rt: HostRuntime) -> Result<(), AllocError> {
     let alloc = rt.alloc();
     let mut topology = Topology::new(alloc, sample_model(alloc)?);
-    work_through(&rt, alloc, &mut topology)
+    let done = work_through(&rt, alloc, &mut topology);
+    drop(topology);
+    done
 }

@@ -1,9 +1,10 @@
-use Rattle.std.proofs.Common.{◌≡◌, ◌↔◌, IsTrue, sym, subst}
+use Rattle.std.proofs.Common.{◌≡◌, ◌↔◌, Bool, IsTrue, sym, subst}
 use Rattle.cb_model.specs.declared.node.NodeName.{NodeName}
 use Rattle.cb_topo.specs.declared.kind.Kind.{Kind}
-use Rattle.cb_topo.specs.declared.kind.Kind.TheVariants.{Column, Problem}
-use Rattle.cb_topo.specs.Numbered.{topology_of, IsNodeNamed}
+use Rattle.cb_topo.specs.declared.kind.Kind.TheVariants.{Column, Problem, Any}
+use Rattle.cb_topo.specs.Numbered.{Numbered, topology_of, IsNodeNamed, IsLiveNode, IsWhole}
 use Rattle.cb_topo.specs.Ordered.{IsOfKind}
+use Rattle.cb_topo.proofs.Naming.{whole, told_live}
 use Rattle.cb_topo.proofs.topology.Topology.is_of.Goals as goal
 
 pub returns-in-Column : goal.returns-in-Column
@@ -17,3 +18,15 @@ returns-in-Problem c =
     let n = c.args.self.now in
     let same : c.args.kind ≡ Problem = cc in
     subst (λ (k : Kind). (name : NodeName) → IsNodeNamed n c.args.node name → IsTrue c.is_problem.result ↔ IsOfKind k (topology_of n) name) (sym same) c.is_problem.ensures
+
+pub returns-in-Any : goal.returns-in-Any
+returns-in-Any c =
+    let n = c.args.self.now in
+    let same : c.args.kind ≡ Any = cc in
+    let seen : Numbered = record { net = c.self.inside.net; nodes = c.self.inside.nodes } in
+    let is_whole = subst IsWhole c.self.view_is (whole seen c.self.inside.counts c.self.invariant) in
+    let told = told_live seen c.self.inside.counts c.self.invariant c.args.node c.node.result c.node.ensures.found c.node.ensures.absent in
+    let live = subst (λ (m : Numbered). IsTrue c.is_some.result ↔ IsLiveNode m c.args.node) c.self.view_is
+    (subst (λ (b : Bool). IsTrue b ↔ IsLiveNode seen c.args.node) (sym c.is_some.ensures) told) in
+    subst (λ (k : Kind). (name : NodeName) → IsNodeNamed n c.args.node name → IsTrue c.is_some.result ↔ IsOfKind k (topology_of n) name) (sym same)
+    (λ name named. (λ yes. is_whole.live c.args.node name named, λ is. live.1 (name, named)))

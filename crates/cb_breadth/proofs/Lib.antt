@@ -1,0 +1,4 @@
+pub mod Growing
+pub mod Lists
+pub mod Ranking
+pub mod Visiting

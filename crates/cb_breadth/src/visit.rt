@@ -1,0 +1,29 @@
+//! Nodes in an order, and the visits to them.
+
+use cb_bits::Row;
+
+/// Numbers of nodes in an order. A node's rank is its place among them.
+#[derive(Debug, Drop)]
+pub struct Order {
+    /// For each rank the number of the node.
+    pub nodes: Vec<u32>,
+    /// For the number of each node its rank. What stands at the numbers of others doesn't matter.
+    pub ranks: Vec<u32>,
+}
+
+/// A node, by its rank; and the place among the visits, counted from 1, of the one that it was found from. The parent of the
+/// root is 0.
+#[derive(Clone, Copy, Debug, PartialEq, Eq)]
+pub struct Visit {
+    pub node: u32,
+    pub parent: u32,
+}
+
+/// All that a node leads to.
+#[derive(Debug, Drop)]
+pub struct Tree {
+    /// The visits, the root's first.
+    pub visits: Vec<Visit>,
+    /// For each rank, whether the node is visited.
+    pub nodes: Row,
+}

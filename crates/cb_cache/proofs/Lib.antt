@@ -1,0 +1,10 @@
+pub mod Visiting
+pub mod Spreading
+pub mod United
+pub mod Written
+pub mod Pooled
+pub mod Permuted
+pub mod Sizes
+pub mod Filling
+pub mod Opened
+pub mod Slots

@@ -1,0 +1,192 @@
+-- Once every problem is searched from, the rows are right, and the steps are no more than what all problems cause.
+use Rattle.std.proofs.Common.{◌≡◌, ◌≢◌, ◌↔◌, ℕ, zero, suc, ◌+◌, ◌<◌, ◌≤◌, List, [], ◌∷◌, length, sum, replicate, Option, Some, None, slice_index_or, refl, sym, subst, inl, inr, arith}
+use Rattle.std.specs.declared.cmp.Ordering.TheVariants.{Less}
+use Rattle.std.specs.List.{All, AllZip, AllPairs, Contains}
+use Rattle.std.specs.List.Sorted.{IsPermutation}
+use Rattle.std.proofs.lemmas.List.Sorted.{IsPermutation-sym, Contains-permutation, length_permutation}
+use Rattle.std.proofs.lemmas.List.Elements.{Contains-get_or}
+use Rattle.cb_model.proofs.Numbers.{slice_get-replicate}
+use Rattle.cb_model.proofs.Rising.{contains_cases, contains_head, contains_tail, nothing_in_empty, node_strict, node_cmp_total, node_cmp_exact}
+use Rattle.cb_model.specs.declared.node.NodeName.{NodeName}
+use Rattle.cb_model.specs.Order.{Rises}
+use Rattle.cb_model.specs.NodeOrder.{node_cmp}
+use Rattle.cb_network.specs.Causes.{Causes}
+use Rattle.cb_network.specs.Topology.{Topology}
+use Rattle.cb_network.specs.Nodes.{AreProblems, IsProblem, IsNodeOf, IsCount, IsWithin}
+use Rattle.cb_network.specs.Sound.{Sound, problem_limit}
+use Rattle.cb_network.proofs.Counts.{count_of_rising}
+use Rattle.cb_network.proofs.Sets.{len_of_part}
+use Rattle.cb_change.specs.Costs.{IsOpenCost}
+use Rattle.cb_change.proofs.Totals.{one_total}
+use Rattle.cb_nodes.specs.declared.id.NodeId.{NodeId}
+use Rattle.cb_pool.specs.declared.slot.Slot.{Slot}
+use Rattle.cb_pool.specs.Pool.{Pool}
+use Rattle.cb_topo.specs.Numbered.{Numbered, topology_of, IsNodeNamed, IsLiveNode, AreNamed, IsWhole}
+use Rattle.cb_graph.specs.Edges.{number}
+use Rattle.cb_graph.proofs.Chains.{named_once}
+use Rattle.cb_cache.specs.Reached.{HasSlot}
+use Rattle.cb_cache.specs.Filled.{HaveRows, HasSize, CostAtMost}
+use Rattle.cb_cache.specs.Numbers.{AreOnce, AreProblemNumbers}
+use Rattle.cb_cache.specs.Kept.{AreRight}
+use Rattle.cb_cache.proofs.Permuted.{once_permuted}
+
+-- the name of a listed number, and the number of a listed name
+name_of : (n : Numbered) (ids : List NodeId) (names : List NodeName) → AreNamed n ids names → (id : NodeId) → Contains ids id → (name : NodeName) × Contains names name × IsNodeNamed n id name
+name_of n [] names zip id has = absurd (nothing_in_empty id has)
+name_of n (a ∷ ids) [] zip id has = absurd zip
+name_of n (a ∷ ids) (x ∷ names) zip id has = elim (contains_cases a ids id has) [
+  | inl same ↦ (x, contains_head x names, subst (λ (k : NodeId). IsNodeNamed n k x) same zip.0)
+  | inr later ↦ let f = name_of n ids names zip.1 id later in (f.0, contains_tail x names f.0 f.1, f.2)
+]
+
+number_of : (n : Numbered) (ids : List NodeId) (names : List NodeName) → AreNamed n ids names → (name : NodeName) → Contains names name → (id : NodeId) × Contains ids id × IsNodeNamed n id name
+number_of n [] [] zip name has = absurd (nothing_in_empty name has)
+number_of n [] (x ∷ names) zip name has = absurd zip
+number_of n (a ∷ ids) [] zip name has = absurd zip
+number_of n (a ∷ ids) (x ∷ names) zip name has = elim (contains_cases x names name has) [
+  | inl same ↦ (a, contains_head a ids, subst (IsNodeNamed n a) same zip.0)
+  | inr later ↦ let f = number_of n ids names zip.1 name later in (f.0, contains_tail a ids f.0 f.1, f.2)
+]
+
+pub names_once : (names : List NodeName) → Rises node_cmp names → AllPairs (λ p q. p ≢ q) names
+names_once names rise i j d lt within same =
+    let less = rise i j d lt within in
+    let turned = subst (λ q. node_cmp q q ≡ Less) same (subst (λ q. node_cmp (slice_index_or names i d) q ≡ Less) (sym same) less) in
+    node_strict (slice_index_or names j d) (slice_index_or names j d) turned turned
+
+-- the names of two numbers at two places
+at_place : (n : Numbered) (ids : List NodeId) (names : List NodeName) → AreNamed n ids names → (i : ℕ) (d : NodeId) (e : NodeName) → i < length ids
+    → (i < length names) × IsNodeNamed n (slice_index_or ids i d) (slice_index_or names i e)
+at_place n [] names zip i d e lt = absurd (omega arith)
+at_place n (a ∷ ids) [] zip i d e lt = absurd zip
+at_place n (a ∷ ids) (x ∷ names) zip zero d e lt = (omega arith, zip.0)
+at_place n (a ∷ ids) (x ∷ names) zip (suc i) d e lt = let f = at_place n ids names zip.1 i d e (omega arith) in (omega (arith, f.0), f.1)
+
+pub ids_once : (n : Numbered) (ids : List NodeId) (names : List NodeName) → Rises node_cmp names → AreNamed n ids names → AreOnce ids
+ids_once n ids names rise zip i j d lt within same =
+    let e : NodeName = record { event = []; instance = [] } in
+    let first = at_place n ids names zip i d e (omega arith) in
+    let second = at_place n ids names zip j d e within in
+    names_once names rise i j e lt second.0
+    (named_once n (slice_index_or ids j d) _ _ (subst (λ (k : NodeId). IsNodeNamed n k (slice_index_or names i e)) same first.1) second.1)
+
+-- nothing is there where no place has a slot
+pub no_rows : (n : Numbered) (room : ℕ) (slots : List (Option Slot)) (p : Pool) → slots ≡ replicate room None → HaveRows n [] slots p
+no_rows n room slots p is = record {
+  rows = λ i slot has. absurd (none i slot has);
+  only = λ i slot has. absurd (none i slot has);
+  all = λ id has. absurd (nothing_in_empty id has);
+  apart = λ i j slot has _. absurd (none i slot has);
+}
+  where
+    none : (i : ℕ) (slot : Slot) → ¬ HasSlot slots i slot
+    none i slot has = let e = slice_get-replicate room i None (Some slot) (subst (λ xs. HasSlot xs i slot) is has) in cc
+
+-- the names of numbers of nodes
+names_for : (n : Numbered) (ids : List NodeId) → All (IsLiveNode n) ids → (names : List NodeName) × AreNamed n ids names
+names_for n [] live = ([], tt)
+names_for n (a ∷ ids) live =
+    let here = live 0 a (omega arith) in
+    let rest = names_for n ids (λ i d lt. live (suc i) d (omega arith)) in
+    (here.0 ∷ rest.0, (here.1, rest.1))
+
+-- the problems are no more than there can be
+pub few_of_rising : (P Q : NodeName → Type 0) (xs : List NodeName) (limit : ℕ) → Rises node_cmp xs → ((q : NodeName) → Contains xs q ↔ Q q)
+    → ((q : NodeName) → Q q → P q) → IsWithin P limit → length xs ≤ limit
+few_of_rising P Q xs limit rise are part within =
+    let count = count_of_rising Q xs rise are in
+    let all = within.1 in
+    let less = len_of_part node_cmp_total node_cmp_exact count.nodes all.nodes (λ q has. (all.members q).1 (part q ((count.members q).0 has))) in
+    let m = count.len in
+    let k = all.len in
+    let low = within.2 in
+    omega arith
+
+pub length_named : (n : Numbered) (ids : List NodeId) (names : List NodeName) → AreNamed n ids names → length ids ≡ length names
+length_named n [] [] zip = refl
+length_named n [] (x ∷ names) zip = absurd zip
+length_named n (a ∷ ids) [] zip = absurd zip
+length_named n (a ∷ ids) (x ∷ names) zip = let e = length_named n ids names zip.1 in omega arith
+
+pub few_problems : (n : Numbered) → Sound (topology_of n) → (ids : List NodeId) (names : List NodeName) → AreProblems (topology_of n) names → AreNamed n ids names → length ids ≤ problem_limit
+few_problems n sound ids names problems named =
+    let few = few_of_rising (IsProblem (topology_of n)) (IsProblem (topology_of n)) names problem_limit problems.rise (λ q. (problems.each q, problems.all q)) (λ q problem. problem)
+    sound.few_problems in
+    let same = length_named n ids names named in
+    omega arith
+
+sized : (n : Numbered) (ids : List NodeId) (names : List NodeName) (sizes : List ℕ) → AreNamed n ids names → AllZip (HasSize n) ids sizes
+    → AllZip (λ p k. IsCount (Causes (topology_of n) p) k) names sizes
+sized n [] [] [] named zip = tt
+sized n [] (x ∷ names) sizes named zip = absurd named
+sized n [] [] (k ∷ sizes) named zip = absurd zip
+sized n (a ∷ ids) [] sizes named zip = absurd named
+sized n (a ∷ ids) (x ∷ names) [] named zip = absurd zip
+sized n (a ∷ ids) (x ∷ names) (k ∷ sizes) named zip = (zip.0 x named.0, sized n ids names sizes named.1 zip.1)
+
+-- the numbers of all problems, in another order
+pub problem_numbers : (n : Numbered) → IsWhole n → Sound (topology_of n) → (ids order : List NodeId) (names : List NodeName) → AreProblems (topology_of n) names → AreNamed n ids names
+    → IsPermutation ids order → AreProblemNumbers n order
+problem_numbers n whole sound ids order names problems named permuted = record {
+  once = once_permuted ids order permuted (ids_once n ids names problems.rise named);
+  each = λ id. (
+    λ has. let f = name_of n ids names named id (Contains-permutation order ids id (IsPermutation-sym ids order permuted) has) in (f.0, f.2, problems.each f.0 f.1),
+    λ (name, is, problem).
+        let f = number_of n ids names named name (problems.all name problem) in
+        subst (Contains order) (whole.one f.0 id name f.2 is) (Contains-permutation ids order f.0 permuted f.1),
+  );
+  few = (let long = length_permutation ids order permuted in let few = few_problems n sound ids names problems named in omega arith);
+}
+
+node_of_problem : (t : Topology) (p : NodeName) → IsProblem t p → IsNodeOf t p
+node_of_problem t p x = (x.event, record { class = x.class; of_class = x.of_class; named = (x.problem.has, x.named) })
+
+module _ (n : Numbered) (whole : IsWhole n) (ids : List NodeId) (are : AreProblemNumbers n ids) where
+  pub are_right : (slots : List (Option Slot)) (p : Pool) → HaveRows n ids slots p → AreRight n slots p
+  are_right slots p have = record {
+    rows = have.rows;
+    only = λ i slot has. (are.each (number i)).0 (have.only i slot has);
+    all = λ i problem. have.all (number i) ((are.each (number i)).1 problem);
+    apart = have.apart;
+  }
+
+  pub all_live : All (IsLiveNode n) ids
+  all_live k d lt = let problem = (are.each (slice_index_or ids k d)).0 (Contains-get_or ids k d lt) in (problem.0, problem.1)
+
+  called : (called : List NodeName) × AreNamed n ids called
+  called = names_for n ids all_live
+
+  called_once : AllPairs (λ p q. p ≢ q) called.0
+  called_once i j d lt low same =
+      let zero : NodeId = record { 0 = 0 } in
+      let long = length_named n ids called.0 called.1 in
+      let first = at_place n ids called.0 called.1 i zero d (omega arith) in
+      let second = at_place n ids called.0 called.1 j zero d (omega arith) in
+      are.once i j zero lt (omega arith) (whole.one (slice_index_or ids i zero) (slice_index_or ids j zero) (slice_index_or called.0 j d)
+      (subst (λ p. IsNodeNamed n (slice_index_or ids i zero) p) same first.1) second.1)
+
+  called_problems : (p : NodeName) → Contains called.0 p ↔ IsProblem (topology_of n) p
+  called_problems p = (
+    λ has.
+        let at = number_of n ids called.0 called.1 p has in
+        let there = (are.each at.0).0 at.1 in
+        subst (IsProblem (topology_of n)) (named_once n at.0 there.0 p there.1 at.2) there.2,
+    λ problem.
+        let at = whole.named p (node_of_problem (topology_of n) p problem) in
+        let there = name_of n ids called.0 called.1 at.0 ((are.each at.0).1 (p, at.1, problem)) in
+        subst (Contains called.0) (named_once n at.0 there.0 p there.2 at.1) there.1,
+  )
+
+  pub within_cost : (steps new_steps cost : ℕ) → CostAtMost n ids steps new_steps → IsOpenCost (topology_of n) cost → new_steps ≤ steps + cost
+  within_cost steps new_steps cost most is =
+      let own : IsOpenCost (topology_of n) (sum most.sizes) = record {
+        names = called.0;
+        once = called_once;
+        each = called_problems;
+        sizes = most.sizes;
+        sized = sized n ids called.0 most.sizes called.1 most.sized;
+        total_is = refl;
+      } in
+      let same = one_total (IsProblem (topology_of n)) (Causes (topology_of n)) cost (sum most.sizes) is own in
+      let few = most.few in
+      omega arith

@@ -1,0 +1,40 @@
+-- What holds of the rows of a cache.
+use Rattle.std.specs.Prelude.{◌≡◌, ℕ, List, Option, length}
+use Rattle.cb_bits.specs.Bits.{words_for}
+use Rattle.cb_pool.specs.declared.slot.Slot.{Slot}
+use Rattle.cb_pool.specs.Pool.{Pool}
+use Rattle.cb_topo.specs.Numbered.{Numbered, IsWhole}
+use Rattle.cb_graph.specs.Edges.{number}
+use Rattle.cb_cache.specs.declared.rows.Rows.{Rows}
+use Rattle.cb_cache.specs.declared.scratch.Scratch.{Scratch}
+use Rattle.cb_cache.specs.Room.{HasRoomFor}
+use Rattle.cb_cache.specs.Cached.{AreRows}
+use Rattle.cb_cache.specs.Numbers.{IsProblemNumber}
+use Rattle.cb_cache.specs.Reached.{HasSlot}
+
+-- no two numbers have one slot
+abbrev pub AreApart : List (Option Slot) → Type 0
+AreApart slots = (i j : ℕ) (slot : Slot) → HasSlot slots i slot → HasSlot slots j slot → i ≡ j
+
+-- exactly the problems have slots, each its own, with the row of all that the problem leads to
+pub record AreRight (n : Numbered) (slots : List (Option Slot)) (p : Pool) : Type 0 where
+  pub rows : AreRows n slots p
+  pub only : (i : ℕ) (slot : Slot) → HasSlot slots i slot → IsProblemNumber n (number i)
+  pub all : (i : ℕ) → IsProblemNumber n (number i) → (slot : Slot) × HasSlot slots i slot
+  pub apart : AreApart slots
+
+-- a search has places for all numbers of nodes
+abbrev pub HasRoom : Numbered → Scratch → Type 0
+HasRoom n scratch = HasRoomFor (length n.nodes) scratch
+
+-- there is a place for each number of a node, and the rows are as wide as the numbers need
+pub record HaveRoom (n : Numbered) (rows : Rows) : Type 0 where
+  pub slots : length rows.slots.items ≡ length n.nodes
+  pub width : rows.pool.width ≡ words_for (length n.nodes)
+  pub scratch : HasRoom n rows.scratch
+
+-- the topology is whole, the rows are right, and there is room
+pub record IsKept (n : Numbered) (rows : Rows) : Type 0 where
+  pub whole : IsWhole n
+  pub right : AreRight n rows.slots.items rows.pool
+  pub room : HaveRoom n rows

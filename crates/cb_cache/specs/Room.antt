@@ -1,0 +1,10 @@
+-- Room for searches.
+use Rattle.std.specs.Prelude.{◌≡◌, ℕ, length}
+use Rattle.cb_bits.specs.Bits.{words_for}
+use Rattle.cb_cache.specs.declared.scratch.Scratch.{Scratch}
+
+-- a search has places for so many nodes
+pub record HasRoomFor (room : ℕ) (scratch : Scratch) : Type 0 where
+  pub found : length scratch.found ≡ room
+  pub done : length scratch.done ≡ room
+  pub joined : length scratch.joined.items ≡ words_for room
