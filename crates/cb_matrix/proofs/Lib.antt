@@ -5,3 +5,4 @@ pub mod Matched
 pub mod Before
 pub mod Found
 pub mod Grouped
+pub mod WordBits

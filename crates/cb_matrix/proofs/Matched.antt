@@ -10,21 +10,21 @@ use Rattle.cb_model.proofs.Numbers.{take_more, zip_push, slice_get-set_other, sl
 use Rattle.cb_model.specs.declared.node.NodeName.{NodeName}
 use Rattle.cb_model.specs.NodeOrder.{node_cmp}
 use Rattle.cb_model.specs.Order.{Rises}
-use Rattle.cb_model.proofs.Rising.{node_cmp_total, node_cmp_exact, node_strict}
+use Rattle.cb_model.proofs.Rising.{node_strict, contains_head, contains_tail}
 use Rattle.cb_coding.specs.declared.group.Problem.{Problem}
 use Rattle.cb_network.specs.Nodes.{IsColumn, IsProblem, IsSymptomNode, AreColumns, AreProblems, IsWithin}
 use Rattle.cb_finding.specs.Matrix.{IsCode}
 use Rattle.cb_network.specs.Sound.{Sound, problem_limit, symptom_limit}
-use Rattle.cb_network.proofs.Counts.{count_of_rising}
-use Rattle.cb_network.proofs.Sets.{len_of_part}
 use Rattle.cb_nodes.specs.declared.id.NodeId.{NodeId}
 use Rattle.cb_reach.specs.Rows.{Has}
 use Rattle.cb_reach.specs.Graphs.{LeadsTo, IsFinished, AreFinished}
 use Rattle.cb_topo.specs.Numbered.{Numbered, topology_of, IsNodeNamed, IsLiveNode, AreNamed, IsWhole}
 use Rattle.cb_graph.specs.Edges.{EdgeAt, number}
 use Rattle.cb_graph.proofs.Chains.{named_once, lead_to_caused}
+use Rattle.cb_cache.specs.Numbers.{IsProblemNumber}
+use Rattle.cb_cache.proofs.Opened.{few_of_rising}
 use Rattle.cb_matrix.specs.Codes.{IsOnce, IsBelow, IsCodeOf}
-use Rattle.cb_matrix.specs.Searched.{IsCodeFrom, AreProblemsAt, HaveRows}
+use Rattle.cb_matrix.specs.Coded.{IsCodeFrom, AreProblemsAt}
 use Rattle.cb_matrix.specs.Problems.{AreAllCoded}
 use Rattle.cb_matrix.specs.declared.problems.CodedProblems.{CodedProblems}
 
@@ -87,21 +87,6 @@ once_of n ids names rise zip i j id at_i at_j =
     before : (i j : ℕ) → j ≤ i → (i ≡ j → ⊥) → j < i
     before i j le ne = elim (cases_lt j i) [ inl lt ↦ lt | inr high ↦ absurd (ne (omega arith)) ]
 
--- a finished row more
-pub finished_more : (edge : ℕ → ℕ → Type 0) (count : ℕ) (rows : List (Option (List Bool))) (node : ℕ) (row : List Bool) → AreFinished edge count rows
-    → IsFinished edge count node row → AreFinished edge count (slice_set rows node (Some row))
-finished_more edge count rows node row old new k other at = elim (cases_eq k node) [
-  | inl same ↦
-      let written = slice_get-set_same rows node (Some row) (Some other) (subst (λ i. slice_get (slice_set rows node (Some row)) i ≡ Some (Some other)) same at) in
-      let is : row ≡ other = cc in
-      subst (λ i. IsFinished edge count i other) (sym same) (subst (IsFinished edge count node) is new)
-  | inr not_same ↦ old k other (sym (slice_get-set_other rows node k (Some row) (λ e. not_same (sym e))) ∙ at)
-]
-
--- nothing is finished where there is no row
-pub none_finished : (edge : ℕ → ℕ → Type 0) (count room : ℕ) → AreFinished edge count (replicate room None)
-none_finished edge count room k row at = absurd (let e = slice_get-replicate room k None (Some row) at in cc)
-
 -- names in one list are those in the other
 pub names_are_one : (n : Numbered) (ids : List NodeId) (names others : List NodeName) → AreNamed n ids names → AreNamed n ids others → names ≡ others
 names_are_one n [] [] [] zip zip' = refl
@@ -146,18 +131,6 @@ all_codes n whole columns names zip (a ∷ ids) (p ∷ problems) are zero d lt =
     code_of_names n whole a p.name are.0.named columns names p.code zip are.0.coded.width are.0.coded.each
 all_codes n whole columns names zip (a ∷ ids) (p ∷ problems) are (suc k) d lt = all_codes n whole columns names zip ids problems are.1 k d (omega arith)
 
--- a list in order of some nodes of a kind is not longer than the kind's limit
-few_of_rising : (P Q : NodeName → Type 0) (xs : List NodeName) (limit : ℕ) → Rises node_cmp xs → ((q : NodeName) → Contains xs q ↔ Q q)
-    → ((q : NodeName) → Q q → P q) → IsWithin P limit → length xs ≤ limit
-few_of_rising P Q xs limit rise are part within =
-    let count = count_of_rising Q xs rise are in
-    let all = within.1 in
-    let less = len_of_part node_cmp_total node_cmp_exact count.nodes all.nodes (λ q has. (all.members q).1 (part q ((count.members q).0 has))) in
-    let m = count.len in
-    let k = all.len in
-    let low = within.2 in
-    omega arith
-
 module _ (n : Numbered) (whole : IsWhole n) (sound : Sound (topology_of n)) (columns ids : List NodeId) (made : CodedProblems) (names problems : List NodeName)
     (are_columns : AreColumns (topology_of n) names) (named : AreNamed n columns names) (copied : AreNamed n columns made.columns)
     (are_problems : AreProblems (topology_of n) problems) (problems_named : AreNamed n ids problems) (coded : AreProblemsAt n columns ids made.problems) where
@@ -182,18 +155,10 @@ module _ (n : Numbered) (whole : IsWhole n) (sound : Sound (topology_of n)) (col
             (λ q. (problems_are.each q, problems_are.all q)) (λ q problem. problem) sound.few_problems);
       }
 
--- a row that was kept, or wasn't
-pub row_kept : (n : Numbered) (rows new : List (Option (List Bool))) (i : ℕ) (row : List Bool) → HaveRows n rows → IsFinished (EdgeAt n) (length n.nodes) i row
-    → (new ≡ rows) ⊎ (new ≡ slice_set rows i (Some row)) → HaveRows n new
-row_kept n rows new i row old is (inl same) = subst (HaveRows n) (sym same) old
-row_kept n rows new i row old is (inr set) = subst (HaveRows n) (sym set) (record {
-  room = length-set rows i (Some row) ∙ old.room;
-  finished = finished_more (EdgeAt n) (length n.nodes) rows i row old.finished is;
-})
-
--- no row at all
-pub no_rows : (n : Numbered) (rows : List (Option (List Bool))) (room : ℕ) → rows ≡ replicate room None → room ≡ length n.nodes → HaveRows n rows
-no_rows n rows room are is = subst (HaveRows n) (sym are) (record {
-  room = length-replicate room None ∙ is;
-  finished = none_finished (EdgeAt n) (length n.nodes) room;
-})
+-- the numbers of problems are numbers of problems
+pub all_problem_numbers : (n : Numbered) (ids : List NodeId) (names : List NodeName) → AreNamed n ids names → ((q : NodeName) → Contains names q → IsProblem (topology_of n) q)
+    → All (IsProblemNumber n) ids
+all_problem_numbers n [] names zip are k d lt = absurd (omega arith)
+all_problem_numbers n (a ∷ ids) [] zip are k d lt = absurd zip
+all_problem_numbers n (a ∷ ids) (x ∷ names) zip are zero d lt = (x, zip.0, are x (contains_head x names))
+all_problem_numbers n (a ∷ ids) (x ∷ names) zip are (suc k) d lt = all_problem_numbers n ids names zip.1 (λ q has. are q (contains_tail x names q has)) k d (omega arith)

@@ -1,5 +1,6 @@
 -- Codes over numbers of nodes.
-use Rattle.std.specs.Prelude.{◌≡◌, ◌↔◌, ◌<◌, ℕ, List, Bool, Option, Some, length, slice_get}
+use Rattle.std.specs.Prelude.{◌≡◌, ◌↔◌, ◌<◌, ◌*◌, ℕ, List, Bool, Option, Some, length, slice_get}
+use Rattle.cb_bits.specs.Bits.{values}
 use Rattle.cb_nodes.specs.declared.id.NodeId.{NodeId}
 use Rattle.cb_reach.specs.Rows.{Has}
 use Rattle.cb_graph.specs.Edges.{number}
@@ -28,3 +29,7 @@ pub record AreIndexed (room : ℕ) (ids : List NodeId) (columns : Columns) : Typ
 pub record IsCodeOf (columns : List NodeId) (reached code : List Bool) : Type 0 where
   pub width : length code ≡ length columns
   pub each : (place node : ℕ) → slice_get columns place ≡ Some (number node) → Has code place ↔ Has reached node
+
+-- the bits of words, one by one
+abbrev pub bits : List ℕ → List Bool
+bits words = values words (64 * length words)

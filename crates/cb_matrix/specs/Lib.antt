@@ -1,4 +1,4 @@
 pub mod Problems
 pub mod Codes
-pub mod Searched
+pub mod Coded
 pub mod Grouped

@@ -1,8 +1,11 @@
 //! Codes over numbers of nodes.
-ghost use Rattle.std.specs.Prelude.{◌≡◌, length, IfOk};
-ghost use Rattle.cb_matrix.specs.Codes.{IsOnce, IsBelow, ArePlaces, AreIndexed, IsCodeOf};
+ghost use Rattle.std.specs.Prelude.{◌≡◌, ◌<◌, ◌≤◌, ◌*◌, length, replicate, IfOk, IfSome, IfNone};
+ghost use Rattle.cb_lanes.specs.Words.{bit_of, word_limit};
+ghost use Rattle.cb_bits.specs.Bits.{IsNextOne, HasNoneFrom};
+ghost use Rattle.cb_matrix.specs.Codes.{IsOnce, IsBelow, ArePlaces, AreIndexed, IsCodeOf, bits};
 
 use cb_bits::Row;
+use cb_lanes::{distance, next_in_a_not_b};
 use cb_model::List;
 use cb_nodes::NodeId;
 use std::alloc::{AllocError, Global};
@@ -43,26 +46,41 @@ fn places_of(
     Ok(places)
 }
 
-/// For each column, whether the row has it. Only what the row has is looked at, or each column, whichever is less.
-pub fn code_of(alloc: Global, columns: &Columns, reached: &Row) -> Result<Row, AllocError>
-    requires { ArePlaces (length reached.now) columns.now.nodes columns.now.places.items }
-    ensures { IfOk result (IsCodeOf columns.now.nodes reached.now) }
+/// For each column, whether the row has it. Only what the row has is looked at, or each column, whichever is less. `none` has
+/// zeros alone.
+pub fn code_of(
+    alloc: Global,
+    columns: &Columns,
+    reached: &[u64],
+    none: &[u64],
+) -> Result<Row, AllocError>
+    requires places { ArePlaces (64 * length reached.now) columns.now.nodes columns.now.places.items }
+    requires few { length reached.now ≤ word_limit }
+    requires none { none.now ≡ replicate (length reached.now) 0 }
+    ensures { IfOk result (IsCodeOf columns.now.nodes (bits reached.now)) }
 {
-    if reached.ones() < columns.nodes.len() {
-        code_by_nodes(alloc, columns, reached)
+    if (distance(reached, none) as usize) < columns.nodes.len() {
+        code_by_nodes(alloc, columns, reached, none)
     } else {
         code_by_columns(alloc, &columns.nodes, reached)
     }
 }
 
 // The same, by what the row has.
-fn code_by_nodes(alloc: Global, columns: &Columns, reached: &Row) -> Result<Row, AllocError>
-    requires { ArePlaces (length reached.now) columns.now.nodes columns.now.places.items }
-    ensures { IfOk result (IsCodeOf columns.now.nodes reached.now) }
+fn code_by_nodes(
+    alloc: Global,
+    columns: &Columns,
+    reached: &[u64],
+    none: &[u64],
+) -> Result<Row, AllocError>
+    requires places { ArePlaces (64 * length reached.now) columns.now.nodes columns.now.places.items }
+    requires few { length reached.now ≤ word_limit }
+    requires none { none.now ≡ replicate (length reached.now) 0 }
+    ensures { IfOk result (IsCodeOf columns.now.nodes (bits reached.now)) }
 {
     let mut code = Row::zeroed(alloc, columns.nodes.len())?;
     let mut from = 0;
-    while let Some(node) = reached.next_one(from) {
+    while let Some(node) = next_node(reached, none, from) {
         if let Some(place) = columns.places[node] {
             code.set(place);
         }
@@ -72,15 +90,34 @@ fn code_by_nodes(alloc: Global, columns: &Columns, reached: &Row) -> Result<Row,
 }
 
 // The same, column by column.
-fn code_by_columns(alloc: Global, nodes: &List<NodeId>, reached: &Row) -> Result<Row, AllocError>
-    requires { IsBelow (length reached.now) nodes.now }
-    ensures { IfOk result (IsCodeOf nodes.now reached.now) }
+fn code_by_columns(alloc: Global, nodes: &List<NodeId>, reached: &[u64]) -> Result<Row, AllocError>
+    requires { IsBelow (64 * length reached.now) nodes.now }
+    ensures { IfOk result (IsCodeOf nodes.now (bits reached.now)) }
 {
     let mut code = Row::zeroed(alloc, nodes.len())?;
     for place in 0..nodes.len() {
-        if reached.get(nodes.at(place).0 as usize) {
+        if has_node(reached, nodes.at(place).0 as usize) {
             code.set(place);
         }
     }
     Ok(code)
+}
+
+// Whether the row has the node.
+fn has_node(reached: &[u64], node: usize) -> bool
+    requires { node < 64 * length reached.now }
+    ensures { result ≡ bit_of reached.now node }
+{
+    reached[node / 64] >> (node % 64) & 1 == 1
+}
+
+// The first node of the row, from a number on.
+fn next_node(reached: &[u64], none: &[u64], from: usize) -> Option<usize>
+    requires few { length reached.now ≤ word_limit }
+    requires none { none.now ≡ replicate (length reached.now) 0 }
+    ensures next { IfSome result (IsNextOne (bits reached.now) from) }
+    ensures none { IfNone result (HasNoneFrom (bits reached.now) from) }
+    ensures below { IfSome result (λ node. node < 64 * length reached.now) }
+{
+    next_in_a_not_b(reached, none, from)
 }

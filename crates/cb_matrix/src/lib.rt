@@ -1,12 +1,12 @@
-//! The matrix of a topology: its columns, and its groups of problems with their codes, by a search from each problem.
+//! The matrix of a topology: its columns, and its groups of problems with their codes, taken from the rows of a cache.
 #![tactic(auto)]
 
+mod coded;
 mod codes;
 mod grouping;
 mod matrix;
 mod names;
 mod problems;
-mod search;
 
 pub use grouping::groups;
 pub use matrix::Matrix;

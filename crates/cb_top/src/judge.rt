@@ -1,12 +1,16 @@
 //! What is found for the raised nodes of a topology.
-ghost use Rattle.std.specs.Prelude.{◌≡◌, IfOk};
+ghost use Rattle.std.specs.Prelude.{◌≡◌, ◌≤◌, ◌+◌, ℕ, length, IfOk};
 ghost use Rattle.cb_model.specs.Order.{Rises};
 ghost use Rattle.cb_model.specs.NodeOrder.{node_cmp};
+ghost use Rattle.cb_network.specs.Sound.{problem_limit, symptom_limit};
+ghost use Rattle.cb_change.specs.Costs.{IsOpenCost};
 ghost use Rattle.cb_finding.specs.declared.finding.Finding.{Finding};
+ghost use Rattle.cb_finding.specs.Matrix.{IsMatrix};
 ghost use Rattle.cb_finding.specs.Finding.{IsBurst};
 ghost use Rattle.cb_topo.specs.Numbered.{topology_of};
 ghost use Rattle.cb_report.specs.Lines.{burst_text as text_of_burst};
 
+use cb_cache::Cache;
 use cb_coding::codes;
 use cb_decode::find;
 use cb_graph::Graph;
@@ -29,21 +33,7 @@ pub fn lines_of_burst<L: Ledger>(
     requires { Rises node_cmp raised.now }
     ensures { IfOk result (λ bytes. (finding : Finding) × IsBurst (topology_of topology) raised.now finding × (bytes.items ≡ text_of_burst finding)) }
 {
-    let mut graph = Graph::new(alloc, topology)?;
-    lines_over(alloc, &mut graph, raised, steps)
-}
-
-// The same, over the graph of the topology.
-fn lines_over<L: Ledger>(
-    alloc: Global,
-    graph: &mut Graph,
-    raised: &List<NodeName>,
-    steps: &mut Steps<L>,
-) -> Result<Vec<u8>, AllocError>
-    requires { Rises node_cmp raised.now }
-    ensures { IfOk result (λ bytes. (finding : Finding) × IsBurst (topology_of graph.old) raised.now finding × (bytes.items ≡ text_of_burst finding)) }
-{
-    let matrix = Matrix::of(alloc, graph, steps)?;
+    let matrix = matrix_of(alloc, topology, steps)?;
     let codes = codes(alloc, &matrix.groups)?;
     let book = whole_book(alloc, &codes, matrix.columns.len())?;
     let finding = find(
@@ -55,4 +45,20 @@ fn lines_over<L: Ledger>(
         raised,
     )?;
     burst_text(alloc, &finding)
+}
+
+// The matrix of the topology. The memory of the rows that it is taken from is given back.
+fn matrix_of<L: Ledger>(
+    alloc: Global,
+    topology: Topology,
+    steps: &mut Steps<L>,
+) -> Result<Matrix, AllocError>
+    ensures matrix { IfOk result (λ matrix. IsMatrix (topology_of topology) matrix.columns matrix.groups) }
+    ensures few_columns { IfOk result (λ matrix. length matrix.columns ≤ symptom_limit) }
+    ensures few_groups { IfOk result (λ matrix. length matrix.groups ≤ problem_limit + 1) }
+    ensures cost { (cost : ℕ) → IsOpenCost (topology_of topology) cost → steps.new ≤ steps.old + cost }
+{
+    let graph = Graph::new(alloc, topology)?;
+    let cache = Cache::open(alloc, graph, steps)?;
+    Matrix::of(alloc, &cache)
 }

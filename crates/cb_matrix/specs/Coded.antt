@@ -1,13 +1,12 @@
--- Problems that were searched from.
-use Rattle.std.specs.Prelude.{◌≡◌, ◌↔◌, ℕ, List, Bool, Option, Some, length, slice_get}
+-- Problems with their codes.
+use Rattle.std.specs.Prelude.{◌≡◌, ◌↔◌, ℕ, List, Bool, Some, length, slice_get}
 use Rattle.std.specs.List.{AllZip}
 use Rattle.cb_nodes.specs.declared.id.NodeId.{NodeId}
 use Rattle.cb_coding.specs.declared.group.Problem.{Problem}
 use Rattle.cb_reach.specs.Rows.{Has}
-use Rattle.cb_reach.specs.Graphs.{LeadsTo, IsFinished, AreFinished}
+use Rattle.cb_reach.specs.Graphs.{LeadsTo}
 use Rattle.cb_topo.specs.Numbered.{Numbered, IsNodeNamed}
 use Rattle.cb_graph.specs.Edges.{EdgeAt, number}
-use Rattle.cb_matrix.specs.declared.search.Searched.{Searched}
 
 -- for each column, whether edges lead to it from the node of this number
 pub record IsCodeFrom (n : Numbered) (columns : List NodeId) (id : NodeId) (code : List Bool) : Type 0 where
@@ -19,16 +18,6 @@ pub record IsProblemAt (n : Numbered) (columns : List NodeId) (id : NodeId) (pro
   pub named : IsNodeNamed n id problem.name
   pub coded : IsCodeFrom n columns id problem.code
 
--- the problem of this number, and exactly the nodes that edges lead to from it
-pub record IsSearched (n : Numbered) (columns : List NodeId) (id : NodeId) (searched : Searched) : Type 0 where
-  pub problem : IsProblemAt n columns id searched.problem
-  pub row : IsFinished (EdgeAt n) (length n.nodes) id.0 searched.row
-
 -- the problems of these numbers, one by one
 abbrev pub AreProblemsAt : Numbered → List NodeId → List NodeId → List Problem → Type 0
 AreProblemsAt n columns ids problems = AllZip (IsProblemAt n columns) ids problems
-
--- there is a place for the number of each node, and each row stands at the number of the node that leads to exactly its nodes
-pub record HaveRows (n : Numbered) (rows : List (Option (List Bool))) : Type 0 where
-  pub room : length rows ≡ length n.nodes
-  pub finished : AreFinished (EdgeAt n) (length n.nodes) rows

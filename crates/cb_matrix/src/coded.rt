@@ -1,0 +1,60 @@
+//! The code of each problem, from its row.
+ghost use Rattle.std.specs.Prelude.{◌≡◌, ◌≤◌, ◌*◌, replicate, IfOk};
+ghost use Rattle.std.specs.List.{All};
+ghost use Rattle.cb_lanes.specs.Words.{word_limit};
+ghost use Rattle.cb_cache.specs.Numbers.{IsProblemNumber};
+ghost use Rattle.cb_matrix.specs.Codes.{ArePlaces};
+ghost use Rattle.cb_matrix.specs.Coded.{IsProblemAt, AreProblemsAt};
+
+use crate::codes::{Columns, code_of};
+use cb_cache::Cache;
+use cb_coding::Problem;
+use cb_model::List;
+use cb_nodes::NodeId;
+use std::alloc::{AllocError, Global};
+
+/// The problems of these numbers, each with its code over the columns.
+pub fn coded(
+    alloc: Global,
+    cache: &Cache,
+    columns: &Columns,
+    nodes: &List<NodeId>,
+) -> Result<List<Problem>, AllocError>
+    requires columns { ArePlaces (64 * cache.now.pool.width) columns.now.nodes columns.now.places.items }
+    requires few { cache.now.pool.width ≤ word_limit }
+    requires problems { All (IsProblemNumber cache.now.graph) nodes.now }
+    ensures { IfOk result (AreProblemsAt cache.now.graph columns.now.nodes nodes.now) }
+{
+    let none = zeros(alloc, cache.pool().width())?;
+    let mut problems = List::new(alloc);
+    for node in nodes.as_slice() {
+        problems.push(coded_problem(alloc, cache, columns, *node, &none)?)?;
+    }
+    Ok(problems)
+}
+
+// The problem of this number with its code.
+fn coded_problem(
+    alloc: Global,
+    cache: &Cache,
+    columns: &Columns,
+    node: NodeId,
+    none: &[u64],
+) -> Result<Problem, AllocError>
+    requires columns { ArePlaces (64 * cache.now.pool.width) columns.now.nodes columns.now.places.items }
+    requires few { cache.now.pool.width ≤ word_limit }
+    requires problem { IsProblemNumber cache.now.graph node }
+    requires none { none.now ≡ replicate cache.now.pool.width 0 }
+    ensures { IfOk result (IsProblemAt cache.now.graph columns.now.nodes node) }
+{
+    let name = cache.graph().topology().copy_name(alloc, node)?;
+    let code = code_of(alloc, columns, cache.row(node), none)?;
+    Ok(Problem { name, code })
+}
+
+// So many words without a one.
+fn zeros(alloc: Global, width: usize) -> Result<Vec<u64>, AllocError>
+    ensures { IfOk result (λ words. words.items ≡ replicate width 0) }
+{
+    vec![in alloc; 0; width]
+}
