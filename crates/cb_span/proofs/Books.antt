@@ -1,11 +1,11 @@
 -- Spans, names and numbers make a canonical book.
-use Rattle.std.proofs.Common.{◌≡◌, ◌↔◌, ◌⊎◌, inl, inr, ℕ, zero, suc, ◌+◌, ◌-◌, ◌<◌, ◌≤◌, List, [], ◌∷◌, Bool, false, replicate, Some, Result, Ok, Err, IfErr, length, map, sum, slice_get, get_or, refl, sym, ap, subst, ◌∙◌, arith}
-use Rattle.std.specs.List.{All, AllZip, Contains, sum_by}
+use Rattle.std.proofs.Common.{◌≡◌, ◌↔◌, ◌⊎◌, inl, inr, ℕ, zero, suc, ◌+◌, ◌≤◌, List, [], ◌∷◌, Bool, false, replicate, Some, Result, Ok, Err, IfErr, length, map, slice_get, refl, sym, ap, subst, ◌∙◌, arith}
+use Rattle.std.specs.List.{AllZip, Contains}
 use Rattle.std.specs.Global.{Vec}
 use Rattle.std.specs.Result.{IsErrAnd}
 use Rattle.std.proofs.lemmas.List.{length-map}
 use Rattle.std.proofs.lemmas.List.Sums.{sum_by-cons}
-use Rattle.std.proofs.lemmas.Option.{same_Some, slice_get_within, slice_get-get_or}
+use Rattle.std.proofs.lemmas.Option.{same_Some, slice_get_within}
 use Rattle.cb_reach.specs.Rows.{Has}
 use Rattle.cb_reach.proofs.Marks.{nothing}
 use Rattle.cb_model.specs.WellTyped.{WellTyped}
@@ -14,24 +14,24 @@ use Rattle.cb_cert.specs.declared.certificate.Certificate.TheVariants.{Book}
 use Rattle.cb_claim.proofs.Formats.{book_is_of_format}
 use Rattle.cb_model.specs.declared.node.NodeName.{NodeName}
 use Rattle.cb_network.specs.Topology.{Topology}
-use Rattle.cb_network.specs.Nodes.{IsNodeOf, IsProblem, AreProblems}
+use Rattle.cb_network.specs.Nodes.{IsNodeOf, AreProblems}
 use Rattle.cb_nodes.specs.declared.id.NodeId.{NodeId}
 use Rattle.cb_breadth.specs.declared.visit.Order.{Order}
 use Rattle.cb_breadth.specs.declared.visit.Visit.{Visit}
-use Rattle.cb_breadth.specs.Trees.{IsVisited, visit}
+use Rattle.cb_breadth.specs.Trees.{IsVisited}
 use Rattle.cb_cert.specs.Format.{entry_limit}
 use Rattle.cb_cert.specs.declared.certificate.Entry.{Entry}
 use Rattle.cb_cert.specs.declared.certificate.Span.{Span}
 use Rattle.cb_claim.specs.Spans.{StandsFor, Lists, AreNodes, IsSpanOf}
 use Rattle.cb_claim.specs.Canonical.{IsCanonicalSpan, AreUsed}
-use Rattle.cb_claim.specs.Totals.{IsReach, IsTotalReach}
+use Rattle.cb_claim.specs.Totals.{IsReach}
 use Rattle.cb_claim.specs.Verdicts.{entries_of}
 use Rattle.cb_topo.specs.Numbered.{Numbered, topology_of, IsNodeNamed, IsLiveNode, AreNamed, IsWhole}
 use Rattle.cb_graph.specs.Edges.{number}
 use Rattle.cb_graph.proofs.Chains.{named_once}
 use Rattle.cb_span.specs.declared.numbering.Numbering.{Numbering}
 use Rattle.cb_span.specs.Orders.{IsAtRank, IsOrderOf, IsRank, AreRanked, IsRankIn}
-use Rattle.cb_span.specs.Numberings.{IsNumbered, IsNumbering, IsEntryOf, IsSpanFor, IsNumberOf, AreBelow, AreAllBelow}
+use Rattle.cb_span.specs.Numberings.{IsNumbering, IsEntryOf, IsSpanFor, IsNumberOf, AreBelow, AreAllBelow}
 use Rattle.cb_span.specs.Searched.{IsTreeFrom, IsTreeOf, IsVisitedIn, visits_in, HaveManyVisits, PreventsTrees}
 use Rattle.cb_span.specs.Made.{AreColumnsAt, IsBookFor, HasFewEntries, HasManyEntries, PreventsBook}
 use Rattle.cb_span.specs.declared.fault.SpanFault.{SpanFault}
@@ -92,10 +92,10 @@ module _ (n : Numbered) (whole : IsWhole n) (order : Order) (ord : IsOrderOf n o
     problems_are = are;
     sizes = map (λ (visits : Vec Visit). length visits.items) many.trees;
     each = λ i size at.
-    let tree = mapped_at (λ (visits : Vec Visit). length visits.items) many.trees i size at in
-    let from = many.each i tree.0 tree.1 in
-    let p = zip_right (IsNodeNamed n) ids problems named i from.0 from.1 in
-    (p.0, p.1, subst (IsReach (topology_of n) p.0) tree.2 (tree_counted from.0 p.0 p.2 tree.0.items from.2));
+        let tree = mapped_at (λ (visits : Vec Visit). length visits.items) many.trees i size at in
+        let from = many.each i tree.0 tree.1 in
+        let p = zip_right (IsNodeNamed n) ids problems named i from.0 from.1 in
+        (p.0, p.1, subst (IsReach (topology_of n) p.0) tree.2 (tree_counted from.0 p.0 p.2 tree.0.items from.2));
     many = let e = sum_mapped (λ (visits : Vec Visit). length visits.items) many.trees in let f = many.many in omega arith;
   }
 
@@ -141,8 +141,8 @@ module _ (n : Numbered) (whole : IsWhole n) (order : Order) (ord : IsOrderOf n o
     names_live = record {
       rise = numbering.rise;
       live = all_read (IsNodeOf (topology_of n)) made.names (λ i x at.
-      let f = numbering.each i x at in
-      whole.live (number f.2.node) x f.2.named);
+          let f = numbering.each i x at in
+          whole.live (number f.2.node) x f.2.named);
     }
 
     -- numbers of columns stand for them
@@ -181,18 +181,24 @@ module _ (n : Numbered) (whole : IsWhole n) (order : Order) (ord : IsOrderOf n o
             zip_each (IsCanonicalSpan (topology_of n) made.names) roots spans (omega arith) (λ i root at.
             let id = zip_left (IsNodeNamed n) ids roots named i root at in
             let tree = zip_right (IsTreeOf n order) ids trees grown i id.0 id.1 in
-            let span = zip_right (IsSpanFor made.numbers.items) trees spans are i tree.0 tree.1 in
-            (span.0, span.1, canonical_from id.0 root id.2 tree.0.items tree.2
-             (λ r v. seen r (record { place = i; visits = tree.0; is = tree.1; has = v })) span.0 span.2))
+            let span = zip_right (IsSpanFor made.numbers.items) trees spans are i tree.0 tree.1 in (
+              span.0,
+              span.1,
+              canonical_from id.0 root id.2 tree.0.items tree.2
+                  (λ r v. seen r (record { place = i; visits = tree.0; is = tree.1; has = v })) span.0 span.2,
+            ))
 
         -- what is visited is listed by a span
         pub listed_in : (r : ℕ) (x : NodeName) → IsVisitedIn trees r → IsAtRank n order r x → (span : Span) × Contains spans span × Lists made.names span x
         listed_in r x v at =
             let id = zip_left (IsTreeOf n order) ids trees grown v.place v.visits v.is in
             let root = zip_right (IsNodeNamed n) ids roots named v.place id.0 id.1 in
-            let span = zip_right (IsSpanFor made.numbers.items) trees spans are v.place v.visits v.is in
-            (span.0, contains_at spans v.place span.0 span.1, listed_from id.0 root.0 root.2 v.visits.items id.2
-             (λ q w. seen q (record { place = v.place; visits = v.visits; is = v.is; has = w })) span.0 span.2 r x v.has at)
+            let span = zip_right (IsSpanFor made.numbers.items) trees spans are v.place v.visits v.is in (
+              span.0,
+              contains_at spans v.place span.0 span.1,
+              listed_from id.0 root.0 root.2 v.visits.items id.2
+                  (λ q w. seen q (record { place = v.place; visits = v.visits; is = v.is; has = w })) span.0 span.2 r x v.has at,
+            )
 
     -- each name is one of the columns, or on one of the spans
     pub names_used : (ids : List NodeId) (columns : List NodeName) (spans : List Span) → AreNamed n ids columns
@@ -201,16 +207,16 @@ module _ (n : Numbered) (whole : IsWhole n) (order : Order) (ord : IsOrderOf n o
     names_used ids columns spans named split = record {
       rise = numbering.rise;
       each = λ x has.
-      let there = place_of made.names x has in
-      let f = numbering.each there.0 x there.1 in
-      elim (split f.0 x f.1 f.2) [
-        | inl in_columns ↦
-            let c = in_columns in
-            let column = zip_right (IsNodeNamed n) ids columns named c.place c.id c.at in
-            let same : column.0 ≡ x = name_one n whole order ord f.0 column.0 x (rank_named c.id f.0 column.0 c.ranked column.2) f.2 in
-            inl (subst (Contains columns) same (contains_at columns c.place column.0 column.1))
-        | inr in_span ↦ inr in_span
-      ];
+          let there = place_of made.names x has in
+          let f = numbering.each there.0 x there.1 in
+          elim (split f.0 x f.1 f.2) [
+            | inl in_columns ↦
+                let c = in_columns in
+                let column = zip_right (IsNodeNamed n) ids columns named c.place c.id c.at in
+                let same : column.0 ≡ x = name_one n whole order ord f.0 column.0 x (rank_named c.id f.0 column.0 c.ranked column.2) f.2 in
+                inl (subst (Contains columns) same (contains_at columns c.place column.0 column.1))
+            | inr in_span ↦ inr in_span
+          ];
     }
 
 -- as many entries as visits
@@ -299,14 +305,14 @@ module _ (n : Numbered) (whole : IsWhole n) (sound : Sound (topology_of n)) (typ
       ]);
     };
     of_format = λ wanted.
-    book_is_of_format (topology_of n) distance made.names numbers spans sound typed.names (names_live n whole order ord used made numbering)
-    (record { columns = at.columns; names = stand; each = at.each; rise = at.rise })
-    (record {
-      problems = problems;
-      problems_are = are;
-      each = zip_weaker (IsCanonicalSpan (topology_of n) made.names) (IsSpanOf (topology_of n) made.names) (λ p s is. is.is) problems spans canonical;
-    })
-    wanted few_in_spans;
+        book_is_of_format (topology_of n) distance made.names numbers spans sound typed.names (names_live n whole order ord used made numbering)
+        (record { columns = at.columns; names = stand; each = at.each; rise = at.rise })
+        (record {
+          problems = problems;
+          problems_are = are;
+          each = zip_weaker (IsCanonicalSpan (topology_of n) made.names) (IsSpanOf (topology_of n) made.names) (λ p s is. is.is) problems spans canonical;
+        })
+        wanted few_in_spans;
   }
 
 -- an error that is passed on prevents what the one that came does

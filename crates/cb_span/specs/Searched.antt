@@ -1,6 +1,6 @@
 -- Trees of visits from the nodes of a topology.
 use Rattle.std.specs.Prelude.{◌≡◌, ⊤, ℕ, ◌<◌, List, Some, length, slice_get}
-use Rattle.std.specs.List.{AllZip, sum_by}
+use Rattle.std.specs.List.{sum_by}
 use Rattle.std.specs.Global.{Vec}
 use Rattle.cb_nodes.specs.declared.id.NodeId.{NodeId}
 use Rattle.cb_breadth.specs.declared.visit.Order.{Order}

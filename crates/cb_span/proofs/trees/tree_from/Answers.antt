@@ -1,10 +1,9 @@
-use Rattle.std.proofs.Common.{◌≡◌, ◌↔◌, ◌⊎◌, ◌<◌, ◌||◌, inl, inr, ℕ, length, sym, ap, subst, ◌∙◌, arith}
+use Rattle.std.proofs.Common.{◌≡◌, ◌||◌, inl, inr, length, sym, ap, subst, ◌∙◌, arith}
 use Rattle.std.specs.Simd.Lanes.{zip2}
 use Rattle.std.proofs.lemmas.Simd.{length-zip2}
 use Rattle.std.proofs.lemmas.Option.{slice_get_within}
 use Rattle.cb_reach.specs.Rows.{Has}
 use Rattle.cb_reach.proofs.Marks.{or_left, or_right, or_cases}
-use Rattle.cb_breadth.specs.Trees.{IsVisited}
 use Rattle.cb_span.proofs.trees.tree_from.Goals as goal
 
 pub tree-requires-clause-order : goal.tree-requires-clause-order
