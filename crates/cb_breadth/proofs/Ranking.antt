@@ -1,5 +1,5 @@
 -- The ranks of a row's nodes are added one by one.
-use Rattle.std.proofs.Common.{◌≡◌, ◌↔◌, ◌⊎◌, inl, inr, ℕ, ◌+◌, ◌<◌, List, Bool, true, false, Some, length, slice_get, slice_index_or, slice_set, replicate, refl, sym, subst, ◌∙◌, arith}
+use Rattle.std.proofs.Common.{◌≡◌, ◌↔◌, ◌⊎◌, inl, inr, ℕ, ◌+◌, ◌<◌, List, Bool, true, false, Some, length, slice_get, slice_set, replicate, sym, subst, ◌∙◌, arith}
 use Rattle.std.proofs.lemmas.Bool.{cases_lt}
 use Rattle.std.proofs.lemmas.Option.{same_Some, slice_get_within}
 use Rattle.cb_bits.specs.Bits.{IsNextOne, HasNoneFrom}
@@ -69,13 +69,13 @@ module _ (edge : ℕ → ℕ → Type 0) (count : ℕ) (nodes ranks : List ℕ) 
   pub ranks_follow : (rank : ℕ) → IsRankBelow ranks row (length row) rank ↔ Follows edge nodes a rank
   ranks_follow rank = (
     λ is.
-    let e = (are is.node).0 is.has in
-    let there = order.closed from is.node e in
-    let ranked = (order.ranked there.0 is.node there.1).1 in
-    let same : there.0 ≡ rank = same_Some there.0 rank (sym ranked ∙ is.is) in
-    record { from = from; to = is.node; from_is = at; to_is = subst (λ r. slice_get nodes r ≡ Some is.node) same there.1; leads = e },
+        let e = (are is.node).0 is.has in
+        let there = order.closed from is.node e in
+        let ranked = (order.ranked there.0 is.node there.1).1 in
+        let same : there.0 ≡ rank = same_Some there.0 rank (sym ranked ∙ is.is) in
+        record { from = from; to = is.node; from_is = at; to_is = subst (λ r. slice_get nodes r ≡ Some is.node) same there.1; leads = e },
     λ follows.
-    let same : follows.from ≡ from = same_Some follows.from from (sym follows.from_is ∙ at) in
-    let has = (are follows.to).1 (subst (λ n. edge n follows.to) same follows.leads) in
-    record { node = follows.to; has = has; below = has_below row follows.to has; is = (order.ranked rank follows.to follows.to_is).1 },
+        let same : follows.from ≡ from = same_Some follows.from from (sym follows.from_is ∙ at) in
+        let has = (are follows.to).1 (subst (λ n. edge n follows.to) same follows.leads) in
+        record { node = follows.to; has = has; below = has_below row follows.to has; is = (order.ranked rank follows.to follows.to_is).1 },
   )

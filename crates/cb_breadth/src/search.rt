@@ -100,7 +100,10 @@ fn visit_all(
     let mut from = 0;
     while let Some(node) = next.next_not_in(found, from) {
         found.set(node);
-        visits.push(Visit { node: node as u32, parent })?;
+        visits.push(Visit {
+            node: node as u32,
+            parent,
+        })?;
         from = node + 1;
     }
     Ok(())
