@@ -1,5 +1,5 @@
 -- A tree that grows in breadth: the nodes that edges lead to from the first visited ones are visited.
-use Rattle.std.proofs.Common.{◌≡◌, ◌↔◌, ◌⊎◌, inl, inr, ℕ, ◌+◌, ◌-◌, ◌<◌, ◌≤◌, List, [], ◌∷◌, ◌++◌, Bool, true, false, Some, length, slice_get, slice_index_or, slice_set, replicate, refl, sym, ap, subst, ◌∙◌, arith}
+use Rattle.std.proofs.Common.{◌≡◌, ◌↔◌, inl, inr, ℕ, ◌+◌, ◌-◌, ◌<◌, ◌≤◌, List, [], ◌∷◌, Bool, true, false, Some, length, slice_get, slice_set, replicate, refl, sym, ap, subst, ◌∙◌, arith}
 use Rattle.std.proofs.lemmas.Bool.{cases_lt}
 use Rattle.std.proofs.lemmas.List.{length-set, length-replicate, get_or-replicate}
 use Rattle.std.proofs.lemmas.Option.{slice_get_within, same_Some}
@@ -7,7 +7,7 @@ use Rattle.cb_reach.specs.Rows.{Has, ones}
 use Rattle.cb_reach.proofs.Marks.{ones-set, has_set, set_cases, nothing, no_ones}
 use Rattle.cb_breadth.specs.declared.visit.Visit.{Visit}
 use Rattle.cb_breadth.specs.Trees.{IsTree, IsVisited, HasEdge, visit}
-use Rattle.cb_breadth.specs.Visiting.{IsNew, IsNewVisit, AreVisited}
+use Rattle.cb_breadth.specs.Visiting.{IsNewVisit, AreVisited}
 use Rattle.cb_breadth.proofs.Lists.{only_item, has_or_lacks, never_both, has_below}
 
 -- Of a tree in breadth, all that edges lead to from the visits before a place is found; what is found is visited.

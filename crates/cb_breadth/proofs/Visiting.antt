@@ -1,10 +1,10 @@
 -- Nodes of a row are visited one by one.
-use Rattle.std.proofs.Common.{◌≡◌, ◌↔◌, ◌⊎◌, inl, inr, ℕ, ◌+◌, ◌<◌, ◌≤◌, List, [], ◌∷◌, ◌++◌, Bool, true, false, Some, length, slice_get, slice_index_or, slice_set, refl, sym, ap, subst, ◌∙◌, arith}
+use Rattle.std.proofs.Common.{◌≡◌, ◌⊎◌, inl, inr, ℕ, ◌+◌, ◌<◌, ◌≤◌, List, [], ◌∷◌, ◌++◌, Bool, true, false, Some, length, slice_index_or, slice_set, refl, sym, ap, subst, ◌∙◌, arith}
 use Rattle.std.proofs.lemmas.Bool.{cases_lt}
 use Rattle.std.proofs.lemmas.List.{length-set, length-append}
 use Rattle.std.proofs.lemmas.Option.{slice_get_within}
 use Rattle.cb_bits.specs.Bits.{without, IsNextOne, HasNoneFrom}
-use Rattle.cb_reach.specs.Rows.{Has, IsLeft, ones}
+use Rattle.cb_reach.specs.Rows.{Has, IsLeft}
 use Rattle.cb_reach.proofs.Marks.{ones-set, has_set, set_cases}
 use Rattle.cb_reach.proofs.Sought.{left_found}
 use Rattle.cb_breadth.specs.declared.visit.Visit.{Visit}

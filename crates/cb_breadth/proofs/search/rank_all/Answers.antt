@@ -1,7 +1,6 @@
-use Rattle.std.proofs.Common.{◌≡◌, ◌<◌, length, true, slice_index_or, slice_set, sym, ap, subst, ◌∙◌, arith}
+use Rattle.std.proofs.Common.{◌≡◌, ◌<◌, length, true, slice_index_or, slice_set, ap, ◌∙◌, arith}
 use Rattle.std.proofs.lemmas.List.{length-set}
 use Rattle.std.proofs.lemmas.Option.{get_or_from_slice_get}
-use Rattle.cb_reach.specs.Rows.{Has}
 use Rattle.cb_breadth.proofs.Lists.{has_below}
 use Rattle.cb_breadth.proofs.Ranking.{ranked_more}
 use Rattle.cb_breadth.proofs.search.rank_all.Goals as goal

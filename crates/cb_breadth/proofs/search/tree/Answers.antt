@@ -1,10 +1,10 @@
-use Rattle.std.proofs.Common.{rules, ◌≡◌, ◌↔◌, ◌<◌, ◌≤◌, ◌+◌, ◌++◌, ℕ, [], ◌∷◌, length, Some, slice_get, slice_set, replicate, true, false, refl, sym, ap, subst, ◌∙◌, arith}
+use Rattle.std.proofs.Common.{rules, ◌≡◌, ◌↔◌, ◌<◌, ◌≤◌, ◌++◌, ℕ, [], ◌∷◌, length, slice_set, replicate, true, false, refl, ap, subst, ◌∙◌, arith}
 use Rattle.std.proofs.lemmas.List.{length-replicate}
 use Rattle.std.proofs.lemmas.Option.{slice_get_read}
 use Rattle.cb_reach.specs.Rows.{Has}
 use Rattle.cb_breadth.specs.Orders.{Follows}
 use Rattle.cb_breadth.specs.Trees.{visit}
-use Rattle.cb_breadth.proofs.Growing.{IsGrown, planted, node_below, turn, whole}
+use Rattle.cb_breadth.proofs.Growing.{planted, node_below, turn, whole}
 use Rattle.cb_breadth.proofs.search.tree.Goals as goal
 
 pub loop-place-init : goal.loop-place-init

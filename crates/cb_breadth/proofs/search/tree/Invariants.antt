@@ -1,4 +1,4 @@
-use Rattle.std.proofs.Common.{◌≡◌, ◌≤◌, ◌+◌, ◌-◌, length}
+use Rattle.std.proofs.Common.{◌≡◌, ◌+◌, ◌-◌, length}
 use Rattle.cb_breadth.specs.Orders.{Follows}
 use Rattle.cb_breadth.proofs.Growing.{IsGrown}
 use Rattle.cb_breadth.proofs.search.tree.Given as goal

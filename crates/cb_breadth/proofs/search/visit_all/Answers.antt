@@ -1,4 +1,4 @@
-use Rattle.std.proofs.Common.{◌≡◌, ◌<◌, ◌≤◌, ◌+◌, length, sym, ◌∙◌, arith}
+use Rattle.std.proofs.Common.{◌≡◌, ◌<◌, ◌≤◌, length, sym, ◌∙◌, arith}
 use Rattle.cb_breadth.proofs.Visiting.{all_visited, next_below, one_visited}
 use Rattle.cb_breadth.proofs.search.visit_all.Goals as goal
 

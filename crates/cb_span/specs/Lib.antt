@@ -1,0 +1,4 @@
+pub mod Orders
+pub mod Numberings
+pub mod Searched
+pub mod Made

@@ -1,0 +1,46 @@
+-- Trees of visits from the nodes of a topology.
+use Rattle.std.specs.Prelude.{◌≡◌, ⊤, ℕ, ◌<◌, List, Some, length, slice_get}
+use Rattle.std.specs.List.{sum_by}
+use Rattle.std.specs.Global.{Vec}
+use Rattle.cb_nodes.specs.declared.id.NodeId.{NodeId}
+use Rattle.cb_breadth.specs.declared.visit.Order.{Order}
+use Rattle.cb_breadth.specs.declared.visit.Visit.{Visit}
+use Rattle.cb_breadth.specs.Orders.{Follows}
+use Rattle.cb_breadth.specs.Trees.{IsTree, IsVisited}
+use Rattle.cb_cert.specs.Format.{entry_limit}
+use Rattle.cb_topo.specs.Numbered.{Numbered}
+use Rattle.cb_graph.specs.Edges.{EdgeAt}
+use Rattle.cb_span.specs.Orders.{IsRank}
+use Rattle.cb_span.specs.declared.fault.SpanFault.{SpanFault}
+use Rattle.cb_span.specs.declared.fault.SpanFault.TheVariants.{TooManyEntries, NoMemory}
+
+-- a tree of all that the node of this number leads to, over ranks
+pub record IsTreeFrom (n : Numbered) (order : Order) (id : NodeId) (visits : List Visit) : Type 0 where
+  pub rank : ℕ
+  pub ranked : IsRank order id rank
+  pub is : IsTree (Follows (EdgeAt n) order.nodes.items) rank visits
+
+abbrev pub IsTreeOf : Numbered → Order → NodeId → Vec Visit → Type 0
+IsTreeOf n order id visits = IsTreeFrom n order id visits.items
+
+-- some of these trees has the node of this rank
+pub record IsVisitedIn (trees : List (Vec Visit)) (rank : ℕ) : Type 0 where
+  pub place : ℕ
+  pub visits : Vec Visit
+  pub is : slice_get trees place ≡ Some visits
+  pub has : IsVisited visits.items rank
+
+-- how many visits the trees have together
+abbrev pub visits_in : List (Vec Visit) → ℕ
+visits_in trees = sum_by (λ (visits : Vec Visit). length visits.items) trees
+
+-- trees of the first nodes have too many visits
+pub record HaveManyVisits (n : Numbered) (order : Order) (ids : List NodeId) : Type 0 where
+  pub trees : List (Vec Visit)
+  pub each : (i : ℕ) (visits : Vec Visit) → slice_get trees i ≡ Some visits → (id : NodeId) × (slice_get ids i ≡ Some id) × IsTreeOf n order id visits
+  pub many : entry_limit < visits_in trees
+
+-- why there are no trees
+abbrev pub PreventsTrees : Numbered → Order → List NodeId → SpanFault → Type 0
+PreventsTrees n order ids TooManyEntries = HaveManyVisits n order ids
+PreventsTrees n order ids NoMemory = ⊤

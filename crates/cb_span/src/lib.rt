@@ -1,0 +1,20 @@
+//! Canonical certificates, by a search from each problem.
+//!
+//! `book(alloc, graph, &columns, distance, steps)` makes the one certificate that over these columns the groups are so far apart.
+//! Whether that is so isn't asked: who checks the certificate finds out.
+//!
+//! Nodes go by their ranks, their places among all nodes in order (`order`). From each problem cb_breadth gives a tree of visits
+//! (`trees`); the nodes that are used get numbers (`numbering`), and the visits become entries (`spans`).
+//!
+//! Read `src/made.rt` first, then `specs/Made.antt`. All but these two may be changed freely.
+#![tactic(auto)]
+
+mod fault;
+mod made;
+mod numbering;
+mod order;
+mod spans;
+mod trees;
+
+pub use fault::SpanFault;
+pub use made::book;

@@ -1,0 +1,48 @@
+//! Canonical certificates.
+ghost use Rattle.std.specs.Prelude.{◌≡◌, IfOk, OnOk, IfErr};
+ghost use Rattle.cb_topo.specs.Numbered.{topology_of};
+ghost use Rattle.cb_span.specs.Made.{AreColumnsAt, IsBookFor, HasFewEntries, PreventsBook};
+
+use crate::fault::SpanFault;
+use crate::numbering::numbering_of;
+use crate::order::{order_of, use_all};
+use crate::spans::{numbers_of, spans_of};
+use crate::trees::trees;
+use cb_bits::Row;
+use cb_cert::Certificate;
+use cb_graph::Graph;
+use cb_model::List;
+use cb_nodes::NodeId;
+use cb_steps::Steps;
+use std::alloc::Global;
+use std::sync::ledger::Ledger;
+
+/// The canonical book that over these columns the groups are so far apart.
+pub fn book<L: Ledger>(
+    alloc: Global,
+    graph: &mut Graph,
+    columns: &List<NodeId>,
+    distance: u32,
+    steps: &mut Steps<L>,
+) -> Result<Certificate, SpanFault>
+    requires columns { AreColumnsAt graph.old columns.now }
+    ensures same { graph.new ≡ graph.old }
+    ensures made { IfOk result (IsBookFor graph.old columns.now distance) }
+    ensures few { OnOk result (HasFewEntries (topology_of graph.old)) }
+    ensures fault { IfErr result (PreventsBook (topology_of graph.old)) }
+{
+    let order = order_of(alloc, graph.topology())?;
+    let problems = graph.topology().problems(alloc)?;
+    let mut used = Row::zeroed(alloc, order.nodes.len())?;
+    use_all(columns, &order, &mut used);
+    let trees = trees(alloc, graph, &order, &problems, &mut used, steps)?;
+    let numbering = numbering_of(alloc, graph.topology(), &order, &used)?;
+    let spans = spans_of(alloc, &trees, &numbering.numbers)?;
+    let columns = numbers_of(alloc, columns, &order, &numbering.numbers)?;
+    Ok(Certificate::Book {
+        distance,
+        nodes: numbering.names,
+        columns,
+        spans,
+    })
+}

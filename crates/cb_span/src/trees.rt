@@ -1,0 +1,76 @@
+//! A tree of visits from each problem.
+ghost use Rattle.std.specs.Prelude.{◌≡◌, ◌≤◌, ◌↔◌, ◌⊎◌, ℕ, length, IfOk, IfErr};
+ghost use Rattle.std.specs.List.{AllZip};
+ghost use Rattle.cb_reach.specs.Rows.{Has};
+ghost use Rattle.cb_breadth.specs.Trees.{IsVisited};
+ghost use Rattle.cb_cert.specs.Format.{entry_limit};
+ghost use Rattle.cb_span.specs.Orders.{IsOrderOf, IsRank, AreRanked};
+ghost use Rattle.cb_span.specs.Searched.{IsTreeFrom, IsTreeOf, IsVisitedIn, PreventsTrees, visits_in};
+
+use crate::fault::SpanFault;
+use crate::order::rank_of;
+use cb_bits::Row;
+use cb_breadth::{Order, Visit, tree};
+use cb_graph::Graph;
+use cb_model::List;
+use cb_nodes::NodeId;
+use cb_steps::Steps;
+use std::alloc::{AllocError, Global};
+use std::sync::ledger::Ledger;
+
+// The spans of a certificate have together at most so many entries.
+const MOST_ENTRIES: usize = 1_048_576;
+
+/// All that the node causes, which is marked as used.
+pub fn tree_from<L: Ledger>(
+    alloc: Global,
+    graph: &mut Graph,
+    order: &Order,
+    node: NodeId,
+    used: &mut Row,
+    steps: &mut Steps<L>,
+) -> Result<Vec<Visit>, AllocError>
+    requires order { IsOrderOf graph.old order.now }
+    requires node { (rank : ℕ) × IsRank order.now node rank }
+    requires used { length used.old ≡ length order.now.nodes.items }
+    ensures same { graph.new ≡ graph.old }
+    ensures tree { IfOk result (IsTreeOf graph.old order.now node) }
+    ensures used { IfOk result (λ visits. (rank : ℕ) → Has used.new rank ↔ (Has used.old rank ⊎ IsVisited visits.items rank)) }
+    ensures room { length used.new ≡ length used.old }
+{
+    let found = tree(alloc, graph, order, rank_of(order, node), steps)?;
+    used.or_from(&found.nodes);
+    Ok(found.visits)
+}
+
+/// All that each of the nodes causes, which is marked as used.
+pub fn trees<L: Ledger>(
+    alloc: Global,
+    graph: &mut Graph,
+    order: &Order,
+    nodes: &List<NodeId>,
+    used: &mut Row,
+    steps: &mut Steps<L>,
+) -> Result<List<Vec<Visit>>, SpanFault>
+    requires order { IsOrderOf graph.old order.now }
+    requires nodes { AreRanked order.now nodes.now }
+    requires used { length used.old ≡ length order.now.nodes.items }
+    ensures same { graph.new ≡ graph.old }
+    ensures trees { IfOk result (AllZip (IsTreeOf graph.old order.now) nodes.now) }
+    ensures used { IfOk result (λ trees. (rank : ℕ) → Has used.new rank ↔ (Has used.old rank ⊎ IsVisitedIn trees rank)) }
+    ensures few { IfOk result (λ trees. visits_in trees ≤ entry_limit) }
+    ensures room { length used.new ≡ length used.old }
+    ensures fault { IfErr result (PreventsTrees graph.old order.now nodes.now) }
+{
+    let mut trees = List::new(alloc);
+    let mut left = MOST_ENTRIES;
+    for place in 0..nodes.len() {
+        let visits = tree_from(alloc, graph, order, *nodes.at(place), used, steps)?;
+        if left < visits.len() {
+            return Err(SpanFault::TooManyEntries);
+        }
+        left -= visits.len();
+        trees.push(visits)?;
+    }
+    Ok(trees)
+}
