@@ -23,7 +23,7 @@ use Rattle.cb_outcome.specs.Jobs.{is_built, Writes, CodebookGives, JobGives}
 use Rattle.cb_outcome.specs.Contents.{Left, with_texts, files_from, log_from}
 use Rattle.cb_outcome.specs.LogJobs.{Watch, FrontTells, LogTells, Follows, log_limit}
 use Rattle.cb_outcome.specs.Answer.{RequestAnswers, IsOutcome, IsToldUpto, IsDue}
-use Rattle.cb_outcome.specs.Laws.{BeginsWith, OutcomeIsOne, DueIsFront, DoneReadsAll}
+use Rattle.cb_outcome.specs.Laws.{BeginsWith, OutcomeIsOne, DueIsFront, AnswerIsOne, ToldIsFront, PassedGoToJob, DoneReadsAll}
 use Rattle.cb_outcome.specs.Point.{Point}
 use Rattle.cb_outcome.proofs.JobsOne.{burst_one, matrix_one, codebook_one, verify_one}
 use Rattle.cb_outcome.proofs.LogsOne.{follows_one, follows_front}
@@ -106,16 +106,16 @@ module _ (left : Left) (taken : ℕ) (due : List ℕ) (outcome : Outcome) where
   job_front (Correlate one two log d w) whole told sound gives = log_front (Correlate one two log d w) log whole told sound (one_log told.name log told.log) gives
   job_front (Grow sites start) whole told sound gives = absurd (no_log (Grow sites start) refl told)
 
-  request_front : (request : Request) → IsToldUpto left request taken due → RequestAnswers (is_built request) request left outcome → BeginsWith outcome.out due
-  request_front request told is =
-      let answers : RequestAnswers true request left outcome = subst (λ (b : Bool). RequestAnswers b request left outcome) told.built is in
+  told_front : (request : Request) → IsToldUpto left request taken due → RequestAnswers true request left outcome → BeginsWith outcome.out due
+  told_front request told answers =
       let (whole, gives) = job_of (JobGives left request) (files_from left request) nothing 0 told.known outcome tt told.pass answers in
       job_front request whole told (pass_sound nothing (files_from left request) told.known tt told.pass) gives
 
 upto_front : (asked : Option Request) (left : Left) (taken : ℕ) (due : List ℕ) (outcome : Outcome) → IsOutcome asked left outcome
     → IsDue asked left (Point.upto taken) due → BeginsWith outcome.out due
 upto_front None left taken due outcome is told = absurd told
-upto_front (Some request) left taken due outcome is told = request_front left taken due outcome request told is
+upto_front (Some request) left taken due outcome is (built, told) =
+    told_front left taken due outcome request told (subst (λ (b : Bool). RequestAnswers b request left outcome) built is)
 
 pub due_is_front : DueIsFront
 due_is_front asked left Point.start due outcome is e = (outcome.out, ap (λ (xs : List ℕ). xs ++ outcome.out) (sym e))
@@ -123,6 +123,16 @@ due_is_front asked left (Point.upto taken) due outcome is told = upto_front aske
 due_is_front asked left Point.end due outcome is (other, it, e) =
     let same : outcome ≡ other = outcome_is_one asked left outcome other is it in
     ([], ap (λ (o : Outcome). o.out) same ∙ (sym e ∙ ends_empty due))
+
+pub answer_is_one : AnswerIsOne
+answer_is_one request left a b p q = request_one true request left a b p q
+
+pub told_is_front : ToldIsFront
+told_is_front request left taken due outcome is told = told_front left taken due outcome request told is
+
+pub passed_go_to_job : PassedGoToJob
+passed_go_to_job request left known outcome pass is =
+    job_of (JobGives left request) (files_from left request) nothing 0 known outcome tt pass is
 
 -- ---- an outcome without a fault
 

@@ -20,9 +20,8 @@ abbrev pub IsOutcome : Option Request → Left → Outcome → Type 0
 IsOutcome None left outcome = outcome ≡ refused faults.Usage 0
 IsOutcome (Some request) left outcome = RequestAnswers (is_built request) request left outcome
 
--- the command is built, its judged files pass, and the lines of its log that ended within the first bytes tell this
+-- the judged files of a request pass, and the lines of its log that ended within the first bytes tell this
 pub record IsToldUpto (left : Left) (request : Request) (taken : ℕ) (due : List ℕ) : Type 0 where
-  pub built : is_built request ≡ true
   pub known : Known
   pub pass : PassFrom nothing (files_from left request) known
   pub name : List ℕ
@@ -31,9 +30,9 @@ pub record IsToldUpto (left : Left) (request : Request) (taken : ℕ) (due : Lis
   pub follows : IsWatch request known watch
   pub tells : FrontTells watch (take (min taken log_limit) (log_from left request name)) due
 
--- Nothing is due at the start. Once so many bytes of the log were taken, it is the output of the lines that ended within them; at the
--- end, that of the outcome.
+-- Nothing is due at the start. Once so many bytes of the log of a command that is built were taken, it is the output of the lines that
+-- ended within them; at the end, that of the outcome.
 abbrev pub IsDue : Option Request → Left → Point → List ℕ → Type 0
 IsDue asked left Point.start due = due ≡ []
-IsDue asked left (Point.upto taken) due = IsSomeAnd asked (λ request. IsToldUpto left request taken due)
+IsDue asked left (Point.upto taken) due = IsSomeAnd asked (λ request. (is_built request ≡ true) × IsToldUpto left request taken due)
 IsDue asked left Point.end due = (outcome : Outcome) × IsOutcome asked left outcome × (due ≡ outcome.out)

@@ -104,6 +104,7 @@ HavePassed asked place left = IsSomeAnd asked (λ request. Pass (files_before pl
 
 -- so many bytes of this name were taken
 pub record HasTaken (name : List ℕ) (taken : ℕ) (old new : FilesTold) (left : Left) : Type 0 where
+  pub within : taken ≤ length (contents left [] name)
   pub rest : List ℕ
   pub before : left_of old name ≡ Some (take taken (contents left [] name) ++ rest)
   pub after : left_of new name ≡ Some rest

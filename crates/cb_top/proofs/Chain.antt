@@ -1,19 +1,19 @@
 -- Files that are read one after the other.
-use Rattle.std.proofs.Common.{◌≡◌, ◌∙◌, ◌⊎◌, ◌<◌, ◌≤◌, ◌+◌, ℕ, suc, List, [], ◌∷◌, ◌++◌, append_assoc, refl, sym, ap, subst, inl, inr, take, length, slice_get, arith, Result, Ok, Err}
+use Rattle.std.proofs.Common.{◌≡◌, ◌∙◌, ◌⊎◌, ◌≤◌, ℕ, List, [], ◌∷◌, ◌++◌, append_assoc, refl, sym, ap, subst, inl, inr, take, length, slice_get, arith, Result, Ok, Err}
 use Rattle.std.specs.Prelude.{Option, None, Some, IfSome, IfErr, IfOk, map, unwrap_or}
 use Rattle.std.specs.Io.KnownBytes.{Consumes}
 use Rattle.std.specs.Result.{IsErrAnd}
 use Rattle.std.proofs.lemmas.List.{length-map}
-use Rattle.cb_io.specs.Outside.{FilesTold, contents, left_of, TakesAll, ReadsAll, ReadsEach, ReadsFront, KeepsOthers, NoCountFalls, ReadFailed}
+use Rattle.cb_io.specs.Outside.{FilesTold, contents, left_of, ReadsAll, ReadsEach, ReadsFront, KeepsOthers, NoCountFalls}
 use Rattle.cb_io.proofs.Told.{NoCountFalls-trans, ReadFailed-after, ReadsEach-nil, ReadsEach-next, ReadsEach-gives, ReadsEach-others}
 use Rattle.cb_request.specs.declared.request.Request.{Request}
 use Rattle.cb_request.specs.Files.{Role, judged_of, logs_of, names_of}
 use Rattle.cb_report.specs.declared.fault.Fault.{Fault}
-use Rattle.cb_outcome.specs.Judged.{File, Known, nothing, Says, Refuses, PassFrom}
+use Rattle.cb_outcome.specs.Judged.{Known, nothing, Says, PassFrom}
 use Rattle.cb_outcome.specs.Contents.{Left, with_texts}
 use Rattle.cb_outcome.specs.Reading.{Told, LeavesRest, ReadsTo}
-use Rattle.cb_top.specs.Kinds.{file_of, IsWant, ReadsOnly, FailsToRead, IsRefused, StopsReading}
-use Rattle.cb_top.specs.Ending.{names, WantsMemory, IsRefusedThere, StopsAt}
+use Rattle.cb_top.specs.Kinds.{file_of, ReadsOnly, StopsReading}
+use Rattle.cb_top.specs.Ending.{names, WantsMemory, StopsAt}
 
 -- ---- facts where they are told
 

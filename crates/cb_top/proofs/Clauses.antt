@@ -1,11 +1,11 @@
 -- The clauses of a run, by what comes of its words and how it ends.
-use Rattle.std.proofs.Common.{◌≡◌, ◌≢◌, ◌⊎◌, ◌∙◌, ◌≤◌, ◌+◌, ℕ, List, [], ◌∷◌, ◌++◌, Bool, true, false, refl, sym, ap, subst, inl, inr, take, length, slice_get, arith, Result, Ok, Err}
-use Rattle.std.specs.Prelude.{Option, None, Some, IfSome, map}
+use Rattle.std.proofs.Common.{◌≡◌, ◌≢◌, ◌⊎◌, ◌∙◌, ◌≤◌, ℕ, List, [], ◌∷◌, ◌++◌, Bool, true, false, refl, sym, ap, subst, inl, inr, take, length, slice_get, arith, Result, Ok, Err}
+use Rattle.std.specs.Prelude.{Option, None, Some, map}
 use Rattle.std.specs.List.{Contains}
 use Rattle.std.proofs.lemmas.List.{length-append}
 use Rattle.std.proofs.lemmas.List.Elements.{Contains-append_right}
 use Rattle.cb_model.proofs.Rising.{contains_head}
-use Rattle.cb_io.specs.Outside.{FilesTold, SinkTold, WritesAll, WritesFront, WriteFailed}
+use Rattle.cb_io.specs.Outside.{SinkTold, WritesAll, WritesFront}
 use Rattle.cb_request.specs.declared.request.Request.{Request}
 use Rattle.cb_request.specs.Files.{Role, judged_of, logs_of, names_of, file_words}
 use Rattle.cb_report.specs.declared.fault.Fault.{Fault}
@@ -17,21 +17,21 @@ use Rattle.cb_report.specs.Faults.{status_of, ending}
 use Rattle.cb_report.specs.FaultTexts.{fault_text}
 use Rattle.cb_report.specs.Said.{TakesLine}
 use Rattle.cb_outcome.specs.Outcome.{Outcome, refused}
-use Rattle.cb_outcome.specs.Judged.{Known, nothing, parsed, network, raised, File, HasFault, Refuses, Gives, PassFrom}
+use Rattle.cb_outcome.specs.Judged.{Known, nothing, Gives, PassFrom}
 use Rattle.cb_outcome.specs.Jobs.{is_built, JobGives}
 use Rattle.cb_outcome.specs.Contents.{Left, with_texts, files_from}
-use Rattle.cb_outcome.specs.Answer.{RequestAnswers, IsOutcome, IsDue}
+use Rattle.cb_outcome.specs.Answer.{RequestAnswers, IsOutcome}
 use Rattle.cb_outcome.specs.Point.{Point}
 use Rattle.cb_outcome.specs.Reading.{Told, ReadsTo}
 use Rattle.cb_outcome.specs.Seen.{Seen}
 use Rattle.cb_outcome.specs.Ends.{HasRole, MayEndIfBuilt, RequestEnds, MayEnd}
-use Rattle.cb_outcome.specs.Clauses.{Answers, AnswersOutcome, WritesDue, ReadsJudged, HaveAllPassed, KeepsQuiet, NamesFileWord, SaysStatus, ReadsInOrder, BlamesRead, BlamesWrite, Blames}
+use Rattle.cb_outcome.specs.Clauses.{Answers, AnswersOutcome, WritesDue, ReadsJudged, HaveAllPassed, KeepsQuiet, NamesFileWord, SaysStatus, ReadsInOrder, Blames}
 use Rattle.cb_outcome.specs.Finds.{Finds}
 use Rattle.cb_outcome.proofs.Outcomes.{texts_count, names_count, some_name}
 use Rattle.cb_top.specs.declared.output.Output.{Output}
 use Rattle.cb_top.specs.Kinds.{file_of, IsWant, FailsToRead}
-use Rattle.cb_top.specs.Ending.{names, Makes, WantsMemory, IsRefusedThere, StopsAt, Comes, ReadsNothing, RequestComes, AskedComes, IsDelivered, IsCutOff, Delivers, Concludes}
-use Rattle.cb_top.proofs.Chain.{if_some, if_some2, of_all, map_append, take_front, take_whole, at_front, reads_all, reads_none}
+use Rattle.cb_top.specs.Ending.{names, Makes, WantsMemory, IsRefusedThere, StopsAt, Comes, RequestComes, AskedComes, IsDelivered, IsCutOff, Delivers, Concludes}
+use Rattle.cb_top.proofs.Chain.{if_some, if_some2, of_all, map_append, take_front, take_whole, reads_all, reads_none}
 use Rattle.cb_top.proofs.Made.{gives_job, gives_refused}
 use Rattle.cb_top.proofs.Plain.{IsPlain, refused_plain, fit}
 
@@ -268,9 +268,9 @@ module _ (s : Seen) where
       (on_answer (status_of fault) (Told s.files (Answers (Some request) (status_of fault) s)) (if_some2 s.files.left _ _ _ (λ left said text_is. record {
         outcome = refused fault (length at.earlier);
         is = as_built request built left (refused fault (length at.earlier))
-            (subst (λ (fs : List (Role × List ℕ)). Gives (JobGives request) nothing 0 (with_texts left [] fs) (refused fault (length at.earlier))) (sym at.files_are)
-            (subst (λ (n : ℕ). Gives (JobGives request) nothing 0 (with_texts left [] (at.earlier ++ at.file ∷ at.later)) (refused fault n)) (omega arith)
-            (gives_refused (JobGives request) left [] at.earlier at.file at.later nothing at.known 0 is.text fault said text_is is.refuses)));
+            (subst (λ (fs : List (Role × List ℕ)). Gives (JobGives left request) nothing 0 (with_texts left [] fs) (refused fault (length at.earlier))) (sym at.files_are)
+            (subst (λ (n : ℕ). Gives (JobGives left request) nothing 0 (with_texts left [] (at.earlier ++ at.file ∷ at.later)) (refused fault n)) (omega arith)
+            (gives_refused (JobGives left request) left [] at.earlier at.file at.later nothing at.known 0 is.text fault said text_is is.refuses)));
         status_is = refl;
         output = end.written;
         line = end.says;

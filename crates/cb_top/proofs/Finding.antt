@@ -10,7 +10,6 @@ use Rattle.cb_finding.specs.declared.finding.Finding.{Finding}
 use Rattle.cb_network.specs.Topology.{Topology}
 use Rattle.cb_finding.specs.Finding.{IsBurst}
 use Rattle.cb_finding.proofs.Nearest.{burst_finds_the_cause}
-use Rattle.cb_report.specs.Lines.{burst_text}
 use Rattle.cb_request.specs.declared.request.Request.{Request}
 use Rattle.cb_request.specs.declared.request.Request.TheVariants.{Burst, Codebook, Decode, Correlate}
 use Rattle.cb_outcome.specs.Outcome.{Outcome}

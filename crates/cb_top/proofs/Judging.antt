@@ -1,6 +1,6 @@
 -- What judging the text of a file shows.
-use Rattle.std.proofs.Common.{◌≡◌, ◌⊎◌, ◌≤◌, ◌<◌, ℕ, List, length, refl, sym, ap, subst, ◌∙◌, inl, inr, Ok, Err, arith}
-use Rattle.std.specs.Prelude.{Option, None, Some, IfSome, unwrap_or, ◌++◌}
+use Rattle.std.proofs.Common.{◌≡◌, ◌≤◌, ◌<◌, ℕ, List, length, refl, sym, subst, inl, inr, arith}
+use Rattle.std.specs.Prelude.{Option, None, Some, IfSome}
 use Rattle.std.specs.Io.KnownBytes.{Consumes}
 use Rattle.std.proofs.Common.{length-append}
 use Rattle.cb_io.specs.Outside.{FilesTold, left_of, TakesAll, ReadsAll, ReadsMoreThan}
@@ -10,11 +10,9 @@ use Rattle.cb_grammar.specs.declared.tree.Tree.{Tree}
 use Rattle.cb_syntax.specs.Spells.{Spells}
 use Rattle.cb_syntax.specs.Laws.{TellsFault}
 use Rattle.cb_syntax.specs.declared.fault.SyntaxFault.{SyntaxFault}
-use Rattle.cb_syntax.specs.declared.fault.SyntaxFault.TheVariants as syntax
 use Rattle.cb_rules.specs.declared.rule.BrokenRule.{BrokenRule}
 use Rattle.cb_rules.specs.Fault.{KeepsAll, IsFault as IsTypeFault}
 use Rattle.cb_check.specs.Stands.{Stands}
-use Rattle.cb_check.specs.declared.fault.TypeFault.{TypeFault}
 use Rattle.cb_check.specs.declared.fault.TypeFault.TheVariants as types
 use Rattle.cb_network.specs.Topology.{Topology}
 use Rattle.cb_inputs.specs.declared.topology.LineFault.TheVariants.{BadWords, Refused}
@@ -28,7 +26,7 @@ use Rattle.cb_request.specs.Files.{Role, byte_limit}
 use Rattle.cb_report.specs.declared.fault.Fault.{Fault}
 use Rattle.cb_report.specs.declared.fault.Fault.TheVariants as faults
 use Rattle.cb_outcome.specs.Judged.{Known, nothing, parsed, network, raised, Says, Refuses}
-use Rattle.cb_top.specs.Kinds.{file_of, SaysAfter, RefusesAfter, StopsJudging, StopsReading, IsTextOf, IsWant}
+use Rattle.cb_top.specs.Kinds.{file_of, SaysAfter, RefusesAfter, StopsJudging, StopsReading, IsTextOf}
 use Rattle.cb_top.specs.Faults.{fault_of_topology, fault_of_symptoms}
 
 -- ---- a text that was read

@@ -1,11 +1,10 @@
 -- From files that passed and a job to an outcome.
-use Rattle.std.proofs.Common.{◌≡◌, ◌⊎◌, ◌+◌, ℕ, suc, List, [], ◌∷◌, ◌++◌, length, refl, sym, ap, ◌∙◌, subst, inl, inr, arith}
-use Rattle.std.specs.Prelude.{map}
+use Rattle.std.proofs.Common.{◌≡◌, ◌+◌, ℕ, suc, List, [], ◌∷◌, ◌++◌, length, refl, sym, ap, ◌∙◌, subst, inl, inr, arith}
 use Rattle.cb_io.specs.Outside.{contents}
 use Rattle.cb_request.specs.Files.{Role}
 use Rattle.cb_report.specs.declared.fault.Fault.{Fault}
 use Rattle.cb_outcome.specs.Outcome.{Outcome, refused}
-use Rattle.cb_outcome.specs.Judged.{File, Known, Says, Refuses, Job, Gives, PassFrom}
+use Rattle.cb_outcome.specs.Judged.{File, Known, Refuses, Job, Gives, PassFrom}
 use Rattle.cb_outcome.specs.Contents.{Left, with_texts}
 use Rattle.cb_top.specs.Kinds.{file_of}
 use Rattle.cb_top.specs.Ending.{names}

@@ -1,5 +1,5 @@
 -- What the end of a run is like that a refused file or a job brings about: it is no fault of a read or a write, nor want of memory.
-use Rattle.std.proofs.Common.{◌≡◌, ◌≢◌, ◌⊎◌, ◌∙◌, ℕ, List, [], ◌∷◌, true, refl, sym, ap, subst, inl, inr}
+use Rattle.std.proofs.Common.{◌≡◌, ◌≢◌, ◌⊎◌, ◌∙◌, ℕ, List, [], true, refl, sym, subst, inl, inr}
 use Rattle.std.specs.Prelude.{Option, None, Some}
 use Rattle.std.specs.List.{Contains}
 use Rattle.cb_io.specs.Outside.{WritesAll}

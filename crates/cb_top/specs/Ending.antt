@@ -1,6 +1,6 @@
 -- What a command leaves whose output is made before it is written. `old` is told before its files are read, `new` after that.
 use Rattle.std.specs.Prelude.{◌≡◌, ◌⊎◌, ℕ, List, [], ◌∷◌, ◌++◌, length, map, Bool, true, false, Option, None, Some, Result, Ok, Err}
-use Rattle.cb_io.specs.Outside.{FilesTold, SinkTold, contents, ReadsEach, ReadFailed, WritesAll, WritesFront, WriteFailed}
+use Rattle.cb_io.specs.Outside.{FilesTold, SinkTold, contents, ReadsEach, WritesAll, WritesFront, WriteFailed}
 use Rattle.cb_request.specs.declared.request.Request.{Request}
 use Rattle.cb_request.specs.Files.{Role, judged_of, logs_of, names_of}
 use Rattle.cb_report.specs.declared.fault.Fault.{Fault}

@@ -1,5 +1,5 @@
 -- What each way out of `burst` shows.
-use Rattle.std.proofs.Common.{◌≡◌, List, ℕ, [], ◌∷◌, refl, ap, inl, inr, subst}
+use Rattle.std.proofs.Common.{List, ℕ, [], ◌∷◌, refl, ap, inl, subst}
 use Rattle.cb_topo.specs.Numbered.{topology_of}
 use Rattle.cb_request.specs.Files.{Role}
 use Rattle.cb_request.specs.declared.request.Request.TheVariants.{Burst}
