@@ -1,1 +1,4 @@
 pub mod Codes
+pub mod Groups
+pub mod EachOnce
+pub mod Grouped

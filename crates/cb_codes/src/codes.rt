@@ -43,7 +43,8 @@ impl Codes {
         ensures pushed { OnOk result (self.new.rows ≡ self.old.rows ++ row ∷ []) }
         ensures err { OnErr result (self.new ≡ self.old) }
     {
-        self.rows.push(row)
+        self.rows.push(row)?;
+        Ok(())
     }
 
     /// How many codes there are.

@@ -7,8 +7,14 @@
 #![tactic(auto)]
 
 mod codes;
+mod each_once;
+mod grouping;
+mod groups;
 
 pub use codes::Codes;
+pub use each_once::EachOnce;
+pub use grouping::Grouping;
+pub use groups::Groups;
 
 #[cfg(test)]
 mod tests;

@@ -12,8 +12,9 @@ use Rattle.cb_model.specs.NodeOrder.{node_cmp}
 use Rattle.cb_model.specs.Order.{Rises}
 use Rattle.cb_model.proofs.Rising.{node_strict, contains_head, contains_tail}
 use Rattle.cb_coding.specs.declared.group.Problem.{Problem}
+use Rattle.cb_network.specs.Topology.{Topology}
 use Rattle.cb_network.specs.Nodes.{IsColumn, IsProblem, IsSymptomNode, AreColumns, AreProblems, IsWithin}
-use Rattle.cb_finding.specs.Matrix.{IsCode}
+use Rattle.cb_finding.specs.Matrix.{IsCode, AreCoded}
 use Rattle.cb_network.specs.Sound.{Sound, problem_limit, symptom_limit}
 use Rattle.cb_nodes.specs.declared.id.NodeId.{NodeId}
 use Rattle.cb_reach.specs.Rows.{Has}
@@ -25,8 +26,6 @@ use Rattle.cb_cache.specs.Numbers.{IsProblemNumber}
 use Rattle.cb_cache.proofs.Opened.{few_of_rising}
 use Rattle.cb_matrix.specs.Codes.{IsOnce, IsBelow, IsCodeOf}
 use Rattle.cb_matrix.specs.Coded.{IsCodeFrom, AreProblemsAt}
-use Rattle.cb_matrix.specs.Problems.{AreAllCoded}
-use Rattle.cb_matrix.specs.declared.problems.CodedProblems.{CodedProblems}
 
 -- a set's code is a search's, where the set is what was found
 pub code_from : (n : Numbered) (columns : List NodeId) (id : NodeId) (reached code : List Bool) → ((k : ℕ) → Has reached k ↔ LeadsTo (EdgeAt n) id.0 k)
@@ -131,27 +130,34 @@ all_codes n whole columns names zip (a ∷ ids) (p ∷ problems) are zero d lt =
     code_of_names n whole a p.name are.0.named columns names p.code zip are.0.coded.width are.0.coded.each
 all_codes n whole columns names zip (a ∷ ids) (p ∷ problems) are (suc k) d lt = all_codes n whole columns names zip ids problems are.1 k d (omega arith)
 
-module _ (n : Numbered) (whole : IsWhole n) (sound : Sound (topology_of n)) (columns ids : List NodeId) (made : CodedProblems) (names problems : List NodeName)
-    (are_columns : AreColumns (topology_of n) names) (named : AreNamed n columns names) (copied : AreNamed n columns made.columns)
-    (are_problems : AreProblems (topology_of n) problems) (problems_named : AreNamed n ids problems) (coded : AreProblemsAt n columns ids made.problems) where
-  same_columns : names ≡ made.columns
-  same_columns = names_are_one n columns names made.columns named copied
+-- all columns and all problems are there, and they are within their limits
+pub record AreAllCoded (t : Topology) (columns : List NodeName) (problems : List Problem) : Type 0 where
+  pub columns_are : AreColumns t columns
+  pub problems_are : AreCoded t columns problems
+  pub few_columns : length columns ≤ symptom_limit
+  pub few_problems : length problems ≤ problem_limit
 
-  same_problems : problems ≡ map (λ p. p.name) made.problems
-  same_problems = names_are_one n ids problems (map (λ p. p.name) made.problems) problems_named (problem_names n columns ids made.problems coded)
+module _ (n : Numbered) (whole : IsWhole n) (sound : Sound (topology_of n)) (columns ids : List NodeId) (made : List NodeName) (coded : List Problem) (names problems : List NodeName)
+    (are_columns : AreColumns (topology_of n) names) (named : AreNamed n columns names) (copied : AreNamed n columns made)
+    (are_problems : AreProblems (topology_of n) problems) (problems_named : AreNamed n ids problems) (are_coded : AreProblemsAt n columns ids coded) where
+  same_columns : names ≡ made
+  same_columns = names_are_one n columns names made named copied
 
-  pub all_coded : AreAllCoded (topology_of n) made
+  same_problems : problems ≡ map (λ p. p.name) coded
+  same_problems = names_are_one n ids problems (map (λ p. p.name) coded) problems_named (problem_names n columns ids coded are_coded)
+
+  pub all_coded : AreAllCoded (topology_of n) made coded
   all_coded =
       let columns_are = subst (AreColumns (topology_of n)) same_columns are_columns in
       let problems_are = subst (AreProblems (topology_of n)) same_problems are_problems in
-      let names_are : length (map (λ p. p.name) made.problems) ≡ length made.problems = length-map made.problems (λ (p : Problem). p.name) in
+      let names_are : length (map (λ p. p.name) coded) ≡ length coded = length-map coded (λ (p : Problem). p.name) in
       record {
-        columns = columns_are;
-        problems = record { names = problems_are; codes = all_codes n whole columns made.columns copied ids made.problems coded };
-        few_columns = few_of_rising (IsSymptomNode (topology_of n)) (IsColumn (topology_of n)) made.columns symptom_limit columns_are.rise
+        columns_are = columns_are;
+        problems_are = record { names = problems_are; codes = all_codes n whole columns made copied ids coded are_coded };
+        few_columns = few_of_rising (IsSymptomNode (topology_of n)) (IsColumn (topology_of n)) made symptom_limit columns_are.rise
             (λ q. (columns_are.each q, columns_are.all q)) (λ q column. column.symptom) sound.few_symptoms;
         few_problems = subst (λ k. k ≤ problem_limit) names_are
-            (few_of_rising (IsProblem (topology_of n)) (IsProblem (topology_of n)) (map (λ p. p.name) made.problems) problem_limit problems_are.rise
+            (few_of_rising (IsProblem (topology_of n)) (IsProblem (topology_of n)) (map (λ p. p.name) coded) problem_limit problems_are.rise
             (λ q. (problems_are.each q, problems_are.all q)) (λ q problem. problem) sound.few_problems);
       }
 

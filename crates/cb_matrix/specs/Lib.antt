@@ -1,4 +1,3 @@
-pub mod Problems
 pub mod Codes
 pub mod Coded
-pub mod Grouped
+pub mod Parts

@@ -1,36 +1,38 @@
-//! The code of each problem, from its row.
+//! The problems in their groups, each with its code from its row.
 ghost use Rattle.std.specs.Prelude.{◌≡◌, ◌≤◌, ◌*◌, replicate, IfOk};
 ghost use Rattle.std.specs.List.{All};
 ghost use Rattle.cb_lanes.specs.Words.{word_limit};
 ghost use Rattle.cb_cache.specs.Numbers.{IsProblemNumber};
 ghost use Rattle.cb_matrix.specs.Codes.{ArePlaces};
-ghost use Rattle.cb_matrix.specs.Coded.{IsProblemAt, AreProblemsAt};
+ghost use Rattle.cb_matrix.specs.Coded.{IsProblemAt, AreGroupedAt};
 
 use crate::codes::{Columns, code_of};
 use cb_cache::Cache;
+use cb_codes::Grouping;
 use cb_coding::Problem;
 use cb_model::List;
 use cb_nodes::NodeId;
 use std::alloc::{AllocError, Global};
 
-/// The problems of these numbers, each with its code over the columns.
-pub fn coded(
+/// The problems of these numbers in the groups of their codes over the columns.
+pub fn grouped(
     alloc: Global,
     cache: &Cache,
     columns: &Columns,
     nodes: &List<NodeId>,
-) -> Result<List<Problem>, AllocError>
+) -> Result<Grouping, AllocError>
     requires columns { ArePlaces (64 * cache.now.pool.width) columns.now.nodes columns.now.places.items }
     requires few { cache.now.pool.width ≤ word_limit }
     requires problems { All (IsProblemNumber cache.now.graph) nodes.now }
-    ensures { IfOk result (AreProblemsAt cache.now.graph columns.now.nodes nodes.now) }
+    ensures { IfOk result (AreGroupedAt cache.now.graph columns.now.nodes nodes.now) }
 {
     let none = zeros(alloc, cache.pool().width())?;
-    let mut problems = List::new(alloc);
+    let mut grouping = Grouping::quiet(alloc, columns.nodes.len())?;
     for node in nodes.as_slice() {
-        problems.push(coded_problem(alloc, cache, columns, *node, &none)?)?;
+        let problem = coded_problem(alloc, cache, columns, *node, &none)?;
+        grouping.add(alloc, problem)?;
     }
-    Ok(problems)
+    Ok(grouping)
 }
 
 // The problem of this number with its code.

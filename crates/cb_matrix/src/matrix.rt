@@ -1,24 +1,44 @@
 //! The matrix of a topology.
-ghost use Rattle.std.specs.Prelude.{◌≤◌, ◌+◌, length, IfOk};
+ghost use Rattle.std.specs.Prelude.{◌≡◌, ◌<◌, ◌≤◌, ◌+◌, length, map, IfOk, Some, slice_get};
+ghost use Rattle.cb_coding.specs.Groups.{codes_of};
+ghost use Rattle.cb_codes.specs.Groups.{named_of};
 ghost use Rattle.cb_network.specs.Sound.{problem_limit, symptom_limit};
 ghost use Rattle.cb_finding.specs.Matrix.{AreCoded, IsMatrix};
 ghost use Rattle.cb_topo.specs.Numbered.{topology_of};
+ghost use Rattle.cb_codes.specs.Grouped.{IsSound, groups_in};
+ghost use Rattle.cb_matrix.specs.Parts.{problems_with, HavePlaces};
 
-use crate::grouping::groups;
-use crate::problems::CodedProblems;
+use crate::coded::grouped;
+use crate::codes::indexed;
+use crate::names::names_of;
+use cb_bits::Row;
 use cb_cache::Cache;
-use cb_coding::{Group, Problem};
-use cb_model::{List, NodeName};
+use cb_codes::{Codes, Grouping, Groups};
+use cb_model::{List, NamedGroup, NodeName};
 use std::alloc::{AllocError, Global};
+use std::marker::Model;
 
 /// What each problem makes visible: the columns in order, the problems in order, each with its code over the columns, and the
 /// groups of problems that no column tells apart, each with its code. The first group is the quiet one, whose problems no
-/// column shows.
+/// column shows. A code is kept once, with its group.
 #[derive(Debug, Drop)]
 pub struct Matrix {
-    pub columns: List<NodeName>,
-    pub problems: List<Problem>,
-    pub groups: List<Group>,
+    columns: List<NodeName>,
+    problems: List<NodeName>,
+    // For each problem the place of its group.
+    places: List<usize>,
+    groups: Groups,
+}
+
+impl Model for Matrix {
+    ghost use Rattle.cb_coding.specs.Groups.{codes_of};
+    ghost use Rattle.cb_matrix.specs.Parts.{Parts, problems_with, AreParts};
+
+    ghost Value = { Parts };
+
+    ghost view = { λ m. record { columns = m.columns; problems = problems_with (codes_of m.groups.groups) m.problems m.places; groups = m.groups.groups } };
+
+    ghost invariant = { λ m. AreParts m.columns m.problems m.places m.groups };
 }
 
 impl Matrix {
@@ -29,12 +49,81 @@ impl Matrix {
         ensures few_columns { IfOk result (λ matrix. length matrix.columns ≤ symptom_limit) }
         ensures few_groups { IfOk result (λ matrix. length matrix.groups ≤ problem_limit + 1) }
     {
-        let CodedProblems { columns, problems } = CodedProblems::of(alloc, cache)?;
-        let groups = groups(alloc, &problems, columns.len())?;
-        Ok(Matrix {
-            columns,
-            problems,
-            groups,
-        })
+        let topology = cache.graph().topology();
+        // All numbers of nodes are below it.
+        let _room = topology.node_room();
+        let column_nodes = topology.columns(alloc)?;
+        let columns = names_of(alloc, topology, &column_nodes)?;
+        let index = indexed(alloc, column_nodes, 64 * cache.pool().width())?;
+        let problem_nodes = topology.problems(alloc)?;
+        let grouping = grouped(alloc, cache, &index, &problem_nodes)?;
+        Ok(matrix_of(columns, grouping))
+    }
+
+    /// The columns, in order.
+    pub fn columns(&self) -> &List<NodeName>
+        ensures { result.now ≡ self.now.columns }
+    {
+        &self.columns
+    }
+
+    /// The problems, in order.
+    pub fn problems(&self) -> &List<NodeName>
+        ensures { result.now ≡ map (λ p. p.name) self.now.problems }
+    {
+        &self.problems
+    }
+
+    /// The code of the problem at a place.
+    pub fn row(&self, problem: usize) -> &Row
+        requires { problem < length self.now.problems }
+        ensures { slice_get (map (λ p. p.code) self.now.problems) problem ≡ Some result.now }
+    {
+        self.groups.codes().row(*self.places.at(problem))
+    }
+
+    /// The groups by their members.
+    pub fn groups(&self) -> &List<NamedGroup>
+        ensures { result.now ≡ named_of self.now.groups }
+    {
+        self.groups.named()
+    }
+
+    /// The code of each group.
+    pub fn codes(&self) -> &Codes
+        ensures width { result.now.width ≡ length self.now.columns }
+        ensures rows { result.now.rows ≡ codes_of self.now.groups }
+    {
+        self.groups.codes()
+    }
+
+    /// The groups with their codes.
+    pub fn coded_groups(&self) -> &Groups
+        ensures width { result.now.width ≡ length self.now.columns }
+        ensures groups { result.now.groups ≡ self.now.groups }
+    {
+        &self.groups
+    }
+}
+
+// The matrix of these columns, with the problems in their groups.
+fn matrix_of(columns: List<NodeName>, grouping: Grouping) -> Matrix
+    requires sound { IsSound (length columns) grouping }
+    requires places { HavePlaces grouping }
+    ensures columns { result.columns ≡ columns }
+    ensures problems { result.problems ≡ problems_with grouping.codes.codes.rows grouping.problems grouping.places }
+    ensures groups { result.groups ≡ groups_in grouping }
+{
+    let Grouping {
+        problems,
+        places,
+        codes,
+        named,
+    } = grouping;
+    Matrix {
+        columns,
+        problems,
+        places,
+        groups: Groups::of(codes.into_codes(), List::of(named)),
     }
 }

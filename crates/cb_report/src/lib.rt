@@ -7,6 +7,7 @@ mod fault;
 mod fault_line;
 mod fault_words;
 mod finding;
+mod matrix;
 mod pair;
 mod parts;
 mod piece;
@@ -15,6 +16,7 @@ mod status;
 pub use fault::Fault;
 pub use fault_line::say_fault;
 pub use finding::burst_text;
+pub use matrix::matrix_text;
 pub use status::Status;
 
 #[cfg(test)]

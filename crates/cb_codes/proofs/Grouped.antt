@@ -11,8 +11,8 @@ use Rattle.cb_coding.specs.declared.group.Problem.{Problem}
 use Rattle.cb_coding.specs.declared.group.Group.{Group}
 use Rattle.cb_coding.specs.Groups.{AreProblems, AreGroups, members_of, group_of, same_code, zeros, codes_of}
 use Rattle.cb_coding.proofs.One.{same_code_true, same_code_itself}
-use Rattle.cb_matrix.specs.Grouped.{group, AreWide, Joins, Opens, AddsProblem}
-use Rattle.cb_matrix.proofs.Before.{GroupsBefore, none_yet, all_groups, has_group, opens_group, is_new}
+use Rattle.cb_codes.specs.Grouped.{group, Joins, Opens, AddsProblem}
+use Rattle.cb_codes.proofs.Before.{GroupsBefore, none_yet, all_groups, has_group, opens_group, is_new}
 use Rattle.cb_coding.proofs.Pushed.{pushed_cases, taken_is, map_set_same, passes_there, passes_nowhere}
 
 -- the members of a code, one problem further
@@ -46,6 +46,10 @@ are_of_codes problems [] each = refl
 are_of_codes problems (g ∷ groups) each =
     let here : group_of problems g.code ≡ g = ap (group g.code) (sym (each 0 g refl)) in
     ap (λ h. h ∷ map (group_of problems) (codes_of groups)) here ∙ ap (λ hs. g ∷ hs) (are_of_codes problems groups (λ k h at. each (suc k) h at))
+
+-- the codes of all groups have that width
+abbrev AreWide : ℕ → List Group → Type 0
+AreWide width groups = (i : ℕ) (g : Group) → slice_get groups i ≡ Some g → length g.code ≡ width
 
 -- the groups of the problems before place i: their codes are those that all groups begin with, each once, and their
 -- members are the problems so far
@@ -96,11 +100,8 @@ module _ (width : ℕ) (problems : List Problem) where
     same_members g is other =
         is ∙ sym (with_p g.code ∙ ap (λ ns. members_of (take i problems) g.code ++ ns) (no_member p g.code other) ∙ append-nil (members_of (take i problems) g.code))
 
-    pub is_wide : length p.code ≡ width
+    is_wide : length p.code ≡ width
     is_wide = all_at (λ (q : Problem). length q.code ≡ width) problems i p at are_problems.wide
-
-    pub one_width : AreWide (length p.code) groups
-    one_width k g there = are.wide k g there ∙ sym is_wide
 
     code_there : (k : ℕ) (g : Group) → slice_get groups k ≡ Some g → slice_get full k ≡ Some (group_of problems g.code)
     code_there k g there = map_there (group_of problems) (codes_of groups) k g.code (map_there (λ (h : Group). h.code) groups k g there)

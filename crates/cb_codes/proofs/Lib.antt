@@ -1,0 +1,5 @@
+pub mod Fitting
+pub mod Found
+pub mod Before
+pub mod Grouped
+pub mod Added

@@ -1,0 +1,82 @@
+//! Groups of problems that no symptom tells apart.
+ghost use Rattle.std.specs.Prelude.{◌≡◌, ◌≤◌, List as Items, [], ◌∷◌, ◌++◌, length, IfOk, OnOk};
+ghost use Rattle.cb_coding.specs.Groups.{zeros as no_symptom};
+ghost use Rattle.cb_coding.specs.declared.group.Problem.{Problem as Problem_};
+ghost use Rattle.cb_codes.specs.Grouped.{group, AddsProblem, IsSound, Holds, TakesMember, groups_in};
+
+use crate::each_once::EachOnce;
+use cb_bits::Row;
+use cb_coding::Problem;
+use cb_model::{List, NamedGroup, NodeName};
+use std::alloc::{AllocError, Global};
+
+/// Problems, the groups that they are in, and for each the place of its group.
+#[derive(Drop)]
+pub struct Grouping {
+    pub problems: List<NodeName>,
+    pub places: List<usize>,
+    pub codes: EachOnce,
+    pub named: Vec<NamedGroup>,
+}
+
+impl Grouping {
+    /// Quiet alone, without problems.
+    pub fn quiet(alloc: Global, width: usize) -> Result<Grouping, AllocError>
+        ensures sound { IfOk result (IsSound width) }
+        ensures quiet { IfOk result (λ made. groups_in made ≡ group (no_symptom width) [] ∷ []) }
+        ensures none { IfOk result (Holds []) }
+    {
+        let mut codes = EachOnce::new(alloc, width);
+        codes.place_of(alloc, Row::zeroed(alloc, width)?)?;
+        let mut named = Vec::new(alloc);
+        named.push(NamedGroup {
+            quiet: true,
+            members: List::new(alloc),
+        })?;
+        Ok(Grouping {
+            problems: List::new(alloc),
+            places: List::new(alloc),
+            codes,
+            named,
+        })
+    }
+
+    /// Adds a problem to the group of its code, which is opened where there is none.
+    pub fn add(&mut self, alloc: Global, problem: Problem) -> Result<(), AllocError>
+        requires sound { IsSound (length problem.code) self.old }
+        ensures sound { OnOk result (IsSound (length problem.code) self.new) }
+        ensures added { OnOk result (AddsProblem problem (groups_in self.old) (groups_in self.new)) }
+        ensures holds { OnOk result ((before : Items Problem_) → Holds before self.old → Holds (before ++ problem ∷ []) self.new) }
+    {
+        let Problem { name, code } = problem;
+        let member = name.copy(alloc)?;
+        let place = self.codes.place_of(alloc, code)?;
+        take_member(alloc, &mut self.named, place, member)?;
+        self.problems.push(name)?;
+        self.places.push(place)?;
+        Ok(())
+    }
+}
+
+// Adds a member to the group at a place, or opens one with it behind the last.
+fn take_member(
+    alloc: Global,
+    named: &mut Vec<NamedGroup>,
+    place: usize,
+    member: NodeName,
+) -> Result<(), AllocError>
+    requires { place ≤ length named.old.items }
+    ensures { OnOk result (TakesMember place member named.old.items named.new.items) }
+{
+    if place < named.len() {
+        named[place].members.push(member)?;
+        return Ok(());
+    }
+    let mut members = List::new(alloc);
+    members.push(member)?;
+    named.push(NamedGroup {
+        quiet: place == 0,
+        members,
+    })?;
+    Ok(())
+}
