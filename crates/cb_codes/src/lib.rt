@@ -7,6 +7,7 @@
 #![tactic(auto)]
 
 mod codes;
+mod holders;
 
 pub use codes::Codes;
 
