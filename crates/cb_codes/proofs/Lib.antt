@@ -3,3 +3,5 @@ pub mod Found
 pub mod Before
 pub mod Grouped
 pub mod Added
+pub mod Passing
+pub mod ByColumn

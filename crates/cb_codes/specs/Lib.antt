@@ -1,4 +1,5 @@
 pub mod Codes
+pub mod Holders
 pub mod Groups
 pub mod EachOnce
 pub mod Grouped

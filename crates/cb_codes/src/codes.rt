@@ -1,27 +1,34 @@
 //! Codes of one width.
-ghost use Rattle.std.specs.Prelude.{◌≡◌, ◌<◌, [], ◌∷◌, ◌++◌, length, OnOk, OnErr, slice_get, Some};
-ghost use Rattle.cb_coding.specs.Distance.{HaveWidth};
+ghost use Rattle.std.specs.Prelude.{◌≡◌, ◌<◌, [], ◌∷◌, ◌++◌, length, OnOk, OnErr, IfSome, SomeIff, slice_get, Some};
+ghost use Rattle.cb_coding.specs.Distance.{HaveWidth, all_columns, apart};
+ghost use Rattle.cb_codes.specs.Holders.{holders_of};
 
+use crate::holders::{begin, hold};
 use cb_bits::Row;
+use cb_model::List;
 use std::alloc::{AllocError, Global};
 use std::marker::Model;
 
 /// Codes in order, each a row with one place a column. Contracts see how many columns there are, and the rows.
+/// It keeps for each column which codes have it, as long as that takes little memory.
 #[derive(Debug, Drop)]
 pub struct Codes {
     width: usize,
     rows: Vec<Row>,
+    holders: Vec<List<u32>>,
+    ones: usize,
 }
 
 impl Model for Codes {
     ghost use Rattle.cb_coding.specs.Distance.{HaveWidth};
     ghost use Rattle.cb_codes.specs.Codes.{Coded};
+    ghost use Rattle.cb_codes.specs.Holders.{AreHoldersOrNone};
 
     ghost Value = { Coded };
 
     ghost view = { λ c. record { width = c.width; rows = c.rows.items } };
 
-    ghost invariant = { λ c. HaveWidth c.width c.rows.items };
+    ghost invariant = { λ c. HaveWidth c.width c.rows.items × AreHoldersOrNone c.width c.rows.items c.holders.items };
 }
 
 impl Codes {
@@ -33,6 +40,8 @@ impl Codes {
         Codes {
             width,
             rows: Vec::new(alloc),
+            holders: begin(alloc, width),
+            ones: 0,
         }
     }
 
@@ -43,7 +52,11 @@ impl Codes {
         ensures pushed { OnOk result (self.new.rows ≡ self.old.rows ++ row ∷ []) }
         ensures err { OnErr result (self.new ≡ self.old) }
     {
+        let place = self.rows.len();
+        let ones = row.ones();
         self.rows.push(row)?;
+        self.ones = self.ones.saturating_add(ones);
+        hold(&mut self.holders, &self.rows[place], place, self.ones);
         Ok(())
     }
 
@@ -68,5 +81,23 @@ impl Codes {
         ensures { slice_get self.now.rows i ≡ Some result.now }
     {
         &self.rows[i]
+    }
+
+    /// At how many columns two codes differ, where these are fewer than the limit. It stops once there are as many.
+    pub fn distance_below(&self, i: usize, j: usize, limit: usize) -> Option<usize>
+        requires first { i < length self.now.rows }
+        requires second { j < length self.now.rows }
+        ensures { let distance = apart (all_columns self.now.width) self.now.rows i j in
+            SomeIff result (distance < limit) distance }
+    {
+        self.rows[i].distance_below(&self.rows[j], limit)
+    }
+
+    /// The places of the codes that have a column, in order. There is none where they aren't kept.
+    pub fn holders(&self, column: usize) -> Option<&List<u32>>
+        requires { column < self.now.width }
+        ensures { IfSome result (λ places. places.now ≡ holders_of self.now.rows column) }
+    {
+        self.holders.get(column)
     }
 }

@@ -10,6 +10,7 @@ mod codes;
 mod each_once;
 mod grouping;
 mod groups;
+mod holders;
 
 pub use codes::Codes;
 pub use each_once::EachOnce;

@@ -1,16 +1,25 @@
 //! Codes told apart: the closest pair, and codebooks, the columns that suffice to keep codes apart.
 #![tactic(auto)]
 
-mod closest;
-mod holders;
+mod close;
+mod codebook;
+mod differing;
+mod laws;
+mod least_pair;
 mod measure;
-mod reduce;
-mod sharing;
+mod moves;
+mod place;
+mod plain;
+mod whole;
 
 pub use cb_coding::{Book, Pair};
-pub use closest::least;
+pub use close::first_close;
+pub use codebook::{Refused, reduce};
+pub use laws::{
+    only_differing_count, place_falls, sharing_suffices, waiting_place_is_one,
+    waits_where_too_close,
+};
+pub use least_pair::least;
 pub use measure::{are_all, distance, distance_from, distance_over};
-pub use reduce::{book, every_column, is_good, whole_book};
-
-#[cfg(test)]
-mod tests;
+pub use plain::{book, is_good};
+pub use whole::{every_column, whole_book};

@@ -1,0 +1,169 @@
+//! Pairs that wait at columns, and move to earlier ones.
+ghost use Rattle.std.specs.Prelude.{◌≡◌, ◌≢◌, ◌<◌, ◌≤◌, ◌^◌, ℕ, true, false, length, IsTrue, IfOk, OnOk};
+ghost use Rattle.std.specs.List.{Contains};
+ghost use Rattle.cb_coding.specs.Distance.{HaveWidth};
+ghost use Rattle.cb_coding.specs.Pairs.{IsPair};
+ghost use Rattle.cb_reduce.specs.Places.{kept_of};
+ghost use Rattle.cb_reduce.specs.declared.moves.Waiter.{Waiter as W};
+ghost use Rattle.cb_reduce.specs.Moves.{IsSafe, SomeAreClose, IsHeld, Grows, ArePairs, AreSafe, Decides};
+
+use crate::place::{Place, place_of};
+use cb_bits::Row;
+use cb_codes::Codes;
+use cb_model::List;
+use std::alloc::AllocError;
+
+/// Two codes by their places, the lesser first.
+#[derive(Clone, Copy, Debug)]
+pub struct Waiter {
+    pub first: u16,
+    pub second: u16,
+}
+
+/// Lets all pairs wait, from the last column on. It is false where some pair is too close.
+pub fn wait_all(
+    codes: &Codes,
+    kept: &Row,
+    distance: u32,
+    waiting: &mut Vec<List<Waiter>>,
+) -> Result<bool, AllocError>
+    requires have_width { HaveWidth (length kept.now) codes.now.rows }
+    requires places_fit { length codes.now.rows ≤ 2 ^ 16 }
+    requires lists { length waiting.old.items ≡ length kept.now }
+    ensures grows { OnOk result (Grows codes.now.rows waiting.old.items waiting.new.items) }
+    ensures held { IfOk result (λ far. IsTrue far → (i j : ℕ) → IsPair codes.now.rows i j
+        → IsHeld codes.now.rows (kept_of kept.now) distance waiting.new.items (length kept.now) i j) }
+    ensures close { IfOk result (λ far. far ≡ false → SomeAreClose codes.now.rows (kept_of kept.now) distance (length kept.now)) }
+{
+    for second in 0..codes.len() {
+        if !wait_with_earlier(codes, second, kept, distance, waiting)? {
+            return Ok(false);
+        }
+    }
+    Ok(true)
+}
+
+// Lets the pairs of a code with those before it wait.
+fn wait_with_earlier(
+    codes: &Codes,
+    second: usize,
+    kept: &Row,
+    distance: u32,
+    waiting: &mut Vec<List<Waiter>>,
+) -> Result<bool, AllocError>
+    requires have_width { HaveWidth (length kept.now) codes.now.rows }
+    requires places_fit { length codes.now.rows ≤ 2 ^ 16 }
+    requires within { second < length codes.now.rows }
+    requires lists { length waiting.old.items ≡ length kept.now }
+    ensures grows { OnOk result (Grows codes.now.rows waiting.old.items waiting.new.items) }
+    ensures held { IfOk result (λ far. IsTrue far → (i : ℕ) → i < second
+        → IsHeld codes.now.rows (kept_of kept.now) distance waiting.new.items (length kept.now) i second) }
+    ensures close { IfOk result (λ far. far ≡ false → SomeAreClose codes.now.rows (kept_of kept.now) distance (length kept.now)) }
+{
+    for first in 0..second {
+        let pair = Waiter {
+            first: first as u16,
+            second: second as u16,
+        };
+        if !wait(codes, pair, kept, kept.len(), distance, waiting)? {
+            return Ok(false);
+        }
+    }
+    Ok(true)
+}
+
+// Lets a pair wait at its place before a column. It is false where the pair is too close.
+fn wait(
+    codes: &Codes,
+    pair: Waiter,
+    kept: &Row,
+    before: usize,
+    distance: u32,
+    waiting: &mut Vec<List<Waiter>>,
+) -> Result<bool, AllocError>
+    requires have_width { HaveWidth (length kept.now) codes.now.rows }
+    requires pair { IsPair codes.now.rows pair.first pair.second }
+    requires within { before ≤ length kept.now }
+    requires lists { length waiting.old.items ≡ length kept.now }
+    ensures grows { OnOk result (Grows codes.now.rows waiting.old.items waiting.new.items) }
+    ensures held { IfOk result (λ far. IsTrue far
+        → IsHeld codes.now.rows (kept_of kept.now) distance waiting.new.items before pair.first pair.second) }
+    ensures close { IfOk result (λ far. far ≡ false
+        → ¬ IsSafe codes.now.rows (kept_of kept.now) distance before pair.first pair.second) }
+{
+    let a = codes.row(pair.first as usize);
+    let b = codes.row(pair.second as usize);
+    match place_of(a, b, kept, before, distance) {
+        Place::Nowhere => Ok(true),
+        Place::At(column) => {
+            waiting[column].push(pair)?;
+            Ok(true)
+        }
+        Place::Close => Ok(false),
+    }
+}
+
+// Whether some of these pairs are too close with the columns before one and the kept ones.
+fn are_close(codes: &Codes, pairs: &List<Waiter>, kept: &Row, column: usize, distance: u32) -> bool
+    requires have_width { HaveWidth (length kept.now) codes.now.rows }
+    requires pairs { ArePairs codes.now.rows pairs.now }
+    requires within { column ≤ length kept.now }
+    ensures close { IsTrue result → SomeAreClose codes.now.rows (kept_of kept.now) distance column }
+    ensures far { result ≡ false → AreSafe codes.now.rows (kept_of kept.now) distance column pairs.now }
+{
+    for pair in pairs.as_slice() {
+        if is_close(codes, *pair, kept, column, distance) {
+            return true;
+        }
+    }
+    false
+}
+
+// Whether a pair is too close with the columns before one and the kept ones.
+fn is_close(codes: &Codes, pair: Waiter, kept: &Row, column: usize, distance: u32) -> bool
+    requires have_width { HaveWidth (length kept.now) codes.now.rows }
+    requires pair { IsPair codes.now.rows pair.first pair.second }
+    requires within { column ≤ length kept.now }
+    ensures close { IsTrue result → ¬ IsSafe codes.now.rows (kept_of kept.now) distance column pair.first pair.second }
+    ensures far { result ≡ false → IsSafe codes.now.rows (kept_of kept.now) distance column pair.first pair.second }
+{
+    let a = codes.row(pair.first as usize);
+    let b = codes.row(pair.second as usize);
+    matches!(place_of(a, b, kept, column, distance), Place::Close)
+}
+
+/// Keeps a column where some of these pairs are too close without it.
+pub fn decide(codes: &Codes, pairs: &List<Waiter>, kept: &mut Row, column: usize, distance: u32)
+    requires have_width { HaveWidth (length kept.old) codes.now.rows }
+    requires pairs { ArePairs codes.now.rows pairs.now }
+    requires within { column < length kept.old }
+    ensures { Decides codes.now.rows distance column pairs.now kept.old kept.new }
+{
+    if are_close(codes, pairs, kept, column, distance) {
+        kept.set(column);
+    }
+}
+
+/// Lets pairs that waited at a column wait at their places before it.
+pub fn move_on(
+    codes: &Codes,
+    pairs: &List<Waiter>,
+    kept: &Row,
+    column: usize,
+    distance: u32,
+    waiting: &mut Vec<List<Waiter>>,
+) -> Result<(), AllocError>
+    requires have_width { HaveWidth (length kept.now) codes.now.rows }
+    requires pairs { ArePairs codes.now.rows pairs.now }
+    requires far { AreSafe codes.now.rows (kept_of kept.now) distance column pairs.now }
+    requires within { column ≤ length kept.now }
+    requires lists { length waiting.old.items ≡ length kept.now }
+    ensures grows { OnOk result (Grows codes.now.rows waiting.old.items waiting.new.items) }
+    ensures held { OnOk result ((pair : W) → Contains pairs.now pair
+        → IsHeld codes.now.rows (kept_of kept.now) distance waiting.new.items column pair.first pair.second) }
+{
+    for pair in pairs.as_slice() {
+        let _far = wait(codes, *pair, kept, column, distance, waiting)?;
+    }
+    Ok(())
+}
