@@ -1,7 +1,7 @@
 -- Codes and groups, one by one.
 use Rattle.std.proofs.Common.{◌≡◌, ◌==◌, ℕ, zero, suc, List, [], ◌∷◌, ◌++◌, length, map, slice_get, slice_set, Some, Bool, true, false, refl, sym, ap, subst, ◌∙◌, inl, inr, arith}
 use Rattle.std.proofs.lemmas.Bool.{cases_eq, ne_eqb}
-use Rattle.std.proofs.lemmas.List.{length_push, length-set}
+use Rattle.std.proofs.lemmas.List.{length_push, length-set, length-map}
 use Rattle.cb_model.specs.declared.node.NamedGroup.{NamedGroup}
 use Rattle.cb_model.proofs.Numbers.{slice_get-set_same, slice_get-set_other}
 use Rattle.cb_coding.specs.declared.group.Group.{Group}
@@ -37,6 +37,10 @@ named_are (c ∷ cs) (g ∷ gs) fit =
     let first : named true (group_with c g) ≡ g = ap (λ quiet. named quiet (group_with c g)) (sym (fit.quiet 0 g refl)) in
     ap (λ h. h ∷ map (named false) (groups_of cs gs)) first
     ∙ ap (λ rest. g ∷ rest) (others_are cs gs (omega arith) (λ i h at. fit.quiet (suc i) h at ∙ ne_eqb (suc i) 0 (λ e. omega arith)))
+
+pub length-named : (groups : List Group) → length (named_of groups) ≡ length groups
+length-named [] = refl
+length-named (quiet ∷ groups) = ap suc (length-map groups (named false))
 
 -- the group at a place
 pub group_there : (codes : List (List Bool)) (groups : List NamedGroup) (i : ℕ) (code : List Bool) (group : NamedGroup) → slice_get codes i ≡ Some code

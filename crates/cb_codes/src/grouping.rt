@@ -2,9 +2,11 @@
 ghost use Rattle.std.specs.Prelude.{◌≡◌, ◌≤◌, List as Items, [], ◌∷◌, ◌++◌, length, IfOk, OnOk};
 ghost use Rattle.cb_coding.specs.Groups.{zeros as no_symptom};
 ghost use Rattle.cb_coding.specs.declared.group.Problem.{Problem as Problem_};
+ghost use Rattle.cb_codes.specs.Groups.{Fit};
 ghost use Rattle.cb_codes.specs.Grouped.{group, AddsProblem, IsSound, Holds, TakesMember, groups_in};
 
 use crate::each_once::EachOnce;
+use crate::groups::Groups;
 use cb_bits::Row;
 use cb_coding::Problem;
 use cb_model::{List, NamedGroup, NodeName};
@@ -55,6 +57,15 @@ impl Grouping {
         self.problems.push(name)?;
         self.places.push(place)?;
         Ok(())
+    }
+
+    /// The groups alone.
+    pub fn into_groups(self) -> Groups
+        requires { Fit self.codes.codes.rows self.named.items }
+        ensures width { result.width ≡ self.codes.codes.width }
+        ensures groups { result.groups ≡ groups_in self }
+    {
+        Groups::of(self.codes.into_codes(), List::of(self.named))
     }
 }
 

@@ -1,39 +1,66 @@
-//! Codes as they were put in.
-use crate::Codes;
+//! Codes as they were put in, and problems in the groups of their codes.
+ghost use Rattle.std.specs.Prelude.{◌≡◌, length, IfOk};
+ghost use Rattle.cb_codes.specs.Grouped.{IsSound};
+
+use crate::{Codes, Grouping};
 use cb_bits::Row;
+use cb_coding::Problem;
+use cb_model::NodeName;
 use std::alloc::{AllocError, Global};
 use std::test::Fail;
 
-// A code without columns, and two that have the second of three.
-fn three_codes(alloc: Global) -> Result<Codes, AllocError> {
+// Whether two codes of three columns stand where they were put.
+fn rows_are_kept(alloc: Global) -> Result<bool, AllocError> {
     let mut codes = Codes::new(alloc, 3);
     codes.push(Row::zeroed(alloc, 3)?)?;
-    for last in 1..3 {
-        let mut row = Row::zeroed(alloc, 3)?;
-        row.set(1);
-        row.set(last);
-        if row.len() == codes.width() {
-            codes.push(row)?;
-        }
-    }
-    Ok(codes)
-}
-
-// Whether the codes stand where they were put, and how far the last two are apart.
-fn are_told(codes: &Codes) -> bool {
-    if codes.len() != 3 || codes.width() != 3 || codes.row(2).len() != 3 {
-        return false;
-    }
-    let apart = codes.distance_below(1, 2, 2) == Some(1) && codes.distance_below(0, 2, 2).is_none();
-    let Some(places) = codes.holders(1) else {
-        return false;
-    };
-    apart && codes.row(2).get(2) && places.as_slice() == [1, 2].as_slice()
+    let mut row = Row::zeroed(alloc, 3)?;
+    row.set(1);
+    codes.push(row)?;
+    Ok(codes.len() == 2 && codes.width() == 3 && !codes.row(0).get(1) && codes.row(1).get(1))
 }
 
 #[test]
 fn codes_stand_where_they_were_put(rt: HostRuntime) -> Result<(), Fail> {
-    let codes = three_codes(rt.alloc())?;
-    assert!(rt; are_told(&codes));
+    assert!(rt; rows_are_kept(rt.alloc())?);
+    Ok(())
+}
+
+// Five problems in order, of which two have no symptom and two others have the same.
+fn five_problems(alloc: Global) -> Result<Grouping, AllocError>
+    ensures { IfOk result (IsSound 3) }
+{
+    let mut grouping = Grouping::quiet(alloc, 3)?;
+    for (event, instance, code) in [
+        (b"Down", b"a", "110"),
+        (b"Heat", b"a", "000"),
+        (b"Down", b"b", "011"),
+        (b"Heat", b"b", "110"),
+        (b"Down", b"c", "000"),
+    ] {
+        let name = NodeName::of(alloc, event, instance)?;
+        let code = code_of(alloc, code)?;
+        grouping.add(alloc, Problem { name, code })?;
+    }
+    Ok(grouping)
+}
+
+// A code of three columns from its text.
+fn code_of(alloc: Global, text: &str) -> Result<Row, AllocError>
+    ensures { IfOk result (λ code. length code ≡ 3) }
+{
+    let mut code = Row::zeroed(alloc, 3)?;
+    for column in 0..3 {
+        if text.as_bytes().get(column) == Some(&b'1') {
+            code.set(column);
+        }
+    }
+    Ok(code)
+}
+
+#[test]
+fn problems_of_one_code_are_one_group(rt: HostRuntime) -> Result<(), Fail> {
+    let grouping = five_problems(rt.alloc())?;
+    assert_eq!(rt; grouping.places.as_slice(), [1, 0, 2, 1, 0].as_slice());
+    assert_eq!(rt; grouping.into_groups().len(), 3);
     Ok(())
 }

@@ -3,28 +3,24 @@ ghost use Rattle.std.specs.Prelude.{◌≡◌, ◌<◌, ◌^◌, length, IfOk};
 ghost use Rattle.cb_coding.specs.Answers.{IsAnswer, radius as radius_of};
 
 use cb_bits::Row;
+use cb_codes::Codes;
 use cb_coding::{Answer, Book};
 use cb_model::List;
 use cb_reduce::{are_all, distance_from};
 use std::alloc::{AllocError, Global};
 
 /// The answer for a word over the columns of a book. A code or a word that is too short says false past its end.
-pub fn nearest(
-    alloc: Global,
-    codes: &List<Row>,
-    book: &Book,
-    word: &Row,
-) -> Result<Answer, AllocError>
-    requires some { 0 < length codes.now }
-    requires places_fit { length codes.now < 2 ^ 32 }
+pub fn nearest(alloc: Global, codes: &Codes, book: &Book, word: &Row) -> Result<Answer, AllocError>
+    requires some { 0 < length codes.now.rows }
+    requires places_fit { length codes.now.rows < 2 ^ 32 }
     requires columns_fit { length book.now.columns < 2 ^ 32 }
-    ensures { IfOk result (IsAnswer book.now.columns codes.now book.now.distance word.now) }
+    ensures { IfOk result (IsAnswer book.now.columns codes.now.rows book.now.distance word.now) }
 {
     let all = are_all(&book.columns, word.len());
-    let mut least = distance_from(word, codes.at(0), &book.columns, all);
+    let mut least = distance_from(word, codes.row(0), &book.columns, all);
     let mut groups = Vec::new(alloc);
     for i in 0..codes.len() {
-        let distance = distance_from(word, codes.at(i), &book.columns, all);
+        let distance = distance_from(word, codes.row(i), &book.columns, all);
         if distance < least {
             least = distance;
             groups.clear();

@@ -3,36 +3,33 @@ ghost use Rattle.std.specs.Prelude.{◌≡◌, ◌<◌, ◌^◌, length, IfOk};
 ghost use Rattle.std.specs.List.{All};
 ghost use Rattle.cb_model.specs.Order.{Rises};
 ghost use Rattle.cb_model.specs.NodeOrder.{node_cmp};
-ghost use Rattle.cb_coding.specs.Groups.{codes_of};
 ghost use Rattle.cb_finding.specs.Finding.{IsFinding, is_among as is_among_of, word_of as word_of_raised, named_group as named_group_of, named_groups as named_groups_of};
 
 use crate::decode::{nearest, radius};
 use cb_bits::Row;
-use cb_coding::{Book, Group};
+use cb_codes::Groups;
+use cb_coding::Book;
 use cb_finding::Finding;
 use cb_model::{List, NamedGroup, NodeName};
 use std::alloc::{AllocError, Global};
 
-/// The groups nearest to what is raised, over the columns of a book. The raised nodes are a set, given as its list in
-/// order; `codes` are those of the groups.
+/// The groups nearest to what is raised, over the columns of a book. The raised nodes are a set, given as its list in order.
 pub fn find(
     alloc: Global,
     columns: &List<NodeName>,
-    groups: &List<Group>,
-    codes: &List<Row>,
+    groups: &Groups,
     book: &Book,
     raised: &List<NodeName>,
 ) -> Result<Finding, AllocError>
     requires columns { Rises node_cmp columns.now }
     requires raised { Rises node_cmp raised.now }
-    requires codes { codes.now ≡ codes_of groups.now }
-    requires some { 0 < length groups.now }
-    requires few { length groups.now < 2 ^ 32 }
+    requires some { 0 < length groups.now.groups }
+    requires few { length groups.now.groups < 2 ^ 32 }
     requires narrow { length book.now.columns < 2 ^ 32 }
-    ensures { IfOk result (IsFinding columns.now groups.now book.now.columns book.now.distance raised.now) }
+    ensures { IfOk result (IsFinding columns.now groups.now.groups book.now.columns book.now.distance raised.now) }
 {
     let word = word_of(alloc, columns, raised)?;
-    let answer = nearest(alloc, codes, book, &word)?;
+    let answer = nearest(alloc, groups.codes(), book, &word)?;
     Ok(Finding {
         raised: raised.len() as u64,
         unknown: (raised.len() - word.ones()) as u64,
@@ -72,11 +69,11 @@ fn word_of(
 // The groups at these places, by their members.
 fn named_groups(
     alloc: Global,
-    groups: &List<Group>,
+    groups: &Groups,
     places: &List<u32>,
 ) -> Result<List<NamedGroup>, AllocError>
-    requires { All (λ i. i < length groups.now) places.now }
-    ensures { IfOk result (λ named. named ≡ named_groups_of groups.now places.now) }
+    requires { All (λ i. i < length groups.now.groups) places.now }
+    ensures { IfOk result (λ named. named ≡ named_groups_of groups.now.groups places.now) }
 {
     let mut named = List::new(alloc);
     for place in places.as_slice() {
@@ -86,13 +83,14 @@ fn named_groups(
 }
 
 // The group at a place, by its members.
-fn named_group(alloc: Global, groups: &List<Group>, place: u32) -> Result<NamedGroup, AllocError>
-    requires { place < length groups.now }
-    ensures { IfOk result (λ named. named ≡ named_group_of groups.now place) }
+fn named_group(alloc: Global, groups: &Groups, place: u32) -> Result<NamedGroup, AllocError>
+    requires { place < length groups.now.groups }
+    ensures { IfOk result (λ named. named ≡ named_group_of groups.now.groups place) }
 {
+    let group = groups.named().at(place as usize);
     Ok(NamedGroup {
-        quiet: place == 0,
-        members: copies(alloc, &groups.at(place as usize).members)?,
+        quiet: group.quiet,
+        members: copies(alloc, &group.members)?,
     })
 }
 

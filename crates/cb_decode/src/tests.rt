@@ -6,24 +6,26 @@ ghost use Rattle.cb_model.specs.declared.node.NodeName.{NodeName as NodeName_};
 
 use super::*;
 use cb_bits::Row;
-use cb_coding::{Book, Group, codes};
+use cb_codes::{Codes, Grouping, Groups};
+use cb_coding::{Book, Problem};
 use cb_model::{List, NodeName};
 use std::alloc::{AllocError, Global};
 use std::cmp::Ordering;
 use std::test::Fail;
 
-// The codes of the groups, and the members of each.
-const GROUPS: [(&str, &[(&str, &str)]); 3] = [
-    ("000", &[("Hot", "a"), ("Down", "c")]),
-    ("110", &[("Down", "a"), ("Hot", "b")]),
-    ("011", &[("Down", "b")]),
+// Five problems in order, of which two have no symptom and two others have the same.
+const PROBLEMS: [(&str, &str, &str); 5] = [
+    ("Down", "a", "110"),
+    ("Hot", "a", "000"),
+    ("Down", "b", "011"),
+    ("Hot", "b", "110"),
+    ("Down", "c", "000"),
 ];
 
 #[test]
 fn finds_the_nearest_groups(rt: HostRuntime) -> Result<(), Fail> {
     let alloc = rt.alloc();
     let groups = three_groups(alloc)?;
-    let codes = codes(alloc, &groups)?;
     let columns = nodes_of(alloc, &[("Alarm", "a"), ("Alarm", "b"), ("Noise", "b")])?;
     let book = Book {
         columns: List::of(vec![in alloc; 0, 1, 2]?),
@@ -57,7 +59,7 @@ fn finds_the_nearest_groups(rt: HostRuntime) -> Result<(), Fail> {
     for (texts, unknown, distance, quiet, sure) in table {
         let raised = nodes_of(alloc, texts)?;
         assert!(rt; are_in_order(&raised));
-        let finding = find(alloc, &columns, &groups, &codes, &book, &raised)?;
+        let finding = find(alloc, &columns, &groups, &book, &raised)?;
         assert_eq!(rt; (finding.unknown, finding.distance), (unknown, distance));
         assert_eq!(rt; (finding.groups.len(), finding.sure), (quiet.len(), sure));
         for (group, is_quiet) in finding.groups.as_slice().iter().zip(quiet) {
@@ -68,24 +70,21 @@ fn finds_the_nearest_groups(rt: HostRuntime) -> Result<(), Fail> {
     Ok(())
 }
 
-fn three_groups(alloc: Global) -> Result<List<Group>, AllocError> {
-    let mut groups = List::new(alloc);
-    for (code, members) in GROUPS {
-        groups.push(Group {
-            code: code_of(alloc, 3, code)?,
-            members: nodes_of(alloc, members)?,
-        })?;
+// The groups of the five problems.
+fn three_groups(alloc: Global) -> Result<Groups, AllocError> {
+    let mut grouping = Grouping::quiet(alloc, 3)?;
+    for (event, instance, code) in PROBLEMS {
+        let name = NodeName::of(alloc, event.as_bytes(), instance.as_bytes())?;
+        let code = code_of(alloc, 3, code)?;
+        grouping.add(alloc, Problem { name, code })?;
     }
-    Ok(groups)
+    Ok(grouping.into_groups())
 }
 
 #[test]
 fn decodes_words(rt: HostRuntime) -> Result<(), Fail> {
     let alloc = rt.alloc();
-    let mut codes = List::new(alloc);
-    for text in ["00000", "11100", "00111", "11011"] {
-        codes.push(code_of(alloc, 5, text)?)?;
-    }
+    let codes = four_codes(alloc)?;
     let cases: [(u32, &[u32], &str, &[u32], bool); 2] = [
         (2, &[0, 2, 3], "10000", &[0, 1, 3], false),
         (3, &[0, 1, 2, 3, 4], "10100", &[1], true),
@@ -102,6 +101,15 @@ fn decodes_words(rt: HostRuntime) -> Result<(), Fail> {
         assert_eq!(rt; answer.sure, sure, "of {word}");
     }
     Ok(())
+}
+
+// Four codes of five columns.
+fn four_codes(alloc: Global) -> Result<Codes, AllocError> {
+    let mut codes = Codes::new(alloc, 5);
+    for text in ["00000", "11100", "00111", "11011"] {
+        codes.push(code_of(alloc, 5, text)?)?;
+    }
+    Ok(codes)
 }
 
 fn nodes_of(alloc: Global, texts: &[(&str, &str)]) -> Result<List<NodeName>, AllocError> {

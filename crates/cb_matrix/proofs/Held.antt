@@ -8,13 +8,18 @@ use Rattle.cb_model.proofs.Numbers.{take_more, zip_push}
 use Rattle.cb_coding.specs.declared.group.Problem.{Problem}
 use Rattle.cb_coding.specs.declared.group.Group.{Group}
 use Rattle.cb_coding.specs.Distance.{code_at}
-use Rattle.cb_coding.specs.Groups.{AreProblems, zeros}
+use Rattle.cb_coding.specs.Groups.{AreProblems, AreGroups, zeros}
 use Rattle.cb_nodes.specs.declared.id.NodeId.{NodeId}
-use Rattle.cb_topo.specs.Numbered.{Numbered}
+use Rattle.cb_network.specs.Topology.{Topology}
+use Rattle.cb_finding.proofs.Nearest.{coded_are_wide}
+use Rattle.cb_topo.specs.Numbered.{Numbered, IsNodeNamed, AreNamed}
 use Rattle.cb_codes.specs.declared.grouping.Grouping.{Grouping}
 use Rattle.cb_codes.specs.Grouped.{group, AddsProblem, IsSound, Holds, groups_in}
 use Rattle.cb_matrix.specs.Coded.{IsProblemAt, AreProblemsAt, AreGroupedAt}
+use Rattle.cb_matrix.specs.declared.problems.GroupedProblems.{GroupedProblems}
+use Rattle.cb_matrix.specs.Problems.{AreAllGrouped}
 use Rattle.cb_matrix.specs.Parts.{problems_with, HavePlaces}
+use Rattle.cb_matrix.proofs.Matched.{AreAllCoded}
 use Rattle.cb_codes.proofs.Grouped.{AreGrouped, quiet_grouped, one_more_grouped, all_grouped}
 
 pub length_zip : {X Y : Type 0} (R : X → Y → Type 0) (xs : List X) (ys : List Y) → AllZip R xs ys → length xs ≡ length ys
@@ -88,6 +93,26 @@ module _ (n : Numbered) (columns ids : List NodeId) where
         groups = λ are. all_grouped (length columns) held.problems i (omega arith) (groups_in grouping) (held.groups held.problems are same);
         few = λ are. (let few = (held.groups held.problems are same).few in omega arith);
       }
+
+-- the columns and the problems in their groups
+pub all_in_groups : (n : Numbered) (t : Topology) (columns ids : List NodeId) (made : GroupedProblems) (grouped : AreGroupedAt n columns ids made.grouping)
+    → AreNamed n columns made.columns → AreAllCoded t made.columns grouped.problems → AreAllGrouped t made
+all_in_groups n t columns ids made grouped named coded =
+    let size = length_zip (IsNodeNamed n) columns made.columns named in
+    let problems = grouped.problems in
+    let are : AreProblems (length columns) problems =
+    subst (λ width. AreProblems width problems) (sym size) (coded_are_wide t made.columns problems coded.problems_are) in
+    record {
+      problems = problems;
+      columns_are = coded.columns_are;
+      problems_are = coded.problems_are;
+      groups_are = subst (λ width. AreGroups width problems (groups_in made.grouping)) size (grouped.groups are);
+      holds = grouped.holds;
+      sound = subst (λ width. IsSound width made.grouping) size grouped.sound;
+      few_columns = coded.few_columns;
+      few_problems = coded.few_problems;
+      few_groups = grouped.few are;
+    }
 
 -- the problems with the codes at their places are those problems
 pub problems_are : (codes : List (List Bool)) (places : List ℕ) (problems : List Problem) → AllZip (λ place (p : Problem). slice_get codes place ≡ Some p.code) places problems

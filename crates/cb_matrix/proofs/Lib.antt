@@ -4,3 +4,4 @@ pub mod ByColumn
 pub mod Matched
 pub mod WordBits
 pub mod Held
+pub mod Rows

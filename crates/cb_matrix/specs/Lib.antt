@@ -1,3 +1,4 @@
 pub mod Codes
 pub mod Coded
+pub mod Problems
 pub mod Parts

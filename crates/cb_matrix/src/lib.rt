@@ -5,8 +5,6 @@ mod coded;
 mod codes;
 mod matrix;
 mod names;
+mod problems;
 
 pub use matrix::Matrix;
-
-#[cfg(test)]
-mod tests;

@@ -8,9 +8,7 @@ ghost use Rattle.cb_topo.specs.Numbered.{topology_of};
 ghost use Rattle.cb_codes.specs.Grouped.{IsSound, groups_in};
 ghost use Rattle.cb_matrix.specs.Parts.{problems_with, HavePlaces};
 
-use crate::coded::grouped;
-use crate::codes::indexed;
-use crate::names::names_of;
+use crate::problems::GroupedProblems;
 use cb_bits::Row;
 use cb_cache::Cache;
 use cb_codes::{Codes, Grouping, Groups};
@@ -49,14 +47,7 @@ impl Matrix {
         ensures few_columns { IfOk result (λ matrix. length matrix.columns ≤ symptom_limit) }
         ensures few_groups { IfOk result (λ matrix. length matrix.groups ≤ problem_limit + 1) }
     {
-        let topology = cache.graph().topology();
-        // All numbers of nodes are below it.
-        let _room = topology.node_room();
-        let column_nodes = topology.columns(alloc)?;
-        let columns = names_of(alloc, topology, &column_nodes)?;
-        let index = indexed(alloc, column_nodes, 64 * cache.pool().width())?;
-        let problem_nodes = topology.problems(alloc)?;
-        let grouping = grouped(alloc, cache, &index, &problem_nodes)?;
+        let GroupedProblems { columns, grouping } = GroupedProblems::of(alloc, cache)?;
         Ok(matrix_of(columns, grouping))
     }
 
@@ -114,16 +105,10 @@ fn matrix_of(columns: List<NodeName>, grouping: Grouping) -> Matrix
     ensures problems { result.problems ≡ problems_with grouping.codes.codes.rows grouping.problems grouping.places }
     ensures groups { result.groups ≡ groups_in grouping }
 {
-    let Grouping {
-        problems,
-        places,
-        codes,
-        named,
-    } = grouping;
     Matrix {
         columns,
-        problems,
-        places,
-        groups: Groups::of(codes.into_codes(), List::of(named)),
+        problems: grouping.problems,
+        places: grouping.places,
+        groups: Groups::of(grouping.codes.into_codes(), List::of(grouping.named)),
     }
 }

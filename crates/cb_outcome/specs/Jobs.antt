@@ -38,6 +38,7 @@ use Rattle.cb_outcome.specs.LogJobs.{Follows}
 abbrev pub is_built : Request → Bool
 is_built (Burst one two three) = true
 is_built (Model one) = true
+is_built (Matrix one two) = true
 is_built request = false
 
 -- `burst`: what is found for the nodes

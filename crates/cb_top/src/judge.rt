@@ -1,4 +1,4 @@
-//! What is found for the raised nodes of a topology.
+//! From a topology to its matrix, and to what is found for raised nodes.
 ghost use Rattle.std.specs.Prelude.{◌≡◌, ◌≤◌, ◌+◌, ℕ, length, IfOk};
 ghost use Rattle.cb_model.specs.Order.{Rises};
 ghost use Rattle.cb_model.specs.NodeOrder.{node_cmp};
@@ -9,15 +9,16 @@ ghost use Rattle.cb_finding.specs.Matrix.{IsMatrix};
 ghost use Rattle.cb_finding.specs.Finding.{IsBurst};
 ghost use Rattle.cb_topo.specs.Numbered.{topology_of};
 ghost use Rattle.cb_report.specs.Lines.{burst_text as text_of_burst};
+ghost use Rattle.cb_outcome.specs.Jobs.{MatrixGives};
+ghost use Rattle.cb_outcome.specs.Outcome.{done};
 
 use cb_cache::Cache;
-use cb_coding::codes;
 use cb_decode::find;
 use cb_graph::Graph;
 use cb_matrix::Matrix;
 use cb_model::{List, NodeName};
-use cb_reduce::whole_book;
-use cb_report::burst_text;
+use cb_reduce::{least, whole_book};
+use cb_report::{burst_text, matrix_text};
 use cb_steps::Steps;
 use cb_topo::Topology;
 use std::alloc::{AllocError, Global};
@@ -34,17 +35,28 @@ pub fn lines_of_burst<L: Ledger>(
     ensures { IfOk result (λ bytes. (finding : Finding) × IsBurst (topology_of topology) raised.now finding × (bytes.items ≡ text_of_burst finding)) }
 {
     let matrix = matrix_of(alloc, topology, steps)?;
-    let codes = codes(alloc, &matrix.groups)?;
-    let book = whole_book(alloc, &codes, matrix.columns.len())?;
+    let book = whole_book(alloc, matrix.codes())?;
     let finding = find(
         alloc,
-        &matrix.columns,
-        &matrix.groups,
-        &codes,
+        matrix.columns(),
+        matrix.coded_groups(),
         &book,
         raised,
     )?;
     burst_text(alloc, &finding)
+}
+
+/// The lines of the matrix.
+pub fn lines_of_matrix<L: Ledger>(
+    alloc: Global,
+    topology: Topology,
+    steps: &mut Steps<L>,
+) -> Result<Vec<u8>, AllocError>
+    ensures { IfOk result (λ bytes. (whole : ℕ) → MatrixGives (topology_of topology) whole (done bytes.items whole)) }
+{
+    let matrix = matrix_of(alloc, topology, steps)?;
+    let least = least(matrix.codes());
+    matrix_text(alloc, matrix.columns(), matrix.coded_groups(), least)
 }
 
 // The matrix of the topology. The memory of the rows that it is taken from is given back.

@@ -5,6 +5,7 @@ mod burst;
 mod conclude;
 mod judge;
 mod kind;
+mod matrix;
 mod model;
 mod model_file;
 mod output;

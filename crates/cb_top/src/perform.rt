@@ -5,6 +5,7 @@ ghost use Rattle.cb_outcome.specs.Steps.{Counts};
 ghost use Rattle.cb_top.specs.Ending.{RequestComes};
 
 use crate::burst::burst;
+use crate::matrix::matrix;
 use crate::model::model;
 use crate::output::Output;
 use cb_io::Files;
@@ -32,6 +33,7 @@ pub fn perform<'w, F: Files, L: Ledger>(
             symptoms,
         } => burst(alloc, files, model, topology, symptoms, steps),
         Request::Model { model: name } => model(alloc, files, name),
+        Request::Matrix { model, topology } => matrix(alloc, files, model, topology, steps),
         _ => Err(Fault::NotBuilt),
     }
 }

@@ -39,6 +39,19 @@ const NODE: &str =
 const CHAIN: &str =
     "create n1 Node\ncreate n2 Node\ncreate n3 Node\nlink n1 near n2\nlink n2 near n3\n";
 
+// Two fans that no symptom tells apart, and one that is in no box.
+const FAN: &str =
+    "class Fan {\n  problem Stop;\n  relation box to Box one inverse fans;\n  rule r: Stop => box.Hot;\n}\nclass Box {\n  symptom Hot;\n  relation fans to Fan many inverse box;\n}\n";
+
+const FANS: &str =
+    "create B Box\ncreate f1 Fan\ncreate f2 Fan\ncreate f3 Fan\nlink f1 box B\nlink f2 box B\n";
+
+// A class that blocks a rule, and one that hides a symptom.
+const BASE: &str =
+    "class Base {\n  problem P;\n  symptom S;\n  symptom T;\n  rule s: P => S;\n  rule t: P => T;\n}\nclass Mid extends Base {\n  block t;\n}\nclass Low extends Mid {\n  hide T;\n}\n";
+
+const BASES: &str = "create x Base\ncreate y Mid\ncreate z Low\n";
+
 // An instance whose name has 63 bytes, the most, and one whose name has 64.
 const CREATE_63: &str =
     "create p23456789012345678901234567890123456789012345678901234567890123 Pump\n";
@@ -339,13 +352,12 @@ fn each_call_fails_in_turn(rt: HostRuntime) -> Result<(), Fail> {
 fn words_are_a_command_or_not(rt: HostRuntime) -> Result<(), Fail> {
     const USAGE: (u8, &str) = (2, "error 2 usage\n");
     const NOT_BUILT: (u8, &str) = (11, "error 11 not-built\n");
-    let cases: [(&[&str], (u8, &str)); 17] = [
+    let cases: [(&[&str], (u8, &str)); 16] = [
         (&[], USAGE),
         (&["burst", "m", "t"], USAGE),
         (&["Burst", "m", "t", "s"], USAGE),
         (&["model"], USAGE),
         (&["matrix", "m"], USAGE),
-        (&["matrix", "m", "t"], NOT_BUILT),
         (&["codebook", "m", "t", "0"], USAGE),
         (&["codebook", "m", "t", "10000"], USAGE),
         (&["codebook", "m", "t", "01"], USAGE),
@@ -612,6 +624,54 @@ fn links_are_told_by_their_symptoms(rt: HostRuntime) -> Result<(), Fail> {
         let case = Case {
             words: &["burst", "m", "t", "s"],
             files: &[("m", model), ("t", topology), ("s", symptoms)],
+            piece: 7,
+            failing_read: 0,
+            failing_write: 0,
+        };
+        let wanted = Wanted {
+            code: 0,
+            out,
+            err: "",
+        };
+        check(&rt, rt.alloc(), &case, &wanted)?;
+    }
+    Ok(())
+}
+
+#[test]
+fn a_matrix_is_printed(rt: HostRuntime) -> Result<(), Fail> {
+    // The model, the topology, and the answer.
+    let cases: [(&str, &str, &str); 5] = [
+        (
+            LINK,
+            LINKED,
+            "columns 3\n  column Loss@L1\n  column NoSignal@a\n  column NoSignal@b\ngroups 4\n  group 000 quiet\n  group 111 Cut@L1\n  group 010 Fail@a\n  group 001 Fail@b\ndistance 1\n",
+        ),
+        (
+            LINK,
+            "",
+            "columns 0\ngroups 1\n  group - quiet\ndistance none\n",
+        ),
+        (
+            FAN,
+            FANS,
+            "columns 1\n  column Hot@B\ngroups 2\n  group 0 quiet Stop@f3\n  group 1 Stop@f1 Stop@f2\ndistance 1\n",
+        ),
+        (
+            NODE,
+            CHAIN,
+            "columns 3\n  column Sick@n1\n  column Sick@n2\n  column Sick@n3\ngroups 2\n  group 000 quiet\n  group 111 Sick@n1 Sick@n2 Sick@n3\ndistance 3\n",
+        ),
+        (
+            BASE,
+            BASES,
+            "columns 5\n  column S@x\n  column T@x\n  column S@y\n  column T@y\n  column S@z\ngroups 4\n  group 00000 quiet\n  group 11000 P@x\n  group 00100 P@y\n  group 00001 P@z\ndistance 1\n",
+        ),
+    ];
+    for (model, topology, out) in cases {
+        let case = Case {
+            words: &["matrix", "m", "t"],
+            files: &[("m", model), ("t", topology)],
             piece: 7,
             failing_read: 0,
             failing_write: 0,

@@ -1,4 +1,4 @@
-use Rattle.std.proofs.Common.{refl, arith, length, get_or}
+use Rattle.std.proofs.Common.{refl, ap, arith, length, get_or}
 use Rattle.std.proofs.lemmas.List.Elements.{Contains-get_or}
 use Rattle.std.proofs.lemmas.List.{length-map}
 use Rattle.cb_coding.specs.declared.group.Group.{Group}
@@ -7,11 +7,25 @@ use Rattle.cb_model.proofs.Rising.{node_cmp_total}
 use Rattle.cb_decode.proofs.Shared.{known_or_not}
 use Rattle.cb_decode.proofs.finding.find.Goals as goal
 
+pub nearest-requires-clause-some : goal.nearest-requires-clause-some
+nearest-requires-clause-some c =
+    let some = c.requires.some in
+    let same = ap length c.codes.ensures.rows in
+    let all = length-map c.args.groups.now.groups (λ (g : Group). g.code) in
+    omega arith
+
+pub nearest-requires-clause-places_fit : goal.nearest-requires-clause-places_fit
+nearest-requires-clause-places_fit c =
+    let few = c.requires.few in
+    let same = ap length c.codes.ensures.rows in
+    let all = length-map c.args.groups.now.groups (λ (g : Group). g.code) in
+    omega arith
+
 pub named_groups-requires : goal.named_groups-requires
 named_groups-requires c = λ k d lt.
     let is_among = (c.in_ok-answer.ensures.nearest (get_or c.in_ok-answer.answer.groups k d)).0 (Contains-get_or c.in_ok-answer.answer.groups k d lt) in
-    let within = rw c.requires.codes at is_among.0 in
-    let wide = length-map c.args.groups.now (λ (g : Group). g.code) in
+    let within = rw c.codes.ensures.rows at is_among.0 in
+    let wide = length-map c.args.groups.now.groups (λ (g : Group). g.code) in
     omega (arith, within, wide)
 
 pub overflow_sub-result : goal.overflow_sub-result
@@ -32,7 +46,7 @@ returns c = record {
       omega arith;
   radius_is = c.radius.ensures;
   answer = c.in_ok-answer.answer;
-  answered = rw (c.requires.codes, c.in_ok-word.ensures) at c.in_ok-answer.ensures;
+  answered = rw (c.codes.ensures.rows, c.in_ok-word.ensures) at c.in_ok-answer.ensures;
   distance_is = refl;
   sure_is = refl;
   groups_are = c.in_ok-named_groups.ensures;

@@ -6,9 +6,10 @@ use Rattle.cb_nodes.specs.declared.id.NodeId.{NodeId}
 use Rattle.cb_topo.specs.Numbered.{Numbered, topology_of, IsLiveNode, AreNamed, IsWhole}
 use Rattle.cb_bits.specs.Bits.{words_for}
 use Rattle.cb_cache.specs.Numbers.{IsProblemNumber}
-use Rattle.cb_matrix.specs.Coded.{AreProblemsAt}
+use Rattle.cb_matrix.specs.Coded.{AreGroupedAt}
 use Rattle.cb_matrix.proofs.Matched.{all_live, all_below, once_of, all_problem_numbers, all_coded}
-use Rattle.cb_matrix.proofs.problems.CodedProblems.of.Goals as goal
+use Rattle.cb_matrix.proofs.Held.{all_in_groups}
+use Rattle.cb_matrix.proofs.problems.GroupedProblems.of.Goals as goal
 
 pub names_of-requires : goal.names_of-requires
 names_of-requires c =
@@ -29,8 +30,8 @@ indexed-requires-clause-below c =
     all_below c.topology-topology.result.now (64 * c.width.result) c.in_ok-column_nodes.column_nodes columns.0
     (λ id live. let low = c.node_room-room.ensures.above id live in omega arith) columns.2
 
-pub coded-requires-clause-problems : goal.coded-requires-clause-problems
-coded-requires-clause-problems c =
+pub grouped-requires-clause-problems : goal.grouped-requires-clause-problems
+grouped-requires-clause-problems c =
     let nodes = c.in_ok-problem_nodes.problem_nodes in
     let problems = c.in_ok-problem_nodes.ensures in
     subst (λ (n : Numbered). All (IsProblemNumber n) nodes) (c.topology-topology.ensures ∙ c.graph.ensures)
@@ -44,13 +45,17 @@ returns c =
     let columns = c.in_ok-column_nodes.ensures in
     let problems = c.in_ok-problem_nodes.ensures in
     let here = c.topology-topology.ensures ∙ c.graph.ensures in
-    all_coded n
+    let grouping = c.in_ok-grouping.grouping in
+    let grouped = subst (λ (ns : List NodeId). AreGroupedAt n ns ids grouping) c.in_ok-index.ensures.nodes c.in_ok-grouping.ensures in
+    let named = subst (λ (m : Numbered). AreNamed m nodes c.in_ok-columns.columns) here c.in_ok-columns.ensures in
+    all_in_groups n (topology_of n) nodes ids (record { columns = c.in_ok-columns.columns; grouping = grouping }) grouped named
+    (all_coded n
     (subst IsWhole here c.node_room-room.ensures.whole)
     (subst (λ (m : Numbered). Sound (topology_of m)) here c.node_room-room.ensures.sound)
-    nodes ids _ columns.0 problems.0
+    nodes ids c.in_ok-columns.columns grouped.problems columns.0 problems.0
     (subst (λ (m : Numbered). AreColumns (topology_of m) columns.0) here columns.1)
     (subst (λ (m : Numbered). AreNamed m nodes columns.0) here columns.2)
-    (subst (λ (m : Numbered). AreNamed m nodes c.in_ok-columns.columns) here c.in_ok-columns.ensures)
+    named
     (subst (λ (m : Numbered). AreProblems (topology_of m) problems.0) here problems.1)
     (subst (λ (m : Numbered). AreNamed m ids problems.0) here problems.2)
-    (subst (λ (ns : List NodeId). AreProblemsAt n ns ids c.in_ok-problems.problems) c.in_ok-index.ensures.nodes c.in_ok-problems.ensures)
+    grouped.coded)

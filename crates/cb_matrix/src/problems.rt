@@ -1,0 +1,36 @@
+//! The problems of a topology in their groups.
+ghost use Rattle.std.specs.Prelude.{IfOk};
+ghost use Rattle.cb_topo.specs.Numbered.{topology_of};
+ghost use Rattle.cb_matrix.specs.Problems.{AreAllGrouped};
+
+use crate::coded::grouped;
+use crate::codes::indexed;
+use crate::names::names_of;
+use cb_cache::Cache;
+use cb_codes::Grouping;
+use cb_model::{List, NodeName};
+use std::alloc::{AllocError, Global};
+
+/// The columns in order, and the problems in the groups of their codes over the columns.
+#[derive(Drop)]
+pub struct GroupedProblems {
+    pub columns: List<NodeName>,
+    pub grouping: Grouping,
+}
+
+impl GroupedProblems {
+    /// Those of the cache's topology, each code taken from the problem's row.
+    pub fn of(alloc: Global, cache: &Cache) -> Result<GroupedProblems, AllocError>
+        ensures { IfOk result (AreAllGrouped (topology_of cache.now.graph)) }
+    {
+        let topology = cache.graph().topology();
+        // All numbers of nodes are below it.
+        let _room = topology.node_room();
+        let column_nodes = topology.columns(alloc)?;
+        let columns = names_of(alloc, topology, &column_nodes)?;
+        let index = indexed(alloc, column_nodes, 64 * cache.pool().width())?;
+        let problem_nodes = topology.problems(alloc)?;
+        let grouping = grouped(alloc, cache, &index, &problem_nodes)?;
+        Ok(GroupedProblems { columns, grouping })
+    }
+}

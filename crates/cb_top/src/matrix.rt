@@ -1,0 +1,33 @@
+//! The command `matrix`.
+ghost use Rattle.cb_request.specs.declared.request.Request.TheVariants.{Matrix};
+ghost use Rattle.cb_top.specs.Ending.{Comes};
+
+use crate::judge::lines_of_matrix;
+use crate::kind::read_as;
+use crate::model_file::ModelFile;
+use crate::output::Output;
+use crate::topology_file::TopologyFile;
+use cb_io::Files;
+use cb_report::Fault;
+use cb_request::FileName;
+use cb_steps::Steps;
+use std::alloc::Global;
+use std::sync::ledger::Ledger;
+
+/// Reads the two files, and gives what `matrix` prints.
+pub fn matrix<'w, F: Files, L: Ledger>(
+    alloc: Global,
+    files: &mut F,
+    model: FileName<'w>,
+    topology: FileName<'w>,
+    steps: &mut Steps<L>,
+) -> Result<Output<'w>, Fault<'w>>
+    ensures { Comes (Matrix model.entry topology.entry) (F.tells files.old) (F.tells files.new) result }
+{
+    let model = read_as(alloc, files, model, ModelFile)?;
+    let topology = read_as(alloc, files, topology, TopologyFile { model })?;
+    Ok(Output {
+        bytes: lines_of_matrix(alloc, topology, steps)?,
+        fault: None,
+    })
+}
