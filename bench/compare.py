@@ -260,6 +260,7 @@ def words_of(rng):
                 [],
                 ["model"],
                 ["burst", "m", "t"],
+                ["matrix", "m"],
                 ["nothing", "m"],
                 ["codebook", "m", "t", "0"],
                 ["codebook", "m", "t", "01"],
@@ -267,7 +268,7 @@ def words_of(rng):
                 ["model", "missing"],
             )
         )
-    return ["model", "m"] if rng.random() < 0.25 else ["burst", "m", "t", "s"]
+    return rng.choice((["model", "m"], ["matrix", "m", "t"], ["burst", "m", "t", "s"], ["burst", "m", "t", "s"]))
 
 
 def answer(program, words, folder):

@@ -1,9 +1,6 @@
-//! Codes of one width: for each group of problems, which columns it has.
+//! Codes of one width, each kept once, and groups of problems by their codes.
 //!
-//! Who compares codes (cb_reduce) or decodes with them (cb_decode) gets them here, each kept once, in the order of the groups.
-//! A list of codes is seen as its width and its rows, each of which has that width.
-//!
-//! Read `specs/Codes.antt` first. What `Codes` keeps beside its rows may be changed freely.
+//! Who compares codes (cb_reduce), decodes with them (cb_decode) or prints them (cb_report) gets them here, in the order of the groups.
 #![tactic(auto)]
 
 mod codes;
