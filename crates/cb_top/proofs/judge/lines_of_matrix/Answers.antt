@@ -6,8 +6,8 @@ use Rattle.cb_report.specs.MatrixText.{matrix_text}
 use Rattle.cb_top.proofs.Chain.{if_ok_more}
 use Rattle.cb_top.proofs.judge.lines_of_matrix.Goals as goal
 
-pub least-requires : goal.least-requires
-least-requires g c = record {
+pub least-least-requires : goal.least-least-requires
+least-least-requires g c = record {
   places_fit =
       let few = c.in_ok-matrix.ensures.few_groups in
       let same = ap length c.codes.ensures.rows in
