@@ -95,7 +95,6 @@ impl Codes {
 
     /// The places of the codes that have a column, in order. There is none where they aren't kept.
     pub fn holders(&self, column: usize) -> Option<&List<u32>>
-        requires { column < self.now.width }
         ensures { IfSome result (λ places. places.now ≡ holders_of self.now.rows column) }
     {
         self.holders.get(column)

@@ -7,7 +7,9 @@ ghost use Rattle.cb_reduce.specs.Places.{kept_of};
 ghost use Rattle.cb_reduce.specs.Reduced.{IsReduced};
 
 use crate::close::first_close;
-use crate::moves::{Waiter, decide, move_on, wait_all};
+use crate::moves::{Waiter, decide, move_on};
+use crate::sharing::starts_with_zero;
+use crate::waiting::wait_all;
 use cb_bits::Row;
 use cb_codes::Codes;
 use cb_coding::{Book, Pair};
@@ -53,7 +55,8 @@ fn book_of_good(
 {
     let mut kept = Row::zeroed(alloc, width)?;
     let mut waiting = empty_lists(alloc, width)?;
-    let _far = wait_all(codes, &kept, distance, &mut waiting)?;
+    let quiet = starts_with_zero(codes);
+    wait_all(codes, quiet, &kept, distance, &mut waiting)?;
     for column in (0..width).rev() {
         let pairs = replace(&mut waiting[column], List::new(alloc));
         decide(codes, &pairs, &mut kept, column, distance);

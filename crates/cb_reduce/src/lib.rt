@@ -10,6 +10,8 @@ mod measure;
 mod moves;
 mod place;
 mod plain;
+mod sharing;
+mod waiting;
 mod whole;
 
 pub use cb_coding::{Book, Pair};
