@@ -70,4 +70,4 @@ module _ (v w mask : List Bool) (a b m : List ℕ) (pv : Packs v a) (pw : Packs 
       let enough = pv.holds.enough in
       below (64 * length a)
       ∙ none_kept_further mask v w (64 * length a - length mask) (length mask) (64 * length a) (omega arith)
-          (λ k late early. both_false (bit v k) (bit w k) (get_or_past v k false (omega arith)) (get_or_past w k false (omega arith)))
+      (λ k late early. both_false (bit v k) (bit w k) (get_or_past v k false (omega arith)) (get_or_past w k false (omega arith)))

@@ -27,7 +27,7 @@ pub enum Refused {
 /// The book at a wanted distance. Where two codes are closer over all columns, the first such pair is told.
 pub fn reduce(alloc: Global, codes: &Codes, wanted: u32) -> Result<Book, Refused>
     requires places_fit { length codes.now.rows ≤ 2 ^ 16 }
-    requires columns_fit { codes.now.width < 2 ^ 32 }
+    requires columns_fit { codes.now.width ≤ 2 ^ 16 }
     ensures { IsReduced codes.now wanted result }
 {
     if let Some(pair) = first_close(codes, wanted) {
@@ -48,7 +48,7 @@ fn book_of_good(
 ) -> Result<Book, AllocError>
     requires have_width { HaveWidth width codes.now.rows }
     requires places_fit { length codes.now.rows ≤ 2 ^ 16 }
-    requires columns_fit { width < 2 ^ 32 }
+    requires columns_fit { width ≤ 2 ^ 16 }
     requires good { Good codes.now.rows (all_columns width) distance }
     ensures book { IfOk result (IsBook width codes.now.rows) }
     ensures distance { IfOk result (λ book. book.distance ≡ distance) }
