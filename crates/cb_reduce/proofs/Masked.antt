@@ -1,5 +1,5 @@
 -- What is counted over words is counted over rows.
-use Rattle.std.proofs.Common.{◌≡◌, ℕ, zero, suc, ◌+◌, ◌-◌, ◌*◌, ◌<◌, ◌≤◌, ◌^◌, List, length, Bool, true, false, not, ◌&&◌, refl, sym, ap, ◌∙◌, inl, inr, arith}
+use Rattle.std.proofs.Common.{◌≡◌, ℕ, zero, suc, ◌+◌, ◌-◌, ◌*◌, ◌<◌, ◌≤◌, ◌^◌, List, [], ◌∷◌, ◌++◌, length, slice_set, Bool, true, false, not, ◌&&◌, refl, sym, ap, ◌∙◌, inl, inr, arith}
 use Rattle.std.specs.List.{count_by, filter, sum_by}
 use Rattle.std.proofs.lemmas.Bool.{cases_lt}
 use Rattle.std.proofs.lemmas.List.{get_or_past}
@@ -11,7 +11,9 @@ use Rattle.cb_coding.specs.Distance.{differ, bit, distance, all_columns}
 use Rattle.cb_coding.proofs.Distances.{all_columns_more}
 use Rattle.cb_reduce.specs.Places.{kept_of}
 use Rattle.cb_reduce.proofs.Counting.{once, kept_more, none_kept_further}
+use Rattle.cb_codes.proofs.Passing.{passing, same_passing, one_more_passes, none_further}
 use Rattle.cb_reduce.proofs.EitherWay.{both_false}
+use Rattle.cb_reduce.proofs.Kept.{set_marks}
 
 pub bit_is : (row : List Bool) (words : List ℕ) → Packs row words → (k : ℕ) → bit_of words k ≡ bit row k
 bit_is row words packs k = elim (cases_lt k (length row)) [
@@ -29,7 +31,7 @@ one_count v w a b pv pw same =
     omega arith
 
 -- and narrow ones have few
-pub few_words : (v : List Bool) (a : List ℕ) → Packs v a → length v ≤ 2 ^ 16 → length a ≤ word_limit
+pub few_words : (v : List Bool) (a : List ℕ) → Packs v a → length v ≤ 4294967232 → length a ≤ word_limit
 few_words v a pv narrow = let n = pv.holds.no_more in omega arith
 
 turned : (x y : Bool) → once (x && y) ≡ once (y && x)
@@ -71,3 +73,23 @@ module _ (v w mask : List Bool) (a b m : List ℕ) (pv : Packs v a) (pw : Packs 
       below (64 * length a)
       ∙ none_kept_further mask v w (64 * length a - length mask) (length mask) (64 * length a) (omega arith)
       (λ k late early. both_false (bit v k) (bit w k) (get_or_past v k false (omega arith)) (get_or_past w k false (omega arith)))
+
+-- one more column is kept, behind all others
+pub one_kept_more : (old : List Bool) (n m : ℕ) → ((k : ℕ) → n ≤ k → bit old k ≡ false) → n ≤ m → m < length old
+    → passing (bit (slice_set old m true)) (m + 1) ≡ passing (bit old) n ++ m ∷ []
+one_kept_more old n m rest le lt =
+    let marked = set_marks m old lt in
+    let early = same_passing (bit (slice_set old m true)) (bit old) m (λ k below. marked.elsewhere k (λ e. omega arith)) in
+    let none = none_further (bit old) n (m - n) m (omega arith) (λ k late before. rest k late) in
+    sym (one_more_passes (bit (slice_set old m true)) m marked.here) ∙ ap (λ ks. ks ++ m ∷ []) (early ∙ none)
+
+-- and none is behind it
+pub none_behind : (old : List Bool) (n m : ℕ) → ((k : ℕ) → n ≤ k → bit old k ≡ false) → n ≤ m → m < length old
+    → (k : ℕ) → m + 1 ≤ k → bit (slice_set old m true) k ≡ false
+none_behind old n m rest le lt k late =
+    let marked = set_marks m old lt in
+    marked.elsewhere k (λ e. omega arith) ∙ rest k (omega arith)
+
+-- no column behind the last is kept
+pub all_kept : (mask : List Bool) (n : ℕ) → ((k : ℕ) → n ≤ k → bit mask k ≡ false) → n ≤ length mask → kept_of mask ≡ passing (bit mask) n
+all_kept mask n rest le = none_further (bit mask) n (length mask - n) (length mask) (omega arith) (λ k late before. rest k late)

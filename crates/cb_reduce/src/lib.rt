@@ -22,6 +22,9 @@ pub use laws::{
     waits_where_too_close,
 };
 pub use least_pair::least;
-pub use measure::{are_all, distance, distance_from, distance_over};
+pub use measure::{distance_from, distance_over, mask_of};
 pub use plain::{book, is_good};
 pub use whole::{every_column, whole_book};
+
+#[cfg(test)]
+mod tests;

@@ -21,7 +21,10 @@ fn reduces_the_worked_codes(rt: HostRuntime) -> Result<(), Fail> {
     ];
     let codes = codes_of(rt.alloc(), 5, &CODES)?;
     for (wanted, columns) in cases {
-        assert!(rt; has_columns(rt.alloc(), &codes, wanted, columns), "{wanted}");
+        assert!(rt;
+            has_columns(rt.alloc(), &codes, wanted, columns),
+            "{wanted}"
+        );
     }
     let alone = codes_of(rt.alloc(), 3, &["000"])?;
     assert!(rt; has_columns(rt.alloc(), &alone, 9_999, Some(&[])));
@@ -44,7 +47,8 @@ fn has_columns(alloc: Global, codes: &Codes, wanted: u32, columns: Option<&[u32]
     }
     match reduce(alloc, codes, wanted) {
         Ok(book) => columns == Some(book.columns.as_slice()) && book.distance == wanted,
-        Err(Refused::TooClose(pair)) => columns.is_none() && first_close(codes, wanted) == Some(pair),
+        Err(Refused::TooClose(pair)) => columns.is_none()
+            && first_close(codes, wanted) == Some(pair),
         Err(Refused::NoMemory) => false,
     }
 }
@@ -66,10 +70,17 @@ fn is_whole(alloc: Global, codes: &Codes) -> Result<bool, AllocError> {
 #[test]
 fn reduces_as_defined(rt: HostRuntime) -> Result<(), Fail> {
     let mut state = 7;
-    for turn in 0..400 {
+    for turn in 0..300 {
         // Up to nine codes of up to thirteen columns, sparse ones and dense ones, with a zero code first or without.
         let (count, width, quiet) = (turn % 10, 1 + turn % 13, turn % 3 != 0);
-        let codes = drawn(rt.alloc(), &mut state, count, width, quiet, 1 + turn as u64 % 4)?;
+        let codes = drawn(
+            rt.alloc(),
+            &mut state,
+            count,
+            width,
+            quiet,
+            1 + turn as u64 % 4,
+        )?;
         assert!(rt; agree(rt.alloc(), &codes, turn as u32 % 5)?, "{turn}");
     }
     Ok(())
