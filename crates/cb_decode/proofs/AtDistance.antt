@@ -7,7 +7,7 @@ use Rattle.cb_coding.specs.Distance.{all_columns}
 use Rattle.cb_coding.specs.Answers.{IsAnswer, from_word, radius}
 use Rattle.cb_coding.proofs.Distances.{all_columns_rise, in_all_columns, below_from_all_columns}
 use Rattle.cb_coding.proofs.BookLaws.{kept_by_filter, was_in_filtered}
-use Rattle.cb_reduce.proofs.Passing.{passing, one_more_passes, one_more_fails, none_further}
+use Rattle.cb_codes.proofs.Passing.{passing, one_more_passes, one_more_fails, none_further}
 
 module _ (columns : List ℕ) (codes : List (List Bool)) (word : List Bool) where
   abbrev far : ℕ → ℕ

@@ -8,6 +8,7 @@ ghost use Rattle.cb_finding.specs.Finding.{IsFinding, is_among as is_among_of, w
 
 use crate::decode::{nearest, radius};
 use cb_bits::Row;
+use cb_codes::Codes;
 use cb_coding::{Book, Group};
 use cb_finding::Finding;
 use cb_model::{List, NamedGroup, NodeName};
@@ -19,13 +20,13 @@ pub fn find(
     alloc: Global,
     columns: &List<NodeName>,
     groups: &List<Group>,
-    codes: &List<Row>,
+    codes: &Codes,
     book: &Book,
     raised: &List<NodeName>,
 ) -> Result<Finding, AllocError>
     requires columns { Rises node_cmp columns.now }
     requires raised { Rises node_cmp raised.now }
-    requires codes { codes.now ≡ codes_of groups.now }
+    requires codes { codes.now.rows ≡ codes_of groups.now }
     requires some { 0 < length groups.now }
     requires few { length groups.now < 2 ^ 32 }
     requires narrow { length book.now.columns < 2 ^ 32 }

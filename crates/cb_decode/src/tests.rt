@@ -1,12 +1,14 @@
 ghost use Rattle.std.specs.Prelude.{◌≡◌, ◌<◌, ℕ, length, IfOk, IsTrue, slice_index_or};
 ghost use Rattle.std.specs.declared.cmp.Ordering.TheVariants.{Less};
+ghost use Rattle.cb_coding.specs.Groups.{codes_of as codes_of_groups};
 ghost use Rattle.cb_model.specs.Order.{Rises};
 ghost use Rattle.cb_model.specs.NodeOrder.{node_cmp};
 ghost use Rattle.cb_model.specs.declared.node.NodeName.{NodeName as NodeName_};
 
 use super::*;
 use cb_bits::Row;
-use cb_coding::{Book, Group, codes};
+use cb_codes::Codes;
+use cb_coding::{Book, Group};
 use cb_model::{List, NodeName};
 use std::alloc::{AllocError, Global};
 use std::cmp::Ordering;
@@ -23,7 +25,7 @@ const GROUPS: [(&str, &[(&str, &str)]); 3] = [
 fn finds_the_nearest_groups(rt: HostRuntime) -> Result<(), Fail> {
     let alloc = rt.alloc();
     let groups = three_groups(alloc)?;
-    let codes = codes(alloc, &groups)?;
+    let codes = codes_of(alloc, 3, &groups)?;
     let columns = nodes_of(alloc, &[("Alarm", "a"), ("Alarm", "b"), ("Noise", "b")])?;
     let book = Book {
         columns: List::of(vec![in alloc; 0, 1, 2]?),
@@ -68,6 +70,21 @@ fn finds_the_nearest_groups(rt: HostRuntime) -> Result<(), Fail> {
     Ok(())
 }
 
+// The codes of groups, each of that width.
+fn codes_of(alloc: Global, width: usize, groups: &List<Group>) -> Result<Codes, AllocError>
+    ensures { IfOk result (λ codes. codes.rows ≡ codes_of_groups groups.now) }
+{
+    let mut codes = Codes::new(alloc, width);
+    for group in groups.as_slice() {
+        let code = group.code.copy(alloc)?;
+        if code.len() != codes.width() {
+            return Err(AllocError);
+        }
+        codes.push(code)?;
+    }
+    Ok(codes)
+}
+
 fn three_groups(alloc: Global) -> Result<List<Group>, AllocError> {
     let mut groups = List::new(alloc);
     for (code, members) in GROUPS {
@@ -82,9 +99,12 @@ fn three_groups(alloc: Global) -> Result<List<Group>, AllocError> {
 #[test]
 fn decodes_words(rt: HostRuntime) -> Result<(), Fail> {
     let alloc = rt.alloc();
-    let mut codes = List::new(alloc);
+    let mut codes = Codes::new(alloc, 5);
     for text in ["00000", "11100", "00111", "11011"] {
-        codes.push(code_of(alloc, 5, text)?)?;
+        let code = code_of(alloc, 5, text)?;
+        if code.len() == codes.width() {
+            codes.push(code)?;
+        }
     }
     let cases: [(u32, &[u32], &str, &[u32], bool); 2] = [
         (2, &[0, 2, 3], "10000", &[0, 1, 3], false),
