@@ -11,3 +11,4 @@ pub mod Reducing
 pub mod Tried
 pub mod Sharers
 pub mod Masked
+pub mod Differences

@@ -1,4 +1,4 @@
-use Rattle.std.proofs.Common.{◌≡◌, length, subst, ap, ◌∙◌, arith}
+use Rattle.std.proofs.Common.{subst, ap, ◌∙◌, arith}
 use Rattle.cb_coding.specs.Distance.{distance}
 use Rattle.cb_reduce.specs.Measure.{AreMasked}
 use Rattle.cb_reduce.proofs.Masked.{under_is}
