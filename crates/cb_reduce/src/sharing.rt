@@ -26,6 +26,7 @@ pub fn is_quicker(codes: &Codes, place: usize) -> bool
     requires { place < length codes.now.rows }
 {
     let code = codes.row(place);
+    // A length fits its type, and so does the place behind a column.
     let _width = code.len();
     let mut looks: usize = 0;
     let mut from = 0;
@@ -53,6 +54,7 @@ pub fn close_sharing(codes: &Codes, first: usize, wanted: usize) -> Option<Pair>
     ensures none { IfNone result ((j : ℕ) → IsPair codes.now.rows first j → wanted ≤ apart (all_columns codes.now.width) codes.now.rows first j) }
 {
     let code = codes.row(first);
+    // A length fits its type, and so does the place behind a column.
     let _width = code.len();
     let mut best = None;
     let mut from = 0;

@@ -95,6 +95,7 @@ fn wait_with_sharing(
 {
     wait_before(codes, 0, second, kept, distance, waiting)?;
     let code = codes.row(second);
+    // A length fits its type, and so does the place behind a column.
     let _width = code.len();
     let mut from = 0;
     while let Some(column) = code.next_one(from) {
