@@ -1,4 +1,4 @@
-use Rattle.std.proofs.Common.{refl, arith, length, get_or}
+use Rattle.std.proofs.Common.{refl, arith, get_or}
 use Rattle.std.proofs.lemmas.List.Elements.{Contains-get_or}
 use Rattle.std.proofs.lemmas.List.{length-map}
 use Rattle.cb_coding.specs.declared.group.Group.{Group}
