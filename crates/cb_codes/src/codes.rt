@@ -93,9 +93,8 @@ impl Codes {
         self.rows[i].distance_below(&self.rows[j], limit)
     }
 
-    /// The places of the codes that have a column, in order. There is none where they aren't kept.
+    /// The places of the codes that have a column, in order. It is none where such lists aren't kept.
     pub fn holders(&self, column: usize) -> Option<&List<u32>>
-        requires { column < self.now.width }
         ensures { IfSome result (λ places. places.now ≡ holders_of self.now.rows column) }
     {
         self.holders.get(column)

@@ -1,6 +1,11 @@
 //! Codes of one width, each kept once, and groups of problems by their codes.
 //!
 //! Who compares codes (cb_reduce), decodes with them (cb_decode) or prints them (cb_report) gets them here, in the order of the groups.
+//! A list of codes is seen as its width and its rows, each of which has that width.
+//!
+//! Beside the rows it keeps for each column which codes have it (`holders`), so that codes which share a column are found without
+//! comparing all. These lists take 4 bytes a one. They are given up, and `holders` says none, where the codes have too many ones or
+//! memory is wanting: who asks for them must do without.
 #![tactic(auto)]
 
 mod codes;

@@ -1,12 +1,13 @@
 //! Decoding: the groups whose codes are nearest to a word.
 ghost use Rattle.std.specs.Prelude.{◌≡◌, ◌<◌, ◌^◌, length, IfOk};
 ghost use Rattle.cb_coding.specs.Answers.{IsAnswer, radius as radius_of};
+ghost use Rattle.cb_reduce.specs.Measure.{AreMasked};
 
 use cb_bits::Row;
 use cb_codes::Codes;
 use cb_coding::{Answer, Book};
 use cb_model::List;
-use cb_reduce::{are_all, distance_from};
+use cb_reduce::{distance_from, mask_of};
 use std::alloc::{AllocError, Global};
 
 /// The answer for a word over the columns of a book. A code or a word that is too short says false past its end.
@@ -16,11 +17,28 @@ pub fn nearest(alloc: Global, codes: &Codes, book: &Book, word: &Row) -> Result<
     requires columns_fit { length book.now.columns < 2 ^ 32 }
     ensures { IfOk result (IsAnswer book.now.columns codes.now.rows book.now.distance word.now) }
 {
-    let all = are_all(&book.columns, word.len());
-    let mut least = distance_from(word, codes.row(0), &book.columns, all);
+    let mask = mask_of(alloc, &book.columns, word.len())?;
+    nearest_by(alloc, codes, book, word, &mask)
+}
+
+// The same, with the mask of the book's columns, if they have one.
+fn nearest_by(
+    alloc: Global,
+    codes: &Codes,
+    book: &Book,
+    word: &Row,
+    mask: &Option<Row>,
+) -> Result<Answer, AllocError>
+    requires some { 0 < length codes.now.rows }
+    requires places_fit { length codes.now.rows < 2 ^ 32 }
+    requires columns_fit { length book.now.columns < 2 ^ 32 }
+    requires mask { AreMasked book.now.columns mask.now }
+    ensures { IfOk result (IsAnswer book.now.columns codes.now.rows book.now.distance word.now) }
+{
+    let mut least = distance_from(word, codes.row(0), &book.columns, mask);
     let mut groups = Vec::new(alloc);
     for i in 0..codes.len() {
-        let distance = distance_from(word, codes.row(i), &book.columns, all);
+        let distance = distance_from(word, codes.row(i), &book.columns, mask);
         if distance < least {
             least = distance;
             groups.clear();

@@ -112,3 +112,6 @@ module _ (codes : List (List Bool)) (i j : ℕ) (v w : List Bool) (at : slice_ge
 -- an item is the same whatever stands for items past the end
 pub item_is : (items : List Waiter) (a b : ℕ) (v w : Waiter) → a ≡ b → a < length items → get_or items a v ≡ get_or items b w
 item_is items a b v w e lt = ap (λ k. get_or items k v) e ∙ get_or_default items b v w (omega arith)
+
+pub number_is : (items : List ℕ) (a b d e : ℕ) → a ≡ b → a < length items → get_or items a d ≡ get_or items b e
+number_is items a b d e same lt = ap (λ k. get_or items k d) same ∙ get_or_default items b d e (omega arith)

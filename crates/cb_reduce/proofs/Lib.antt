@@ -1,6 +1,6 @@
 pub mod Fronts
 pub mod Search
-pub mod Sharing
+pub mod Shared
 pub mod Held
 pub mod Kept
 pub mod EitherWay
@@ -9,3 +9,6 @@ pub mod Places
 pub mod Counting
 pub mod Reducing
 pub mod Tried
+pub mod Sharers
+pub mod Masked
+pub mod Differences

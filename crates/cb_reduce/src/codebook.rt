@@ -7,7 +7,9 @@ ghost use Rattle.cb_reduce.specs.Places.{kept_of};
 ghost use Rattle.cb_reduce.specs.Reduced.{IsReduced};
 
 use crate::close::first_close;
-use crate::moves::{Waiter, decide, move_on, wait_all};
+use crate::moves::{Waiter, decide, move_on};
+use crate::sharing::starts_with_zero;
+use crate::waiting::wait_all;
 use cb_bits::Row;
 use cb_codes::Codes;
 use cb_coding::{Book, Pair};
@@ -25,7 +27,7 @@ pub enum Refused {
 /// The book at a wanted distance. Where two codes are closer over all columns, the first such pair is told.
 pub fn reduce(alloc: Global, codes: &Codes, wanted: u32) -> Result<Book, Refused>
     requires places_fit { length codes.now.rows ≤ 2 ^ 16 }
-    requires columns_fit { codes.now.width < 2 ^ 32 }
+    requires columns_fit { codes.now.width ≤ 2 ^ 16 }
     ensures { IsReduced codes.now wanted result }
 {
     if let Some(pair) = first_close(codes, wanted) {
@@ -46,14 +48,15 @@ fn book_of_good(
 ) -> Result<Book, AllocError>
     requires have_width { HaveWidth width codes.now.rows }
     requires places_fit { length codes.now.rows ≤ 2 ^ 16 }
-    requires columns_fit { width < 2 ^ 32 }
+    requires columns_fit { width ≤ 2 ^ 16 }
     requires good { Good codes.now.rows (all_columns width) distance }
     ensures book { IfOk result (IsBook width codes.now.rows) }
     ensures distance { IfOk result (λ book. book.distance ≡ distance) }
 {
     let mut kept = Row::zeroed(alloc, width)?;
     let mut waiting = empty_lists(alloc, width)?;
-    let _far = wait_all(codes, &kept, distance, &mut waiting)?;
+    let quiet = starts_with_zero(codes);
+    wait_all(codes, quiet, &kept, distance, &mut waiting)?;
     for column in (0..width).rev() {
         let pairs = replace(&mut waiting[column], List::new(alloc));
         decide(codes, &pairs, &mut kept, column, distance);

@@ -10,6 +10,8 @@ mod measure;
 mod moves;
 mod place;
 mod plain;
+mod sharing;
+mod waiting;
 mod whole;
 
 pub use cb_coding::{Book, Pair};
@@ -20,6 +22,9 @@ pub use laws::{
     waits_where_too_close,
 };
 pub use least_pair::least;
-pub use measure::{are_all, distance, distance_from, distance_over};
+pub use measure::{distance_from, distance_over, mask_of};
 pub use plain::{book, is_good};
 pub use whole::{every_column, whole_book};
+
+#[cfg(test)]
+mod tests;

@@ -1,17 +1,49 @@
-//! How far two codes are apart.
-ghost use Rattle.std.specs.Prelude.{◌≡◌, ◌<◌, ◌≤◌, ◌^◌, ◌↔◌, length, IsTrue, SomeIff};
-ghost use Rattle.cb_coding.specs.Distance.{bit as bit_of, differ as differ_of, distance as distance_of, all_columns};
+//! How far two codes are apart over some columns.
+ghost use Rattle.std.specs.Prelude.{◌≡◌, ◌<◌, ◌≤◌, ◌^◌, ◌↔◌, length, IsTrue, IfOk, IfSome};
+ghost use Rattle.cb_coding.specs.Distance.{bit as bit_of, differ as differ_of, distance as distance_of};
+ghost use Rattle.cb_reduce.specs.Places.{kept_of};
+ghost use Rattle.cb_reduce.specs.Measure.{AreMasked};
 
 use cb_bits::Row;
+use cb_lanes::distance_under;
 use cb_model::List;
+use std::alloc::{AllocError, Global};
 
-/// At how many of all columns two codes of one width differ.
-pub fn distance(a: &Row, b: &Row) -> u32
-    requires same_width { length a.now ≡ length b.now }
-    requires fits { length a.now < 2 ^ 32 }
-    ensures { result ≡ distance_of (all_columns (length a.now)) a.now b.now }
+// As many columns have at most so many words as `distance_under` takes.
+const MOST_COLUMNS: usize = 4_294_967_232;
+
+/// The mask of these columns, where they rise and are columns of codes of that width; else there is none.
+pub fn mask_of(alloc: Global, columns: &List<u32>, width: usize) -> Result<Option<Row>, AllocError>
+    ensures { IfOk result (AreMasked columns.now) }
 {
-    a.distance(b) as u32
+    if MOST_COLUMNS < width {
+        return Ok(None);
+    }
+    let mut mask = Row::zeroed(alloc, width)?;
+    let mut next = 0;
+    for column in columns.as_slice() {
+        let column = *column as usize;
+        if column < next || width <= column {
+            return Ok(None);
+        }
+        mask.set(column);
+        next = column + 1;
+    }
+    Ok(Some(mask))
+}
+
+/// At how many of these columns a word and a code differ, where the mask is theirs. Past its end a code says false.
+pub fn distance_from(word: &Row, code: &Row, columns: &List<u32>, mask: &Option<Row>) -> u32
+    requires fits { length columns.now < 2 ^ 32 }
+    requires mask { AreMasked columns.now mask.now }
+    ensures { result ≡ distance_of columns.now word.now code.now }
+{
+    match mask {
+        Some(mask) if word.len() == mask.len() && code.len() == mask.len() => {
+            distance_under(word.words(), code.words(), mask.words())
+        }
+        _ => distance_over(word, code, columns),
+    }
 }
 
 /// At how many of these columns two codes differ. Past its end a code says false.
@@ -26,45 +58,6 @@ pub fn distance_over(a: &Row, b: &Row, columns: &List<u32>) -> u32
         }
     }
     count
-}
-
-/// The same of a word and a code, and quicker where these are all columns of the word.
-pub fn distance_from(word: &Row, code: &Row, columns: &List<u32>, all: bool) -> u32
-    requires fits { length columns.now < 2 ^ 32 }
-    requires all { IsTrue all → columns.now ≡ all_columns (length word.now) }
-    ensures { result ≡ distance_of columns.now word.now code.now }
-{
-    if all && code.len() == word.len() {
-        distance(word, code)
-    } else {
-        distance_over(word, code, columns)
-    }
-}
-
-/// Whether these are all columns of that width.
-pub fn are_all(columns: &List<u32>, width: usize) -> bool
-    ensures { IsTrue result ↔ (columns.now ≡ all_columns width) }
-{
-    if columns.len() != width {
-        return false;
-    }
-    for k in 0..width {
-        if *columns.at(k) as usize != k {
-            return false;
-        }
-    }
-    true
-}
-
-// The distance over all columns, where it is below the limit.
-pub(crate) fn distance_below(a: &Row, b: &Row, limit: usize) -> Option<u32>
-    requires same_width { length a.now ≡ length b.now }
-    requires fits { length a.now < 2 ^ 32 }
-    ensures { let apart = distance_of (all_columns (length a.now)) a.now b.now in
-        SomeIff result (apart < limit) apart }
-{
-    let distance = a.distance_below(b, limit)?;
-    Some(distance as u32)
 }
 
 // Whether two codes are at least d apart over these columns.
@@ -91,7 +84,7 @@ fn differ(a: &Row, b: &Row, column: u32) -> bool
 }
 
 // What a code says of a column.
-pub(crate) fn bit(code: &Row, column: u32) -> bool
+fn bit(code: &Row, column: u32) -> bool
     ensures { result ≡ bit_of code.now column }
 {
     let k = column as usize;

@@ -1,5 +1,5 @@
 //! Pairs that wait at columns, and move to earlier ones.
-ghost use Rattle.std.specs.Prelude.{◌≡◌, ◌≢◌, ◌<◌, ◌≤◌, ◌^◌, ℕ, true, false, length, IsTrue, IfOk, OnOk};
+ghost use Rattle.std.specs.Prelude.{◌≡◌, ◌<◌, ◌≤◌, ◌^◌, false, length, IsTrue, OnOk};
 ghost use Rattle.std.specs.List.{Contains};
 ghost use Rattle.cb_coding.specs.Distance.{HaveWidth};
 ghost use Rattle.cb_coding.specs.Pairs.{IsPair};
@@ -20,92 +20,40 @@ pub struct Waiter {
     pub second: u16,
 }
 
-/// Lets all pairs wait, from the last column on. It is false where some pair is too close.
-pub fn wait_all(
-    codes: &Codes,
-    kept: &Row,
-    distance: u32,
-    waiting: &mut Vec<List<Waiter>>,
-) -> Result<bool, AllocError>
-    requires have_width { HaveWidth (length kept.now) codes.now.rows }
-    requires places_fit { length codes.now.rows ≤ 2 ^ 16 }
-    requires lists { length waiting.old.items ≡ length kept.now }
-    ensures grows { OnOk result (Grows codes.now.rows waiting.old.items waiting.new.items) }
-    ensures held { IfOk result (λ far. IsTrue far → (i j : ℕ) → IsPair codes.now.rows i j
-        → IsHeld codes.now.rows (kept_of kept.now) distance waiting.new.items (length kept.now) i j) }
-    ensures close { IfOk result (λ far. far ≡ false → SomeAreClose codes.now.rows (kept_of kept.now) distance (length kept.now)) }
-{
-    for second in 0..codes.len() {
-        if !wait_with_earlier(codes, second, kept, distance, waiting)? {
-            return Ok(false);
-        }
-    }
-    Ok(true)
-}
-
-// Lets the pairs of a code with those before it wait.
-fn wait_with_earlier(
-    codes: &Codes,
-    second: usize,
-    kept: &Row,
-    distance: u32,
-    waiting: &mut Vec<List<Waiter>>,
-) -> Result<bool, AllocError>
-    requires have_width { HaveWidth (length kept.now) codes.now.rows }
-    requires places_fit { length codes.now.rows ≤ 2 ^ 16 }
-    requires within { second < length codes.now.rows }
-    requires lists { length waiting.old.items ≡ length kept.now }
-    ensures grows { OnOk result (Grows codes.now.rows waiting.old.items waiting.new.items) }
-    ensures held { IfOk result (λ far. IsTrue far → (i : ℕ) → i < second
-        → IsHeld codes.now.rows (kept_of kept.now) distance waiting.new.items (length kept.now) i second) }
-    ensures close { IfOk result (λ far. far ≡ false → SomeAreClose codes.now.rows (kept_of kept.now) distance (length kept.now)) }
-{
-    for first in 0..second {
-        let pair = Waiter {
-            first: first as u16,
-            second: second as u16,
-        };
-        if !wait(codes, pair, kept, kept.len(), distance, waiting)? {
-            return Ok(false);
-        }
-    }
-    Ok(true)
-}
-
-// Lets a pair wait at its place before a column. It is false where the pair is too close.
-fn wait(
+/// Lets a pair wait at its place before a column.
+pub fn wait(
     codes: &Codes,
     pair: Waiter,
     kept: &Row,
     before: usize,
     distance: u32,
     waiting: &mut Vec<List<Waiter>>,
-) -> Result<bool, AllocError>
+) -> Result<(), AllocError>
     requires have_width { HaveWidth (length kept.now) codes.now.rows }
+    requires narrow { length kept.now ≤ 2 ^ 16 }
     requires pair { IsPair codes.now.rows pair.first pair.second }
     requires within { before ≤ length kept.now }
+    requires safe { IsSafe codes.now.rows (kept_of kept.now) distance before pair.first pair.second }
     requires lists { length waiting.old.items ≡ length kept.now }
     ensures grows { OnOk result (Grows codes.now.rows waiting.old.items waiting.new.items) }
-    ensures held { IfOk result (λ far. IsTrue far
-        → IsHeld codes.now.rows (kept_of kept.now) distance waiting.new.items before pair.first pair.second) }
-    ensures close { IfOk result (λ far. far ≡ false
-        → ¬ IsSafe codes.now.rows (kept_of kept.now) distance before pair.first pair.second) }
+    ensures held { OnOk result (IsHeld codes.now.rows (kept_of kept.now) distance waiting.new.items before pair.first pair.second) }
 {
     let a = codes.row(pair.first as usize);
     let b = codes.row(pair.second as usize);
     match place_of(a, b, kept, before, distance) {
-        Place::Nowhere => Ok(true),
+        Place::Nowhere => Ok(()),
         Place::At(column) => {
             waiting[column].push(pair)?;
-            Ok(true)
+            Ok(())
         }
-        Place::Close => Ok(false),
+        Place::Close => Ok(()),
     }
 }
 
 // Whether some of these pairs are too close with the columns before one and the kept ones.
 fn are_close(codes: &Codes, pairs: &List<Waiter>, kept: &Row, column: usize, distance: u32) -> bool
     requires have_width { HaveWidth (length kept.now) codes.now.rows }
+    requires narrow { length kept.now ≤ 2 ^ 16 }
     requires pairs { ArePairs codes.now.rows pairs.now }
     requires within { column ≤ length kept.now }
     ensures close { IsTrue result → SomeAreClose codes.now.rows (kept_of kept.now) distance column }
@@ -122,6 +70,7 @@ fn are_close(codes: &Codes, pairs: &List<Waiter>, kept: &Row, column: usize, dis
 // Whether a pair is too close with the columns before one and the kept ones.
 fn is_close(codes: &Codes, pair: Waiter, kept: &Row, column: usize, distance: u32) -> bool
     requires have_width { HaveWidth (length kept.now) codes.now.rows }
+    requires narrow { length kept.now ≤ 2 ^ 16 }
     requires pair { IsPair codes.now.rows pair.first pair.second }
     requires within { column ≤ length kept.now }
     ensures close { IsTrue result → ¬ IsSafe codes.now.rows (kept_of kept.now) distance column pair.first pair.second }
@@ -135,6 +84,7 @@ fn is_close(codes: &Codes, pair: Waiter, kept: &Row, column: usize, distance: u3
 /// Keeps a column where some of these pairs are too close without it.
 pub fn decide(codes: &Codes, pairs: &List<Waiter>, kept: &mut Row, column: usize, distance: u32)
     requires have_width { HaveWidth (length kept.old) codes.now.rows }
+    requires narrow { length kept.old ≤ 2 ^ 16 }
     requires pairs { ArePairs codes.now.rows pairs.now }
     requires within { column < length kept.old }
     ensures { Decides codes.now.rows distance column pairs.now kept.old kept.new }
@@ -154,6 +104,7 @@ pub fn move_on(
     waiting: &mut Vec<List<Waiter>>,
 ) -> Result<(), AllocError>
     requires have_width { HaveWidth (length kept.now) codes.now.rows }
+    requires narrow { length kept.now ≤ 2 ^ 16 }
     requires pairs { ArePairs codes.now.rows pairs.now }
     requires far { AreSafe codes.now.rows (kept_of kept.now) distance column pairs.now }
     requires within { column ≤ length kept.now }
@@ -163,7 +114,7 @@ pub fn move_on(
         → IsHeld codes.now.rows (kept_of kept.now) distance waiting.new.items column pair.first pair.second) }
 {
     for pair in pairs.as_slice() {
-        let _far = wait(codes, *pair, kept, column, distance, waiting)?;
+        wait(codes, *pair, kept, column, distance, waiting)?;
     }
     Ok(())
 }

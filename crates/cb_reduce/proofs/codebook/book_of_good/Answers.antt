@@ -1,22 +1,21 @@
-use Rattle.std.proofs.Common.{◌≡◌, ◌+◌, ◌-◌, length, false, subst, sym, ap, ◌∙◌, inl, inr, arith}
+use Rattle.std.proofs.Common.{◌≡◌, ◌+◌, ◌-◌, subst, sym, ◌∙◌, arith}
 use Rattle.std.specs.List.{Contains}
-use Rattle.std.proofs.lemmas.List.{length-replicate}
-use Rattle.std.proofs.lemmas.Bool.{cases_Bool}
 use Rattle.cb_coding.specs.Books.{IsBook}
 use Rattle.cb_coding.specs.declared.book.Book.{Book}
 use Rattle.cb_reduce.proofs.Held.{list_is}
-use Rattle.cb_reduce.proofs.Reducing.{IsReducing, none_decided, all_decided, are_safe, next, far_all}
+use Rattle.cb_reduce.proofs.Reducing.{IsReducing, may_wait, none_decided, all_decided, are_safe, next}
 use Rattle.cb_reduce.proofs.codebook.book_of_good.Goals as goal
+
+pub wait_all-requires-clause-may : goal.wait_all-requires-clause-may
+wait_all-requires-clause-may c =
+    may_wait c.args.width c.starts_with_zero-quiet.result c.args.codes.now.rows c.args.distance c.in_ok-kept.kept c.requires.have_width
+    c.requires.columns_fit c.requires.places_fit c.requires.good c.in_ok-kept.ensures
 
 pub loop-column-init : goal.loop-column-init
 loop-column-init c =
-    let long : length c.in_ok-kept.kept ≡ c.args.width = ap length c.in_ok-kept.ensures ∙ length-replicate c.args.width false in
-    none_decided c.args.width c.args.codes.now.rows c.args.distance c.in_ok-kept.kept c.in_ok-waiting.waiting.items c.wait_all.new.waiting.items
-    c.in_ok-kept.ensures c.in_ok-waiting.ensures c.in_ok-_far.ensures.grows
-    (elim (cases_Bool c.in_ok-_far._far) [
-      | inl far ↦ c.in_ok-_far.ensures.held far
-      | inr near ↦ absurd (far_all c.args.width c.args.codes.now.rows c.args.distance c.in_ok-kept.kept long (c.in_ok-_far.ensures.close near) c.requires.good)
-    ])
+    none_decided c.args.width c.starts_with_zero-quiet.result c.args.codes.now.rows c.args.distance c.in_ok-kept.kept c.in_ok-waiting.waiting.items
+    c.wait_all.new.waiting.items c.starts_with_zero-quiet.ensures c.requires.good c.in_ok-kept.ensures c.in_ok-waiting.ensures c.in_ok-wait_all.ensures.grows
+    c.in_ok-wait_all.ensures.held
 
 pub decide-requires-clause-pairs : goal.decide-requires-clause-pairs
 decide-requires-clause-pairs c =
@@ -37,9 +36,9 @@ move_on-requires-clause-far c =
     let column = c.loop-column.column - 1 in
     let all = c.loop-column.invariant.all in
     let here : c.loop-column.column ≡ column + 1 = omega arith in
-    let was = subst (λ n. IsReducing c.args.width c.args.codes.now.rows c.args.distance n c.loop-column.kept c.loop-column.waiting.items) here c.loop-column.invariant in
+    let was = subst (λ n. IsReducing c.args.width c.starts_with_zero-quiet.result c.args.codes.now.rows c.args.distance n c.loop-column.kept c.loop-column.waiting.items) here c.loop-column.invariant in
     let taken = c.replace-pairs.ensures.value ∙ list_is c.loop-column.waiting.items column c.index_mut.result.now (omega arith) c.index_mut.ensures.value in
-    are_safe c.args.width c.args.codes.now.rows c.args.distance column c.loop-column.kept c.decide.new.kept c.loop-column.waiting.items c.replace-pairs.result
+    are_safe c.args.width c.starts_with_zero-quiet.result c.args.codes.now.rows c.args.distance column c.loop-column.kept c.decide.new.kept c.loop-column.waiting.items c.replace-pairs.result
     (omega arith) was taken c.decide.ensures
 
 pub loop-column-preserved : goal.loop-column-preserved
@@ -47,16 +46,16 @@ loop-column-preserved c =
     let column = c.loop-column.column - 1 in
     let all = c.loop-column.invariant.all in
     let here : c.loop-column.column ≡ column + 1 = omega arith in
-    let was = subst (λ n. IsReducing c.args.width c.args.codes.now.rows c.args.distance n c.loop-column.kept c.loop-column.waiting.items) here c.loop-column.invariant in
+    let was = subst (λ n. IsReducing c.args.width c.starts_with_zero-quiet.result c.args.codes.now.rows c.args.distance n c.loop-column.kept c.loop-column.waiting.items) here c.loop-column.invariant in
     let taken = c.replace-pairs.ensures.value ∙ list_is c.loop-column.waiting.items column c.index_mut.result.now (omega arith) c.index_mut.ensures.value in
-    next c.args.width c.args.codes.now.rows c.args.distance column c.loop-column.kept c.decide.new.kept c.loop-column.waiting.items c.replace-pairs.result
+    next c.args.width c.starts_with_zero-quiet.result c.args.codes.now.rows c.args.distance column c.loop-column.kept c.decide.new.kept c.loop-column.waiting.items c.replace-pairs.result
     (omega arith) was taken c.decide.ensures c.replace-pairs.new.dest c.move_on.new.waiting.items (c.replace-pairs.ensures.after ∙ c.new.ensures)
     c.in_ok-move_on.ensures.grows c.in_ok-move_on.ensures.held
 
 pub returns-clause-book : goal.returns-clause-book
 returns-clause-book c =
     let done : c.loop-column.column ≡ 0 = omega arith in
-    let reducing = subst (λ n. IsReducing c.args.width c.args.codes.now.rows c.args.distance n c.loop-column.kept c.loop-column.waiting.items) done c.loop-column.invariant in
+    let reducing = subst (λ n. IsReducing c.args.width c.starts_with_zero-quiet.result c.args.codes.now.rows c.args.distance n c.loop-column.kept c.loop-column.waiting.items) done c.loop-column.invariant in
     let book : _ → Book = λ columns. record { columns = columns; distance = c.args.distance } in
     subst (λ columns. IsBook c.args.width c.args.codes.now.rows (book columns)) (sym c.in_ok-columns.ensures)
-    (all_decided c.args.width c.args.codes.now.rows c.args.distance c.loop-column.kept c.loop-column.waiting.items reducing)
+    (all_decided c.args.width c.starts_with_zero-quiet.result c.args.codes.now.rows c.args.distance c.loop-column.kept c.loop-column.waiting.items reducing)
