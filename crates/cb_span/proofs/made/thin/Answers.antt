@@ -1,4 +1,4 @@
-use Rattle.std.proofs.Common.{ℕ, List, length, inl, inr, sym, subst, ◌∙◌}
+use Rattle.std.proofs.Common.{ℕ, List, length, sym, subst, ◌∙◌}
 use Rattle.std.specs.List.{AllZip}
 use Rattle.cb_model.specs.WellTyped.{WellTyped}
 use Rattle.cb_network.specs.Sound.{Sound}

@@ -1,4 +1,4 @@
-use Rattle.std.proofs.Common.{◌≡◌, ◌<◌, suc, List, [], ◌∷◌, length, get_or, sym, subst, arith}
+use Rattle.std.proofs.Common.{◌<◌, suc, List, [], ◌∷◌, length, get_or, arith}
 use Rattle.std.specs.List.{remove as without}
 use Rattle.std.proofs.lemmas.Option.{slice_get-get_or}
 use Rattle.cb_model.specs.declared.node.NodeName.{NodeName}
