@@ -1,5 +1,5 @@
 -- What comes of a request whose files have been judged.
-use Rattle.std.specs.Prelude.{◌≡◌, ◌⊎◌, ℕ, ◌<◌, ◌≤◌, List, length, Bool, true, false, Option, None, Some}
+use Rattle.std.specs.Prelude.{◌≡◌, ◌⊎◌, ℕ, List, length, Bool, true, false, Option, None, Some}
 use Rattle.cb_model.specs.declared.node.GroupName.{GroupName}
 use Rattle.cb_model.specs.declared.node.GroupName.TheVariants.{Quiet, Least}
 use Rattle.cb_model.specs.declared.node.NodeName.{NodeName}
@@ -16,12 +16,11 @@ use Rattle.cb_finding.specs.Matrix.{IsMatrix}
 use Rattle.cb_network.specs.Topology.{Topology}
 use Rattle.cb_syntax.specs.Canonical.{canonical_text}
 use Rattle.cb_cert.specs.declared.certificate.Certificate.{Certificate}
-use Rattle.cb_cert.specs.Format.{entry_limit}
 use Rattle.cb_cert.specs.Lines.{text_of}
 use Rattle.cb_claim.specs.declared.verdict.Accepted.{Accepted}
 use Rattle.cb_claim.specs.Canonical.{IsCanonicalBook, IsCanonicalThin}
 use Rattle.cb_claim.specs.Laws.{HavePlaces}
-use Rattle.cb_claim.specs.Totals.{IsTotalReach}
+use Rattle.cb_claim.specs.Totals.{HasFewEntries, HasManyEntries}
 use Rattle.cb_claim.specs.Verdicts.{Shows}
 use Rattle.cb_report.specs.declared.fault.Fault.TheVariants as faults
 use Rattle.cb_report.specs.CertificateTexts.{accepted_text}
@@ -64,21 +63,23 @@ pub record AreBookColumns (t : Topology) (distance : ℕ) (columns : List NodeNa
   pub distance_is : book.distance ≡ distance
   pub named : HavePlaces all columns book.columns
 
--- the certificate is written, unless so many entries are too many
-abbrev pub Writes : Certificate → ℕ → ℕ → Outcome → Type 0
-Writes certificate entries whole outcome =
-    ((entries ≤ entry_limit) × (outcome ≡ done (text_of certificate) whole))
-    ⊎ ((entry_limit < entries) × (outcome ≡ refused faults.LimitEntries whole))
+-- the canonical book of these columns is written, whose entries are few
+pub record WritesCanonical (t : Topology) (columns : List NodeName) (distance whole : ℕ) (outcome : Outcome) : Type 0 where
+  pub few : HasFewEntries t
+  pub certificate : Certificate
+  pub canonical : IsCanonicalBook t columns distance certificate
+  pub gives : outcome ≡ done (text_of certificate) whole
 
--- there is a codebook for the distance, and its canonical certificate is written
+-- the entries would be too many, and nothing is written
+pub record RefusesMany (t : Topology) (whole : ℕ) (outcome : Outcome) : Type 0 where
+  pub many : HasManyEntries t
+  pub gives : outcome ≡ refused faults.LimitEntries whole
+
+-- there is a codebook for the distance, and its canonical certificate is written, unless its entries would be too many
 pub record WritesBook (t : Topology) (distance whole : ℕ) (outcome : Outcome) : Type 0 where
   pub columns : List NodeName
   pub are_columns : AreBookColumns t distance columns
-  pub certificate : Certificate
-  pub canonical : IsCanonicalBook t columns distance certificate
-  pub entries : ℕ
-  pub entries_are : IsTotalReach t entries
-  pub gives : Writes certificate entries whole outcome
+  pub gives : WritesCanonical t columns distance whole outcome ⊎ RefusesMany t whole outcome
 
 -- the least member of a group; the quiet one is called by none
 abbrev pub least_of : GroupName → Option NodeName

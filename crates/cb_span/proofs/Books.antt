@@ -24,7 +24,7 @@ use Rattle.cb_cert.specs.declared.certificate.Entry.{Entry}
 use Rattle.cb_cert.specs.declared.certificate.Span.{Span}
 use Rattle.cb_claim.specs.Spans.{StandsFor, Lists, AreNodes, IsSpanOf}
 use Rattle.cb_claim.specs.Canonical.{IsCanonicalSpan, AreUsed}
-use Rattle.cb_claim.specs.Totals.{IsReach}
+use Rattle.cb_claim.specs.Totals.{IsReach, HasFewEntries, HasManyEntries}
 use Rattle.cb_claim.specs.Verdicts.{entries_of}
 use Rattle.cb_topo.specs.Numbered.{Numbered, topology_of, IsNodeNamed, IsLiveNode, AreNamed, IsWhole}
 use Rattle.cb_graph.specs.Edges.{number}
@@ -33,10 +33,10 @@ use Rattle.cb_span.specs.declared.numbering.Numbering.{Numbering}
 use Rattle.cb_span.specs.Orders.{IsAtRank, IsOrderOf, IsRank, AreRanked, IsRankIn}
 use Rattle.cb_span.specs.Numberings.{IsNumbering, IsEntryOf, IsSpanFor, IsNumberOf, AreBelow, AreAllBelow}
 use Rattle.cb_span.specs.Searched.{IsTreeFrom, IsTreeOf, IsVisitedIn, visits_in, HaveManyVisits, PreventsTrees}
-use Rattle.cb_span.specs.Made.{AreColumnsAt, IsBookFor, HasFewEntries, HasManyEntries, PreventsBook}
+use Rattle.cb_span.specs.Made.{AreColumnsAt, IsBookFor, PreventsBook}
 use Rattle.cb_span.specs.declared.fault.SpanFault.{SpanFault}
 use Rattle.cb_span.specs.declared.fault.SpanFault.TheVariants.{TooManyEntries, NoMemory}
-use Rattle.cb_span.proofs.Zips.{zip_each, zip_right, zip_left, zip_weaker, zip_of_map, mapped_at, sum_mapped, all_read, contains_at, place_of, zip_count}
+use Rattle.cb_span.proofs.Zips.{zip_each, zip_right, zip_left, zip_weaker, zip_of_map, front_zipped, mapped_at, sum_mapped, all_read, contains_at, place_of, zip_count}
 use Rattle.cb_span.proofs.Spanning.{IsEntryBy, span_is, canonical_span, visited_listed, name_one, visit_named}
 use Rattle.cb_span.proofs.Reaching.{reach_counted}
 
@@ -87,17 +87,22 @@ module _ (n : Numbered) (whole : IsWhole n) (order : Order) (ord : IsOrderOf n o
   -- too many visits are too many entries
   pub many_entries : (ids : List NodeId) (problems : List NodeName) → AreProblems (topology_of n) problems → AreNamed n ids problems
       → HaveManyVisits n order ids → HasManyEntries (topology_of n)
-  many_entries ids problems are named many = record {
-    problems = problems;
-    problems_are = are;
-    sizes = map (λ (visits : Vec Visit). length visits.items) many.trees;
-    each = λ i size at.
-        let tree = mapped_at (λ (visits : Vec Visit). length visits.items) many.trees i size at in
-        let from = many.each i tree.0 tree.1 in
-        let p = zip_right (IsNodeNamed n) ids problems named i from.0 from.1 in
-        (p.0, p.1, subst (IsReach (topology_of n) p.0) tree.2 (tree_counted from.0 p.0 p.2 tree.0.items from.2));
-    many = let e = sum_mapped (λ (visits : Vec Visit). length visits.items) many.trees in let f = many.many in omega arith;
-  }
+  many_entries ids problems are named many =
+      let count : Vec Visit → ℕ = λ visits. length visits.items in
+      let front = front_zipped (IsReach (topology_of n)) problems (map count many.trees) (λ i size at.
+      let tree = mapped_at count many.trees i size at in
+      let from = many.each i tree.0 tree.1 in
+      let p = zip_right (IsNodeNamed n) ids problems named i from.0 from.1 in
+      (p.0, p.1, subst (IsReach (topology_of n) p.0) tree.2 (tree_counted from.0 p.0 p.2 tree.0.items from.2)))
+      in
+      record {
+        first = front.first;
+        others = front.others;
+        problems_are = subst (AreProblems (topology_of n)) front.all are;
+        total = visits_in many.trees;
+        together = record { sizes = map count many.trees; sizes_are = front.each; total_is = sum_mapped count many.trees };
+        many = many.many;
+      }
 
   -- why there are no trees is why there is no book
   pub prevented : (ids : List NodeId) (problems : List NodeName) → AreProblems (topology_of n) problems → AreNamed n ids problems
@@ -108,6 +113,15 @@ module _ (n : Numbered) (whole : IsWhole n) (order : Order) (ord : IsOrderOf n o
   module _ (used : List Bool) (made : Numbering) (numbering : IsNumbering n order used made) where
     abbrev By : ℕ → ℕ → Type 0
     By r m = slice_get made.numbers.items r ≡ Some m
+
+    -- the visits of a tree have ranks that numbers stand at
+    pub tree_below : (id : NodeId) (root : NodeName) → IsNodeNamed n id root → (visits : List Visit) → IsTreeFrom n order id visits
+        → AreBelow (length made.numbers.items) visits
+    tree_below id root named visits tree i v at =
+        let x = visit_named n whole order ord tree.rank root (rank_named id tree.rank root tree.ranked named) visits tree.is i v at in
+        let low = slice_get_within order.nodes.items v.node x.1.node x.1.at in
+        let e = numbering.size in
+        omega arith
 
     module _ (id : NodeId) (root : NodeName) (named : IsNodeNamed n id root) (visits : List Visit) (tree : IsTreeFrom n order id visits)
         (seen : (r : ℕ) → IsVisited visits r → Has used r) (span : Span) (are : AllZip (IsEntryOf made.numbers.items) visits span.entries) where
@@ -128,14 +142,6 @@ module _ (n : Numbered) (whole : IsWhole n) (order : Order) (ord : IsOrderOf n o
           visited_listed n whole order ord tree.rank root (rank_named id tree.rank root tree.ranked named) visits tree.is made.names By
           (λ r a b at_a at_b. same_Some a b (sym at_a ∙ at_b)) numbered
           (λ a b i j lt v at_a at_b. numbering.rising a b i j lt (seen b v) at_a at_b) span by r x v at
-
-      -- the visits have ranks that numbers stand at
-      pub visits_below : AreBelow (length made.numbers.items) visits
-      visits_below i v at =
-          let x = visit_named n whole order ord tree.rank root (rank_named id tree.rank root tree.ranked named) visits tree.is i v at in
-          let low = slice_get_within order.nodes.items v.node x.1.node x.1.at in
-          let e = numbering.size in
-          omega arith
 
     pub names_live : AreNodes (topology_of n) made.names
     names_live = record {
@@ -164,13 +170,10 @@ module _ (n : Numbered) (whole : IsWhole n) (order : Order) (ord : IsOrderOf n o
     module _ (ids : List NodeId) (roots : List NodeName) (named : AreNamed n ids roots) (trees : List (Vec Visit)) (grown : AllZip (IsTreeOf n order) ids trees)
         (seen : (rank : ℕ) → IsVisitedIn trees rank → Has used rank) where
       pub all_below : AreAllBelow (length made.numbers.items) trees
-      all_below i visits at j v there =
+      all_below i visits at =
           let id = zip_left (IsTreeOf n order) ids trees grown i visits at in
           let root = zip_right (IsNodeNamed n) ids roots named i id.0 id.1 in
-          let x = visit_named n whole order ord id.2.rank root.0 (rank_named id.0 id.2.rank root.0 id.2.ranked root.2) visits.items id.2.is j v there in
-          let low = slice_get_within order.nodes.items v.node x.1.node x.1.at in
-          let e = numbering.size in
-          omega arith
+          tree_below id.0 root.0 root.2 visits.items id.2
 
       module _ (spans : List Span) (are : AllZip (IsSpanFor made.numbers.items) trees spans) where
         pub all_canonical : AllZip (IsCanonicalSpan (topology_of n) made.names) roots spans
@@ -245,26 +248,27 @@ few_entries t names problems spans are canonical few = (
   record {
     problems = problems;
     problems_are = are;
-    sizes = map (λ (s : Span). length s.entries) spans;
-    sizes_are = reaches t names problems spans canonical;
-    total_is = sum_mapped (λ (s : Span). length s.entries) spans;
+    together = record {
+      sizes = map (λ (s : Span). length s.entries) spans;
+      sizes_are = reaches t names problems spans canonical;
+      total_is = sum_mapped (λ (s : Span). length s.entries) spans;
+    };
   },
   few,
 )
 
 -- what two calls have marked
-pub used_both : (order : Order) (ids : List NodeId) (trees : List (Vec Visit)) (room : ℕ) (used0 used1 used2 : List Bool) → used0 ≡ replicate room false
-    → ((r : ℕ) → Has used1 r ↔ (Has used0 r ⊎ IsRankIn order ids r)) → ((r : ℕ) → Has used2 r ↔ (Has used1 r ⊎ IsVisitedIn trees r))
-    → (r : ℕ) → Has used2 r ↔ (IsRankIn order ids r ⊎ IsVisitedIn trees r)
-used_both order ids trees room used0 used1 used2 wiped first second r = (
+pub used_both : (P Q : ℕ → Type 0) (room : ℕ) (used0 used1 used2 : List Bool) → used0 ≡ replicate room false
+    → ((r : ℕ) → Has used1 r ↔ (Has used0 r ⊎ P r)) → ((r : ℕ) → Has used2 r ↔ (Has used1 r ⊎ Q r)) → (r : ℕ) → Has used2 r ↔ (P r ⊎ Q r)
+used_both P Q room used0 used1 used2 wiped first second r = (
   λ has. elim ((second r).0 has) [
     | inl had ↦ elim ((first r).0 had) [
       | inl start ↦ absurd (nothing room r (subst (λ row. Has row r) wiped start))
-      | inr in_ids ↦ inl in_ids
+      | inr by_first ↦ inl by_first
     ]
-    | inr visited ↦ inr visited
+    | inr by_second ↦ inr by_second
   ],
-  λ either. (second r).1 (elim either [ inl in_ids ↦ inl ((first r).1 (inr in_ids)) | inr visited ↦ inr visited ]),
+  λ either. (second r).1 (elim either [ inl by_first ↦ inl ((first r).1 (inr by_first)) | inr by_second ↦ inr by_second ]),
 )
 
 -- all together

@@ -6,3 +6,5 @@ pub mod Reaching
 pub mod Books
 pub mod Ordered
 pub mod Collected
+pub mod Thins
+pub mod TypedLinks

@@ -1,5 +1,5 @@
 -- Trees of visits from the nodes of a topology.
-use Rattle.std.specs.Prelude.{◌≡◌, ⊤, ℕ, ◌<◌, List, Some, length, slice_get}
+use Rattle.std.specs.Prelude.{◌≡◌, ⊤, ℕ, ◌<◌, List, Option, None, Some, length, slice_get}
 use Rattle.std.specs.List.{sum_by}
 use Rattle.std.specs.Global.{Vec}
 use Rattle.cb_nodes.specs.declared.id.NodeId.{NodeId}
@@ -22,6 +22,18 @@ pub record IsTreeFrom (n : Numbered) (order : Order) (id : NodeId) (visits : Lis
 
 abbrev pub IsTreeOf : Numbered → Order → NodeId → Vec Visit → Type 0
 IsTreeOf n order id visits = IsTreeFrom n order id visits.items
+
+-- the tree of the node, where there is one
+abbrev pub IsSideTree : Numbered → Order → Option NodeId → Option (Vec Visit) → Type 0
+IsSideTree n order None None = ⊤
+IsSideTree n order None (Some visits) = ⊥
+IsSideTree n order (Some id) None = ⊥
+IsSideTree n order (Some id) (Some visits) = IsTreeOf n order id visits
+
+-- the tree that may be there has the node of this rank
+abbrev pub IsVisitedBy : Option (Vec Visit) → ℕ → Type 0
+IsVisitedBy None rank = ⊥
+IsVisitedBy (Some visits) rank = IsVisited visits.items rank
 
 -- some of these trees has the node of this rank
 pub record IsVisitedIn (trees : List (Vec Visit)) (rank : ℕ) : Type 0 where

@@ -1,10 +1,12 @@
 //! Canonical certificates, by a search from each problem.
 //!
-//! `book(alloc, graph, &columns, distance, steps)` makes the one certificate that over these columns the groups are so far apart.
-//! Whether that is so isn't asked: who checks the certificate finds out.
+//! `book(alloc, graph, &columns, distance, steps)` makes the one certificate that over these columns the groups are so far apart,
+//! and `thin(alloc, graph, first, second, wanted, distance, steps)` the one that two groups are too close. Whether that is so isn't
+//! asked: who checks the certificate finds out.
 //!
 //! Nodes go by their ranks, their places among all nodes in order (`order`). From each problem cb_breadth gives a tree of visits
-//! (`trees`); the nodes that are used get numbers (`numbering`), and the visits become entries (`spans`).
+//! (`trees`, and `sides` for the group that may be quiet); the nodes that are used get numbers (`numbering`), and the visits become
+//! entries (`spans`).
 //!
 //! Read `src/made.rt` first, then `specs/Made.antt`. All but these two may be changed freely.
 #![tactic(auto)]
@@ -13,8 +15,14 @@ mod fault;
 mod made;
 mod numbering;
 mod order;
+mod sides;
 mod spans;
 mod trees;
 
 pub use fault::SpanFault;
-pub use made::book;
+pub use made::{book, thin};
+
+#[cfg(test)]
+mod links;
+#[cfg(test)]
+mod tests;

@@ -1,20 +1,22 @@
 //! Canonical certificates.
 ghost use Rattle.std.specs.Prelude.{◌≡◌, IfOk, OnOk, IfErr};
 ghost use Rattle.cb_topo.specs.Numbered.{topology_of};
-ghost use Rattle.cb_span.specs.Made.{AreColumnsAt, IsBookFor, HasFewEntries, PreventsBook};
+ghost use Rattle.cb_claim.specs.Totals.{HasFewEntries};
+ghost use Rattle.cb_span.specs.Made.{AreColumnsAt, IsBookFor, PreventsBook, IsSideAt, IsProblemAt, IsThinFor};
 
 use crate::fault::SpanFault;
 use crate::numbering::numbering_of;
 use crate::order::{order_of, use_all};
-use crate::spans::{numbers_of, spans_of};
-use crate::trees::trees;
+use crate::sides::{side_of, side_tree};
+use crate::spans::{numbers_of, span_of, spans_of};
+use crate::trees::{tree_from, trees};
 use cb_bits::Row;
 use cb_cert::Certificate;
 use cb_graph::Graph;
 use cb_model::List;
 use cb_nodes::NodeId;
 use cb_steps::Steps;
-use std::alloc::Global;
+use std::alloc::{AllocError, Global};
 use std::sync::ledger::Ledger;
 
 /// The canonical book that over these columns the groups are so far apart.
@@ -44,5 +46,37 @@ pub fn book<L: Ledger>(
         nodes: numbering.names,
         columns,
         spans,
+    })
+}
+
+/// The canonical certificate that the groups of these problems are so far apart, which is less than is wanted. Without a first
+/// problem the quiet group is meant.
+pub fn thin<L: Ledger>(
+    alloc: Global,
+    graph: &mut Graph,
+    first: Option<NodeId>,
+    second: NodeId,
+    wanted: u32,
+    distance: u32,
+    steps: &mut Steps<L>,
+) -> Result<Certificate, AllocError>
+    requires first { IsSideAt graph.old first }
+    requires second { IsProblemAt graph.old second }
+    ensures same { graph.new ≡ graph.old }
+    ensures made { IfOk result (IsThinFor graph.old first second wanted distance) }
+{
+    let order = order_of(alloc, graph.topology())?;
+    let mut used = Row::zeroed(alloc, order.nodes.len())?;
+    let side = side_tree(alloc, graph, &order, first, &mut used, steps)?;
+    let tree = tree_from(alloc, graph, &order, second, &mut used, steps)?;
+    let numbering = numbering_of(alloc, graph.topology(), &order, &used)?;
+    let first = side_of(alloc, &side, &numbering.numbers)?;
+    let second = span_of(alloc, &tree, &numbering.numbers)?;
+    Ok(Certificate::Thin {
+        wanted,
+        distance,
+        nodes: numbering.names,
+        first,
+        second,
     })
 }

@@ -6,7 +6,8 @@ use Rattle.cb_network.specs.Nodes.{AreProblems}
 use Rattle.cb_network.specs.Sound.{Sound}
 use Rattle.cb_topo.specs.Numbered.{Numbered, topology_of, AreNamed, IsWhole}
 use Rattle.cb_span.specs.Made.{PreventsBook}
-use Rattle.cb_span.specs.Orders.{IsOrderOf}
+use Rattle.cb_span.specs.Orders.{IsOrderOf, IsRankIn}
+use Rattle.cb_span.specs.Searched.{IsVisitedIn}
 use Rattle.cb_span.specs.Numberings.{IsNumbering, IsSpanFor, IsNumberOf, AreAllBelow}
 use Rattle.cb_span.proofs.Books.{named_ranked, used_both, all_below, book_made, book_few, prevented, passed_on}
 use Rattle.cb_span.proofs.made.book.Goals as goal
@@ -50,7 +51,7 @@ spans_of-requires g c =
     let trees = c.in_ok-trees.trees in
     let used = c.trees.new.used in
     let made = c.in_ok-numbering.numbering in
-    let used_is = used_both order c.args.columns.now trees c.len.result c.in_ok-used.used c.use_all.new.used used c.in_ok-used.ensures c.use_all.ensures.used
+    let used_is = used_both (IsRankIn order c.args.columns.now) (IsVisitedIn trees) c.len.result c.in_ok-used.used c.use_all.new.used used c.in_ok-used.ensures c.use_all.ensures.used
     c.in_ok-trees.ensures.used in
     let numbering = subst (λ (m : Numbered). IsNumbering m order used made) (c.topology-3.ensures ∙ c.trees.ensures.same) c.in_ok-numbering.ensures in
     subst (λ (xs : List ℕ). AreAllBelow (length xs) trees) (sym c.deref.ensures.value)
@@ -82,7 +83,7 @@ returns-clause-made g c =
     let trees = c.in_ok-trees.trees in
     let used = c.trees.new.used in
     let made = c.in_ok-numbering.numbering in
-    let used_is = used_both order c.args.columns.now trees c.len.result c.in_ok-used.used c.use_all.new.used used c.in_ok-used.ensures c.use_all.ensures.used
+    let used_is = used_both (IsRankIn order c.args.columns.now) (IsVisitedIn trees) c.len.result c.in_ok-used.used c.use_all.new.used used c.in_ok-used.ensures c.use_all.ensures.used
     c.in_ok-trees.ensures.used in
     let numbering = subst (λ (m : Numbered). IsNumbering m order used made) (c.topology-3.ensures ∙ c.trees.ensures.same) c.in_ok-numbering.ensures in
     let sound = subst (λ (m : Numbered). Sound (topology_of m)) c.topology.ensures c.in_ok-order.ensures.sound in
@@ -104,7 +105,7 @@ returns-clause-few g c =
     let trees = c.in_ok-trees.trees in
     let used = c.trees.new.used in
     let made = c.in_ok-numbering.numbering in
-    let used_is = used_both order c.args.columns.now trees c.len.result c.in_ok-used.used c.use_all.new.used used c.in_ok-used.ensures c.use_all.ensures.used
+    let used_is = used_both (IsRankIn order c.args.columns.now) (IsVisitedIn trees) c.len.result c.in_ok-used.used c.use_all.new.used used c.in_ok-used.ensures c.use_all.ensures.used
     c.in_ok-trees.ensures.used in
     let numbering = subst (λ (m : Numbered). IsNumbering m order used made) (c.topology-3.ensures ∙ c.trees.ensures.same) c.in_ok-numbering.ensures in
     let sound = subst (λ (m : Numbered). Sound (topology_of m)) c.topology.ensures c.in_ok-order.ensures.sound in
