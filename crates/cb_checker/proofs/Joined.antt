@@ -1,6 +1,7 @@
 -- Checks for the items of a list, one after another.
 use Rattle.std.proofs.Common.{◌≡◌, ℕ, zero, suc, ◌+◌, ◌-◌, ◌<◌, ◌≤◌, List, [], ◌∷◌, length, get_or, map, refl, sym, ap, subst, ◌∙◌, Some, arith}
-use Rattle.std.specs.Prelude.{Err, slice_get}
+use Rattle.std.specs.Prelude.{Result, Ok, Err, slice_get}
+use Rattle.std.specs.Result.{IsErrAnd}
 use Rattle.std.specs.List.{All, flat_map, range_with_len}
 use Rattle.std.proofs.lemmas.List.FromFn.{length-range_with_len, get_or-range_with_len}
 use Rattle.std.proofs.lemmas.List.Elements.{All-nil}
@@ -14,6 +15,11 @@ use Rattle.cb_claim.proofs.Stages.{passed_go_on, failed_stop}
 
 pub all_from : {X : Type 0} (P : X → Type 0) (xs : List X) → ((i : ℕ) (x : X) → slice_get xs i ≡ Some x → P x) → All P xs
 all_from P xs each = λ i d low. each i (get_or xs i d) (slice_get-get_or xs i d low)
+
+-- an error that was passed on is the one that came
+pub exit : {X : Type 0} (P : Result X Rejected → Type 0) (result : Result X Rejected) (err : Rejected) → IsErrAnd result (λ x. x ≡ err) → P (Err err) → P result
+exit P (Ok x) err is p = absurd is
+exit P (Err y) err is p = subst (λ e. P (Err e)) (sym is) p
 
 pub range_there : (a n i : ℕ) → i < n → slice_get (range_with_len a n) i ≡ Some (a + i)
 range_there a n i low =
@@ -102,9 +108,9 @@ module _ (t : Topology) (c : Certificate) where
       let e : a + (k - a) ≡ k = omega arith in
       flat_fails f (range_with_len a n) (k - a) k (range_there a n (k - a) (omega arith) ∙ ap Some e)
       (λ j y less at.
-          let is = range_at a n j y at in
-          let here = is.1 in
-          before y (omega arith) (omega arith))
+      let is = range_at a n j y at in
+      let here = is.1 in
+      before y (omega arith) (omega arith))
       told failed
 
   pub range_passes : (f : ℕ → List Check) (a n : ℕ) → ((k : ℕ) → a ≤ k → k < a + n → All (Passes t c) (f k))

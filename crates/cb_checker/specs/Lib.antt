@@ -1,3 +1,6 @@
 pub mod Known
 pub mod Firsts
 pub mod Columns
+pub mod Listed
+pub mod Spans
+pub mod Missing

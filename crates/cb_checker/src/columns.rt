@@ -10,11 +10,7 @@ use cb_nodes::NodeId;
 use cb_topo::Topology;
 
 /// Checks the columns of a certificate, in order.
-pub fn check_columns(
-    topology: &Topology,
-    ids: &[NodeId],
-    columns: &[u32],
-) -> Result<(), Rejected>
+pub fn check_columns(topology: &Topology, ids: &[NodeId], columns: &[u32]) -> Result<(), Rejected>
     requires live { AreLive topology.now ids.now }
     requires few { length columns.now + 1 < 4294967296 }
     ensures judges { JudgesColumns topology.now ids.now columns.now result }

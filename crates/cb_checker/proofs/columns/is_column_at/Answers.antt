@@ -25,8 +25,7 @@ pub returns-else-place-eq0 : goal.returns-else-place-eq0
 returns-else-place-eq0 c =
     let columns = c.args.columns.now in
     let place = c.args.place in
-    let number = slice_index_or columns place 0 in
-    (
+    let number = slice_index_or columns place 0 in (
       λ less. record {
         number = number;
         id = c.in-Some.id;
