@@ -5,3 +5,7 @@ pub mod Placing
 pub mod Rooted
 pub mod Entering
 pub mod Closing
+pub mod Spanning
+pub mod Claiming
+pub mod Reading
+pub mod Booking

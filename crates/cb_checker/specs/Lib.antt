@@ -4,3 +4,8 @@ pub mod Columns
 pub mod Listed
 pub mod Spans
 pub mod Missing
+pub mod Codes
+pub mod Books
+pub mod Places
+pub mod Claims
+pub mod Verdicts
