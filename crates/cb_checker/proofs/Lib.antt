@@ -9,3 +9,4 @@ pub mod Spanning
 pub mod Claiming
 pub mod Reading
 pub mod Booking
+pub mod Siding

@@ -9,3 +9,4 @@ pub mod Books
 pub mod Places
 pub mod Claims
 pub mod Verdicts
+pub mod Pairs

@@ -10,6 +10,7 @@ mod entries;
 mod known;
 mod marks;
 mod nodes;
+mod pair;
 mod places;
 mod root;
 mod sides;
