@@ -10,3 +10,4 @@ pub mod Claiming
 pub mod Reading
 pub mod Booking
 pub mod Siding
+pub mod Thinning

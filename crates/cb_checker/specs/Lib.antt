@@ -10,3 +10,4 @@ pub mod Places
 pub mod Claims
 pub mod Verdicts
 pub mod Pairs
+pub mod Thin
