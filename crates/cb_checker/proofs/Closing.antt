@@ -1,0 +1,275 @@
+-- Whether all successors are listed, by numbers and by names.
+use Rattle.std.proofs.Common.{◌≡◌, ◌≢◌, ◌↔◌, ◌⊎◌, inl, inr, ℕ, ◌+◌, ◌-◌, ◌<◌, ◌≤◌, ◌&&◌, not, List, [], ◌∷◌, Bool, true, false, length, replicate, map, refl, sym, ap, subst, ◌∙◌, Option, None, Some, arith}
+use Rattle.std.specs.Prelude.{Result, Ok, Err, IfOk, slice_get, slice_index_or}
+use Rattle.std.specs.List.{All}
+use Rattle.std.specs.declared.cmp.Ordering.TheVariants.{Less, Equal, Greater}
+use Rattle.std.specs.Ordering.{ordering_reverse}
+use Rattle.std.proofs.lemmas.Bool.{false≢true, cases_lt, cases_order}
+use Rattle.std.proofs.lemmas.List.{get_or_past, length-replicate}
+use Rattle.std.proofs.lemmas.Option.{same_Some, slice_get_within}
+use Rattle.cb_model.specs.declared.node.NodeName.{NodeName}
+use Rattle.cb_model.specs.NodeOrder.{node_cmp}
+use Rattle.cb_model.proofs.Rising.{node_cmp_total, node_cmp_exact, node_strict}
+use Rattle.cb_bits.specs.Bits.{without}
+use Rattle.cb_bits.proofs.NextOnes.{without_at}
+use Rattle.cb_network.specs.Causes.{Edge}
+use Rattle.cb_network.specs.Nodes.{IsNodeOf}
+use Rattle.cb_cert.specs.declared.certificate.Certificate.{Certificate}
+use Rattle.cb_cert.specs.declared.certificate.Span.{Span}
+use Rattle.cb_cert.specs.Format.{nodes_of}
+use Rattle.cb_claim.specs.declared.verdict.Rejected.TheVariants.{NotClosed}
+use Rattle.cb_claim.specs.Spans.{IsListedAt, Lists}
+use Rattle.cb_claim.specs.Checks.{closed_check, places, Passes, Judges, IsClosedAt, IsLeastOutside}
+use Rattle.cb_nodes.specs.declared.id.NodeId.{NodeId}
+use Rattle.cb_reach.specs.Rows.{Has}
+use Rattle.cb_topo.specs.Numbered.{Numbered, topology_of, IsNodeNamed}
+use Rattle.cb_graph.specs.Edges.{EdgeAt, number}
+use Rattle.cb_graph.proofs.Chains.{named_once}
+use Rattle.cb_checker.specs.Known.{IsIdAt, IsKnown}
+use Rattle.cb_checker.specs.Listed.{IsPlaced, ArePlaced, IsAmong, AreMarked}
+use Rattle.cb_checker.specs.declared.marks.Marks.{Marks}
+use Rattle.cb_reach.proofs.Marks.{nothing}
+use Rattle.cb_checker.specs.Missing.{IsLeastOf, IsLeastIfAny, IsMissing, IsOutside, IsLesser}
+use Rattle.cb_checker.specs.Spans.{asked}
+use Rattle.cb_checker.proofs.Joined.{fails_here, place_fails, place_passes}
+use Rattle.cb_checker.proofs.Placing.{listed_by, placed_by, one_placed, placed_there}
+
+-- an edge ends at a node
+ends_at_node : (n : Numbered) (p q : NodeName) → Edge (topology_of n) p q → IsNodeOf (topology_of n) q
+ends_at_node n p q edge = (edge.has.row.effect, edge.effect)
+
+-- what isn't lacking is there
+pub has_unless : (row : List Bool) (k : ℕ) → ¬ ¬ Has row k → Has row k
+has_unless row k not_not = elim (slice_index_or row k false) as (λ b. slice_index_or row k false ≡ b → Has row k) [
+  | true ↦ λ is. is
+  | false ↦ λ is. absurd (not_not (λ has. false≢true (sym is ∙ has)))
+] refl
+
+outside_by : (a b : Bool) → (a && not b) ≡ true → (a ≡ true) × (b ≡ true → ⊥)
+outside_by true true e = absurd (cc)
+outside_by true false e = (refl, λ f. false≢true f)
+outside_by false b e = absurd (cc)
+
+inside_by : (a b : Bool) → (a && not b) ≡ false → a ≡ true → (b ≡ true → ⊥) → ⊥
+inside_by true true e has lacks = lacks refl
+inside_by true false e has lacks = absurd (cc)
+inside_by false b e has lacks = absurd (false≢true has)
+
+-- what doesn't stand before a name, which doesn't stand after another, doesn't stand before the other
+not_below : (least name other : NodeName) → node_cmp least name ≢ Less → node_cmp other least ≢ Less → node_cmp other name ≢ Less
+not_below least name other not_less not_less' less =
+    elim (node_cmp least other) as (λ o. node_cmp least other ≡ o → ⊥) [
+      | Less ↦ λ is. not_less (node_cmp_total.trans least other name is less)
+      | Equal ↦ λ is. not_less (subst (λ x. node_cmp x name ≡ Less) (sym (node_cmp_exact least other is)) less)
+      | Greater ↦ λ is. not_less' (node_cmp_total.antisymm other least ∙ ap ordering_reverse is)
+    ] refl
+
+-- of the first placed nodes all successors are listed
+abbrev pub AreClosedTo : Numbered → List NodeId → List Bool → ℕ → Type 0
+AreClosedTo n placed listed to = (place : ℕ) (id : NodeId) → place < to → slice_get placed place ≡ Some id → (k : ℕ) → ¬ IsMissing n id.0 listed k
+
+module _ (n : Numbered) (ids : List NodeId) (c : Certificate) (known : IsKnown n ids c) (before : ℕ) (root : Option NodeName) (span : Span)
+    (placed : List NodeId) (are : ArePlaced ids span (length span.entries) placed) (listed : List Bool)
+    (each : (k : ℕ) → Has listed k ↔ IsAmong placed k) where
+  -- what is listed by its name is listed by its number
+  has_listed : (x : NodeName) (k : ℕ) → IsNodeNamed n (number k) x → Lists (nodes_of c) span x → Has listed k
+  has_listed x k named l =
+      let p = placed_by n ids c known span l.0 x l.1 in
+      let low = slice_get_within span.entries l.0 l.1.entry l.1.is in
+      let there = placed_there ids span (length span.entries) placed are l.0 low in
+      let one : there.0 ≡ p.0 = one_placed ids span l.0 there.0 p.0 there.2 p.1 in
+      let two : p.0 ≡ number k = known.whole.one p.0 (number k) x p.2 named in
+      (each k).1 (l.0, subst (λ (i : NodeId). slice_get placed l.0 ≡ Some i) (one ∙ two) there.1)
+
+  -- and the other way round
+  lists_listed : (x : NodeName) (k : ℕ) → IsNodeNamed n (number k) x → Has listed k → Lists (nodes_of c) span x
+  lists_listed x k named has =
+      let among = (each k).0 has in
+      let p = listed_by n ids c known span among.0 (number k) (are.each among.0 (number k) among.1) in
+      (among.0, subst (IsListedAt (nodes_of c) span among.0) (named_once n (number k) p.0 x p.2 named) p.1)
+
+  pub listed_names : (x : NodeName) (k : ℕ) → IsNodeNamed n (number k) x → Has listed k ↔ Lists (nodes_of c) span x
+  listed_names x k named = (lists_listed x k named, has_listed x k named)
+
+  closed_here : (place : ℕ) (id : NodeId) → slice_get placed place ≡ Some id → ((k : ℕ) → ¬ IsMissing n id.0 listed k)
+      → Passes (topology_of n) c (closed_check (asked before root span) place)
+  closed_here place id at none = λ p q at_p edge.
+      let there = placed_by n ids c known span place p at_p in
+      let one : there.0 ≡ id = one_placed ids span place there.0 id there.1 (are.each place id at) in
+      let to = known.whole.named q (ends_at_node n p q edge) in
+      let led : EdgeAt n id.0 to.0.0 =
+      record { from = p; to = q; from_is = subst (λ (i : NodeId). IsNodeNamed n i p) one there.2; to_is = to.1; edge = edge }
+      in
+      lists_listed q to.0.0 to.1 (has_unless listed to.0.0 (λ lacks. none to.0.0 (led, lacks)))
+
+  pub all_closed : AreClosedTo n placed listed (length placed) → All (Passes (topology_of n) c) (map (closed_check (asked before root span)) (places span.entries))
+  all_closed none =
+      let size = are.count in
+      place_passes (topology_of n) c (closed_check (asked before root span)) span.entries (λ k low.
+      let there = placed_there ids span (length span.entries) placed are k low in
+      closed_here k there.0 there.1 (none k there.0 (omega arith) there.1))
+
+  pub not_closed : (place : ℕ) (id : NodeId) (name : NodeName) → slice_get placed place ≡ Some id → AreClosedTo n placed listed place
+      → IsLeastOf n (IsMissing n id.0 listed) name
+      → Judges (topology_of n) c (map (closed_check (asked before root span)) (places span.entries)) (Err (NotClosed (before + place + 1) name))
+  not_closed place id name at earlier least =
+      let t = topology_of n in
+      let size = are.count in
+      let low : place < length span.entries = (let within = slice_get_within placed place id at in omega arith) in
+      let first = listed_by n ids c known span place id (are.each place id at) in
+      let led = least.is.0 in
+      let from_is : led.from ≡ first.0 = named_once n id led.from first.0 led.from_is first.2 in
+      let to_is : led.to ≡ name = named_once n (number least.node) led.to name led.to_is least.named in
+      let edge : Edge t first.0 name = subst (λ x. Edge t x name) from_is (subst (λ y. Edge t led.from y) to_is led.edge) in
+      let outside : ¬ Lists (nodes_of c) span name = λ l. least.is.1 (has_listed name least.node least.named l) in
+      let least_name : (other : NodeName) → Edge t first.0 other → ¬ Lists (nodes_of c) span other → node_cmp other name ≢ Less =
+      λ other to_other out.
+      let to = known.whole.named other (ends_at_node n first.0 other to_other) in
+      let led_other : EdgeAt n id.0 to.0.0 = record { from = first.0; to = other; from_is = first.2; to_is = to.1; edge = to_other } in
+      least.least to.0.0 other (led_other, λ has. out (lists_listed other to.0.0 to.1 has)) to.1
+      in
+      let is : IsLeastOutside t (nodes_of c) span place name =
+      record { node = first.0; is = first.1; edge = edge; outside = outside; least = least_name }
+      in
+      place_fails t c (closed_check (asked before root span)) span.entries place low (λ j less.
+      let there = placed_there ids span (length span.entries) placed are j (omega arith) in
+      closed_here j there.0 there.1 (earlier j there.0 less there.1))
+      (NotClosed (before + place + 1) name)
+      (fails_here t c (closed_check (asked before root span) place) [] (NotClosed (before + place + 1) name)
+      (λ closed. outside (closed first.0 name first.1 edge)) (name, is, refl))
+
+pub closed_more : (n : Numbered) (placed : List NodeId) (listed : List Bool) (to : ℕ) (id : NodeId) → AreClosedTo n placed listed to → slice_get placed to ≡ Some id
+    → ((k : ℕ) → ¬ IsMissing n id.0 listed k) → AreClosedTo n placed listed (to + 1)
+closed_more n placed listed to id old at here = λ place other low there. elim (cases_lt place to) [
+  | inl less ↦ old place other less there
+  | inr le ↦
+      let last : place ≡ to = omega arith in
+      let same : id ≡ other = same_Some id other (sym at ∙ subst (λ k. slice_get placed k ≡ Some other) last there) in
+      subst (λ (x : NodeId). (k : ℕ) → ¬ IsMissing n x.0 listed k) same here
+]
+
+-- the least so far of the nodes that are so
+abbrev pub IsLeastTo : Numbered → (ℕ → Type 0) → ℕ → Option NodeName → Type 0
+IsLeastTo n P to least = IsLeastIfAny n (λ k. (k < to) × P k) least
+
+-- one node more
+pub least_more : (n : Numbered) (P : ℕ → Type 0) (from node : ℕ) (least : Option NodeName) (name lesser : NodeName) → IsLeastTo n P from least
+    → from ≤ node → ((k : ℕ) → from ≤ k → k < node → ¬ P k) → P node → IsNodeNamed n (number node) name → IsLesser least name lesser
+    → IsLeastTo n P (node + 1) (Some lesser)
+least_more n P from node None name lesser none on first here named same = record {
+  node = node;
+  is = (omega arith, here);
+  named = subst (IsNodeNamed n (number node)) (sym same) named;
+  least = λ k other is named_k. elim (cases_order k node) [
+    | inl last ↦ λ less.
+        let one : other ≡ name = named_once n (number node) other name (subst (λ i. IsNodeNamed n (number i) other) last named_k) named in
+        let again = subst (λ x. node_cmp x lesser ≡ Less) (one ∙ sym same) less in
+        node_strict lesser lesser again again
+    | inr (inl below) ↦ elim (cases_lt k from) [
+      | inl early ↦ absurd (none k (early, is.1))
+      | inr late ↦ absurd (first k late below is.1)
+    ]
+    | inr (inr above) ↦ absurd (let low = is.0 in omega arith)
+  ];
+}
+least_more n P from node (Some least) name lesser old on first here named either = elim either [
+  | inl (same, less) ↦
+      let kept : IsLeastTo n P (node + 1) (Some least) = record {
+        node = old.node;
+        is = (let low = old.is.0 in omega arith, old.is.1);
+        named = old.named;
+        least = λ k other is named_k. elim (cases_order k node) [
+          | inl last ↦ λ below.
+              let one : other ≡ name = named_once n (number node) other name (subst (λ i. IsNodeNamed n (number i) other) last named_k) named in
+              node_strict least name less (subst (λ x. node_cmp x least ≡ Less) one below)
+          | inr (inl below) ↦ elim (cases_lt k from) [
+            | inl early ↦ old.least k other (early, is.1) named_k
+            | inr late ↦ absurd (first k late below is.1)
+          ]
+          | inr (inr above) ↦ absurd (let low = is.0 in omega arith)
+        ];
+      } in
+      subst (λ x. IsLeastTo n P (node + 1) (Some x)) (sym same) kept
+  | inr (same, not_less) ↦
+      let now : IsLeastTo n P (node + 1) (Some name) = record {
+        node = node;
+        is = (omega arith, here);
+        named = named;
+        least = λ k other is named_k. elim (cases_order k node) [
+          | inl last ↦ λ less.
+              let one : other ≡ name = named_once n (number node) other name (subst (λ i. IsNodeNamed n (number i) other) last named_k) named in
+              let again = subst (λ x. node_cmp x name ≡ Less) one less in
+              node_strict name name again again
+          | inr (inl below) ↦ elim (cases_lt k from) [
+            | inl early ↦ λ less. not_below least name other not_less (old.least k other (early, is.1) named_k) less
+            | inr late ↦ absurd (first k late below is.1)
+          ]
+          | inr (inr above) ↦ absurd (let low = is.0 in omega arith)
+        ];
+      } in
+      subst (λ x. IsLeastTo n P (node + 1) (Some x)) (sym same) now
+]
+
+-- all nodes were looked at
+pub least_all : (n : Numbered) (P : ℕ → Type 0) (to : ℕ) (least : Option NodeName) → IsLeastTo n P to least → ((k : ℕ) → to ≤ k → ¬ P k)
+    → IsLeastIfAny n P least
+least_all n P to None none past = λ k is. elim (cases_lt k to) [
+  | inl low ↦ none k (low, is)
+  | inr high ↦ past k high is
+]
+least_all n P to (Some name) old past = record {
+  node = old.node;
+  is = old.is.1;
+  named = old.named;
+  least = λ k other is named_k. elim (cases_lt k to) [
+    | inl low ↦ old.least k other (low, is) named_k
+    | inr high ↦ absurd (past k high is)
+  ];
+}
+
+-- what is so for the same nodes has the same least one
+pub least_same : (n : Numbered) (P Q : ℕ → Type 0) → ((k : ℕ) → P k → Q k) → ((k : ℕ) → Q k → P k) → (least : Option NodeName) → IsLeastIfAny n P least → IsLeastIfAny n Q least
+least_same n P Q to back None none = λ k is. none k (back k is)
+least_same n P Q to back (Some name) old = record {
+  node = old.node;
+  is = to old.node old.is;
+  named = old.named;
+  least = λ k other is named_k. old.least k other (back k is) named_k;
+}
+
+-- what is left of the row is outside the other
+pub outside_at : (found listed : List Bool) → length found ≡ length listed → (k : ℕ) → slice_index_or (without found listed) k false ≡ true → IsOutside found listed k
+outside_at found listed same k is =
+    let e = sym (without_at found listed same k) ∙ is in
+    outside_by (slice_index_or found k false) (slice_index_or listed k false) e
+
+pub inside_at : (found listed : List Bool) → length found ≡ length listed → (k : ℕ) → slice_index_or (without found listed) k false ≡ false → ¬ IsOutside found listed k
+inside_at found listed same k is out =
+    let e = sym (without_at found listed same k) ∙ is in
+    inside_by (slice_index_or found k false) (slice_index_or listed k false) e out.0 out.1
+
+pub has_below : (row : List Bool) (k : ℕ) → Has row k → k < length row
+has_below row k has = elim (cases_lt k (length row)) [
+  | inl lt ↦ lt
+  | inr le ↦ absurd (false≢true (sym (get_or_past row k false le) ∙ has))
+]
+
+pub ok_weaker : {X E : Type 0} (P Q : X → Type 0) (result : Result X E) → ((x : X) → P x → Q x) → IfOk result P → IfOk result Q
+ok_weaker P Q (Ok x) to is = to x is
+ok_weaker P Q (Err e) to is = tt
+
+pub least_moved : (m n : Numbered) (i : ℕ) (listed other : List Bool) (least : Option NodeName) → m ≡ n → listed ≡ other
+    → IsLeastIfAny m (IsMissing m i listed) least → IsLeastIfAny n (IsMissing n i other) least
+least_moved m n i listed other least same rows is =
+    subst (λ row. IsLeastIfAny n (IsMissing n i row) least) rows (subst (λ (k : Numbered). IsLeastIfAny k (IsMissing k i listed) least) same is)
+
+pub forgot_marked : (n : Numbered) (old new : Marks) → AreMarked n old → new.placed.items ≡ [] → new.listed ≡ replicate (length old.listed) false
+    → new.found ≡ old.found → AreMarked n new
+forgot_marked n old new are none listed found = record {
+  room = ap length listed ∙ (length-replicate (length old.listed) false ∙ are.room);
+  spare = ap length found ∙ are.spare;
+  each = λ k. (
+    λ has. absurd (nothing (length old.listed) k (subst (λ row. Has row k) listed has)),
+    λ among. absurd (let at = subst (λ ids. slice_get ids among.0 ≡ Some (number k)) none among.1 in cc),
+  );
+}

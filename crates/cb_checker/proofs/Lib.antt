@@ -1,0 +1,13 @@
+pub mod Joined
+pub mod Naming
+pub mod Observed
+pub mod Placing
+pub mod Rooted
+pub mod Entering
+pub mod Closing
+pub mod Spanning
+pub mod Claiming
+pub mod Reading
+pub mod Booking
+pub mod Siding
+pub mod Thinning

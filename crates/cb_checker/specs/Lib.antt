@@ -1,0 +1,13 @@
+pub mod Known
+pub mod Firsts
+pub mod Columns
+pub mod Listed
+pub mod Spans
+pub mod Missing
+pub mod Codes
+pub mod Books
+pub mod Places
+pub mod Claims
+pub mod Verdicts
+pub mod Pairs
+pub mod Thin

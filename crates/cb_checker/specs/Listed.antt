@@ -1,0 +1,31 @@
+-- The nodes that the entries of a span list, by numbers.
+use Rattle.std.specs.Prelude.{◌≡◌, ◌↔◌, ℕ, List, length, Some, slice_get}
+use Rattle.cb_cert.specs.declared.certificate.Entry.{Entry}
+use Rattle.cb_cert.specs.declared.certificate.Span.{Span}
+use Rattle.cb_nodes.specs.declared.id.NodeId.{NodeId}
+use Rattle.cb_reach.specs.Rows.{Has}
+use Rattle.cb_topo.specs.Numbered.{Numbered}
+use Rattle.cb_graph.specs.Edges.{number}
+use Rattle.cb_checker.specs.declared.marks.Marks.{Marks}
+use Rattle.cb_checker.specs.Known.{IsIdAt}
+
+-- the entry at the place lists this node
+pub record IsPlaced (ids : List NodeId) (span : Span) (place : ℕ) (id : NodeId) : Type 0 where
+  pub entry : Entry
+  pub is : slice_get span.entries place ≡ Some entry
+  pub at : IsIdAt ids entry.node id
+
+-- the nodes that the first entries list, one by one
+pub record ArePlaced (ids : List NodeId) (span : Span) (to : ℕ) (placed : List NodeId) : Type 0 where
+  pub count : length placed ≡ to
+  pub each : (place : ℕ) (id : NodeId) → slice_get placed place ≡ Some id → IsPlaced ids span place id
+
+-- one of them has this number
+abbrev pub IsAmong : List NodeId → ℕ → Type 0
+IsAmong placed k = (place : ℕ) × (slice_get placed place ≡ Some (number k))
+
+-- the rows have a place for each number, and exactly the placed nodes are listed
+pub record AreMarked (n : Numbered) (marks : Marks) : Type 0 where
+  pub room : length marks.listed ≡ length n.nodes
+  pub spare : length marks.found ≡ length n.nodes
+  pub each : (k : ℕ) → Has marks.listed k ↔ IsAmong marks.placed.items k

@@ -1,0 +1,34 @@
+-- What the checks of a whole certificate come to.
+use Rattle.std.specs.Prelude.{◌≡◌, ◌≤◌, ℕ, List, length, Result}
+use Rattle.cb_model.specs.declared.node.NodeName.{NodeName}
+use Rattle.cb_network.specs.Nodes.{AreColumns, AreProblems}
+use Rattle.cb_network.specs.Sound.{symptom_limit}
+use Rattle.cb_cert.specs.declared.certificate.Certificate.TheVariants.{Book}
+use Rattle.cb_cert.specs.declared.certificate.Span.{Span}
+use Rattle.cb_claim.specs.declared.verdict.Accepted.{Accepted}
+use Rattle.cb_claim.specs.declared.verdict.Rejected.{Rejected}
+use Rattle.cb_claim.specs.Checks.{Judges, book_checks}
+use Rattle.cb_claim.specs.Verdicts.{Shows}
+use Rattle.cb_nodes.specs.declared.id.NodeId.{NodeId}
+use Rattle.cb_topo.specs.Numbered.{Numbered, topology_of, AreNamed, IsWhole}
+use Rattle.cb_checker.specs.declared.sides.Sides.{Sides}
+
+-- all problems and all columns of the topology, each in order
+pub record AreSidesOf (n : Numbered) (sides : Sides) : Type 0 where
+  pub problem_names : List NodeName
+  pub problems_are : AreProblems (topology_of n) problem_names
+  pub problems_named : AreNamed n sides.problems problem_names
+  pub column_names : List NodeName
+  pub columns_are : AreColumns (topology_of n) column_names
+  pub columns_named : AreNamed n sides.columns column_names
+  pub whole : IsWhole n
+  pub few : length sides.columns ≤ symptom_limit
+
+-- this is what all checks of the book come to, over the problems of these numbers
+abbrev pub JudgesBookOver : Numbered → List NodeId → List NodeName → List ℕ → List Span → ℕ → Result (Unit {0}) Rejected → Type 0
+JudgesBookOver n problems nodes numbers spans d result = (names : List NodeName) → AreProblems (topology_of n) names → AreNamed n problems names
+    → Judges (topology_of n) (Book d nodes numbers spans) (book_checks names nodes numbers spans) result
+
+-- this is what the book shows
+abbrev pub ShowsBookOver : Numbered → List NodeName → List ℕ → List Span → ℕ → Accepted → Type 0
+ShowsBookOver n nodes numbers spans d shown = Shows (topology_of n) (Book d nodes numbers spans) shown

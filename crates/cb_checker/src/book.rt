@@ -1,0 +1,78 @@
+//! A certificate for a book.
+ghost use Rattle.std.specs.Prelude.{◌≡◌, ◌<◌, ◌+◌, length, IfOk, OnOk};
+ghost use Rattle.cb_claim.specs.Checks.{IsGoodNode};
+ghost use Rattle.cb_claim.specs.Verdicts.{entries_of};
+ghost use Rattle.cb_topo.specs.Numbered.{topology_of, AreNamed};
+ghost use Rattle.cb_checker.specs.Firsts.{AreAll, JudgesNodes};
+ghost use Rattle.cb_checker.specs.Known.{ended};
+ghost use Rattle.cb_checker.specs.Verdicts.{AreSidesOf, JudgesBookOver, ShowsBookOver};
+
+use crate::claim::judge_book;
+use crate::columns::check_columns;
+use crate::known::ids_of;
+use crate::nodes::check_nodes;
+use crate::sides::Sides;
+use crate::spans::{check_count, check_spans};
+use cb_cert::Span;
+use cb_claim::{Accepted, Rejected};
+use cb_graph::Graph;
+use cb_model::{List, NodeName};
+use cb_nodes::NodeId;
+use cb_steps::Steps;
+use cb_topo::Topology;
+use std::alloc::Global;
+use std::sync::ledger::Ledger;
+
+/// Checks a book over the problems and the columns of the topology.
+pub fn check_book<L: Ledger>(
+    alloc: Global,
+    graph: &mut Graph,
+    sides: &Sides,
+    nodes: &[NodeName],
+    numbers: &[u32],
+    spans: &List<Span>,
+    distance: u32,
+    steps: &mut Steps<L>,
+) -> Result<Accepted, Rejected>
+    requires sides { AreSidesOf graph.old sides.now }
+    requires some { 0 < distance }
+    requires few { length nodes.now + length numbers.now + length spans.now + entries_of spans.now + 1 < 4294967296 }
+    ensures same { graph.new ≡ graph.old }
+    ensures judges { JudgesBookOver graph.old sides.now.problems nodes.now numbers.now spans.now distance (ended result) }
+    ensures shows { IfOk result (ShowsBookOver graph.old nodes.now numbers.now spans.now distance) }
+{
+    let ids = known(alloc, graph.topology(), nodes)?;
+    check_columns(graph.topology(), &ids, numbers)?;
+    let coded = check_spans(
+        alloc,
+        graph,
+        &ids,
+        &sides.problems,
+        &sides.columns,
+        spans,
+        steps,
+    )?;
+    check_count(alloc, graph.topology(), &sides.problems, spans)?;
+    match judge_book(alloc, &sides.columns, &ids, numbers, &coded, distance) {
+        Ok(judged) => judged,
+        Err(_) => Err(Rejected::NoMemory),
+    }
+}
+
+/// Checks the nodes of a certificate, and finds their numbers.
+pub fn known(
+    alloc: Global,
+    topology: &Topology,
+    nodes: &[NodeName],
+) -> Result<Vec<NodeId>, Rejected>
+    requires { length nodes.now + 1 < 4294967296 }
+    ensures judges { JudgesNodes (topology_of topology.now) nodes.now (ended result) }
+    ensures good { OnOk result (AreAll (IsGoodNode (topology_of topology.now) nodes.now) (length nodes.now)) }
+    ensures named { IfOk result (λ ids. AreNamed topology.now ids.items nodes.now) }
+{
+    check_nodes(topology, nodes)?;
+    let Ok(ids) = ids_of(alloc, topology, nodes) else {
+        return Err(Rejected::NoMemory);
+    };
+    Ok(ids)
+}

@@ -1,0 +1,73 @@
+//! What a book claims of groups.
+ghost use Rattle.std.specs.Prelude.{◌≡◌, ◌<◌, ◌+◌, ◌^◌, length, IfOk};
+ghost use Rattle.cb_coding.specs.Groups.{AreProblems};
+ghost use Rattle.cb_finding.specs.Finding.{IsCalled};
+ghost use Rattle.cb_checker.specs.Places.{AreThere};
+ghost use Rattle.cb_checker.specs.Claims.{HaveMembers, IsTooClose, JudgesBook};
+
+use crate::places::places_of;
+use cb_claim::{Accepted, Rejected};
+use cb_coding::{Group, Pair, Problem};
+use cb_group::{first_close, groups};
+use cb_model::{GroupName, List};
+use cb_nodes::NodeId;
+use std::alloc::{AllocError, Global};
+
+/// Whether over the columns of these numbers the groups of the problems are so far apart; else the first two that are closer.
+pub fn judge_book(
+    alloc: Global,
+    columns: &List<NodeId>,
+    ids: &[NodeId],
+    numbers: &[u32],
+    problems: &List<Problem>,
+    distance: u32,
+) -> Result<Result<Accepted, Rejected>, AllocError>
+    requires some { 0 < distance }
+    requires columns { length columns.now < 2 ^ 32 }
+    requires there { AreThere columns.now ids.now numbers.now }
+    requires numbers { length numbers.now < 2 ^ 32 }
+    requires problems { AreProblems (length columns.now) problems.now }
+    requires few { length problems.now + 1 < 2 ^ 32 }
+    ensures { IfOk result (JudgesBook columns.now ids.now numbers.now problems.now distance) }
+{
+    let places = places_of(alloc, columns, ids, numbers)?;
+    let groups = groups(alloc, problems, columns.len())?;
+    let close = first_close(alloc, &groups, &places, distance)?;
+    if let Some(pair) = close {
+        return Ok(Err(too_close(alloc, &groups, pair)?));
+    }
+    Ok(Ok(Accepted::Book {
+        distance,
+        radius: (distance - 1) / 2,
+        groups: groups.len() as u32,
+        columns: numbers.len() as u32,
+    }))
+}
+
+// That these two groups are too close.
+fn too_close(alloc: Global, groups: &List<Group>, pair: Pair) -> Result<Rejected, AllocError>
+    requires first { pair.first < length groups.now }
+    requires second { pair.second < length groups.now }
+    requires members { HaveMembers groups.now }
+    ensures { IfOk result (IsTooClose groups.now pair) }
+{
+    let first = name_of(alloc, groups, pair.first as usize)?;
+    let second = name_of(alloc, groups, pair.second as usize)?;
+    Ok(Rejected::TooClose {
+        first,
+        second,
+        distance: pair.distance,
+    })
+}
+
+// What the group at a place is called.
+fn name_of(alloc: Global, groups: &List<Group>, place: usize) -> Result<GroupName, AllocError>
+    requires place { place < length groups.now }
+    requires members { HaveMembers groups.now }
+    ensures { IfOk result (IsCalled groups.now place) }
+{
+    if place == 0 {
+        return Ok(GroupName::Quiet);
+    }
+    Ok(GroupName::Least(groups.at(place).members.at(0).copy(alloc)?))
+}

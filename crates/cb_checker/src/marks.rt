@@ -1,0 +1,52 @@
+//! The nodes that a span lists.
+ghost use Rattle.std.specs.Prelude.{◌≡◌, ◌<◌, [], ◌∷◌, ◌++◌, length, replicate, true, false, IfOk, OnOk, slice_set};
+ghost use Rattle.cb_checker.specs.Listed.{AreMarked};
+
+use cb_bits::Row;
+use cb_nodes::NodeId;
+use cb_topo::Topology;
+use std::alloc::{AllocError, Global};
+
+/// The nodes that the entries of a span list so far, in their order and as a row; and a row for successors.
+#[derive(Drop)]
+pub struct Marks {
+    pub placed: Vec<NodeId>,
+    pub listed: Row,
+    pub found: Row,
+}
+
+impl Marks {
+    /// No node of the topology is listed.
+    pub fn new(alloc: Global, topology: &Topology) -> Result<Marks, AllocError>
+        ensures { IfOk result (AreMarked topology.now) }
+    {
+        let room = topology.node_room();
+        Ok(Marks {
+            placed: Vec::new(alloc),
+            listed: Row::zeroed(alloc, room)?,
+            found: Row::zeroed(alloc, room)?,
+        })
+    }
+
+    /// Lists no node any more.
+    pub fn forget(&mut self)
+        ensures placed { self.new.placed.items ≡ [] }
+        ensures listed { self.new.listed ≡ replicate (length self.old.listed) false }
+        ensures found { self.new.found ≡ self.old.found }
+    {
+        self.placed.clear();
+        self.listed.wipe();
+    }
+
+    /// Lists a node.
+    pub fn add(&mut self, node: NodeId) -> Result<(), AllocError>
+        requires { node.0 < length self.old.listed }
+        ensures placed { OnOk result (self.new.placed.items ≡ self.old.placed.items ++ node ∷ []) }
+        ensures listed { OnOk result (self.new.listed ≡ slice_set self.old.listed node.0 true) }
+        ensures found { self.new.found ≡ self.old.found }
+    {
+        self.placed.push(node)?;
+        self.listed.set(node.0 as usize);
+        Ok(())
+    }
+}

@@ -1,0 +1,26 @@
+//! The problems and the columns of a topology.
+ghost use Rattle.std.specs.Prelude.{IfOk};
+ghost use Rattle.cb_checker.specs.Verdicts.{AreSidesOf};
+
+use cb_model::List;
+use cb_nodes::NodeId;
+use cb_topo::Topology;
+use std::alloc::{AllocError, Global};
+
+/// The problems and the columns of a topology, each in order.
+#[derive(Drop)]
+pub struct Sides {
+    pub problems: List<NodeId>,
+    pub columns: List<NodeId>,
+}
+
+/// Those of this topology.
+pub fn sides_of(alloc: Global, topology: &Topology) -> Result<Sides, AllocError>
+    ensures { IfOk result (AreSidesOf topology.now) }
+{
+    // The topology is sound, so that they are few.
+    let _room = topology.node_room();
+    let problems = topology.problems(alloc)?;
+    let columns = topology.columns(alloc)?;
+    Ok(Sides { problems, columns })
+}

@@ -1,0 +1,118 @@
+//! The spans of a book, one for each problem.
+ghost use Rattle.std.specs.Prelude.{◌≡◌, ◌<◌, ◌+◌, ◌++◌, [], ◌∷◌, length, min, IfOk, OnOk};
+ghost use Rattle.cb_coding.specs.declared.group.Problem.{Problem as Coded};
+ghost use Rattle.cb_claim.specs.Verdicts.{entries_of};
+ghost use Rattle.cb_topo.specs.Numbered.{IsLiveNode};
+ghost use Rattle.cb_checker.specs.Known.{AreLive, ended};
+ghost use Rattle.cb_checker.specs.Codes.{IsBelow};
+ghost use Rattle.cb_checker.specs.Books.{IsCodedBy, AreReadTo, JudgesSpans, JudgesCount};
+
+use crate::codes::code_of;
+use crate::marks::Marks;
+use crate::span::check_span;
+use cb_bits::Row;
+use cb_cert::Span;
+use cb_claim::Rejected;
+use cb_coding::Problem;
+use cb_graph::Graph;
+use cb_model::List;
+use cb_nodes::NodeId;
+use cb_steps::Steps;
+use cb_topo::Topology;
+use std::alloc::{AllocError, Global};
+use std::sync::ledger::Ledger;
+
+/// Checks each span with the problem at its place, and reads the problem's code off it.
+pub fn check_spans<L: Ledger>(
+    alloc: Global,
+    graph: &mut Graph,
+    ids: &[NodeId],
+    problems: &List<NodeId>,
+    columns: &List<NodeId>,
+    spans: &List<Span>,
+    steps: &mut Steps<L>,
+) -> Result<List<Problem>, Rejected>
+    requires live { AreLive graph.old ids.now }
+    requires problems { AreLive graph.old problems.now }
+    requires columns { IsBelow (length graph.old.nodes) columns.now }
+    requires few { entries_of spans.now + 1 < 4294967296 }
+    ensures same { graph.new ≡ graph.old }
+    ensures judges { JudgesSpans graph.old ids.now problems.now spans.now (ended result) }
+    ensures coded { IfOk result (AreReadTo graph.old ids.now problems.now columns.now spans.now (min (length problems.now) (length spans.now))) }
+{
+    let Ok(mut marks) = Marks::new(alloc, graph.topology()) else {
+        return Err(Rejected::NoMemory);
+    };
+    let mut coded = List::new(alloc);
+    let mut before = 0;
+    for place in 0..problems.len().min(spans.len()) {
+        let root = *problems.at(place);
+        let span = spans.at(place);
+        check_span(
+            alloc,
+            graph,
+            ids,
+            Some(root),
+            span,
+            before,
+            &mut marks,
+            steps,
+        )?;
+        let Ok(()) = add_problem(
+            alloc,
+            graph.topology(),
+            columns,
+            root,
+            &marks.listed,
+            &mut coded,
+        ) else {
+            return Err(Rejected::NoMemory);
+        };
+        before += span.entries.len() as u32;
+    }
+    Ok(coded)
+}
+
+// Adds the problem with its code.
+fn add_problem(
+    alloc: Global,
+    topology: &Topology,
+    columns: &List<NodeId>,
+    node: NodeId,
+    listed: &Row,
+    coded: &mut List<Problem>,
+) -> Result<(), AllocError>
+    requires node { IsLiveNode topology.now node }
+    requires columns { IsBelow (length listed.now) columns.now }
+    ensures { OnOk result ((p : Coded) × IsCodedBy topology.now columns.now node listed.now p × (coded.new ≡ coded.old ++ p ∷ [])) }
+{
+    let name = topology.copy_name(alloc, node)?;
+    let code = code_of(alloc, columns, listed)?;
+    coded.push(Problem { name, code })
+}
+
+/// Checks that there are as many spans as problems.
+pub fn check_count(
+    alloc: Global,
+    topology: &Topology,
+    problems: &List<NodeId>,
+    spans: &List<Span>,
+) -> Result<(), Rejected>
+    requires live { AreLive topology.now problems.now }
+    requires few { length spans.now + 1 < 4294967296 }
+    ensures judges { JudgesCount topology.now problems.now spans.now result }
+    ensures same { OnOk result (length problems.now ≡ length spans.now) }
+{
+    if spans.len() < problems.len() {
+        let Ok(problem) = topology.copy_name(alloc, *problems.at(spans.len())) else {
+            return Err(Rejected::NoMemory);
+        };
+        return Err(Rejected::NoSpan { problem });
+    }
+    if problems.len() < spans.len() {
+        return Err(Rejected::ExtraSpan {
+            place: problems.len() as u32 + 1,
+        });
+    }
+    Ok(())
+}

@@ -1,0 +1,4 @@
+pub mod Before
+pub mod Found
+pub mod Grouped
+pub mod Far
