@@ -1,10 +1,12 @@
--- What holds of the certificates of codebooks.
+-- What holds of certificates that are written and read.
 use Rattle.std.specs.Prelude.{ℕ}
 use Rattle.cb_model.specs.declared.node.NodeName.{NodeName}
 use Rattle.cb_model.specs.declared.node.GroupName.{GroupName}
 use Rattle.cb_network.specs.Topology.{Topology}
 use Rattle.cb_cert.specs.declared.certificate.Certificate.{Certificate}
+use Rattle.cb_cert.specs.Format.{IsCertificate}
 use Rattle.cb_claim.specs.Valid.{IsValid}
+use Rattle.cb_claim.specs.Verdicts.{IsCheckable}
 use Rattle.cb_claim.specs.Codebooks.{IsCodebook, IsShortfall}
 
 -- the certificate of a codebook is valid
@@ -15,3 +17,7 @@ CodebookIsValid = (t : Topology) (distance : ℕ) (c : Certificate) → IsCodebo
 abbrev pub ShortfallIsValid : Type 0
 ShortfallIsValid = (t : Topology) (wanted : ℕ) (first : GroupName) (second : NodeName) (distance : ℕ) (c : Certificate)
     → IsShortfall t wanted first second distance c → IsValid t c
+
+-- what is of the format can be checked
+abbrev pub FormatIsCheckable : Type 0
+FormatIsCheckable = (c : Certificate) → IsCertificate c → IsCheckable c
