@@ -27,6 +27,7 @@ use Rattle.cb_claim.specs.Reading.{MakeGroups, ArePlaces}
 use Rattle.cb_claim.specs.Valid.{AreColumnNumbers, AreSpans, IsSide, IsSpanOfProblem, IsClose, IsValid}
 use Rattle.cb_claim.specs.Canonical.{IsCanonicalSpan, IsCanonicalBook, IsCanonicalThin}
 use Rattle.cb_claim.specs.Checks.{Check, AreChecks, Passes, IsFirstFail, Judges}
+use Rattle.cb_claim.specs.Totals.{IsTotalReach, HasFewEntries, HasManyEntries}
 use Rattle.cb_claim.specs.Verdicts.{TellsWhy, entries_of}
 
 -- a span lists exactly the nodes that its root causes
@@ -129,3 +130,16 @@ abbrev pub ThinIsOfFormat : Type 0
 ThinIsOfFormat = (t : Topology) (wanted far : ℕ) (nodes : List NodeName) (first : Side) (second : Span) → Sound t → HasNames t.model
     → AreNodes t nodes → IsSide t nodes first → IsSpanOfProblem t nodes second → IsWanted wanted → far ≤ column_limit
     → IsCertificate (Thin wanted far nodes first second)
+
+-- the problems cause one number of nodes together
+abbrev pub TotalReachIsOne : Type 0
+TotalReachIsOne = (t : Topology) (m n : ℕ) → IsTotalReach t m → IsTotalReach t n → m ≡ n
+
+-- no topology has few entries and many
+abbrev pub FewAreNotMany : Type 0
+FewAreNotMany = (t : Topology) → HasFewEntries t → HasManyEntries t → ⊥
+
+-- where the problems cause so many nodes together, that number tells whether the entries are few or many
+abbrev pub EntriesAreFewOrMany : Type 0
+EntriesAreFewOrMany = (t : Topology) (total : ℕ) → IsTotalReach t total
+    → (HasFewEntries t ↔ (total ≤ entry_limit)) × (HasManyEntries t ↔ (entry_limit < total))

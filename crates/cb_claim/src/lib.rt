@@ -9,8 +9,8 @@
 //!
 //! Promised, as laws: a certificate is valid or has exactly one first failing check, never both; there is one canonical
 //! span, book and thin certificate; a canonical book is valid exactly where its columns are good at its distance; in a
-//! valid book a word within the radius of a group has that group alone as its sure answer. Not promised: that some
-//! program makes or checks certificates.
+//! valid book a word within the radius of a group has that group alone as its sure answer; a topology never has few entries
+//! and many. Not promised: that some program makes or checks certificates.
 //!
 //! Read first: `specs/Spans.antt`, `specs/Valid.antt`, `specs/Checks.antt` (the order of checks), `src/laws.rt`. Proofs
 //! may change freely. A further kind of certificate has its cases beside `Book` and `Thin`, and its own last check.
