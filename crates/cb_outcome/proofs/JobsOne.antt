@@ -1,12 +1,10 @@
 -- Each job gives one outcome.
-use Rattle.std.proofs.Common.{◌≡◌, ◌≤◌, ◌<◌, ℕ, List, [], ◌∷◌, length, refl, sym, ap, ◌∙◌, subst, inl, inr, Some, arith}
-use Rattle.std.specs.Prelude.{Option, None, sum}
-use Rattle.std.specs.FinSet as set
-use Rattle.std.specs.List.{AllZip, slice_get}
+use Rattle.std.proofs.Common.{◌≡◌, ℕ, List, [], ◌∷◌, length, refl, sym, ap, ◌∙◌, subst, inl, inr, Some, arith}
+use Rattle.std.specs.Prelude.{◌⊎◌}
+use Rattle.std.specs.List.{slice_get}
 use Rattle.cb_model.specs.declared.node.GroupName.{GroupName}
 use Rattle.cb_model.specs.declared.node.GroupName.TheVariants.{Quiet, Least}
 use Rattle.cb_model.specs.declared.node.NodeName.{NodeName}
-use Rattle.cb_model.specs.NodeOrder.{node_cmp}
 use Rattle.cb_coding.specs.declared.book.Book.{Book}
 use Rattle.cb_coding.specs.declared.book.Pair.{Pair}
 use Rattle.cb_coding.specs.declared.group.Group.{Group}
@@ -18,7 +16,6 @@ use Rattle.cb_coding.specs.Pairs.{IsLeast, IsFirstClose}
 use Rattle.cb_coding.proofs.BookLaws.{book_is_one}
 use Rattle.cb_coding.proofs.One.{least_is_one, first_close_is_one}
 use Rattle.cb_network.specs.Topology.{Topology}
-use Rattle.cb_network.proofs.One.{problems_are_one, reached_is_one}
 use Rattle.cb_finding.specs.declared.finding.Finding.{Finding}
 use Rattle.cb_finding.specs.Finding.{IsCalled}
 use Rattle.cb_finding.specs.Matrix.{IsMatrix}
@@ -32,20 +29,21 @@ use Rattle.cb_cert.specs.declared.certificate.Entry.{Entry}
 use Rattle.cb_cert.specs.Lines.{text_of}
 use Rattle.cb_claim.specs.declared.verdict.Accepted.{Accepted}
 use Rattle.cb_claim.specs.declared.verdict.Accepted.TheVariants as accepted
-use Rattle.cb_claim.specs.Canonical.{IsCanonicalBook, IsCanonicalThin}
+use Rattle.cb_claim.specs.Canonical.{IsCanonicalThin}
+use Rattle.cb_claim.specs.Codebooks.{AreBookColumns, AreFirstClose, least_of}
 use Rattle.cb_claim.specs.Laws.{HavePlaces}
 use Rattle.cb_claim.specs.Spans.{StandsFor, BeginsWith}
-use Rattle.cb_claim.specs.Totals.{IsReach, IsTotalReach}
 use Rattle.cb_claim.specs.Verdicts.{IsSideName, ShowsBook, Shows}
 use Rattle.cb_claim.proofs.Firsts.{made_is_one}
 use Rattle.cb_claim.proofs.SpanLaws.{stands_for_one}
+use Rattle.cb_claim.proofs.Totals.{few_are_not_many}
 use Rattle.cb_claim.proofs.Wholes.{canonical_book_is_one, canonical_thin_is_one}
 use Rattle.cb_report.specs.declared.fault.Fault.TheVariants as faults
 use Rattle.cb_report.specs.CertificateTexts.{accepted_text}
 use Rattle.cb_report.specs.Lines.{burst_text}
 use Rattle.cb_report.specs.MatrixText.{matrix_text}
 use Rattle.cb_outcome.specs.Outcome.{Outcome, done, done_with}
-use Rattle.cb_outcome.specs.Jobs.{BurstGives, MatrixGives, AreBookColumns, Writes, WritesBook, least_of, AreFirstClose, WritesThin, CodebookGives, VerifyGives}
+use Rattle.cb_outcome.specs.Jobs.{BurstGives, MatrixGives, WritesCanonical, RefusesMany, WritesBook, WritesThin, CodebookGives, VerifyGives}
 
 pub burst_one : (t : Topology) (nodes : List NodeName) (whole : ℕ) (a b : Outcome) → BurstGives t nodes whole a → BurstGives t nodes whole b → a ≡ b
 burst_one t nodes whole a b (f, found, e) (g, found', h) =
@@ -90,39 +88,25 @@ book_columns_are_one t d xs ys a b =
     in
     names_are_one a.all xs ys a.book.columns a.named named
 
-sizes_are_one : (t : Topology) (problems : List NodeName) (xs ys : List ℕ) → AllZip (IsReach t) problems xs → AllZip (IsReach t) problems ys → xs ≡ ys
-sizes_are_one t [] [] [] a b = refl
-sizes_are_one t [] [] (y ∷ ys) a b = absurd b
-sizes_are_one t [] (x ∷ xs) ys a b = absurd a
-sizes_are_one t (p ∷ ps) [] ys a b = absurd a
-sizes_are_one t (p ∷ ps) (x ∷ xs) [] a b = absurd b
-sizes_are_one t (p ∷ ps) (x ∷ xs) (y ∷ ys) a b =
-    let one : IsReach t p x = a.0 in
-    let other : IsReach t p y = b.0 in
-    let reached = reached_is_one t p one.reached other.reached one.is other.is in
-    let here : x ≡ y = sym one.size_is ∙ (ap (λ (s : set.FinSet node_cmp). set.len s) reached ∙ other.size_is) in
-    let rest = sizes_are_one t ps xs ys a.1 b.1 in
-    cc
+few_one : (t : Topology) (columns : List NodeName) (d whole : ℕ) (a b : Outcome) → WritesCanonical t columns d whole a → WritesCanonical t columns d whole b
+    → a ≡ b
+few_one t columns d whole a b p q =
+    let same = canonical_book_is_one t columns d p.certificate q.certificate p.canonical q.canonical in
+    p.gives ∙ (ap (λ (c : Certificate). done (text_of c) whole) same ∙ sym q.gives)
 
-total_is_one : (t : Topology) (m n : ℕ) → IsTotalReach t m → IsTotalReach t n → m ≡ n
-total_is_one t m n a b =
-    let problems = problems_are_one t a.problems b.problems a.problems_are b.problems_are in
-    let over = subst (λ (ps : List NodeName). AllZip (IsReach t) ps b.sizes) (sym problems) b.sizes_are in
-    a.total_is ∙ (ap sum (sizes_are_one t a.problems a.sizes b.sizes a.sizes_are over) ∙ sym b.total_is)
-
-writes_one : (c d : Certificate) (m n whole : ℕ) (a b : Outcome) → c ≡ d → m ≡ n → Writes c m whole a → Writes d n whole b → a ≡ b
-writes_one c d m n whole a b same count (inl (few, e)) (inl (few', h)) = e ∙ (ap (λ (x : Certificate). done (text_of x) whole) same ∙ sym h)
-writes_one c d m n whole a b same count (inl (few, e)) (inr (many, h)) = absurd (omega (arith, few, many, count))
-writes_one c d m n whole a b same count (inr (many, e)) (inl (few, h)) = absurd (omega (arith, few, many, count))
-writes_one c d m n whole a b same count (inr (many, e)) (inr (many', h)) = e ∙ sym h
+-- the entries are few or many
+either_one : (t : Topology) (columns : List NodeName) (d whole : ℕ) (a b : Outcome) → WritesCanonical t columns d whole a ⊎ RefusesMany t whole a
+    → WritesCanonical t columns d whole b ⊎ RefusesMany t whole b → a ≡ b
+either_one t columns d whole a b (inl p) (inl q) = few_one t columns d whole a b p q
+either_one t columns d whole a b (inl p) (inr q) = absurd (few_are_not_many t p.few q.many)
+either_one t columns d whole a b (inr p) (inl q) = absurd (few_are_not_many t q.few p.many)
+either_one t columns d whole a b (inr p) (inr q) = p.gives ∙ sym q.gives
 
 book_one : (t : Topology) (d whole : ℕ) (a b : Outcome) → WritesBook t d whole a → WritesBook t d whole b → a ≡ b
 book_one t d whole a b p q =
     let columns = book_columns_are_one t d q.columns p.columns q.are_columns p.are_columns in
-    let canonical = subst (λ (cs : List NodeName). IsCanonicalBook t cs d q.certificate) columns q.canonical in
-    writes_one p.certificate q.certificate p.entries q.entries whole a b
-    (canonical_book_is_one t p.columns d p.certificate q.certificate p.canonical canonical)
-    (total_is_one t p.entries q.entries p.entries_are q.entries_are) p.gives q.gives
+    either_one t p.columns d whole a b p.gives
+    (subst (λ (cs : List NodeName). WritesCanonical t cs d whole b ⊎ RefusesMany t whole b) columns q.gives)
 
 -- ---- two groups that are too close
 

@@ -1,12 +1,12 @@
 -- The outcome of words and files is one, and what is due is a front of its output.
 use Rattle.std.proofs.Common.{◌≡◌, ◌≢◌, ℕ, ◌+◌, suc, min, take, List, [], ◌∷◌, ◌++◌, Bool, true, false, length, refl, sym, ap, ◌∙◌, subst, inl, inr, Some, arith}
-use Rattle.std.specs.Prelude.{Option, None, map, IsSome, T}
+use Rattle.std.specs.Prelude.{◌⊎◌, Option, None, map, IsSome, T}
 use Rattle.std.proofs.lemmas.List.{length-append, length-map}
 use Rattle.cb_model.specs.declared.node.GroupName.{GroupName}
 use Rattle.cb_model.specs.declared.node.GroupName.TheVariants.{Least}
+use Rattle.cb_model.specs.declared.node.NodeName.{NodeName}
 use Rattle.cb_network.specs.Topology.{Topology}
 use Rattle.cb_syntax.specs.Canonical.{canonical_text}
-use Rattle.cb_cert.specs.declared.certificate.Certificate.{Certificate}
 use Rattle.cb_cert.specs.Lines.{text_of}
 use Rattle.cb_report.specs.CertificateTexts.{accepted_text}
 use Rattle.cb_report.specs.Lines.{burst_text}
@@ -19,7 +19,7 @@ use Rattle.cb_report.specs.declared.fault.Fault.TheVariants as faults
 use Rattle.cb_outcome.specs.Outcome.{Outcome, done, refused}
 use Rattle.cb_outcome.specs.Judged.{File, Known, nothing, parsed, network, raised, certified, Job, Gives, PassFrom}
 use Rattle.cb_outcome.specs.Ends.{IsCodebook}
-use Rattle.cb_outcome.specs.Jobs.{is_built, Writes, CodebookGives, JobGives}
+use Rattle.cb_outcome.specs.Jobs.{is_built, WritesCanonical, RefusesMany, CodebookGives, JobGives}
 use Rattle.cb_outcome.specs.Contents.{Left, with_texts, files_from, log_from}
 use Rattle.cb_outcome.specs.LogJobs.{Watch, FrontTells, LogTells, Follows, log_limit}
 use Rattle.cb_outcome.specs.Answer.{RequestAnswers, IsOutcome, IsToldUpto, IsDue}
@@ -165,13 +165,14 @@ done_well request whole out a alone e =
     let read = ap (λ (o : Outcome). o.whole) e in
     well (ap (λ (o : Outcome). o.fault) e) (omega (arith, logs, read))
 
-written : (request : Request) (c : Certificate) (entries whole : ℕ) (a : Outcome) → logs_of request ≡ [] → names_of request ≢ [] → Writes c entries whole a
-    → JobEnds request whole a
-written request c entries whole a alone some (inl (few, e)) = done_well request whole (text_of c) a alone e
-written request c entries whole a alone some (inr (many, e)) = crowded some (ap (λ (o : Outcome). o.fault) e) (ap (λ (o : Outcome). o.out) e)
+book_ends : (t : Topology) (columns : List NodeName) (one two : List ℕ) (d whole : ℕ) (a : Outcome)
+    → WritesCanonical t columns d whole a ⊎ RefusesMany t whole a → JobEnds (Codebook one two d) whole a
+book_ends t columns one two d whole a (inl p) = done_well (Codebook one two d) whole (text_of p.certificate) a refl p.gives
+book_ends t columns one two d whole a (inr p) =
+    crowded (some_name one (two ∷ [])) (ap (λ (o : Outcome). o.fault) p.gives) (ap (λ (o : Outcome). o.out) p.gives)
 
 codebook_ends : (t : Topology) (one two : List ℕ) (d whole : ℕ) (a : Outcome) → CodebookGives t d whole a → JobEnds (Codebook one two d) whole a
-codebook_ends t one two d whole a (inl p) = written (Codebook one two d) p.certificate p.entries whole a refl (some_name one (two ∷ [])) p.gives
+codebook_ends t one two d whole a (inl p) = book_ends t p.columns one two d whole a p.gives
 codebook_ends t one two d whole a (inr p) = close tt d p.first (Least p.second) p.distance (ap (λ (o : Outcome). o.fault) p.gives)
 
 log_ends : (request : Request) (name : List ℕ) (watch : Watch) (log : List ℕ) (whole : ℕ) (a : Outcome) → logs_of request ≡ name ∷ []

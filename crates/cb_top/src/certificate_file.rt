@@ -1,9 +1,11 @@
 //! Certificate files.
-ghost use Rattle.std.specs.Prelude.{◌≡◌, IfOk, IfErr};
+ghost use Rattle.std.specs.Prelude.{◌≡◌, ◌⊎◌, IfOk, IfErr};
+ghost use Rattle.cb_cert.specs.Format.{IsCertificate};
 ghost use Rattle.cb_claim.specs.Verdicts.{Shows};
 ghost use Rattle.cb_topo.specs.Numbered.{topology_of};
 ghost use Rattle.cb_request.specs.Files.{Role};
 ghost use Rattle.cb_outcome.specs.Judged.{network, certified};
+ghost use Rattle.cb_top.specs.Kinds.{IsWant, IsRejection, IsAccepted};
 
 use crate::kind::FileKind;
 use cb_cert::{Certificate, read};
@@ -57,10 +59,25 @@ impl<'s, L: Ledger> FileKind for CertificateFile<'s, L> {
             return Err(Fault::LimitLine { name, line });
         }
         let certificate = read(alloc, text)?;
-        let accepted = accepted(alloc, self.topology, &certificate, self.steps)?;
+        let accepted = checked(alloc, self.topology, &certificate, self.steps)?;
         Ok(Verified {
             certificate,
             accepted,
         })
     }
+}
+
+// What the certificate shows of the topology, or why it isn't valid.
+fn checked<'w, L: Ledger>(
+    alloc: Global,
+    topology: Topology,
+    certificate: &Certificate,
+    steps: &mut Steps<L>,
+) -> Result<Accepted, Fault<'w>>
+    requires { IsCertificate certificate.now }
+    ensures accepted { IfOk result (IsAccepted (topology_of topology) certificate.now) }
+    ensures rejected { IfErr result (λ fault. IsWant fault ⊎ IsRejection (topology_of topology) certificate.now fault) }
+{
+    let mut graph = Graph::new(alloc, topology)?;
+    Ok(check(alloc, &mut graph, certificate, steps)?)
 }

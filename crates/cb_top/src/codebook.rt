@@ -1,7 +1,9 @@
 //! The command `codebook`.
+ghost use Rattle.std.specs.Prelude.{IfOk};
 ghost use Rattle.cb_cert.specs.Format.{IsWanted};
 ghost use Rattle.cb_request.specs.declared.request.Request.TheVariants.{Codebook as CodebookRequest};
 ghost use Rattle.cb_top.specs.Ending.{Comes};
+ghost use Rattle.cb_top.specs.Written.{CanBeWritten, IsWritten};
 
 use crate::network::read_network;
 use crate::output::Output;
@@ -29,19 +31,36 @@ pub fn codebook<'w, F: Files, L: Ledger>(
 {
     let topology = read_network(alloc, files, model, topology)?;
     let made = codebook_of(alloc, topology, distance as u32, steps)?;
-    Ok(printed(alloc, made, distance as u32)?)
+    Ok(written(alloc, made, distance as u32)?)
 }
 
-// What is printed of it.
-fn printed<'w>(alloc: Global, made: Codebook, wanted: u32) -> Result<Output<'w>, AllocError>
+// The certificate as its text, and what is wrong where there is no codebook, or no room for its certificate.
+fn written<'w>(alloc: Global, made: Codebook, wanted: u32) -> Result<Output<'w>, AllocError>
+    requires { CanBeWritten made }
+    ensures { IfOk result (λ output. IsWritten made wanted output.bytes.items output.fault) }
 {
     match made {
-        Codebook::Certified(book) => Ok(Output { bytes: write(alloc, &book)?, fault: None }),
-        Codebook::TooManyEntries => Ok(Output { bytes: Vec::new(alloc), fault: Some(Fault::LimitEntries) }),
-        Codebook::TooClose { first, second, distance, certificate } => {
-            let bytes = write(alloc, &certificate)?;
-            let fault = Fault::Distance { wanted, first, second: GroupName::Least(second), distance };
-            Ok(Output { bytes, fault: Some(fault) })
-        }
+        Codebook::Certified(certificate) => Ok(Output {
+            bytes: write(alloc, &certificate)?,
+            fault: None,
+        }),
+        Codebook::TooManyEntries => Ok(Output {
+            bytes: Vec::new(alloc),
+            fault: Some(Fault::LimitEntries),
+        }),
+        Codebook::TooClose {
+            first,
+            second,
+            distance,
+            certificate,
+        } => Ok(Output {
+            bytes: write(alloc, &certificate)?,
+            fault: Some(Fault::Distance {
+                wanted,
+                first,
+                second: GroupName::Least(second),
+                distance,
+            }),
+        }),
     }
 }

@@ -2,16 +2,20 @@
 #![tactic(auto)]
 
 mod burst;
+mod certificate_file;
+mod codebook;
 mod conclude;
 mod judge;
 mod kind;
 mod model;
 mod model_file;
+mod network;
 mod output;
 mod perform;
 mod symptom_file;
 mod top;
 mod topology_file;
+mod verify;
 
 pub use cb_report::Status;
 pub use top::run;
