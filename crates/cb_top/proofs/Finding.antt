@@ -10,9 +10,6 @@ use Rattle.cb_finding.specs.declared.finding.Finding.{Finding}
 use Rattle.cb_network.specs.Topology.{Topology}
 use Rattle.cb_finding.specs.Finding.{IsBurst}
 use Rattle.cb_finding.proofs.Nearest.{burst_finds_the_cause}
-use Rattle.cb_cert.specs.Lines.{text_of}
-use Rattle.cb_cert.proofs.TextLines.{text_spells}
-use Rattle.cb_claim.proofs.Codebooks.{codebook_is_valid, shortfall_is_valid}
 use Rattle.cb_report.specs.declared.fault.Fault.TheVariants as faults
 use Rattle.cb_request.specs.declared.request.Request.{Request}
 use Rattle.cb_request.specs.declared.request.Request.TheVariants.{Burst, Codebook, Decode, Correlate}
@@ -20,6 +17,7 @@ use Rattle.cb_outcome.specs.Outcome.{Outcome}
 use Rattle.cb_outcome.specs.Judged.{Known, network, raised}
 use Rattle.cb_outcome.specs.Jobs.{is_built, CodebookGives, JobGives}
 use Rattle.cb_outcome.specs.Contents.{Left}
+use Rattle.cb_outcome.proofs.Accepted.{codebook_spells}
 use Rattle.cb_outcome.specs.Finds.{ListsTheNearest, far_from, PrintsValid, FindsFor}
 use Rattle.std.proofs.Common.{length}
 
@@ -50,18 +48,11 @@ lists_the_nearest t nodes finding burst =
 -- what is written of a codebook is a valid certificate, unless its entries are too many
 prints_valid : (t : Topology) (distance whole : ℕ) (outcome : Outcome) (out out' : SinkTold) → (outcome.fault ≡ Some faults.LimitEntries → ⊥)
     → CodebookGives t distance whole outcome → WritesAll out out' outcome.out → PrintsValid t out out'
-prints_valid t distance whole outcome out out' some (inl p) written =
-    elim p.gives [
-      | inl w ↦
-          let valid = codebook_is_valid t distance w.certificate (record { columns = p.columns; are_columns = p.are_columns; canonical = w.canonical }) in
-          (text_of w.certificate, w.certificate, record { spelled = text_spells w.certificate w.of_format; valid = valid },
-              subst (WritesAll out out') (ap (λ (o : Outcome). o.out) w.gives) written)
-      | inr many ↦ absurd (some (ap (λ (o : Outcome). o.fault) many.gives))
+prints_valid t distance whole outcome out out' some gives written =
+    elim (codebook_spells t distance whole outcome gives) [
+      | inl is ↦ record { text = outcome.out; certificate = is.certificate; valid = is.valid; short = is.short; printed = written }
+      | inr full ↦ absurd (some (ap (λ (o : Outcome). o.fault) full))
     ]
-prints_valid t distance whole outcome out out' some (inr p) written =
-    let valid = shortfall_is_valid t distance p.first p.second p.distance p.certificate (record { close = p.close; canonical = p.canonical }) in
-    (text_of p.certificate, p.certificate, record { spelled = text_spells p.certificate p.of_format; valid = valid },
-        subst (WritesAll out out') (ap (λ (o : Outcome). o.out) p.gives) written)
 
 -- what is found at the end of a job whose output was written
 pub finds_for : (left : Left) (request : Request) (known : Known) (outcome : Outcome) (out out' : SinkTold) → is_built request ≡ true
