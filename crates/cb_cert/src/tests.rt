@@ -1,4 +1,6 @@
 //! Texts, whole and damaged.
+ghost use Rattle.std.specs.Prelude.{◌≤◌, length};
+
 use crate::{CertText, read, write};
 use std::alloc::{AllocError, Global};
 use std::process::Abort;
@@ -116,5 +118,39 @@ fn last_lf_may_be_wanting(rt: HostRuntime) -> Result<(), Fail> {
     let text = joined(rt.alloc(), [THIN, b"end", b"", b"", b""])?;
     let certificate = read(rt.alloc(), &text);
     assert!(rt; certificate.is_ok());
+    Ok(())
+}
+
+// Where line number `count` ends, or the text, where it has fewer lines.
+fn end_of(text: &[u8], count: usize) -> usize
+    ensures { result ≤ length text.now }
+{
+    let mut left = count;
+    for place in 0..text.len() {
+        if left == 0 {
+            return place;
+        }
+        if text[place] == b'\n' {
+            left -= 1;
+        }
+    }
+    text.len()
+}
+
+// Whether no more of the text than so many first lines is found to be truncated, whichever number of lines that is.
+fn is_truncated_below(alloc: Global, text: &[u8], lines: usize) -> bool {
+    for count in 0..lines {
+        let fault = read(alloc, &text[..end_of(text, count)]).err();
+        if fault != Some(CertText::Truncated) {
+            return false;
+        }
+    }
+    true
+}
+
+#[test]
+fn texts_that_end_early(rt: HostRuntime) -> Result<(), Fail> {
+    let text = joined(rt.alloc(), [HEAD, COLUMNS, FIRST_SPAN, SPANS, b"end\n"])?;
+    assert!(rt; is_truncated_below(rt.alloc(), &text, 26));
     Ok(())
 }
