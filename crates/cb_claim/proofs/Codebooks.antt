@@ -76,17 +76,17 @@ member_name (q ∷ qs) p has =
 
 module _ (t : Topology) (columns : List NodeName) (groups : List Group) (matrix : IsMatrix t columns groups) where
   -- the problem that a group is called by, and its code
-  record CalledBy (i : ℕ) (node : NodeName) : Type 0 where
-    problem : IsProblem t node
-    coded : IsCode t columns node (code_at (codes_of groups) i)
+  pub record CalledBy (i : ℕ) (node : NodeName) : Type 0 where
+    pub problem : IsProblem t node
+    pub coded : IsCode t columns node (code_at (codes_of groups) i)
 
-  group_at : (i : ℕ) (g : Group) → 0 < i → slice_get groups i ≡ Some g → IsGroup matrix.problems g
+  pub group_at : (i : ℕ) (g : Group) → 0 < i → slice_get groups i ≡ Some g → IsGroup matrix.problems g
   group_at i g later at =
       let is = matrix.groups_are in
       is.each g (behind_first (group_of matrix.problems (zeros (length columns))) is.others i g later
       (subst (λ (gs : List Group). slice_get gs i ≡ Some g) is.quiet at))
 
-  called_by : (i : ℕ) (node : NodeName) → IsCalled groups i (Least node) → CalledBy i node
+  pub called_by : (i : ℕ) (node : NodeName) → IsCalled groups i (Least node) → CalledBy i node
   called_by i node (later, g, at, first) =
       let is = group_at i g later at in
       let member = subst (λ (names : List NodeName). Contains names node) is.members (contains_from_get g.members 0 node first) in
