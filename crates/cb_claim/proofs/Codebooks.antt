@@ -34,7 +34,7 @@ use Rattle.cb_claim.proofs.Passing.{zip_lengths, zip_at}
 use Rattle.cb_claim.proofs.Wholes.{canonical_thin_is_valid}
 
 -- what stands at rising places of a list in order is in order
-places_rise : (all columns : List NodeName) (places : List ℕ) → Rises node_cmp all → HavePlaces all columns places → IsStrictlyIncreasing places
+pub places_rise : (all columns : List NodeName) (places : List ℕ) → Rises node_cmp all → HavePlaces all columns places → IsStrictlyIncreasing places
     → Rises node_cmp columns
 places_rise all columns places rise have up i j d below within =
     let even = zip_lengths _ columns places have in
