@@ -11,3 +11,4 @@ pub mod Stands
 pub mod Ending
 pub mod Loops
 pub mod Openings
+pub mod Sizes

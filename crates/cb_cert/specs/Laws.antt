@@ -1,5 +1,6 @@
 -- What holds of the format, whatever the program does.
-use Rattle.std.specs.Prelude.{◌≡◌, ◌↔◌, ℕ, List, Result, Ok}
+use Rattle.std.specs.Prelude.{◌≡◌, ◌↔◌, ℕ, ◌≤◌, List, length, Result, Ok}
+use Rattle.cb_text.specs.Lines.{HasShortLines}
 use Rattle.cb_cert.specs.declared.certificate.Certificate.{Certificate}
 use Rattle.cb_cert.specs.declared.fault.CertText.{CertText}
 use Rattle.cb_cert.specs.Lines.{certificate_lines, text_of}
@@ -27,3 +28,11 @@ WrittenIsRead = (c : Certificate) (reading : Result Certificate CertText) → Is
 -- what may come place by place is exactly what some certificate begins with
 abbrev pub PlacesAreExact : Type 0
 PlacesAreExact = (ls : List Line) → MayCome 0 all_places ls ↔ Begins ls
+
+-- the text of a certificate of the format has at most 32 MiB
+abbrev pub TextIsShort : Type 0
+TextIsShort = (c : Certificate) → IsCertificate c → length (text_of c) ≤ 33554432
+
+-- no line of a text that spells a certificate is too long
+abbrev pub SpelledIsShort : Type 0
+SpelledIsShort = (text : List ℕ) (c : Certificate) → Spells text c → HasShortLines text

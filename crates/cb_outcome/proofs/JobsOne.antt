@@ -28,6 +28,7 @@ use Rattle.cb_cert.specs.Lines.{text_of}
 use Rattle.cb_claim.specs.declared.verdict.Accepted.{Accepted}
 use Rattle.cb_claim.specs.declared.verdict.Accepted.TheVariants as accepted
 use Rattle.cb_claim.specs.Canonical.{IsCanonicalThin}
+use Rattle.cb_claim.specs.Codebooks.{AreBookColumns, AreFirstClose, least_of}
 use Rattle.cb_claim.specs.Laws.{HavePlaces}
 use Rattle.cb_claim.specs.Spans.{StandsFor, BeginsWith}
 use Rattle.cb_claim.specs.Verdicts.{IsSideName, Shows}
@@ -40,7 +41,7 @@ use Rattle.cb_report.specs.CertificateTexts.{accepted_text}
 use Rattle.cb_report.specs.Lines.{burst_text}
 use Rattle.cb_report.specs.MatrixText.{matrix_text}
 use Rattle.cb_outcome.specs.Outcome.{Outcome, done, done_with}
-use Rattle.cb_outcome.specs.Jobs.{BurstGives, MatrixGives, AreBookColumns, WritesCanonical, RefusesMany, WritesBook, least_of, AreFirstClose, WritesThin, CodebookGives, VerifyGives}
+use Rattle.cb_outcome.specs.Jobs.{BurstGives, MatrixGives, WritesCanonical, RefusesMany, WritesBook, WritesThin, CodebookGives, VerifyGives}
 
 pub burst_one : (t : Topology) (nodes : List NodeName) (whole : ℕ) (a b : Outcome) → BurstGives t nodes whole a → BurstGives t nodes whole b → a ≡ b
 burst_one t nodes whole a b (f, found, e) (g, found', h) =

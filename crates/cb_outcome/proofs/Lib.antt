@@ -6,3 +6,4 @@ pub mod LogFronts
 pub mod LogsOne
 pub mod Outcomes
 pub mod Complete
+pub mod Accepted

@@ -24,8 +24,9 @@ use Rattle.cb_report.specs.declared.status.Status.TheVariants as statuses
 use Rattle.cb_report.specs.EventTexts.{events_text}
 use Rattle.cb_request.specs.declared.request.Request.{Request}
 use Rattle.cb_request.specs.declared.request.Request.TheVariants.{Burst, Codebook, Decode, Correlate}
+use Rattle.cb_request.specs.Files.{Role}
 use Rattle.cb_outcome.specs.Texts.{IsValidText}
-use Rattle.cb_outcome.specs.Judged.{Known, nothing, network, raised, PassFrom}
+use Rattle.cb_outcome.specs.Judged.{Known, nothing, network, raised, IsShortFor, PassFrom}
 use Rattle.cb_outcome.specs.Contents.{Left, files_from, log_from}
 use Rattle.cb_outcome.specs.LogJobs.{Watch, IsWatch}
 use Rattle.cb_outcome.specs.Reading.{Told}
@@ -70,9 +71,13 @@ abbrev pub PrintsLog : Left → Request → List ℕ → Known → SinkTold → 
 PrintsLog left request name known out out' =
     (watch : Watch) × IsWatch request known watch × PrintsEvents watch (log_from left request name) out out'
 
--- what was printed spells a certificate that is valid for the topology
-abbrev pub PrintsValid : Topology → SinkTold → SinkTold → Type 0
-PrintsValid t out out' = (text : List ℕ) × (c : Certificate) × IsValidText t text c × WritesAll out out' text
+-- what was printed is a text that a certificate file may have, and it spells a certificate that is valid for the topology
+pub record PrintsValid (t : Topology) (out out' : SinkTold) : Type 0 where
+  pub text : List ℕ
+  pub certificate : Certificate
+  pub valid : IsValidText t text certificate
+  pub short : IsShortFor Role.certificate text
+  pub printed : WritesAll out out' text
 
 -- what the output finds, by what is known from the files
 abbrev pub FindsFor : Left → Request → Known → SinkTold → SinkTold → Type 0

@@ -16,10 +16,11 @@ use Rattle.cb_finding.specs.Matrix.{IsMatrix}
 use Rattle.cb_network.specs.Topology.{Topology}
 use Rattle.cb_syntax.specs.Canonical.{canonical_text}
 use Rattle.cb_cert.specs.declared.certificate.Certificate.{Certificate}
+use Rattle.cb_cert.specs.Format.{IsCertificate}
 use Rattle.cb_cert.specs.Lines.{text_of}
 use Rattle.cb_claim.specs.declared.verdict.Accepted.{Accepted}
 use Rattle.cb_claim.specs.Canonical.{IsCanonicalBook, IsCanonicalThin}
-use Rattle.cb_claim.specs.Laws.{HavePlaces}
+use Rattle.cb_claim.specs.Codebooks.{AreBookColumns, AreFirstClose, least_of}
 use Rattle.cb_claim.specs.Totals.{HasFewEntries, HasManyEntries}
 use Rattle.cb_claim.specs.Verdicts.{Shows}
 use Rattle.cb_report.specs.declared.fault.Fault.TheVariants as faults
@@ -38,6 +39,8 @@ abbrev pub is_built : Request → Bool
 is_built (Burst one two three) = true
 is_built (Model one) = true
 is_built (Matrix one two) = true
+is_built (Codebook one two distance) = true
+is_built (Verify one two three) = true
 is_built request = false
 
 -- `burst`: what is found for the nodes
@@ -53,21 +56,12 @@ pub record MatrixGives (t : Topology) (whole : ℕ) (outcome : Outcome) : Type 0
   pub least_is : IsLeast (length columns) (codes_of groups) least
   pub gives : outcome ≡ done (matrix_text columns groups least) whole
 
--- the codebook of a topology for a distance has the columns of these names
-pub record AreBookColumns (t : Topology) (distance : ℕ) (columns : List NodeName) : Type 0 where
-  pub all : List NodeName
-  pub groups : List Group
-  pub matrix : IsMatrix t all groups
-  pub book : Book
-  pub is_book : IsBook (length all) (codes_of groups) book
-  pub distance_is : book.distance ≡ distance
-  pub named : HavePlaces all columns book.columns
-
 -- the canonical book of these columns is written, whose entries are few
 pub record WritesCanonical (t : Topology) (columns : List NodeName) (distance whole : ℕ) (outcome : Outcome) : Type 0 where
   pub few : HasFewEntries t
   pub certificate : Certificate
   pub canonical : IsCanonicalBook t columns distance certificate
+  pub of_format : IsCertificate certificate
   pub gives : outcome ≡ done (text_of certificate) whole
 
 -- the entries would be too many, and nothing is written
@@ -81,22 +75,6 @@ pub record WritesBook (t : Topology) (distance whole : ℕ) (outcome : Outcome) 
   pub are_columns : AreBookColumns t distance columns
   pub gives : WritesCanonical t columns distance whole outcome ⊎ RefusesMany t whole outcome
 
--- the least member of a group; the quiet one is called by none
-abbrev pub least_of : GroupName → Option NodeName
-least_of Quiet = None
-least_of (Least node) = Some node
-
--- the first two groups that are closer than wanted, by what they are called
-pub record AreFirstClose (t : Topology) (wanted : ℕ) (first : GroupName) (second : NodeName) (distance : ℕ) : Type 0 where
-  pub columns : List NodeName
-  pub groups : List Group
-  pub matrix : IsMatrix t columns groups
-  pub pair : Pair
-  pub is_first : IsFirstClose (all_columns (length columns)) (codes_of groups) wanted pair
-  pub first_is : IsCalled groups pair.first first
-  pub second_is : IsCalled groups pair.second (Least second)
-  pub distance_is : distance ≡ pair.distance
-
 -- there is none, and the canonical certificate that two groups are too close is written beside the fault
 pub record WritesThin (t : Topology) (wanted whole : ℕ) (outcome : Outcome) : Type 0 where
   pub first : GroupName
@@ -105,6 +83,7 @@ pub record WritesThin (t : Topology) (wanted whole : ℕ) (outcome : Outcome) : 
   pub close : AreFirstClose t wanted first second distance
   pub certificate : Certificate
   pub canonical : IsCanonicalThin t (least_of first) second wanted distance certificate
+  pub of_format : IsCertificate certificate
   pub gives : outcome ≡ done_with (text_of certificate) (faults.Distance wanted first (Least second) distance) whole
 
 -- `codebook`: a certificate of the codebook for a distance, or one that there is none

@@ -1,11 +1,13 @@
 -- What holds of outcomes, whatever the program does.
-use Rattle.std.specs.Prelude.{◌≡◌, ◌⊎◌, ℕ, ◌++◌, List, length, Option, None, true}
+use Rattle.std.specs.Prelude.{◌≡◌, ◌≢◌, ◌⊎◌, ℕ, ◌++◌, List, [], ◌∷◌, length, Option, None, Some, true}
+use Rattle.cb_io.specs.Outside.{contents}
 use Rattle.cb_network.specs.Regular.{IsRegular}
 use Rattle.cb_network.specs.Topology.{Topology}
 use Rattle.cb_log.specs.declared.event.Event.{Event}
 use Rattle.cb_log.specs.Basis.{Mode}
 use Rattle.cb_alarm.specs.Lines.{LogGives, FrontGives}
 use Rattle.cb_request.specs.declared.request.Request.{Request}
+use Rattle.cb_request.specs.declared.request.Request.TheVariants.{Codebook, Verify}
 use Rattle.cb_request.specs.Files.{file_words}
 use Rattle.cb_outcome.specs.Outcome.{Outcome}
 use Rattle.cb_outcome.specs.Judged.{Known, nothing, PassFrom}
@@ -51,3 +53,15 @@ PassedGoToJob = (request : Request) (left : Left) (known : Known) (outcome : Out
 abbrev pub DoneReadsAll : Type 0
 DoneReadsAll = (asked : Option Request) (left : Left) (outcome : Outcome) → IsOutcome asked left outcome → outcome.fault ≡ None
     → outcome.whole ≡ length (file_words asked)
+
+-- a model and a topology have the same bytes for both
+pub record HaveSameNetwork (left left' : Left) (model topology : List ℕ) : Type 0 where
+  pub model_is : contents left' [] model ≡ contents left [] model
+  pub topology_is : contents left' (model ∷ []) topology ≡ contents left (model ∷ []) topology
+
+-- what `codebook` writes of a network, be it of its codebook or that there is none, `verify` accepts for the same files
+abbrev pub WrittenIsAccepted : Type 0
+WrittenIsAccepted = (left left' : Left) (model topology certificate : List ℕ) (distance : ℕ) (a b : Outcome)
+    → HaveSameNetwork left left' model topology → IsOutcome (Some (Codebook model topology distance)) left a → a.out ≢ []
+    → contents left' (model ∷ topology ∷ []) certificate ≡ a.out → IsOutcome (Some (Verify model topology certificate)) left' b
+    → b.fault ≡ None

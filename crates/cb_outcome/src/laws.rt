@@ -1,5 +1,5 @@
 //! What holds of outcomes.
-ghost use Rattle.cb_outcome.specs.Laws.{OutcomeIsOne, AnswerIsOne, FrontIsFront, DueIsFront, ToldIsFront, PassedGoToJob, DoneReadsAll};
+ghost use Rattle.cb_outcome.specs.Laws.{OutcomeIsOne, AnswerIsOne, FrontIsFront, DueIsFront, ToldIsFront, PassedGoToJob, DoneReadsAll, WrittenIsAccepted};
 
 /// The words of the command line and the bytes of the files have one outcome: in how large pieces the files give their
 /// bytes makes no difference.
@@ -35,4 +35,9 @@ pub fn passed_go_to_job()
 /// An outcome without a fault has read each file word whole.
 pub fn done_reads_all()
     ensures { DoneReadsAll }
+{}
+
+/// What `codebook` writes of a network, be it of its codebook or that there is none, `verify` accepts for the same files.
+pub fn written_is_accepted()
+    ensures { WrittenIsAccepted }
 {}

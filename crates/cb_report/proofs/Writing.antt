@@ -1,6 +1,6 @@
 -- A line that is written part after part.
 use Rattle.std.specs.List.{flat_map}
-use Rattle.std.proofs.Common.{◌≡◌, inr, ◌≤◌, ◌<◌, zero, suc, [], ◌∷◌, length, get_or, take, drop, refl, sym, ap, ◌∙◌, append_assoc, List, ℕ, ◌++◌, arith, true, Result, is_err, OnErr}
+use Rattle.std.proofs.Common.{◌≡◌, inr, ◌≤◌, ◌<◌, zero, suc, [], ◌∷◌, length, get_or, take, drop, refl, sym, ap, ◌∙◌, append_assoc, List, ℕ, ◌++◌, arith, true, Result, is_err, OnErr, OnOk}
 use Rattle.std.specs.declared.result.Result.TheVariants.{Ok, Err}
 use Rattle.cb_io.specs.Outside.{SinkTold, WritesAll, WritesFront, WriteFailed}
 use Rattle.cb_io.proofs.Told.{WritesFront-first, WritesFront-second}
@@ -31,3 +31,15 @@ two_names a f g h b i j k c d e = simp append_assoc
 -- a line that ends with a node
 pub one_node : (f g h e : List ℕ) → f ++ (g ++ (h ++ e)) ≡ (f ++ g ++ h) ++ e
 one_node f g h e = simp append_assoc
+
+-- what follows where a call is done
+pub on_ok_more : {T E : Type 0} (r : Result T E) (P Q : Type 0) → (P → Q) → OnOk r P → OnOk r Q
+on_ok_more (Ok x) P Q f h = f h
+on_ok_more (Err x) P Q f h = tt
+
+-- parts behind a text, one after the other
+pub behind_three : (o a b c : List ℕ) → o ++ a ++ b ++ c ≡ o ++ (a ++ (b ++ c))
+behind_three o a b c = simp append_assoc
+
+pub behind_nine : (o a b c d e f g h n : List ℕ) → o ++ a ++ b ++ c ++ d ++ e ++ f ++ (g ++ (h ++ n)) ≡ o ++ (a ++ b ++ c ++ d ++ e ++ f ++ g ++ h ++ n)
+behind_nine o a b c d e f g h n = simp append_assoc

@@ -2,6 +2,7 @@
 //! `specs/`; the printers write exactly that.
 #![tactic(auto)]
 
+mod accepted;
 mod certificate_line;
 mod fault;
 mod fault_line;
@@ -13,6 +14,7 @@ mod parts;
 mod piece;
 mod status;
 
+pub use accepted::accepted_text;
 pub use fault::Fault;
 pub use fault_line::say_fault;
 pub use finding::burst_text;

@@ -1,12 +1,14 @@
 //! Two groups that are close.
-ghost use Rattle.std.specs.Prelude.{◌≡◌, ◌++◌, codes};
-ghost use Rattle.cb_report.specs.Lines.{called_front, called_sign, called_back, counted_pair, pair_text};
+ghost use Rattle.std.specs.Prelude.{◌≡◌, ◌++◌, codes, OnOk};
+ghost use Rattle.cb_report.specs.Lines.{called_front, called_sign, called_back, called_text, counted_pair, pair_text};
 ghost use Rattle.cb_report.specs.Said.{TakesLine};
 
 use crate::parts::say;
+use crate::piece::push_number;
 use cb_io::Sink;
 use cb_model::GroupName;
 use itoa::Buffer;
+use std::alloc::AllocError;
 
 /// Says a number and two groups behind words.
 pub fn say_counted_pair<E: Sink>(
@@ -60,6 +62,32 @@ pub fn say_pair<'n, E: Sink>(
             b"\n",
         ],
     );
+}
+
+/// Adds two groups, how far they are apart, and the end of the line.
+pub fn push_pair(
+    out: &mut Vec<u8>,
+    first: &GroupName,
+    second: &GroupName,
+    distance: u32,
+) -> Result<(), AllocError>
+    ensures { OnOk result (out.new.items ≡ out.old.items ++ (pair_text first.now second.now distance ++ codes "\n")) }
+{
+    out.extend_from_slice(b" first ")?;
+    push_called(out, first)?;
+    out.extend_from_slice(b" second ")?;
+    push_called(out, second)?;
+    push_number(out, b" distance ", u64::from(distance))?;
+    out.extend_from_slice(b"\n")
+}
+
+// Adds what a group is called.
+fn push_called(out: &mut Vec<u8>, name: &GroupName) -> Result<(), AllocError>
+    ensures { OnOk result (out.new.items ≡ out.old.items ++ called_text name.now) }
+{
+    out.extend_from_slice(front_of(name))?;
+    out.extend_from_slice(sign_of(name))?;
+    out.extend_from_slice(back_of(name))
 }
 
 // The word for the quiet group, or the event of the least member.

@@ -1,2 +1,3 @@
 mod NumberWords
 mod CommandWords
+pub mod Ranges

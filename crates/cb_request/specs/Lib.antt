@@ -2,3 +2,4 @@ pub mod Numbers
 pub mod Commands
 pub mod Files
 pub mod Laws
+pub mod Ranges

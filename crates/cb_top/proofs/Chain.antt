@@ -10,10 +10,11 @@ use Rattle.cb_request.specs.declared.request.Request.{Request}
 use Rattle.cb_request.specs.Files.{Role, judged_of, logs_of, names_of}
 use Rattle.cb_report.specs.declared.fault.Fault.{Fault}
 use Rattle.cb_outcome.specs.Judged.{Known, nothing, Says, PassFrom}
+use Rattle.cb_outcome.specs.Jobs.{JobGives}
 use Rattle.cb_outcome.specs.Contents.{Left, with_texts}
 use Rattle.cb_outcome.specs.Reading.{Told, LeavesRest, ReadsTo}
-use Rattle.cb_top.specs.Kinds.{file_of, ReadsOnly, StopsReading}
-use Rattle.cb_top.specs.Ending.{names, WantsMemory, StopsAt}
+use Rattle.cb_top.specs.Kinds.{file_of, IsWant, ReadsOnly, StopsReading}
+use Rattle.cb_top.specs.Ending.{names, Passed, Makes, WantsMemory, StopsAt}
 
 -- ---- facts where they are told
 
@@ -146,12 +147,6 @@ all_say_next left before (file ∷ files) role name known mid next (first, said,
           (subst (λ (ns : List (List ℕ)). Says mid (file_of role name (contents left ns name)) next) moved says),
     )
 
--- the files of a request up to a place were read and have passed: this is known from them
-pub record Passed (earlier : List (Role × List ℕ)) (known : Known) (old now : FilesTold) : Type 0 where
-  pub said : Told old (λ left. PassFrom nothing (with_texts left [] earlier) known)
-  pub read : ReadsEach old now (names earlier)
-  pub counts : NoCountFalls old now
-
 pub passed_none : (old : FilesTold) → Passed [] nothing old old
 passed_none old = record { said = of_all old.left _ (λ left. refl); read = ReadsEach-nil old; counts = λ name. omega arith }
 
@@ -209,3 +204,32 @@ module _ (earlier : List (Role × List ℕ)) (role : Role) (name : List ℕ) (kn
       read = read_there;
       why = inr (record { text = is.text; text_is = text_there old now (names earlier) name is.text passed.read is.text_is; refuses = is.refuses known before });
     })
+
+-- ---- the job behind all files
+
+module _ (request : Request) (files : List (Role × List ℕ)) (known : Known) (old new : FilesTold) (passed : Passed files known old new)
+    (files_are : judged_of request ≡ files) (no_log : logs_of request ≡ []) where
+  names_are_all : names files ≡ names_of request
+  names_are_all =
+      let all : names (judged_of request) ++ logs_of request ≡ names files ++ [] = λ i. names (files_are i) ++ no_log i in
+      sym (append_nil (names files)) ∙ sym all
+
+  -- what it gives
+  pub makes : (bytes : List ℕ) (fault : Option Fault)
+      → ((left : Left) (whole : ℕ) → JobGives left request known whole (record { out = bytes; fault = fault; whole = whole }))
+      → Makes request old new bytes fault
+  makes bytes fault gives = record {
+    known = known;
+    said = subst (λ (fs : List (Role × List ℕ)). Told old (λ left. PassFrom nothing (with_texts left [] fs) known)) (sym files_are) passed.said;
+    gives = gives;
+    read = subst (ReadsEach old new) names_are_all passed.read;
+    alone = no_log;
+  }
+
+  -- or it wants memory
+  pub wants : (fault : Fault) → IsWant fault → WantsMemory request old new fault
+  wants fault want = record {
+    is = want;
+    whole = length (names_of request);
+    read = reads_all old new (names_of request) (subst (ReadsEach old new) names_are_all passed.read);
+  }

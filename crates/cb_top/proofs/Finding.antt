@@ -1,5 +1,5 @@
 -- What is printed at status 0 names the cause.
-use Rattle.std.proofs.Common.{◌≡◌, ℕ, List, true, false, sym, ap, subst, arith}
+use Rattle.std.proofs.Common.{◌≡◌, ℕ, List, true, false, sym, ap, subst, inl, inr, arith, Some}
 use Rattle.std.specs.Prelude.{T}
 use Rattle.std.proofs.lemmas.List.{length-map}
 use Rattle.cb_coding.specs.declared.group.Group.{Group}
@@ -10,13 +10,15 @@ use Rattle.cb_finding.specs.declared.finding.Finding.{Finding}
 use Rattle.cb_network.specs.Topology.{Topology}
 use Rattle.cb_finding.specs.Finding.{IsBurst}
 use Rattle.cb_finding.proofs.Nearest.{burst_finds_the_cause}
+use Rattle.cb_report.specs.declared.fault.Fault.TheVariants as faults
 use Rattle.cb_request.specs.declared.request.Request.{Request}
 use Rattle.cb_request.specs.declared.request.Request.TheVariants.{Burst, Codebook, Decode, Correlate}
 use Rattle.cb_outcome.specs.Outcome.{Outcome}
-use Rattle.cb_outcome.specs.Judged.{Known, raised}
-use Rattle.cb_outcome.specs.Jobs.{is_built, JobGives}
+use Rattle.cb_outcome.specs.Judged.{Known, network, raised}
+use Rattle.cb_outcome.specs.Jobs.{is_built, CodebookGives, JobGives}
 use Rattle.cb_outcome.specs.Contents.{Left}
-use Rattle.cb_outcome.specs.Finds.{ListsTheNearest, far_from, FindsFor}
+use Rattle.cb_outcome.proofs.Accepted.{codebook_spells}
+use Rattle.cb_outcome.specs.Finds.{ListsTheNearest, far_from, PrintsValid, FindsFor}
 use Rattle.std.proofs.Common.{length}
 
 not_built : false ≡ true → ⊥
@@ -43,17 +45,29 @@ lists_the_nearest t nodes finding burst =
       alone = λ i lt near. burst_finds_the_cause t nodes finding burst i lt near;
     }
 
+-- what is written of a codebook is a valid certificate, unless its entries are too many
+prints_valid : (t : Topology) (distance whole : ℕ) (outcome : Outcome) (out out' : SinkTold) → (outcome.fault ≡ Some faults.LimitEntries → ⊥)
+    → CodebookGives t distance whole outcome → WritesAll out out' outcome.out → PrintsValid t out out'
+prints_valid t distance whole outcome out out' some gives written =
+    elim (codebook_spells t distance whole outcome gives) [
+      | inl is ↦ record { text = outcome.out; certificate = is.certificate; valid = is.valid; short = is.short; printed = written }
+      | inr full ↦ absurd (some (ap (λ (o : Outcome). o.fault) full))
+    ]
+
 -- what is found at the end of a job whose output was written
 pub finds_for : (left : Left) (request : Request) (known : Known) (outcome : Outcome) (out out' : SinkTold) → is_built request ≡ true
-    → JobGives left request known 0 outcome → WritesAll out out' outcome.out → FindsFor left request known out out'
-finds_for left (Burst one two three) (raised t nodes) outcome out out' built (finding, found, e) written = record {
+    → (outcome.fault ≡ Some faults.LimitEntries → ⊥) → JobGives left request known 0 outcome → WritesAll out out' outcome.out
+    → FindsFor left request known out out'
+finds_for left (Burst one two three) (raised t nodes) outcome out out' built some (finding, found, e) written = record {
   finding = finding;
   burst = found;
   printed = subst (λ (l : List ℕ). WritesAll out out' l) (ap (λ (o : Outcome). o.out) e) written;
   lists = lists_the_nearest t nodes finding found;
 }
-finds_for left (Burst one two three) known outcome out out' built gives written = gives
-finds_for left (Codebook one two distance) known outcome out out' built gives written = absurd (not_built built)
-finds_for left (Decode one two three log window) known outcome out out' built gives written = absurd (not_built built)
-finds_for left (Correlate one two log distance window) known outcome out out' built gives written = absurd (not_built built)
-finds_for left request known outcome out out' built gives written = tt
+finds_for left (Burst one two three) known outcome out out' built some gives written = gives
+finds_for left (Codebook one two distance) (network t) outcome out out' built some gives written =
+    prints_valid t distance 0 outcome out out' some gives written
+finds_for left (Codebook one two distance) known outcome out out' built some gives written = gives
+finds_for left (Decode one two three log window) known outcome out out' built some gives written = absurd (not_built built)
+finds_for left (Correlate one two log distance window) known outcome out out' built some gives written = absurd (not_built built)
+finds_for left request known outcome out out' built some gives written = tt

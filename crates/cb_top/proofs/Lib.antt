@@ -4,3 +4,4 @@ pub mod Judging
 pub mod Finding
 pub mod Plain
 pub mod Clauses
+pub mod Certified

@@ -141,9 +141,9 @@ module _ (request : Request) (built : is_built request ≡ true) (s : Seen) (byt
   with_fault other e is = subst (λ (f : Option Fault). IsFit request f s) (sym e) is
 
   -- what the output finds, where there is one
-  found : Told s.files (FindsCause (Some request) s.out s.out_after)
-  found = if_some s.files.left _ _ (λ left said.
-      (makes.known, said, finds_for left request makes.known job_outcome s.out s.out_after built (makes.gives left 0) written)) makes.said
+  found : (fault ≡ Some faults.LimitEntries → ⊥) → Told s.files (FindsCause (Some request) s.out s.out_after)
+  found room = if_some s.files.left _ _ (λ left said.
+      (makes.known, said, finds_for left request makes.known job_outcome s.out s.out_after built room (makes.gives left 0) written)) makes.said
 
   fit_by : JobEnds request 0 job_outcome → IsFit request fault s
   fit_by (well none whole) = with_fault None none (record {
@@ -151,12 +151,12 @@ module _ (request : Request) (built : is_built request ≡ true) (s : Seen) (byt
       names = tt;
       ends = tt;
       blames = tt;
-      finds = found;
+      finds = found (λ full. let clash = sym none ∙ full in cc);
     };
     quiet = tt;
   })
   fit_by (close codebook wanted first second far is) = with_fault (Some (faults.Distance wanted first second far)) is (record {
-    plain = record { names = tt; ends = codebook; blames = tt; finds = found };
+    plain = record { names = tt; ends = codebook; blames = tt; finds = found (λ full. let clash = sym is ∙ full in cc) };
     quiet = tt;
   })
   fit_by (crowded some is empty) = with_fault (Some faults.LimitEntries) is (record {

@@ -1,6 +1,6 @@
 -- What a command leaves whose output is made before it is written. `old` is told before its files are read, `new` after that.
 use Rattle.std.specs.Prelude.{◌≡◌, ◌⊎◌, ℕ, List, [], ◌∷◌, ◌++◌, length, map, Bool, true, false, Option, None, Some, Result, Ok, Err}
-use Rattle.cb_io.specs.Outside.{FilesTold, SinkTold, contents, ReadsEach, WritesAll, WritesFront, WriteFailed}
+use Rattle.cb_io.specs.Outside.{FilesTold, SinkTold, contents, ReadsEach, NoCountFalls, WritesAll, WritesFront, WriteFailed}
 use Rattle.cb_request.specs.declared.request.Request.{Request}
 use Rattle.cb_request.specs.Files.{Role, judged_of, logs_of, names_of}
 use Rattle.cb_report.specs.declared.fault.Fault.{Fault}
@@ -20,6 +20,16 @@ use Rattle.cb_top.specs.Kinds.{file_of, IsWant, FailsToRead}
 -- the names of these files
 abbrev pub names : List (Role × List ℕ) → List (List ℕ)
 names files = map (λ file. file.1) files
+
+-- the files of a request up to a place were read and have passed: this is known from them
+pub record Passed (earlier : List (Role × List ℕ)) (known : Known) (old now : FilesTold) : Type 0 where
+  pub said : Told old (λ left. PassFrom nothing (with_texts left [] earlier) known)
+  pub read : ReadsEach old now (names earlier)
+  pub counts : NoCountFalls old now
+
+-- the files that tell a network: its model and its topology
+abbrev pub network_files : List ℕ → List ℕ → List (Role × List ℕ)
+network_files model topology = (Role.model, model) ∷ (Role.topology, topology) ∷ []
 
 -- All files pass, behind which the job gives these bytes, with this fault, if there is one; all were read, and no log follows them.
 pub record Makes (request : Request) (old new : FilesTold) (bytes : List ℕ) (fault : Option Fault) : Type 0 where
@@ -51,6 +61,11 @@ pub record StopsAt (request : Request) (old new : FilesTold) (fault : Fault) : T
   pub passed : Told old (λ left. PassFrom nothing (with_texts left [] earlier) known)
   pub read : ReadsTo (length earlier) (names_of request) old new
   pub why : FailsToRead file.1 old new fault ⊎ IsRefusedThere earlier file known old fault
+
+-- a request that begins with these files ends with the fault
+abbrev pub StopsWithin : List (Role × List ℕ) → FilesTold → FilesTold → Fault → Type 0
+StopsWithin files old new fault = (request : Request) (later : List (Role × List ℕ)) → judged_of request ≡ files ++ later
+    → WantsMemory request old new fault ⊎ StopsAt request old new fault
 
 -- what comes of a request whose command is built
 abbrev pub Comes : Request → FilesTold → FilesTold → Result Output Fault → Type 0

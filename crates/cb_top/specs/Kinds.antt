@@ -1,6 +1,13 @@
 -- What reading and judging one file leaves. `old` is told before it, `new` after it.
 use Rattle.std.specs.Prelude.{◌≡◌, ◌⊎◌, ℕ, List, IfSome}
 use Rattle.cb_io.specs.Outside.{FilesTold, left_of, ReadsAll, ReadsFront, KeepsOthers, NoCountFalls, ReadFailed}
+use Rattle.cb_network.specs.Topology.{Topology}
+use Rattle.cb_cert.specs.declared.certificate.Certificate.{Certificate}
+use Rattle.cb_claim.specs.declared.verdict.Accepted.{Accepted}
+use Rattle.cb_claim.specs.declared.verdict.Rejected.{Rejected}
+use Rattle.cb_claim.specs.Checks.{IsFirstFail}
+use Rattle.cb_claim.specs.Valid.{IsValid}
+use Rattle.cb_claim.specs.Verdicts.{Shows}
 use Rattle.cb_request.specs.Files.{Role}
 use Rattle.cb_report.specs.declared.fault.Fault.{Fault}
 use Rattle.cb_report.specs.declared.fault.Fault.TheVariants as faults
@@ -58,3 +65,14 @@ pub record IsRefused (role : Role) (name : List ℕ) (Before : Known → Type 0)
 -- the file stops the run: memory ran out, a read failed, or it is refused
 abbrev pub StopsReading : Role → List ℕ → (Known → Type 0) → FilesTold → FilesTold → Fault → Type 0
 StopsReading role name Before old new fault = IsWant fault ⊎ (FailsToRead name old new fault ⊎ IsRefused role name Before old fault)
+
+-- the fault tells the first check of the certificate that fails
+pub record IsRejection (t : Topology) (c : Certificate) (fault : Fault) : Type 0 where
+  pub why : Rejected
+  pub fails : IsFirstFail t c why
+  pub is : fault ≡ faults.CertRejected why
+
+-- the certificate is valid, and shows this
+pub record IsAccepted (t : Topology) (c : Certificate) (accepted : Accepted) : Type 0 where
+  pub valid : IsValid t c
+  pub shows : Shows t c accepted

@@ -4,10 +4,9 @@ ghost use Rattle.cb_top.specs.Ending.{Comes};
 
 use crate::judge::lines_of_burst;
 use crate::kind::read_as;
-use crate::model_file::ModelFile;
+use crate::network::read_network;
 use crate::output::Output;
 use crate::symptom_file::SymptomFile;
-use crate::topology_file::TopologyFile;
 use cb_io::Files;
 use cb_report::Fault;
 use cb_request::FileName;
@@ -26,8 +25,7 @@ pub fn burst<'w, F: Files, L: Ledger>(
 ) -> Result<Output<'w>, Fault<'w>>
     ensures { Comes (Burst model.entry topology.entry symptoms.entry) (F.tells files.old) (F.tells files.new) result }
 {
-    let model = read_as(alloc, files, model, ModelFile)?;
-    let topology = read_as(alloc, files, topology, TopologyFile { model })?;
+    let topology = read_network(alloc, files, model, topology)?;
     let kind = SymptomFile {
         topology: &topology,
     };

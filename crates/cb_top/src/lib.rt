@@ -2,17 +2,21 @@
 #![tactic(auto)]
 
 mod burst;
+mod certificate_file;
+mod codebook;
 mod conclude;
 mod judge;
 mod kind;
 mod matrix;
 mod model;
 mod model_file;
+mod network;
 mod output;
 mod perform;
 mod symptom_file;
 mod top;
 mod topology_file;
+mod verify;
 
 pub use cb_report::Status;
 pub use top::run;
