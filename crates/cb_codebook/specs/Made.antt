@@ -1,7 +1,19 @@
 -- What is made of a topology for a wanted distance.
-use Rattle.std.specs.Prelude.{ℕ, List}
+use Rattle.std.specs.Prelude.{◌≡◌, ◌<◌, ℕ, List, length, Some, slice_get}
+use Rattle.cb_model.specs.declared.node.GroupName.{GroupName}
+use Rattle.cb_model.specs.declared.node.GroupName.TheVariants.{Quiet, Least}
 use Rattle.cb_model.specs.declared.node.NodeName.{NodeName}
+use Rattle.cb_model.specs.declared.node.NamedGroup.{NamedGroup}
+use Rattle.cb_coding.specs.declared.book.Book.{Book}
+use Rattle.cb_coding.specs.declared.book.Pair.{Pair}
+use Rattle.cb_coding.specs.declared.group.Group.{Group}
+use Rattle.cb_coding.specs.Books.{IsBook}
+use Rattle.cb_coding.specs.Distance.{all_columns}
+use Rattle.cb_coding.specs.Groups.{codes_of}
+use Rattle.cb_coding.specs.Pairs.{IsFirstClose}
+use Rattle.cb_codes.specs.Groups.{named_of}
 use Rattle.cb_network.specs.Topology.{Topology}
+use Rattle.cb_finding.specs.Matrix.{IsMatrix}
 use Rattle.cb_cert.specs.Format.{IsCertificate}
 use Rattle.cb_claim.specs.Codebooks.{AreBookColumns, IsCodebook, IsShortfall}
 use Rattle.cb_claim.specs.Totals.{HasFewEntries, HasManyEntries}
@@ -18,3 +30,18 @@ IsMadeOf t wanted (Certified certificate) = IsCodebook t wanted certificate × H
 IsMadeOf t wanted TooManyEntries = HasCodebook t wanted × HasManyEntries t
 IsMadeOf t wanted (TooClose first second distance certificate) =
     IsShortfall t wanted first second distance certificate × IsCertificate certificate
+
+-- the book is one of the topology's codes
+pub record IsBookOf (t : Topology) (book : Book) : Type 0 where
+  pub columns : List NodeName
+  pub groups : List Group
+  pub matrix : IsMatrix t columns groups
+  pub is : IsBook (length columns) (codes_of groups) book
+
+-- these are the topology's groups by their members, and the pair is the first of them that is closer than wanted
+pub record ArePairOf (t : Topology) (named : List NamedGroup) (wanted : ℕ) (pair : Pair) : Type 0 where
+  pub columns : List NodeName
+  pub groups : List Group
+  pub matrix : IsMatrix t columns groups
+  pub named_are : named ≡ named_of groups
+  pub first : IsFirstClose (all_columns (length columns)) (codes_of groups) wanted pair

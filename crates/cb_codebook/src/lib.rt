@@ -1,14 +1,16 @@
 //! What is written of a topology's codebook for a wanted distance: its certificate, or that two groups are too close for one.
 //!
-//! `codebook_of(alloc, topology, distance, steps)` goes the whole way: the causes of each problem (cb_cache), the matrix (cb_matrix), the
-//! codebook or the first close pair (cb_reduce), and the canonical certificate (cb_span). It has no text, no file and no status.
+//! `codebook_of(alloc, topology, wanted, steps)` goes the whole way: what each problem causes (cb_cache), the matrix (cb_matrix), the
+//! codebook or the first close pair (cb_reduce), and the canonical certificate (cb_span). It knows no text, no file and no status.
 //!
 //! Promised: a certificate is the canonical one of the topology's codebook, or of the first pair that is too close; it is of the format, so
-//! that it can be written, and valid (`codebook_is_valid`, `shortfall_is_valid` of cb_claim). Not promised: a bound on steps.
+//! that it can be written, and valid (`codebook_is_valid` and `shortfall_is_valid` of cb_claim). Not promised: a bound on steps.
 //!
-//! Read `specs/Made.antt` first. The body may be changed freely.
+//! Read `specs/Made.antt` first. All else may be changed freely.
 #![tactic(auto)]
 
 mod codebook;
+mod columns;
+mod shortfall;
 
 pub use codebook::{Codebook, codebook_of};

@@ -1,10 +1,9 @@
 //! The lines of a matrix.
 ghost use Rattle.std.specs.Prelude.{◌≡◌, ◌++◌, IfOk, OnOk};
 ghost use Rattle.cb_codes.specs.Groups.{group_with};
-ghost use Rattle.cb_report.specs.Lines.{counted};
 ghost use Rattle.cb_report.specs.MatrixText.{code_text, coded_line, column_line, columns_text, digit as digit_of, groups_text, least_line, matrix_text as text_of_matrix, quiet_word as word_of_quiet};
 
-use crate::piece::{push_node, push_number};
+use crate::piece::{push_count, push_node};
 use cb_bits::Row;
 use cb_codes::Groups;
 use cb_coding::Pair;
@@ -108,12 +107,4 @@ fn push_least(out: &mut Vec<u8>, least: Option<Pair>) -> Result<(), AllocError>
         None => out.extend_from_slice(b"distance none\n"),
         Some(pair) => push_count(out, b"distance ", u64::from(pair.distance)),
     }
-}
-
-// Adds words, a number, and the end of the line.
-fn push_count(out: &mut Vec<u8>, words: &[u8], number: u64) -> Result<(), AllocError>
-    ensures { OnOk result (out.new.items ≡ out.old.items ++ counted words.now number) }
-{
-    push_number(out, words, number)?;
-    out.extend_from_slice(b"\n")
 }

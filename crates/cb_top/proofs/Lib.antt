@@ -5,3 +5,4 @@ pub mod Finding
 pub mod Plain
 pub mod Clauses
 pub mod Certified
+pub mod Writing

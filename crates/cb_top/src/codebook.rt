@@ -1,5 +1,5 @@
 //! The command `codebook`.
-ghost use Rattle.std.specs.Prelude.{IfOk};
+ghost use Rattle.std.specs.Prelude.{◌≡◌, IfOk};
 ghost use Rattle.cb_cert.specs.Format.{IsWanted};
 ghost use Rattle.cb_request.specs.declared.request.Request.TheVariants.{Codebook as CodebookRequest};
 ghost use Rattle.cb_top.specs.Ending.{Comes};
@@ -30,8 +30,18 @@ pub fn codebook<'w, F: Files, L: Ledger>(
     ensures { Comes (CodebookRequest model.entry topology.entry distance) (F.tells files.old) (F.tells files.new) result }
 {
     let topology = read_network(alloc, files, model, topology)?;
-    let made = codebook_of(alloc, topology, distance as u32, steps)?;
-    Ok(written(alloc, made, distance as u32)?)
+    let wanted = wanted_of(distance);
+    let made = codebook_of(alloc, topology, wanted, steps)?;
+    let output = written(alloc, made, wanted)?;
+    Ok(output)
+}
+
+// A distance that may be wanted, which is a small number.
+fn wanted_of(distance: u64) -> u32
+    requires { IsWanted distance }
+    ensures { result ≡ distance }
+{
+    distance as u32
 }
 
 // The certificate as its text, and what is wrong where there is no codebook, or no room for its certificate.

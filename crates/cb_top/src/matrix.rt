@@ -3,10 +3,8 @@ ghost use Rattle.cb_request.specs.declared.request.Request.TheVariants.{Matrix};
 ghost use Rattle.cb_top.specs.Ending.{Comes};
 
 use crate::judge::lines_of_matrix;
-use crate::kind::read_as;
-use crate::model_file::ModelFile;
+use crate::network::read_network;
 use crate::output::Output;
-use crate::topology_file::TopologyFile;
 use cb_io::Files;
 use cb_report::Fault;
 use cb_request::FileName;
@@ -24,8 +22,7 @@ pub fn matrix<'w, F: Files, L: Ledger>(
 ) -> Result<Output<'w>, Fault<'w>>
     ensures { Comes (Matrix model.entry topology.entry) (F.tells files.old) (F.tells files.new) result }
 {
-    let model = read_as(alloc, files, model, ModelFile)?;
-    let topology = read_as(alloc, files, topology, TopologyFile { model })?;
+    let topology = read_network(alloc, files, model, topology)?;
     Ok(Output {
         bytes: lines_of_matrix(alloc, topology, steps)?,
         fault: None,

@@ -63,5 +63,5 @@ returns g c =
     let files = (Role.model, m) ∷ (Role.topology, t) ∷ (Role.symptoms, s) ∷ [] in
     let (finding, found, text) = c.in_ok-lines_of_burst.ensures in
     makes (Burst m t s) files (raised (topology_of c.in_ok-topology.topology) c.in_ok-raised.raised) old three
-    (subst (λ (k : Known). Passed files k old three) nodes_are.0 after) refl refl c.in_ok-lines_of_burst.ok.0.items None
+    (subst (λ (k : Known). Passed files k old three) nodes_are.0 after) refl refl _ None
     (λ left whole. (finding, found, ap (λ (bytes : List ℕ). done bytes whole) text))

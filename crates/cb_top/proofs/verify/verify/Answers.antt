@@ -58,5 +58,5 @@ returns g c =
     let files = (Role.model, m) ∷ (Role.topology, t) ∷ (Role.certificate, s) ∷ [] in
     let verified = c.in_ok-verified.verified in
     makes (Verify m t s) files (certified (topology_of c.in_ok-topology.topology) verified.certificate) old three
-    (subst (λ (k : Known). Passed files k old three) known_is.0 after) refl refl c.in_ok-accepted_text.ok.0.items None
+    (subst (λ (k : Known). Passed files k old three) known_is.0 after) refl refl _ None
     (λ left whole. (verified.accepted, known_is.1, ap (λ (bytes : List ℕ). done bytes whole) c.in_ok-accepted_text.ensures))

@@ -1,0 +1,139 @@
+-- Groups and columns by names and by numbers.
+use Rattle.std.proofs.Common.{◌≡◌, ◌≢◌, ◌∙◌, ℕ, zero, suc, ◌+◌, ◌<◌, ◌≤◌, List, [], ◌∷◌, ◌++◌, length, take, get_or, refl, sym, ap, subst, arith, Some, inl, inr, map, false}
+use Rattle.std.specs.Prelude.{slice_get, Option, None}
+use Rattle.std.specs.List.{All, AllZip, count_by}
+use Rattle.std.specs.List.Sorted.{IsStrictlyIncreasing}
+use Rattle.std.proofs.lemmas.List.Elements.{All-nil, All-cons}
+use Rattle.std.proofs.lemmas.Option.{slice_get_within, slice_get-get_or}
+use Rattle.cb_model.specs.declared.node.GroupName.{GroupName}
+use Rattle.cb_model.specs.declared.node.GroupName.TheVariants.{Quiet, Least}
+use Rattle.cb_model.specs.declared.node.NodeName.{NodeName}
+use Rattle.cb_model.specs.declared.node.NamedGroup.{NamedGroup}
+use Rattle.cb_model.proofs.Spread.{map_at, map_there}
+use Rattle.cb_model.proofs.Numbers.{zip_push, take_more}
+use Rattle.cb_coding.specs.declared.group.Group.{Group}
+use Rattle.cb_codes.specs.Groups.{named, named_of}
+use Rattle.cb_network.specs.Topology.{Topology}
+use Rattle.cb_network.specs.Nodes.{IsNodeOf, IsColumn, AreColumns}
+use Rattle.cb_finding.specs.Finding.{IsCalled}
+use Rattle.cb_finding.specs.Matrix.{IsMatrix}
+use Rattle.cb_claim.specs.Laws.{HavePlaces}
+use Rattle.cb_claim.proofs.Canonicals.{problem_is_node, contains_from_get}
+use Rattle.cb_claim.proofs.Codebooks.{group_at, called_by, places_rise}
+use Rattle.cb_nodes.specs.declared.id.NodeId.{NodeId}
+use Rattle.cb_topo.specs.Numbered.{Numbered, topology_of, IsNodeNamed, AreNamed}
+use Rattle.cb_topo.proofs.Naming.{one_name}
+use Rattle.cb_span.specs.Made.{IsSideAt, IsProblemAt, IsSideNamed, AreColumnsAt as AreSpanColumns}
+use Rattle.cb_codebook.specs.Columns.{HaveNames}
+use Rattle.cb_codebook.specs.Members.{IsLeastMember, HasMember, IsNameIn}
+use Rattle.cb_claim.specs.Codebooks.{least_of}
+
+-- the group of a name at a place behind the first
+named_later : (groups : List Group) (i : ℕ) (g : NamedGroup) → 0 < i → slice_get (named_of groups) i ≡ Some g
+    → (coded : Group) × (slice_get groups i ≡ Some coded) × (g.members ≡ coded.members)
+named_later [] i g later at = cc
+named_later (quiet ∷ groups) zero g later at = absurd (omega arith)
+named_later (quiet ∷ groups) (suc i) g later at =
+    let (coded, there, same) = map_at (named false) groups i g at in
+    (coded, there, ap (λ (x : NamedGroup). x.members) (sym same))
+
+-- what a later group's least member is, it is called by
+pub called_later : (groups : List Group) (i : ℕ) (node : NodeName) → 0 < i → IsLeastMember (named_of groups) i node → IsCalled groups i (Least node)
+called_later groups i node later is =
+    let (coded, at, same) = named_later groups i is.group later is.at in
+    (later, coded, at, subst (λ (names : List NodeName). slice_get names 0 ≡ Some node) same is.first)
+
+first_of : {X : Type 0} (xs : List X) → xs ≢ [] → (x : X) × (slice_get xs 0 ≡ Some x)
+first_of [] some = absurd (some refl)
+first_of (x ∷ xs) some = (x, refl)
+
+named_there : (groups : List Group) (i : ℕ) (g : Group) → 0 < i → slice_get groups i ≡ Some g → slice_get (named_of groups) i ≡ Some (named false g)
+named_there [] i g later at = cc
+named_there (quiet ∷ groups) zero g later at = absurd (omega arith)
+named_there (quiet ∷ groups) (suc i) g later at = map_there (named false) groups i g at
+
+module _ (t : Topology) (columns : List NodeName) (groups : List Group) (matrix : IsMatrix t columns groups) where
+  -- each group but the first has a member
+  pub has_member : (i : ℕ) → 0 < i → i < length groups → HasMember (named_of groups) i
+  has_member i later within =
+      let none : Group = record { code = []; members = [] } in
+      let group = get_or groups i none in
+      let at = slice_get-get_or groups i none within in
+      let is = group_at t columns groups matrix i group later at in
+      let (node, first) = first_of group.members is.some in
+      (node, record { group = named false group; at = named_there groups i group later at; first = first })
+
+  -- what a group is called by is a node
+  pub name_in : (i : ℕ) (name : GroupName) → IsCalled groups i name → IsNameIn t name
+  name_in i Quiet is = tt
+  name_in i (Least node) is = problem_is_node t node ((called_by t columns groups matrix i node is).problem)
+
+-- the numbers of what groups are called by are those of problems
+module _ (n : Numbered) (columns : List NodeName) (groups : List Group) (matrix : IsMatrix (topology_of n) columns groups) where
+  pub problem_at : (i : ℕ) (node : NodeName) (id : NodeId) → IsCalled groups i (Least node) → IsNodeNamed n id node → IsProblemAt n id
+  problem_at i node id is at = record { name = node; named = at; problem = (called_by (topology_of n) columns groups matrix i node is).problem }
+
+  pub side_at : (i : ℕ) (name : GroupName) (id : Option NodeId) → IsCalled groups i name → IsSideNamed n id (least_of name) → IsSideAt n id
+  side_at i Quiet None is at = tt
+  side_at i Quiet (Some id) is at = absurd at
+  side_at i (Least node) None is at = absurd at
+  side_at i (Least node) (Some id) is at = problem_at i node id is at
+
+-- a number that may be there has one name
+pub one_side : (n : Numbered) (id : Option NodeId) (a b : Option NodeName) → IsSideNamed n id a → IsSideNamed n id b → a ≡ b
+one_side n None None None p q = refl
+one_side n None None (Some b) p q = absurd q
+one_side n None (Some a) b p q = absurd p
+one_side n (Some id) None b p q = absurd p
+one_side n (Some id) (Some a) None p q = absurd q
+one_side n (Some id) (Some a) (Some b) p q = ap (λ (x : NodeName). Some x) (one_name n id a b p q)
+
+-- numbers have one list of names
+pub names_are_one : (n : Numbered) (ids : List NodeId) (xs ys : List NodeName) → AreNamed n ids xs → AreNamed n ids ys → xs ≡ ys
+names_are_one n [] [] [] p q = refl
+names_are_one n [] [] (y ∷ ys) p q = absurd q
+names_are_one n [] (x ∷ xs) ys p q = absurd p
+names_are_one n (id ∷ ids) [] ys p q = absurd p
+names_are_one n (id ∷ ids) (x ∷ xs) [] p q = absurd q
+names_are_one n (id ∷ ids) (x ∷ xs) (y ∷ ys) p q =
+    let here : x ≡ y = one_name n id x y p.0 q.0 in
+    let rest = names_are_one n ids xs ys p.1 q.1 in
+    cc
+
+-- the number and the name at a place
+pub name_at : (n : Numbered) (ids : List NodeId) (names : List NodeName) → AreNamed n ids names → (k : ℕ) (id : NodeId) → slice_get ids k ≡ Some id
+    → (name : NodeName) × (slice_get names k ≡ Some name) × IsNodeNamed n id name
+name_at n [] [] zip k id at = cc
+name_at n [] (x ∷ names) zip k id at = absurd zip
+name_at n (i ∷ ids) [] zip k id at = absurd zip
+name_at n (i ∷ ids) (x ∷ names) zip zero id at = let same : i ≡ id = cc in (x, refl, subst (λ (j : NodeId). IsNodeNamed n j x) same zip.0)
+name_at n (i ∷ ids) (x ∷ names) zip (suc k) id at = name_at n ids names zip.1 k id at
+
+-- one more column by its place
+pub one_more_column : (n : Numbered) (all : List NodeName) (numbers : List NodeId) → AreNamed n numbers all → (places : List ℕ) (k place : ℕ)
+    → slice_get places k ≡ Some place → (id : NodeId) → slice_get numbers place ≡ Some id → (ids : List NodeId) → HaveNames n all (take k places) ids
+    → HaveNames n all (take (k + 1) places) (ids ++ id ∷ [])
+one_more_column n all numbers named places k place at id there ids (columns, are, have) =
+    let (name, stands, its) = name_at n numbers all named place id there in (
+      columns ++ name ∷ [],
+      zip_push (IsNodeNamed n) ids columns id name are its,
+      subst (λ (ps : List ℕ). HavePlaces all (columns ++ name ∷ []) ps) (sym (take_more places k place at))
+          (zip_push (λ (column : NodeName) (p : ℕ). slice_get all p ≡ Some column) columns (take k places) name place have stands),
+    )
+
+-- what has a place among columns is a column
+each_column : (t : Topology) (all columns : List NodeName) (places : List ℕ) → AreColumns t all → HavePlaces all columns places → All (IsColumn t) columns
+each_column t all [] [] are have = All-nil (IsColumn t)
+each_column t all [] (p ∷ places) are have = absurd have
+each_column t all (c ∷ columns) [] are have = absurd have
+each_column t all (c ∷ columns) (p ∷ places) are have =
+    All-cons (IsColumn t) c columns (are.each c (contains_from_get all p c have.0)) (each_column t all columns places are have.1)
+
+pub columns_stand : (n : Numbered) (all : List NodeName) → AreColumns (topology_of n) all → (places : List ℕ) → IsStrictlyIncreasing places
+    → (ids : List NodeId) → HaveNames n all places ids → AreSpanColumns n ids
+columns_stand n all are places rise ids (columns, named, have) = record {
+  columns = columns;
+  named = named;
+  each = each_column (topology_of n) all columns places are have;
+  rise = places_rise all columns places are.rise have rise;
+}
