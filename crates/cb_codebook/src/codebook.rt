@@ -51,9 +51,33 @@ pub fn codebook_of<L: Ledger>(
 {
     let graph = Graph::new(alloc, topology)?;
     let cache = Cache::open(alloc, graph, steps)?;
-    let matrix = Matrix::of(alloc, &cache)?;
-    let mut graph = cache.into_graph();
-    certified(alloc, &mut graph, &matrix, wanted, steps)
+    match Matrix::of(alloc, &cache) {
+        Ok(matrix) => of_matrix(alloc, cache.into_graph(), matrix, wanted, steps),
+        Err(none) => {
+            drop(cache);
+            Err(none)
+        }
+    }
+}
+
+// The same, of a graph and the matrix of its topology, which both end here.
+fn of_matrix<L: Ledger>(
+    alloc: Global,
+    mut graph: Graph,
+    matrix: Matrix,
+    wanted: u32,
+    steps: &mut Steps<L>,
+) -> Result<Codebook, AllocError>
+    requires matrix { IsMatrix (topology_of graph) matrix.columns matrix.groups }
+    requires few_columns { length matrix.columns ≤ symptom_limit }
+    requires few_groups { length matrix.groups ≤ problem_limit + 1 }
+    requires wanted { IsWanted wanted }
+    ensures { IfOk result (IsMadeOf (topology_of graph) wanted) }
+{
+    let made = certified(alloc, &mut graph, &matrix, wanted, steps);
+    drop(matrix);
+    drop(graph);
+    made
 }
 
 // The same, of the graph's topology and its matrix.
