@@ -1,7 +1,7 @@
 -- A whole book: its checks one after another, and its claim.
-use Rattle.std.proofs.Common.{◌≡◌, ℕ, ◌+◌, ◌<◌, ◌≤◌, List, [], ◌∷◌, ◌++◌, length, map, refl, sym, ap, subst, ◌∙◌, Some, arith}
-use Rattle.std.specs.Prelude.{Result, Ok, Err, IfOk, slice_get}
-use Rattle.std.specs.List.{All, AllZip, flat_map}
+use Rattle.std.proofs.Common.{◌≡◌, ℕ, ◌≤◌, List, [], ◌∷◌, ◌++◌, length, map, refl, sym, subst, arith}
+use Rattle.std.specs.Prelude.{Result, Ok, Err, IfOk}
+use Rattle.std.specs.List.{All, flat_map}
 use Rattle.cb_model.specs.declared.node.NodeName.{NodeName}
 use Rattle.cb_coding.specs.declared.group.Problem.{Problem}
 use Rattle.cb_coding.specs.declared.group.Group.{Group}
@@ -34,7 +34,7 @@ use Rattle.cb_checker.specs.Known.{AreLive, IsKnown, ended}
 use Rattle.cb_checker.specs.declared.sides.Sides.{Sides}
 use Rattle.cb_checker.specs.Books.{AreReadTo}
 use Rattle.cb_checker.specs.Verdicts.{AreSidesOf, ShowsBookOver}
-use Rattle.cb_checker.specs.Claims.{IsTooClose, IsGoodBook, IsBadBook, JudgesBook}
+use Rattle.cb_checker.specs.Claims.{IsTooClose, JudgesBook}
 use Rattle.cb_checker.specs.Places.{ArePlacesOf}
 use Rattle.cb_checker.proofs.Joined.{fails_here, pass_one}
 use Rattle.cb_checker.proofs.Naming.{zip_right}

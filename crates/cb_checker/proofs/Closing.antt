@@ -1,5 +1,5 @@
 -- Whether all successors are listed, by numbers and by names.
-use Rattle.std.proofs.Common.{◌≡◌, ◌≢◌, ◌↔◌, ◌⊎◌, inl, inr, ℕ, ◌+◌, ◌-◌, ◌<◌, ◌≤◌, ◌&&◌, not, List, [], ◌∷◌, Bool, true, false, length, replicate, map, refl, sym, ap, subst, ◌∙◌, Option, None, Some, arith}
+use Rattle.std.proofs.Common.{◌≡◌, ◌≢◌, ◌↔◌, inl, inr, ℕ, ◌+◌, ◌<◌, ◌≤◌, ◌&&◌, not, List, [], Bool, true, false, length, replicate, map, refl, sym, ap, subst, ◌∙◌, Option, None, Some, arith}
 use Rattle.std.specs.Prelude.{Result, Ok, Err, IfOk, slice_get, slice_index_or}
 use Rattle.std.specs.List.{All}
 use Rattle.std.specs.declared.cmp.Ordering.TheVariants.{Less, Equal, Greater}
@@ -19,14 +19,14 @@ use Rattle.cb_cert.specs.declared.certificate.Span.{Span}
 use Rattle.cb_cert.specs.Format.{nodes_of}
 use Rattle.cb_claim.specs.declared.verdict.Rejected.TheVariants.{NotClosed}
 use Rattle.cb_claim.specs.Spans.{IsListedAt, Lists}
-use Rattle.cb_claim.specs.Checks.{closed_check, places, Passes, Judges, IsClosedAt, IsLeastOutside}
+use Rattle.cb_claim.specs.Checks.{closed_check, places, Passes, Judges, IsLeastOutside}
 use Rattle.cb_nodes.specs.declared.id.NodeId.{NodeId}
 use Rattle.cb_reach.specs.Rows.{Has}
 use Rattle.cb_topo.specs.Numbered.{Numbered, topology_of, IsNodeNamed}
 use Rattle.cb_graph.specs.Edges.{EdgeAt, number}
 use Rattle.cb_graph.proofs.Chains.{named_once}
-use Rattle.cb_checker.specs.Known.{IsIdAt, IsKnown}
-use Rattle.cb_checker.specs.Listed.{IsPlaced, ArePlaced, IsAmong, AreMarked}
+use Rattle.cb_checker.specs.Known.{IsKnown}
+use Rattle.cb_checker.specs.Listed.{ArePlaced, IsAmong, AreMarked}
 use Rattle.cb_checker.specs.declared.marks.Marks.{Marks}
 use Rattle.cb_reach.proofs.Marks.{nothing}
 use Rattle.cb_checker.specs.Missing.{IsLeastOf, IsLeastIfAny, IsMissing, IsOutside, IsLesser}

@@ -1,5 +1,5 @@
 -- An entry behind the first one, by numbers and by names.
-use Rattle.std.proofs.Common.{◌≡◌, ◌↔◌, ◌⊎◌, inl, inr, ℕ, ◌+◌, ◌-◌, ◌<◌, ◌≤◌, List, [], ◌∷◌, ◌++◌, Bool, true, false, length, get_or, refl, sym, ap, subst, ◌∙◌, Option, Some, arith}
+use Rattle.std.proofs.Common.{◌≡◌, ◌⊎◌, inl, inr, ℕ, ◌+◌, ◌-◌, ◌<◌, ◌≤◌, List, [], ◌∷◌, ◌++◌, Bool, true, false, length, get_or, refl, sym, ap, subst, ◌∙◌, Option, Some, arith}
 use Rattle.std.specs.Prelude.{Err, slice_get, slice_set}
 use Rattle.std.specs.List.{All}
 use Rattle.std.proofs.lemmas.Option.{same_Some, slice_get_within, slice_get_read}
@@ -15,18 +15,17 @@ use Rattle.cb_cert.specs.declared.certificate.Entry.{Entry}
 use Rattle.cb_cert.specs.declared.certificate.Span.{Span}
 use Rattle.cb_cert.specs.Format.{nodes_of}
 use Rattle.cb_claim.specs.declared.verdict.Rejected.TheVariants.{BadParent, NoEdge, Repeated}
-use Rattle.cb_claim.specs.Spans.{StandsFor, IsListedAt, HasEdge}
+use Rattle.cb_claim.specs.Spans.{IsListedAt, HasEdge}
 use Rattle.cb_claim.specs.Checks.{Asked, parent_check, edge_check, new_check, entry_checks, Passes, Judges, EntryIs, IsNew}
-use Rattle.cb_claim.proofs.SpanLaws.{listed_at_one, stands_for_one}
 use Rattle.cb_claim.proofs.Stages.{passed_go_on}
 use Rattle.cb_nodes.specs.declared.id.NodeId.{NodeId}
 use Rattle.cb_reach.specs.Rows.{Has}
-use Rattle.cb_topo.specs.Numbered.{Numbered, topology_of, IsNodeNamed, IsLiveNode}
+use Rattle.cb_topo.specs.Numbered.{Numbered, topology_of, IsNodeNamed}
 use Rattle.cb_graph.specs.Edges.{EdgeAt, number}
 use Rattle.cb_graph.proofs.Chains.{named_once}
 use Rattle.cb_checker.specs.declared.marks.Marks.{Marks}
 use Rattle.cb_checker.specs.Known.{IsIdAt, IsKnown}
-use Rattle.cb_checker.specs.Listed.{IsPlaced, ArePlaced, IsAmong, AreMarked}
+use Rattle.cb_checker.specs.Listed.{IsPlaced, ArePlaced, AreMarked}
 use Rattle.cb_checker.specs.Spans.{asked}
 use Rattle.cb_checker.proofs.Joined.{fails_here, pass_three, pass_one, pass_two}
 use Rattle.cb_checker.proofs.Naming.{stands, has_id, one_id}

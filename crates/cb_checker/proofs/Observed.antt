@@ -1,19 +1,17 @@
 -- Columns of a certificate by their numbers and by their names.
-use Rattle.std.proofs.Common.{◌≡◌, ℕ, suc, ◌+◌, ◌-◌, ◌<◌, List, [], ◌∷◌, length, map, refl, sym, subst, ◌∙◌, Some, arith}
-use Rattle.std.specs.Prelude.{Err, slice_get, slice_index_or}
+use Rattle.std.proofs.Common.{◌≡◌, ℕ, suc, ◌+◌, ◌-◌, ◌<◌, List, [], length, map, refl, sym, subst, ◌∙◌, arith}
+use Rattle.std.specs.Prelude.{Err, slice_index_or}
 use Rattle.std.specs.List.{All}
 use Rattle.std.proofs.lemmas.Option.{same_Some, slice_get_within, slice_get-get_or, get_or_from_slice_get}
 use Rattle.cb_model.specs.declared.node.NodeName.{NodeName}
-use Rattle.cb_network.specs.Nodes.{IsColumn, IsNodeOf}
+use Rattle.cb_network.specs.Nodes.{IsColumn}
 use Rattle.cb_network.specs.Topology.{Topology}
 use Rattle.cb_cert.specs.declared.certificate.Certificate.{Certificate}
 use Rattle.cb_cert.specs.Format.{nodes_of}
 use Rattle.cb_claim.specs.declared.verdict.Rejected.TheVariants.{BadNode, BadColumn}
 use Rattle.cb_claim.specs.Checks.{node_check, column_check, columns_of, places, Passes, Judges, IsGoodNode, IsGoodColumn}
-use Rattle.cb_claim.specs.Spans.{StandsFor}
-use Rattle.cb_claim.proofs.SpanLaws.{stands_for_one}
 use Rattle.cb_nodes.specs.declared.id.NodeId.{NodeId}
-use Rattle.cb_topo.specs.Numbered.{Numbered, topology_of, IsNodeNamed}
+use Rattle.cb_topo.specs.Numbered.{Numbered, topology_of}
 use Rattle.cb_graph.proofs.Chains.{named_once}
 use Rattle.cb_checker.specs.Firsts.{AreAll, IsFirstNot}
 use Rattle.cb_checker.specs.Known.{IsIdAt, IsKnown}

@@ -1,9 +1,8 @@
 -- Codes, columns and groups by numbers and by names.
-use Rattle.std.proofs.Common.{◌≡◌, ◌↔◌, ℕ, zero, suc, ◌+◌, ◌<◌, ◌≤◌, List, [], ◌∷◌, Bool, true, false, length, get_or, map, refl, sym, ap, subst, ◌∙◌, Some, None, arith}
+use Rattle.std.proofs.Common.{◌≡◌, ◌↔◌, ℕ, List, [], ◌∷◌, Bool, false, length, get_or, map, refl, sym, subst, ◌∙◌, Some, None, arith}
 use Rattle.std.specs.Prelude.{slice_get, slice_index_or, IsTrue}
-use Rattle.std.specs.List.{All, AllZip, Contains}
+use Rattle.std.specs.List.{AllZip}
 use Rattle.std.specs.Ordering.{on}
-use Rattle.std.specs.declared.cmp.Ordering.TheVariants.{Less}
 use Rattle.std.proofs.lemmas.List.{length-map}
 use Rattle.std.proofs.lemmas.Option.{same_Some, slice_get_within, slice_get-get_or, get_or_from_slice_get}
 use Rattle.cb_model.proofs.Numbers.{place_in}
@@ -14,17 +13,15 @@ use Rattle.cb_model.specs.Order.{Rises}
 use Rattle.cb_coding.specs.declared.group.Problem.{Problem}
 use Rattle.cb_coding.specs.declared.group.Group.{Group}
 use Rattle.cb_coding.specs.Groups.{AreProblems, AreGroups}
-use Rattle.cb_network.specs.Nodes.{IsColumn, AreColumns, AreProblems as AreProblemNodes}
+use Rattle.cb_network.specs.Nodes.{AreColumns, AreProblems as AreProblemNodes}
 use Rattle.cb_cert.specs.declared.certificate.Certificate.{Certificate}
 use Rattle.cb_cert.specs.declared.certificate.Span.{Span}
 use Rattle.cb_cert.specs.Format.{nodes_of}
 use Rattle.cb_claim.specs.Reading.{IsCodeOf as IsCodeRead, MakeGroups, ArePlaces}
 use Rattle.cb_claim.specs.Reading as reading
-use Rattle.cb_claim.specs.Spans.{StandsFor, Lists}
+use Rattle.cb_claim.specs.Spans.{Lists}
 use Rattle.cb_nodes.specs.declared.id.NodeId.{NodeId}
-use Rattle.cb_reach.specs.Rows.{Has}
 use Rattle.cb_topo.specs.Numbered.{Numbered, topology_of, IsNodeNamed, AreNamed, IsWhole}
-use Rattle.cb_graph.specs.Edges.{number}
 use Rattle.cb_graph.proofs.Chains.{named_once}
 use Rattle.cb_checker.specs.Known.{IsIdAt, AreLive, IsKnown}
 use Rattle.cb_checker.specs.Firsts.{AreAll}

@@ -1,8 +1,7 @@
 -- The first entry of a span by its number and by its name.
-use Rattle.std.proofs.Common.{◌≡◌, ℕ, ◌+◌, List, [], ◌∷◌, refl, sym, subst, ◌∙◌, Option, None, Some}
-use Rattle.std.specs.Prelude.{Err, slice_get}
+use Rattle.std.proofs.Common.{ℕ, ◌+◌, List, [], ◌∷◌, refl, subst, Option, None, Some}
+use Rattle.std.specs.Prelude.{Err}
 use Rattle.std.specs.List.{All}
-use Rattle.std.proofs.lemmas.Option.{same_Some}
 use Rattle.cb_model.specs.declared.node.NodeName.{NodeName}
 use Rattle.cb_network.specs.Nodes.{IsProblem}
 use Rattle.cb_cert.specs.declared.certificate.Certificate.{Certificate}
@@ -13,8 +12,7 @@ use Rattle.cb_claim.specs.Checks.{root_check, Passes, Judges, IsAskedFor, IsGood
 use Rattle.cb_nodes.specs.declared.id.NodeId.{NodeId}
 use Rattle.cb_topo.specs.Numbered.{Numbered, topology_of, IsNodeNamed}
 use Rattle.cb_graph.proofs.Chains.{named_once}
-use Rattle.cb_checker.specs.Known.{IsIdAt, IsKnown}
-use Rattle.cb_checker.specs.Listed.{IsPlaced}
+use Rattle.cb_checker.specs.Known.{IsKnown}
 use Rattle.cb_checker.specs.Spans.{IsAskedAt, IsRootAt, IsNamedRoot, asked}
 use Rattle.cb_checker.proofs.Joined.{fails_here, pass_one}
 use Rattle.cb_checker.proofs.Naming.{stands, has_id}

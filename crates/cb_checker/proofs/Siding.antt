@@ -1,12 +1,10 @@
 -- The checks of the sides of a thin certificate.
-use Rattle.std.proofs.Common.{◌≡◌, ◌+◌, ℕ, List, Bool, [], ◌∷◌, ◌++◌, length, refl, sym, subst, ◌∙◌, arith, None}
-use Rattle.std.specs.Prelude.{Result, Ok, Err, IfOk, IfErr}
-use Rattle.std.specs.List.{All, flat_map}
+use Rattle.std.proofs.Common.{◌≡◌, ℕ, List, [], ◌++◌, length, refl, sym, subst, arith, None}
+use Rattle.std.specs.Prelude.{Result, Ok, Err, IfErr}
+use Rattle.std.specs.List.{flat_map}
 use Rattle.std.proofs.lemmas.List.{append-nil}
 use Rattle.std.proofs.lemmas.List.Elements.{All-nil}
 use Rattle.std.proofs.lemmas.List.Sums.{sum_by-cons}
-use Rattle.cb_network.specs.Topology.{Topology}
-use Rattle.cb_cert.specs.declared.certificate.Certificate.{Certificate}
 use Rattle.cb_cert.specs.declared.certificate.Side.{Side}
 use Rattle.cb_cert.specs.declared.certificate.Side.TheVariants.{Quiet, Root}
 use Rattle.cb_cert.specs.declared.certificate.Span.{Span}
@@ -18,7 +16,7 @@ use Rattle.cb_claim.specs.Verdicts.{entries_of}
 use Rattle.cb_claim.proofs.Stages.{passed_go_on, failed_stop}
 use Rattle.cb_nodes.specs.declared.id.NodeId.{NodeId}
 use Rattle.cb_topo.specs.Numbered.{Numbered, topology_of}
-use Rattle.cb_checker.specs.Known.{IsKnown, ended}
+use Rattle.cb_checker.specs.Known.{ended}
 use Rattle.cb_checker.specs.Pairs.{asked_side, JudgesSide, JudgesSides}
 use Rattle.cb_checker.specs.Spans.{asked, JudgesSpan}
 

@@ -1,11 +1,11 @@
 -- The spans of a book, one after another.
-use Rattle.std.proofs.Common.{◌≡◌, ◌↔◌, inl, inr, ℕ, zero, suc, ◌+◌, ◌<◌, ◌≤◌, List, [], ◌∷◌, ◌++◌, Bool, false, length, take, map, min, replicate, refl, sym, ap, subst, ◌∙◌, Some, None, Option, arith}
+use Rattle.std.proofs.Common.{◌≡◌, inl, inr, ℕ, zero, suc, ◌+◌, ◌<◌, ◌≤◌, List, [], ◌∷◌, ◌++◌, Bool, false, length, take, min, replicate, refl, sym, ap, subst, ◌∙◌, Some, arith}
 use Rattle.std.specs.Prelude.{Ok, Err, slice_get, slice_set, slice_index_or}
-use Rattle.std.specs.List.{All, AllZip, flat_map, sum_by}
+use Rattle.std.specs.List.{All, AllZip, flat_map}
 use Rattle.std.proofs.lemmas.Bool.{cases_eq, cases_lt}
 use Rattle.std.proofs.lemmas.List.{length-append, length-set, length-replicate, get_or-set_other, get_or-set_same}
 use Rattle.std.proofs.lemmas.List.Sums.{sum_by-cons}
-use Rattle.std.proofs.lemmas.Option.{same_Some, slice_get_within, slice_get-get_or}
+use Rattle.std.proofs.lemmas.Option.{same_Some, slice_get_within}
 use Rattle.cb_model.specs.declared.node.NodeName.{NodeName}
 use Rattle.cb_coding.specs.declared.group.Problem.{Problem}
 use Rattle.cb_coding.proofs.Pushed.{pushed_cases}
@@ -19,7 +19,7 @@ use Rattle.cb_claim.proofs.Stages.{passed_go_on}
 use Rattle.cb_nodes.specs.declared.id.NodeId.{NodeId}
 use Rattle.cb_topo.specs.Numbered.{Numbered, topology_of, IsNodeNamed, AreNamed}
 use Rattle.cb_checker.specs.Known.{IsKnown}
-use Rattle.cb_checker.specs.Codes.{IsCodeTo, IsBelow}
+use Rattle.cb_checker.specs.Codes.{IsCodeTo}
 use Rattle.cb_checker.specs.Books.{IsReadOff, AreReadTo}
 use Rattle.cb_checker.specs.Spans.{asked, JudgesSpan}
 use Rattle.cb_checker.proofs.Joined.{fails_here, flat_fails, flat_passes, pass_one, pass_two}

@@ -1,11 +1,11 @@
 -- The first place at which something isn't so.
-use Rattle.std.specs.Prelude.{◌≡◌, ℕ, ◌<◌, List, length, map, Result}
+use Rattle.std.specs.Prelude.{◌≡◌, ℕ, ◌<◌, List, map, Result}
 use Rattle.cb_model.specs.declared.node.NodeName.{NodeName}
 use Rattle.cb_network.specs.Topology.{Topology}
 use Rattle.cb_cert.specs.declared.certificate.Certificate.{Certificate}
 use Rattle.cb_cert.specs.Format.{nodes_of}
 use Rattle.cb_claim.specs.declared.verdict.Rejected.{Rejected}
-use Rattle.cb_claim.specs.Checks.{IsGoodNode, Judges, node_check, places}
+use Rattle.cb_claim.specs.Checks.{Judges, node_check, places}
 
 -- it is so at each place below the end
 abbrev pub AreAll : (ℕ → Type 0) → ℕ → Type 0

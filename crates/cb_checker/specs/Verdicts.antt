@@ -1,5 +1,5 @@
 -- What the checks of a whole certificate come to.
-use Rattle.std.specs.Prelude.{◌≡◌, ◌≤◌, ℕ, List, length, Result}
+use Rattle.std.specs.Prelude.{◌≤◌, ℕ, List, length, Result}
 use Rattle.cb_model.specs.declared.node.NodeName.{NodeName}
 use Rattle.cb_network.specs.Nodes.{AreColumns, AreProblems}
 use Rattle.cb_network.specs.Sound.{symptom_limit}

@@ -1,4 +1,4 @@
-use Rattle.std.proofs.Common.{◌≡◌, ◌<◌, length, min, refl, sym, subst, ◌∙◌, arith}
+use Rattle.std.proofs.Common.{◌≡◌, length, min, refl, sym, subst, ◌∙◌, arith}
 use Rattle.std.specs.Prelude.{Ok, Err}
 use Rattle.cb_cert.specs.declared.certificate.Certificate.TheVariants.{Book}
 use Rattle.cb_claim.specs.Checks.{IsGoodNode}

@@ -1,4 +1,4 @@
-use Rattle.std.proofs.Common.{◌≡◌, length, refl, sym, ap, subst, ◌∙◌, arith}
+use Rattle.std.proofs.Common.{◌≡◌, length, refl, sym, ap, subst, arith}
 use Rattle.std.specs.Prelude.{OnOk, IfOk, IfErr, List, ℕ}
 use Rattle.cb_model.specs.declared.node.NodeName.{NodeName}
 use Rattle.cb_cert.specs.declared.certificate.Certificate.{Certificate}

@@ -1,8 +1,7 @@
-use Rattle.std.proofs.Common.{◌≡◌, ◌<◌, length, refl, sym, ap, subst, ◌∙◌, Some, None, Option, arith}
+use Rattle.std.proofs.Common.{◌≡◌, ◌<◌, length, refl, ap, subst, ◌∙◌, Some, None, Option, arith}
 use Rattle.std.specs.Prelude.{slice_get}
 use Rattle.std.proofs.lemmas.Option.{slice_get_read}
 use Rattle.cb_model.specs.declared.node.NodeName.{NodeName}
-use Rattle.cb_nodes.specs.declared.id.NodeId.{NodeId}
 use Rattle.cb_checker.specs.Missing.{IsLeastMissing}
 use Rattle.cb_checker.proofs.Closing.{all_closed, not_closed, closed_more, least_moved}
 use Rattle.cb_checker.proofs.closed.check_closed.Goals as goal

@@ -1,5 +1,4 @@
-use Rattle.std.proofs.Common.{◌≡◌, ◌<◌, length, sym, ◌∙◌, arith}
-use Rattle.cb_network.specs.Sound.{node_limit}
+use Rattle.std.proofs.Common.{◌≡◌, length, sym, ◌∙◌, arith}
 use Rattle.cb_checker.specs.Missing.{IsOutside}
 use Rattle.cb_checker.proofs.Closing.{outside_at, inside_at, has_below, least_more, least_all}
 use Rattle.cb_checker.proofs.closed.least_outside.Goals as goal

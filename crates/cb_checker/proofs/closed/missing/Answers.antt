@@ -1,4 +1,4 @@
-use Rattle.std.proofs.Common.{◌≡◌, subst, ◌∙◌}
+use Rattle.std.proofs.Common.{subst, ◌∙◌}
 use Rattle.cb_topo.specs.Numbered.{Numbered}
 use Rattle.cb_checker.specs.Missing.{IsLeastOutside, IsLeastMissing, IsOutside, IsMissing}
 use Rattle.cb_checker.proofs.Closing.{ok_weaker, least_same}

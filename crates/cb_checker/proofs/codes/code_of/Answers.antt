@@ -1,5 +1,4 @@
-use Rattle.std.proofs.Common.{◌≡◌, length, refl, subst, sym, ◌∙◌, ap, arith}
-use Rattle.std.specs.Prelude.{slice_set, slice_index_or, false}
+use Rattle.std.proofs.Common.{◌≡◌, length, subst, arith}
 use Rattle.cb_checker.specs.Codes.{IsCodeTo}
 use Rattle.cb_checker.proofs.Spanning.{coded_more}
 use Rattle.cb_checker.proofs.codes.code_of.Goals as goal

@@ -1,9 +1,8 @@
-use Rattle.std.proofs.Common.{◌≡◌, ◌-◌, ◌<◌, suc, length, nat_eq, refl, sym, ap, subst, ◌∙◌, Some, arith}
+use Rattle.std.proofs.Common.{◌≡◌, ◌-◌, ◌<◌, nat_eq, refl, sym, subst, Some, arith}
 use Rattle.std.specs.Prelude.{slice_get, slice_index_or, IsTrue}
 use Rattle.std.proofs.lemmas.Bool.{ltb-true, lt-ltb}
-use Rattle.std.proofs.lemmas.Option.{same_Some, slice_get-get_or, get_or_from_slice_get}
+use Rattle.std.proofs.lemmas.Option.{slice_get-get_or, get_or_from_slice_get}
 use Rattle.cb_topo.specs.Numbered.{IsNodeNamed}
-use Rattle.cb_checker.specs.Columns.{IsColumnAt}
 use Rattle.cb_checker.proofs.Naming.{live_at}
 use Rattle.cb_checker.proofs.Observed.{column_id, column_above, no_number}
 use Rattle.cb_checker.proofs.columns.is_column_at.Goals as goal

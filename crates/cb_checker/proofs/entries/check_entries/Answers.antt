@@ -3,7 +3,6 @@ use Rattle.std.specs.Prelude.{Ok, Err, slice_set}
 use Rattle.std.specs.List.{flat_map, range_with_len}
 use Rattle.cb_claim.specs.Checks.{Judges, entry_checks}
 use Rattle.cb_topo.specs.Numbered.{Numbered, topology_of}
-use Rattle.cb_checker.specs.Known.{IsKnown}
 use Rattle.cb_checker.specs.Listed.{ArePlaced}
 use Rattle.cb_checker.specs.Spans.{asked, JudgesPart}
 use Rattle.cb_checker.proofs.Joined.{exit, range_fails, range_passes}

@@ -1,4 +1,4 @@
-use Rattle.std.proofs.Common.{◌≡◌, sym, subst}
+use Rattle.std.proofs.Common.{◌≡◌, subst}
 use Rattle.cb_cert.specs.declared.certificate.Side.{Side}
 use Rattle.cb_cert.specs.declared.certificate.Side.TheVariants.{Root}
 use Rattle.cb_checker.specs.Known.{ended}

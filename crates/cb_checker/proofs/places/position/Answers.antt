@@ -1,4 +1,4 @@
-use Rattle.std.proofs.Common.{◌≡◌, ◌<◌, length, inl, inr, refl, sym, ap, subst, ◌∙◌, Some, arith}
+use Rattle.std.proofs.Common.{◌≡◌, ◌<◌, inl, inr, sym, ap, subst, ◌∙◌, Some, arith}
 use Rattle.std.specs.Prelude.{slice_get}
 use Rattle.std.proofs.lemmas.Bool.{cases_lt, eqb-false}
 use Rattle.std.proofs.lemmas.Option.{same_Some, slice_get_within}

@@ -1,4 +1,4 @@
-use Rattle.std.proofs.Common.{◌≤◌, length, arith}
+use Rattle.std.proofs.Common.{arith}
 use Rattle.cb_topo.specs.Numbered.{topology_of, IsNodeNamed}
 use Rattle.cb_checker.proofs.Spanning.{zip_lengths}
 use Rattle.cb_checker.proofs.Booking.{few_columns}

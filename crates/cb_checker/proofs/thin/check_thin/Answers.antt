@@ -1,7 +1,6 @@
-use Rattle.std.proofs.Common.{◌≡◌, ◌<◌, ◌≤◌, ◌++◌, [], ◌∷◌, length, map, refl, sym, ap, subst, ◌∙◌, arith}
+use Rattle.std.proofs.Common.{◌++◌, [], ◌∷◌, length, map, refl, sym, subst, ◌∙◌, arith}
 use Rattle.std.specs.Prelude.{Ok, Err}
 use Rattle.std.specs.List.{flat_map}
-use Rattle.cb_coding.specs.Distance.{distance as distance_of, all_columns}
 use Rattle.cb_cert.specs.declared.certificate.Certificate.TheVariants.{Thin}
 use Rattle.cb_claim.specs.Checks.{IsGoodNode, Judges, thin_checks, node_check, places, asked_sides, span_checks, claim_check}
 use Rattle.cb_claim.specs.declared.verdict.Rejected.TheVariants.{NotThin}
