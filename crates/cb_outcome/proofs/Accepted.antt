@@ -74,7 +74,8 @@ module _ (left left' : Left) (model topology certificate : List ℕ) (distance :
           (certified t here.certificate, says, refl),
         ),
       ) in
-      let (whole, accepted, shows, gives) = passed_go_to_job (Verify model topology certificate) left' (certified t here.certificate) b pass answers in
+      let (whole, job) = passed_go_to_job (Verify model topology certificate) left' (certified t here.certificate) b pass answers in
+      let (accepted, shows, gives) = job in
       ap (λ (o : Outcome). o.fault) gives
 
   -- what the job gives is of a network
