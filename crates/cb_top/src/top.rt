@@ -52,9 +52,10 @@ pub fn run<F: Files, O: Sink, E: Sink, L: Ledger>(
     ensures complete { IsComplete (asked words.now) result (seen F.tells O.tells E.tells files.old files.new out.old out.new err.old err.new) }
 
     // The headline: what `burst` prints at 0 are exactly the groups nearest to what is raised, by codes from what causes what; and
-    // where no more symptoms of one group are lost or spurious than the radius says, that group alone, and it is sure.
+    // where no more symptoms of one group are lost or spurious than the radius says, that group alone, and it is sure. What
+    // `codebook` prints at 0 and at 6 is a valid certificate.
     ensures finds { Finds (asked words.now) result (F.tells files.old) (O.tells out.old) (O.tells out.new) }
-    // No command but `burst` and `matrix` counts a step.
+    // No command counts a step but those that search.
     ensures steps { Counts (asked words.now) steps.old steps.new }
 {
     let answer = answer(alloc, words, files, steps);

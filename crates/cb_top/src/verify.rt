@@ -25,7 +25,12 @@ pub fn verify<'w, F: Files, L: Ledger>(
     ensures { Comes (Verify model.entry topology.entry certificate.entry) (F.tells files.old) (F.tells files.new) result }
 {
     let topology = read_network(alloc, files, model, topology)?;
-    let verified = read_as(alloc, files, certificate, CertificateFile { topology, steps })?;
+    let verified = read_as(
+        alloc,
+        files,
+        certificate,
+        CertificateFile { topology, steps },
+    )?;
     Ok(Output {
         bytes: accepted_text(alloc, &verified.accepted)?,
         fault: None,

@@ -26,7 +26,7 @@ returns-in_err-raised g c =
     let s = c.args.symptoms in
     rw (err_is _ _ c.from_residual-in_err-raised.ensures.1)
     (stops_there (network_files m t) Role.symptoms s (network (topology_of c.in_ok-topology.topology)) old two three c.in_ok-topology.ensures.passed
-        c.in_err-raised.ensures.only (Burst m t s) [] refl _ _ refl c.in_err-raised.ensures.stops)
+    c.in_err-raised.ensures.only (Burst m t s) [] refl _ _ refl c.in_err-raised.ensures.stops)
 
 pub lines_of_burst-requires : goal.lines_of_burst-requires
 lines_of_burst-requires g c =

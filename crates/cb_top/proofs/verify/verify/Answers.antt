@@ -26,7 +26,7 @@ returns-in_err-verified g c =
     let s = c.args.certificate in
     rw (err_is _ _ c.from_residual-in_err-verified.ensures.1)
     (stops_there (network_files m t) Role.certificate s (network (topology_of c.in_ok-topology.topology)) old two three c.in_ok-topology.ensures.passed
-        c.in_err-verified.ensures.only (Verify m t s) [] refl _ _ refl c.in_err-verified.ensures.stops)
+    c.in_err-verified.ensures.only (Verify m t s) [] refl _ _ refl c.in_err-verified.ensures.stops)
 
 pub returns-in_err-accepted_text : goal.returns-in_err-accepted_text
 returns-in_err-accepted_text g c =
