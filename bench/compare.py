@@ -4,7 +4,7 @@
     bench/compare.py --peer PROGRAM [--program PROGRAM] [--seed N] [RUNS]
 
 Each run makes a model text (some of them with a fault in their spelling or in their types), a topology with edits of all
-six kinds, some of them refused, and a symptom file, hands them to both programs, and compares the status, the output and the
+six kinds, some of them refused, a symptom file, and a certificate (of the other program, mostly damaged), hands them to both programs, and compares the status, the output and the
 line on standard error. A run that the program isn't built for (status 11) is counted apart. It ends with status 1 where two
 answers differ, and says nothing but a word where the other program isn't there. The program is built by the gate,
 or by `rt run` in crates/cb_cli, which leave it in out/.
@@ -268,7 +268,49 @@ def words_of(rng):
                 ["model", "missing"],
             )
         )
-    return rng.choice((["model", "m"], ["matrix", "m", "t"], ["burst", "m", "t", "s"], ["burst", "m", "t", "s"]))
+    return rng.choice(
+        (
+            ["model", "m"],
+            ["matrix", "m", "t"],
+            ["codebook", "m", "t", str(rng.choice((1, 1, 2, 3, 9999)))],
+            ["verify", "m", "t", "c"],
+            ["verify", "m", "t", "c"],
+            ["burst", "m", "t", "s"],
+            ["burst", "m", "t", "s"],
+        )
+    )
+
+
+def damaged(rng, text):
+    """The lines of a certificate with one of them changed, left out, doubled or moved, or a number in it."""
+    lines = text.split("\n")
+    at = rng.randrange(len(lines))
+    match rng.randrange(6):
+        case 0:
+            del lines[at]
+        case 1:
+            lines.insert(at, lines[at])
+        case 2:
+            lines[at : at + 2] = lines[at : at + 2][::-1]
+        case 3:
+            lines = lines[:at]
+        case _:
+            words = lines[at].split(" ")
+            if words[-1].isdecimal():
+                words[-1] = str(max(0, int(words[-1]) + rng.choice((-1, 1, 1, 2, 70000))))
+            else:
+                words[-1] += rng.choice(("", " ", "x", "\r"))
+            lines[at] = " ".join(words)
+    return "\n".join(lines)
+
+
+def certificate_text(rng, peer, folder):
+    """A certificate of the network, by the other program, now and then damaged."""
+    _, out, _ = answer(peer, ["codebook", "m", "t", str(rng.choice((1, 1, 2, 3)))], folder)
+    text = out.decode()
+    for _ in range(rng.choice((0, 1, 1, 1, 2))):
+        text = damaged(rng, text)
+    return text
 
 
 def answer(program, words, folder):
@@ -286,6 +328,7 @@ def compare(program, peer, rng, folder):
     if rng.random() < 0.8:
         topology = accepted_only(rng, peer, folder, topology)
     (folder / "t").write_text(topology, newline="")
+    (folder / "c").write_text(certificate_text(rng, peer, folder), newline="")
     words = words_of(rng)
     return words, answer(program, words, folder), answer(peer, words, folder)
 
