@@ -4,8 +4,8 @@
     bench/compare.py --peer PROGRAM [--program PROGRAM] [--seed N] [RUNS]
 
 Each run makes a model text (some of them with a fault in their spelling or in their types), a topology with edits of all
-six kinds, some of them refused, a symptom file, and a certificate (of the other program, mostly damaged), hands them to both programs, and compares the status, the output and the
-line on standard error. A run that the program isn't built for (status 11) is counted apart. It ends with status 1 where two
+six kinds, some of them refused, a symptom file, and a certificate (of the other program, mostly damaged), hands them to both
+programs, and compares the status, the output and the line on standard error. A run that the program isn't built for (status 11) is counted apart. It ends with status 1 where two
 answers differ, and says nothing but a word where the other program isn't there. The program is built by the gate,
 or by `rt run` in crates/cb_cli, which leave it in out/.
 """
