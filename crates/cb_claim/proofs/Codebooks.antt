@@ -43,7 +43,7 @@ places_rise all columns places rise have up i j d below within =
     let less = AllPairs-from_increasing places up i j 0 below (omega arith) in
     let inside = slice_get_within all (get_or places j 0) (get_or columns j d) there in
     rw (get_or_from_slice_get all (get_or places i 0) (get_or columns i d) d here, get_or_from_slice_get all (get_or places j 0) (get_or columns j d) d there)
-        at (rise (get_or places i 0) (get_or places j 0) d less inside)
+    at (rise (get_or places i 0) (get_or places j 0) d less inside)
 
 pub codebook_is_valid : (t : Topology) (distance : ℕ) (c : Certificate) → IsCodebook t distance c → IsValid t c
 codebook_is_valid t distance c is =
@@ -123,6 +123,6 @@ shortfall_is_valid t wanted first second distance c is =
     let close = a.is_first.close in
     let same = a.distance_is in
     (canonical_thin_is_valid t a.columns (least_of first) second (code_at (codes_of a.groups) pair.first) (code_at (codes_of a.groups) pair.second) wanted
-        distance c m.columns_are (side_problem t a.columns a.groups m pair.first first a.first_is) by.problem
-        (side_code t a.columns a.groups m pair.first first a.first_is) by.coded is.canonical).1
-        (same ∙ far, record { some = omega arith; less = omega arith })
+    distance c m.columns_are (side_problem t a.columns a.groups m pair.first first a.first_is) by.problem
+    (side_code t a.columns a.groups m pair.first first a.first_is) by.coded is.canonical).1
+    (same ∙ far, record { some = omega arith; less = omega arith })

@@ -34,9 +34,9 @@ loop-k-preserved c =
     let (names, are, named) = c.in_ok-all.ensures in
     subst (λ (ids : List NodeId). (all : List NodeName) → AreColumns t all → HaveNames n all (take (k + 1) places) ids) (sym c.in_ok-push.ensures.ok)
     (λ all is.
-        let same = columns_are_one t names all are is in
-        one_more_column n all c.in_ok-all.all (subst (AreNamed n c.in_ok-all.all) same named) places k c.at-place.result.now c.at-place.ensures
-        c.at-column.result.now c.at-column.ensures c.loop-k.columns (c.loop-k.invariant all is))
+    let same = columns_are_one t names all are is in
+    one_more_column n all c.in_ok-all.all (subst (AreNamed n c.in_ok-all.all) same named) places k c.at-place.result.now c.at-place.ensures
+    c.at-column.result.now c.at-column.ensures c.loop-k.columns (c.loop-k.invariant all is))
 
 pub returns : goal.returns
 returns c = λ all is.

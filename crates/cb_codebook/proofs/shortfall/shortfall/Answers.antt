@@ -45,7 +45,7 @@ number_of-other-requires g c =
     let member = subst (λ (named : List NamedGroup). IsLeastMember named c.args.pair.second c.in_ok-second.second) p.named_are c.in_ok-second.ensures in
     subst (λ (n : Numbered). IsNodeOf (topology_of n) c.in_ok-second.second) (sym c.topology-2.ensures)
     (name_in (topology_of c.args.graph.now) p.columns p.groups p.matrix c.args.pair.second (Least c.in_ok-second.second)
-        (called_later p.groups c.args.pair.second c.in_ok-second.second (omega arith) member))
+    (called_later p.groups c.args.pair.second c.in_ok-second.second (omega arith) member))
 
 pub thin-requires-clause-first : goal.thin-requires-clause-first
 thin-requires-clause-first g c =

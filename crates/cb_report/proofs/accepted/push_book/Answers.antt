@@ -16,7 +16,7 @@ returns c =
     let last = codes "\n" in
     on_ok_more c.push_count.result _ _
     (λ e. e ∙ (ap (λ (n : ℕ). c.push_number-3.new.out.items ++ (columns ++ (decimal n ++ last))) c.from-4.ensures
-        ∙ (ap (λ (xs : List ℕ). xs ++ (columns ++ (k ++ last))) (c.in_ok-push_number-3.ensures ∙ ap (λ (n : ℕ). c.push_number-2.new.out.items ++ groups ++ decimal n) c.from-3.ensures)
-        ∙ (ap (λ (xs : List ℕ). xs ++ groups ++ g ++ (columns ++ (k ++ last))) (c.in_ok-push_number-2.ensures ∙ ap (λ (n : ℕ). c.push_number.new.out.items ++ radius ++ decimal n) c.from-2.ensures)
-        ∙ (ap (λ (xs : List ℕ). xs ++ radius ++ r ++ groups ++ g ++ (columns ++ (k ++ last))) (c.in_ok-push_number.ensures ∙ ap (λ (n : ℕ). c.args.out.now.items ++ distance ++ decimal n) c.from.ensures)
-        ∙ behind_nine c.args.out.now.items distance d radius r groups g columns k last))))) c.push_count.ensures
+    ∙ (ap (λ (xs : List ℕ). xs ++ (columns ++ (k ++ last))) (c.in_ok-push_number-3.ensures ∙ ap (λ (n : ℕ). c.push_number-2.new.out.items ++ groups ++ decimal n) c.from-3.ensures)
+    ∙ (ap (λ (xs : List ℕ). xs ++ groups ++ g ++ (columns ++ (k ++ last))) (c.in_ok-push_number-2.ensures ∙ ap (λ (n : ℕ). c.push_number.new.out.items ++ radius ++ decimal n) c.from-2.ensures)
+    ∙ (ap (λ (xs : List ℕ). xs ++ radius ++ r ++ groups ++ g ++ (columns ++ (k ++ last))) (c.in_ok-push_number.ensures ∙ ap (λ (n : ℕ). c.args.out.now.items ++ distance ++ decimal n) c.from.ensures)
+    ∙ behind_nine c.args.out.now.items distance d radius r groups g columns k last))))) c.push_count.ensures

@@ -10,4 +10,4 @@ returns c =
     let start = c.args.out.now.items ++ codes "accepted thin wanted " in
     on_ok_more c.push_pair.result _ _
     (λ e. e ∙ (ap (λ (xs : List ℕ). xs ++ pair) (c.in_ok-push_number.ensures ∙ ap (λ (n : ℕ). start ++ decimal n) c.from.ensures)
-        ∙ behind_three c.args.out.now.items (codes "accepted thin wanted ") (decimal c.args.wanted) pair)) c.push_pair.ensures
+    ∙ behind_three c.args.out.now.items (codes "accepted thin wanted ") (decimal c.args.wanted) pair)) c.push_pair.ensures

@@ -13,4 +13,4 @@ pub returns-in_err-check-clause-rejected : goal.returns-in_err-check-clause-reje
 returns-in_err-check-clause-rejected g c =
     rw (err_is _ _ c.from_residual-in_err-check.ensures.1)
     (rejection (topology_of c.args.topology) c.args.certificate.now c.in_err-check.field-0.0
-        (subst (λ (n : Numbered). TellsWhy (topology_of n) c.args.certificate.now c.in_err-check.field-0.0) c.in_ok-graph.ensures c.in_err-check.ensures.why))
+    (subst (λ (n : Numbered). TellsWhy (topology_of n) c.args.certificate.now c.in_err-check.field-0.0) c.in_ok-graph.ensures c.in_err-check.ensures.why))

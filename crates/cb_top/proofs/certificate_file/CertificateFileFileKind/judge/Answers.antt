@@ -14,13 +14,13 @@ pub returns-in_err-certificate-clause-stops : goal.returns-in_err-certificate-cl
 returns-in_err-certificate-clause-stops g c =
     rw (err_is _ _ c.from_residual.ensures.1)
     (certificate_bad c.args.name c.args.text.now c.requires (topology_of c.args.self.topology) c.in_default.ensures.short c.in_err-certificate.field-0.0
-        c.in_err-certificate.ensures.fault)
+    c.in_err-certificate.ensures.fault)
 
 pub returns-in_err-accepted-clause-stops : goal.returns-in_err-accepted-clause-stops
 returns-in_err-accepted-clause-stops g c =
     rw (err_is _ _ c.from_residual-in_err-accepted.ensures.1)
     (certificate_refused c.args.name c.args.text.now c.requires (topology_of c.args.self.topology) c.in_default.ensures.short
-        c.in_ok-certificate.certificate c.in_ok-certificate.ensures.certificate c.in_err-accepted.field-0.0 c.in_err-accepted.ensures.rejected)
+    c.in_ok-certificate.certificate c.in_ok-certificate.ensures.certificate c.in_err-accepted.field-0.0 c.in_err-accepted.ensures.rejected)
 
 pub returns-clause-says : goal.returns-clause-says
 returns-clause-says g c =
