@@ -25,7 +25,7 @@ pub fn perform<'w, F: Files, L: Ledger>(
     files: &mut F,
     steps: &mut Steps<L>,
 ) -> Result<Output<'w>, Fault<'w>>
-    requires range { IsInRange request.entry }
+    requires range { IsInRange request }
     ensures comes { RequestComes (is_built request.entry) request.entry (F.tells files.old) (F.tells files.new) result }
     ensures unread { (¬ (is_built request.entry ≡ true)) → files.new ≡ files.old }
     ensures steps { Counts (Some request.entry) steps.old steps.new }
