@@ -3,4 +3,4 @@ use Rattle.cb_request.proofs.Ranges.{asked_is_in_range}
 use Rattle.cb_top.proofs.top.answer.Goals as goal
 
 pub perform-requires : goal.perform-requires
-perform-requires g c = asked_is_in_range _ c.in-Some.request (sym c.in-Some.ensures)
+perform-requires g c = record { range = asked_is_in_range _ c.in-Some.request (sym c.in-Some.ensures) }
