@@ -296,7 +296,8 @@ def damaged(rng, text):
             lines = lines[:at]
         case _:
             words = lines[at].split(" ")
-            if words[-1].isdecimal():
+            # The other program knows a second form of certificates, whose header has another number.
+            if words[-1].isdecimal() and at > 0:
                 words[-1] = str(max(0, int(words[-1]) + rng.choice((-1, 1, 1, 2, 70000))))
             else:
                 words[-1] += rng.choice(("", " ", "x", "\r"))
@@ -356,7 +357,7 @@ def main():
                 alike += 1
                 statuses[ours[0]] = statuses.get(ours[0], 0) + 1
             else:
-                print((folder / "m").read_text(newline=""))
+                print((folder / "m").read_bytes().decode())
                 sys.exit(f"run {run}: {command}\nprogram: {ours}\npeer:    {theirs}")
     print(f"{alike} alike {dict(sorted(statuses.items()))}, {unbuilt} not built, none different")
 
