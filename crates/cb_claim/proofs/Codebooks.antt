@@ -1,9 +1,8 @@
 -- What is written of a codebook is valid.
-use Rattle.std.proofs.Common.{◌≡◌, ℕ, ◌<◌, ◌≤◌, List, [], ◌∷◌, length, get_or, refl, sym, ap, subst, ◌∙◌, arith, Some, zero, suc, inl, inr}
-use Rattle.std.specs.Prelude.{slice_get, Bool, slice_index_or, map}
-use Rattle.std.specs.List.{Contains, All}
+use Rattle.std.proofs.Common.{◌≡◌, ℕ, ◌<◌, List, [], ◌∷◌, length, get_or, refl, sym, ap, subst, ◌∙◌, arith, Some, zero, suc, inl, inr}
+use Rattle.std.specs.Prelude.{slice_get, map}
+use Rattle.std.specs.List.{Contains}
 use Rattle.std.specs.List.Sorted.{IsStrictlyIncreasing}
-use Rattle.std.specs.declared.cmp.Ordering.TheVariants.{Less}
 use Rattle.std.proofs.lemmas.Option.{slice_get_within, get_or_from_slice_get}
 use Rattle.std.proofs.lemmas.List.Kept.{AllPairs-from_increasing}
 use Rattle.cb_model.specs.declared.node.NodeName.{NodeName}
@@ -14,8 +13,8 @@ use Rattle.cb_model.specs.NodeOrder.{node_cmp}
 use Rattle.cb_model.proofs.Rising.{contains_cases, contains_head, contains_tail, nothing_in_empty}
 use Rattle.cb_coding.specs.declared.group.Group.{Group}
 use Rattle.cb_coding.specs.declared.group.Problem.{Problem}
-use Rattle.cb_coding.specs.Distance.{code_at, all_columns}
-use Rattle.cb_coding.specs.Groups.{AreGroups, IsGroup, codes_of, zeros, members_of, group_of}
+use Rattle.cb_coding.specs.Distance.{code_at}
+use Rattle.cb_coding.specs.Groups.{IsGroup, codes_of, zeros, group_of}
 use Rattle.cb_coding.specs.Pairs.{Good}
 use Rattle.cb_coding.proofs.BookLaws.{book_is_good}
 use Rattle.cb_coding.proofs.GroupLaws.{one_is_good}

@@ -1,10 +1,10 @@
 -- Groups and columns by names and by numbers.
-use Rattle.std.proofs.Common.{◌≡◌, ◌≢◌, ◌∙◌, ℕ, zero, suc, ◌+◌, ◌<◌, ◌≤◌, List, [], ◌∷◌, ◌++◌, length, take, get_or, refl, sym, ap, subst, arith, Some, inl, inr, map, false}
+use Rattle.std.proofs.Common.{◌≡◌, ◌≢◌, ℕ, zero, suc, ◌+◌, ◌<◌, List, [], ◌∷◌, ◌++◌, length, take, get_or, refl, sym, ap, subst, arith, Some, false}
 use Rattle.std.specs.Prelude.{slice_get, Option, None}
-use Rattle.std.specs.List.{All, AllZip, count_by}
+use Rattle.std.specs.List.{All}
 use Rattle.std.specs.List.Sorted.{IsStrictlyIncreasing}
 use Rattle.std.proofs.lemmas.List.Elements.{All-nil, All-cons}
-use Rattle.std.proofs.lemmas.Option.{slice_get_within, slice_get-get_or}
+use Rattle.std.proofs.lemmas.Option.{slice_get-get_or}
 use Rattle.cb_model.specs.declared.node.GroupName.{GroupName}
 use Rattle.cb_model.specs.declared.node.GroupName.TheVariants.{Quiet, Least}
 use Rattle.cb_model.specs.declared.node.NodeName.{NodeName}
@@ -14,7 +14,7 @@ use Rattle.cb_model.proofs.Numbers.{zip_push, take_more}
 use Rattle.cb_coding.specs.declared.group.Group.{Group}
 use Rattle.cb_codes.specs.Groups.{named, named_of}
 use Rattle.cb_network.specs.Topology.{Topology}
-use Rattle.cb_network.specs.Nodes.{IsNodeOf, IsColumn, AreColumns}
+use Rattle.cb_network.specs.Nodes.{IsColumn, AreColumns}
 use Rattle.cb_finding.specs.Finding.{IsCalled}
 use Rattle.cb_finding.specs.Matrix.{IsMatrix}
 use Rattle.cb_claim.specs.Laws.{HavePlaces}

@@ -1,7 +1,5 @@
 -- What is made of a topology for a wanted distance.
-use Rattle.std.specs.Prelude.{◌≡◌, ◌<◌, ℕ, List, length, Some, slice_get}
-use Rattle.cb_model.specs.declared.node.GroupName.{GroupName}
-use Rattle.cb_model.specs.declared.node.GroupName.TheVariants.{Quiet, Least}
+use Rattle.std.specs.Prelude.{◌≡◌, ℕ, List, length}
 use Rattle.cb_model.specs.declared.node.NodeName.{NodeName}
 use Rattle.cb_model.specs.declared.node.NamedGroup.{NamedGroup}
 use Rattle.cb_coding.specs.declared.book.Book.{Book}

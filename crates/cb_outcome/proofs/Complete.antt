@@ -1,7 +1,6 @@
 -- Where nothing fails, the run answers the outcome, or memory ran out.
-use Rattle.std.proofs.Common.{◌≡◌, ◌⊎◌, ℕ, suc, zero, List, [], ◌∷◌, refl, sym, ap, subst, inl, inr, slice_get, Some}
+use Rattle.std.proofs.Common.{refl, inl, inr}
 use Rattle.std.specs.Prelude.{Option}
-use Rattle.std.specs.List.{Contains}
 use Rattle.cb_claim.proofs.Canonicals.{contains_from_get}
 use Rattle.cb_request.specs.declared.request.Request.{Request}
 use Rattle.cb_request.specs.Files.{file_words}

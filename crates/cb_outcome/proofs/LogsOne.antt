@@ -10,7 +10,6 @@ use Rattle.cb_network.specs.Topology.{Topology}
 use Rattle.cb_network.proofs.One.{columns_are_one}
 use Rattle.cb_cert.specs.declared.certificate.Certificate.{Certificate}
 use Rattle.cb_cert.specs.declared.certificate.Certificate.TheVariants.{Book as BookClaim, Thin as ThinClaim}
-use Rattle.cb_claim.specs.declared.verdict.Accepted.{Accepted}
 use Rattle.cb_claim.specs.Reading.{ArePlaces}
 use Rattle.cb_claim.proofs.Firsts.{places_found_once}
 use Rattle.cb_log.specs.declared.event.Event.{Event}
@@ -28,7 +27,7 @@ use Rattle.cb_report.specs.declared.fault.Fault.TheVariants as faults
 use Rattle.cb_outcome.specs.Outcome.{Outcome, done, done_with}
 use Rattle.cb_outcome.specs.Judged.{Known, network, certified}
 use Rattle.cb_outcome.specs.Contents.{Left, log_from}
-use Rattle.cb_outcome.specs.LogJobs.{Watch, StatesBook, States, IsFixedWatch, IsWatch, WholeTells, FrontTells, GivesWhole, GivesFront, LogTells, Follows, log_limit}
+use Rattle.cb_outcome.specs.LogJobs.{Watch, StatesBook, States, IsFixedWatch, IsWatch, WholeTells, FrontTells, LogTells, Follows, log_limit}
 use Rattle.cb_outcome.specs.Laws.{BeginsWith}
 use Rattle.cb_outcome.proofs.JobsOne.{shows_is_one}
 use Rattle.cb_outcome.proofs.LogFronts.{front_is_front}

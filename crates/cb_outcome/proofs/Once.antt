@@ -1,11 +1,10 @@
 -- A file says one thing at most, is refused in one way at most, and never both.
-use Rattle.std.proofs.Common.{◌≡◌, ◌⊎◌, ◌≤◌, List, [], ◌∷◌, ℕ, length, refl, sym, ap, subst, ◌∙◌, inl, inr, Ok, Err, arith}
-use Rattle.cb_text.specs.Lines.{HasShortLines}
+use Rattle.std.proofs.Common.{◌≡◌, ◌⊎◌, List, [], ◌∷◌, ℕ, refl, sym, ap, subst, ◌∙◌, inl, inr, Ok, Err, arith}
 use Rattle.cb_model.specs.declared.node.NodeName.{NodeName}
 use Rattle.cb_model.specs.declared.tables.Tables.{Tables}
 use Rattle.cb_grammar.specs.declared.tree.Tree.{Tree}
 use Rattle.cb_syntax.specs.declared.fault.SyntaxFault.{SyntaxFault}
-use Rattle.cb_syntax.specs.Spells.{Spells, IsFault as IsSyntaxFault}
+use Rattle.cb_syntax.specs.Spells.{Spells}
 use Rattle.cb_syntax.specs.Laws.{IsAnswer}
 use Rattle.cb_syntax.proofs.One.{one_answer, names_fit}
 use Rattle.cb_rules.specs.declared.rule.BrokenRule.{BrokenRule}
@@ -30,11 +29,11 @@ use Rattle.cb_claim.specs.declared.verdict.Rejected.{Rejected}
 use Rattle.cb_claim.specs.Checks.{IsFirstFail}
 use Rattle.cb_claim.proofs.Firsts.{first_fail_is_one}
 use Rattle.cb_claim.proofs.Passing.{valid_is_not_rejected}
-use Rattle.cb_request.specs.Files.{Role, byte_limit}
+use Rattle.cb_request.specs.Files.{Role}
 use Rattle.cb_report.specs.declared.fault.Fault.{Fault}
 use Rattle.cb_report.specs.declared.fault.Fault.TheVariants as faults
 use Rattle.cb_outcome.specs.Texts.{IsTreeText, IsTopologyText, IsValidText, IsBookKind}
-use Rattle.cb_outcome.specs.Judged.{File, Known, nothing, parsed, network, raised, certified, IsShortFor, Means, Says, IsModelFault, IsWrongLine, IsTopologyFault, IsSymptomFault, IsCertificateFault, IsBookFault, HasFault, IsTooLong, HasLongLine, IsFaulty, Refuses, PassFrom}
+use Rattle.cb_outcome.specs.Judged.{File, Known, nothing, parsed, network, raised, certified, Means, Says, IsModelFault, IsWrongLine, IsTopologyFault, IsSymptomFault, IsCertificateFault, IsBookFault, HasFault, Refuses, PassFrom}
 use Rattle.cb_outcome.proofs.FirstLines.{long_is_one, long_or_short, bad_is_one, bad_or_listed, nodes_are_one, topology_is_one, made_of, wrong_is_one, wrong_or_makes}
 use Rattle.cb_outcome.proofs.Regular.{typed_is_regular}
 

@@ -1,5 +1,5 @@
 -- The clauses of a run, by what its words ask for. `old` and `out` are told before the run, `new` and `out'` after it; `s` is all that is seen of it.
-use Rattle.std.specs.Prelude.{◌≡◌, ◌≢◌, ◌⊎◌, ℕ, ◌+◌, ◌<◌, ◌≤◌, ◌++◌, List, [], ◌∷◌, take, length, map, slice_get, Option, None, Some, IsSome, IsSomeAnd}
+use Rattle.std.specs.Prelude.{◌≡◌, ◌≢◌, ◌⊎◌, ℕ, ◌+◌, ◌<◌, ◌≤◌, ◌++◌, List, [], ◌∷◌, take, length, map, slice_get, Option, Some, IsSome, IsSomeAnd}
 use Rattle.std.specs.List.{Contains}
 use Rattle.cb_io.specs.Outside.{FilesTold, SinkTold, contents, left_of, ReadFailed, WritesAll, WritesFront, WriteFailed}
 use Rattle.cb_request.specs.declared.request.Request.{Request}

@@ -1,17 +1,14 @@
 -- What comes of a request whose files have been judged.
-use Rattle.std.specs.Prelude.{◌≡◌, ◌⊎◌, ℕ, List, length, Bool, true, false, Option, None, Some}
+use Rattle.std.specs.Prelude.{◌≡◌, ◌⊎◌, ℕ, List, length, Bool, true, false, Option}
 use Rattle.cb_model.specs.declared.node.GroupName.{GroupName}
-use Rattle.cb_model.specs.declared.node.GroupName.TheVariants.{Quiet, Least}
+use Rattle.cb_model.specs.declared.node.GroupName.TheVariants.{Least}
 use Rattle.cb_model.specs.declared.node.NodeName.{NodeName}
-use Rattle.cb_coding.specs.declared.book.Book.{Book}
 use Rattle.cb_coding.specs.declared.book.Pair.{Pair}
 use Rattle.cb_coding.specs.declared.group.Group.{Group}
-use Rattle.cb_coding.specs.Books.{IsBook}
-use Rattle.cb_coding.specs.Distance.{all_columns}
 use Rattle.cb_coding.specs.Groups.{codes_of}
-use Rattle.cb_coding.specs.Pairs.{IsLeast, IsFirstClose}
+use Rattle.cb_coding.specs.Pairs.{IsLeast}
 use Rattle.cb_finding.specs.declared.finding.Finding.{Finding}
-use Rattle.cb_finding.specs.Finding.{IsBurst, IsCalled}
+use Rattle.cb_finding.specs.Finding.{IsBurst}
 use Rattle.cb_finding.specs.Matrix.{IsMatrix}
 use Rattle.cb_network.specs.Topology.{Topology}
 use Rattle.cb_syntax.specs.Canonical.{canonical_text}

@@ -1,4 +1,4 @@
-use Rattle.std.proofs.Common.{◌≡◌, ◌≤◌, List, length, subst, arith, Err}
+use Rattle.std.proofs.Common.{subst, arith, Err}
 use Rattle.std.proofs.lemmas.List.Sums.{count_by-le-length}
 use Rattle.std.proofs.lemmas.List.FromFn.{length-range_with_len}
 use Rattle.cb_coding.specs.Distance.{differ, bit, code_at, all_columns}

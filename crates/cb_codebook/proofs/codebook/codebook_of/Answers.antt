@@ -1,4 +1,4 @@
-use Rattle.std.proofs.Common.{◌≡◌, ◌∙◌, IfOk, subst}
+use Rattle.std.proofs.Common.{◌∙◌, IfOk, subst}
 use Rattle.cb_topo.specs.Numbered.{Numbered, topology_of}
 use Rattle.cb_codebook.specs.Made.{IsMadeOf}
 use Rattle.cb_codebook.proofs.codebook.codebook_of.Goals as goal

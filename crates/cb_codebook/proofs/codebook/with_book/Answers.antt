@@ -1,4 +1,4 @@
-use Rattle.std.proofs.Common.{◌≡◌, ◌<◌, ℕ, List, length, refl, sym, subst, ap}
+use Rattle.std.proofs.Common.{◌<◌, List, length, refl, sym, subst}
 use Rattle.std.specs.List.{All}
 use Rattle.cb_model.specs.declared.node.NodeName.{NodeName}
 use Rattle.cb_network.proofs.One.{columns_are_one}
@@ -6,7 +6,7 @@ use Rattle.cb_claim.specs.Codebooks.{AreBookColumns}
 use Rattle.cb_claim.specs.Laws.{HavePlaces}
 use Rattle.cb_span.specs.Made.{PreventsBook}
 use Rattle.cb_topo.specs.Numbered.{Numbered, topology_of}
-use Rattle.cb_codebook.specs.Columns.{AreWithin, AreColumnsAt, HaveNames}
+use Rattle.cb_codebook.specs.Columns.{AreWithin, AreColumnsAt}
 use Rattle.cb_codebook.proofs.Named.{columns_stand, names_are_one}
 use Rattle.cb_codebook.proofs.codebook.with_book.Goals as goal
 

@@ -1,7 +1,6 @@
-use Rattle.std.proofs.Common.{◌≡◌, ◌<◌, ℕ, List, length, refl, sym, subst, ap, arith}
+use Rattle.std.proofs.Common.{List, refl, sym, subst, arith}
 use Rattle.std.proofs.lemmas.List.{length-map}
 use Rattle.std.specs.Prelude.{Option}
-use Rattle.cb_model.specs.declared.node.GroupName.{GroupName}
 use Rattle.cb_model.specs.declared.node.GroupName.TheVariants.{Least}
 use Rattle.cb_model.specs.declared.node.NamedGroup.{NamedGroup}
 use Rattle.cb_model.specs.declared.node.NodeName.{NodeName}

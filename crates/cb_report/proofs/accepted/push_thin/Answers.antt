@@ -1,4 +1,4 @@
-use Rattle.std.proofs.Common.{◌≡◌, ◌++◌, ◌∙◌, List, ℕ, ap, codes}
+use Rattle.std.proofs.Common.{◌++◌, ◌∙◌, List, ℕ, ap, codes}
 use Rattle.std.specs.Fmt.{decimal}
 use Rattle.cb_report.specs.Lines.{pair_text}
 use Rattle.cb_report.proofs.Writing.{on_ok_more, behind_three}
