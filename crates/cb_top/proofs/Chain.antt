@@ -4,7 +4,7 @@ use Rattle.std.specs.Prelude.{Option, None, Some, IfSome, IfErr, IfOk, map, unwr
 use Rattle.std.specs.Io.KnownBytes.{Consumes}
 use Rattle.std.specs.Result.{IsErrAnd}
 use Rattle.std.proofs.lemmas.List.{length-map}
-use Rattle.cb_io.specs.Outside.{FilesTold, contents, left_of, ReadsAll, ReadsEach, ReadsFront, KeepsOthers, NoCountFalls}
+use Rattle.cb_io.specs.Outside.{FilesTold, contents, left_of, ReadsAll, ReadsEach, ReadsFront, KeepsOthers}
 use Rattle.cb_io.proofs.Told.{NoCountFalls-trans, ReadFailed-after, ReadsEach-nil, ReadsEach-next, ReadsEach-gives, ReadsEach-others}
 use Rattle.cb_request.specs.declared.request.Request.{Request}
 use Rattle.cb_request.specs.Files.{Role, judged_of, logs_of, names_of}

@@ -1,5 +1,5 @@
 -- What is written of a codebook is what the command gives.
-use Rattle.std.proofs.Common.{◌≡◌, ℕ, List, inl, inr}
+use Rattle.std.proofs.Common.{ℕ, List, inl, inr}
 use Rattle.std.specs.Prelude.{Option}
 use Rattle.cb_network.specs.Topology.{Topology}
 use Rattle.cb_codebook.specs.declared.codebook.Codebook.{Codebook}

@@ -1,4 +1,4 @@
-use Rattle.std.proofs.Common.{◌≡◌, subst}
+use Rattle.std.proofs.Common.{subst}
 use Rattle.cb_topo.specs.Numbered.{Numbered, topology_of}
 use Rattle.cb_claim.specs.Verdicts.{TellsWhy}
 use Rattle.cb_claim.proofs.Formats.{format_is_checkable}

@@ -1,5 +1,5 @@
 -- What each way out of `codebook` shows.
-use Rattle.std.proofs.Common.{◌≡◌, ℕ, [], refl, inl, sym, subst}
+use Rattle.std.proofs.Common.{ℕ, [], refl, inl, sym, subst}
 use Rattle.cb_topo.specs.Numbered.{topology_of}
 use Rattle.cb_cert.specs.Format.{IsWanted}
 use Rattle.cb_request.specs.declared.request.Request.TheVariants.{Codebook}

@@ -1,8 +1,7 @@
-use Rattle.std.proofs.Common.{◌≡◌, List, ℕ, ap, arith, length, ◌∙◌}
+use Rattle.std.proofs.Common.{List, ℕ, ap, arith, length}
 use Rattle.std.proofs.lemmas.List.{length-map}
 use Rattle.cb_coding.specs.declared.group.Group.{Group}
 use Rattle.cb_outcome.specs.Outcome.{done}
-use Rattle.cb_report.specs.MatrixText.{matrix_text}
 use Rattle.cb_top.proofs.Chain.{if_ok_more}
 use Rattle.cb_top.proofs.judge.lines_of_matrix.Goals as goal
 

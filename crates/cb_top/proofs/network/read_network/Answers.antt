@@ -1,5 +1,5 @@
 -- What each way out of reading a network shows.
-use Rattle.std.proofs.Common.{List, ℕ, [], ◌∷◌, refl, subst}
+use Rattle.std.proofs.Common.{[], ◌∷◌, refl, subst}
 use Rattle.cb_request.specs.Files.{Role}
 use Rattle.cb_outcome.specs.Judged.{Known, nothing}
 use Rattle.cb_top.specs.Ending.{Passed, network_files}

@@ -1,6 +1,6 @@
 use Rattle.cb_topo.specs.Numbered.{topology_of}
 use Rattle.cb_top.proofs.Certified.{certificate_long, certificate_bad, certificate_refused, certificate_says}
-use Rattle.cb_top.proofs.Chain.{err_is, if_err_more}
+use Rattle.cb_top.proofs.Chain.{err_is}
 use Rattle.cb_top.proofs.certificate_file.CertificateFileFileKind.judge.Goals as goal
 
 pub returns-in-Some-clause-stops : goal.returns-in-Some-clause-stops
