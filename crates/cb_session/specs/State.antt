@@ -1,0 +1,43 @@
+-- What a session keeps of a log that it takes line by line, and what it stands for.
+use Rattle.std.specs.Prelude.{◌≡◌, ◌↔◌, ◌≤◌, ℕ, List, length, Option, Some, IsSome, IfSome}
+use Rattle.cb_coding.specs.declared.book.Book.{Book}
+use Rattle.cb_network.specs.Topology.{Topology}
+use Rattle.cb_log.specs.Basis.{Mode, wanted, fixed, Basis}
+use Rattle.cb_log.specs.Entries.{Entry, records_of}
+use Rattle.cb_log.specs.Events.{IsNetwork, HasBook}
+use Rattle.cb_log.specs.Kept.{Kept, StandsFor}
+use Rattle.cb_alarm.specs.Lines.{Line, text, long, log_line_limit}
+use Rattle.cb_session.specs.declared.line.LogLine.{LogLine}
+use Rattle.cb_session.specs.declared.line.LogLine.TheVariants.{Text, Long}
+
+-- the mode, the topology of the cache, what is kept of the windows, and the codebook in use, if there is one
+pub record State : Type 0 where
+  pub mode : Mode
+  pub network : Topology
+  pub windows : Kept
+  pub book : Option Book
+
+-- this is the codebook in use for the topology
+abbrev pub IsBookOf : Topology → Mode → Book → Type 0
+IsBookOf network mode book = (basis : Basis network mode) × (basis.book ≡ book)
+
+-- for a wanted distance a codebook is kept exactly where one is in use; a fixed one is kept always
+abbrev pub KeepsBook : Topology → Mode → ℕ → State → List Entry → Type 0
+KeepsBook opening (wanted d) w s entries = (IsSome s.book ↔ HasBook opening w (records_of entries)) × IfSome s.book (IsBookOf s.network (wanted d))
+KeepsBook opening (fixed book) w s entries = s.book ≡ Some book
+
+-- it stands for an opening topology and what the lines come to
+pub record StandsForEntries (s : State) (opening : Topology) (entries : List Entry) : Type 0 where
+  pub network : IsNetwork opening s.mode (records_of entries) s.network
+  pub windows : StandsFor s.windows (records_of entries)
+  pub book : KeepsBook opening s.mode s.windows.length s entries
+
+-- the line of the log
+abbrev pub line_of : LogLine → Line
+line_of (Text number bytes) = text number bytes
+line_of (Long number) = long number
+
+-- a text has not too many bytes
+abbrev pub IsFitting : LogLine → Type 0
+IsFitting (Text number bytes) = length bytes ≤ log_line_limit
+IsFitting (Long number) = Unit {0}

@@ -1,0 +1,8 @@
+//! A log taken line by line: what comes of each line, and of the end.
+#![tactic(auto)]
+
+mod line;
+mod session;
+
+pub use line::LogLine;
+pub use session::Session;
