@@ -5,7 +5,7 @@ use Rattle.std.specs.List.{Contains}
 use Rattle.std.proofs.lemmas.List.{length-append}
 use Rattle.std.proofs.lemmas.List.Elements.{Contains-append_right}
 use Rattle.cb_model.proofs.Rising.{contains_head}
-use Rattle.cb_io.specs.Outside.{SinkTold, WritesAll, WritesFront}
+use Rattle.cb_io.specs.Outside.{SinkTold, WritesAll, WritesFront, WriteFailed}
 use Rattle.cb_request.specs.declared.request.Request.{Request}
 use Rattle.cb_request.specs.Files.{Role, judged_of, logs_of, names_of, file_words}
 use Rattle.cb_report.specs.declared.fault.Fault.{Fault}
@@ -14,7 +14,7 @@ use Rattle.cb_report.specs.declared.status.Status.{Status}
 use Rattle.cb_report.specs.declared.status.Status.TheVariants as statuses
 use Rattle.cb_report.specs.Status.{OnAnswer}
 use Rattle.cb_report.specs.Faults.{status_of, ending}
-use Rattle.cb_report.specs.FaultTexts.{fault_text}
+use Rattle.cb_report.specs.FaultTexts.{fault_text, line_text}
 use Rattle.cb_report.specs.Said.{TakesLine}
 use Rattle.cb_outcome.specs.Outcome.{Outcome, refused}
 use Rattle.cb_outcome.specs.Judged.{Known, nothing, Gives, PassFrom}
@@ -30,16 +30,32 @@ use Rattle.cb_outcome.specs.Finds.{Finds}
 use Rattle.cb_outcome.proofs.Outcomes.{texts_count, names_count, some_name}
 use Rattle.cb_top.specs.declared.output.Output.{Output}
 use Rattle.cb_top.specs.Kinds.{file_of, IsWant, FailsToRead}
-use Rattle.cb_top.specs.Ending.{names, Makes, WantsMemory, IsRefusedThere, StopsAt, Comes, RequestComes, AskedComes, IsDelivered, IsCutOff, Delivers, Concludes}
+use Rattle.cb_top.specs.Ending.{names, Makes, WantsMemory, IsRefusedThere, StopsAt, Comes, IsDelivered, IsCutOff, Delivers}
+use Rattle.cb_top.specs.Following.{FollowsLog}
+use Rattle.cb_top.specs.Ways.{DoesNothing, EndsRequest, EndsAsked}
+use Rattle.cb_top.proofs.Followed as follow
 use Rattle.cb_top.proofs.Chain.{if_some, if_some2, of_all, map_append, take_front, take_whole, reads_all, reads_none}
 use Rattle.cb_top.proofs.Made.{gives_job, gives_refused}
 use Rattle.cb_top.proofs.Plain.{IsPlain, refused_plain, fit}
 
 -- ---- what may come of a run
 
+-- all bytes were written, and the run ends with the fault, if there is one
+pub record Wrote (bytes : List ℕ) (fault : Option Fault) (status : Status) (s : Seen) : Type 0 where
+  pub written : WritesAll s.out s.out_after bytes
+  pub status_is : status ≡ ending fault
+  pub says : TakesLine s.err s.err_after (line_text fault)
+
+-- a write failed, and the run ends with that
+pub record Broke (bytes : List ℕ) (status : Status) (s : Seen) : Type 0 where
+  pub front : WritesFront s.out s.out_after bytes
+  pub failed : WriteFailed s.out s.out_after
+  pub status_is : status ≡ statuses.WriteFault
+  pub says : TakesLine s.err s.err_after (fault_text faults.WriteFault)
+
 -- a run without output: its status and its line are those of the fault
 abbrev Ended : Fault → Status → Seen → Type 0
-Ended fault status s = IsDelivered [] (Some fault) status s.out s.out_after s.err s.err_after
+Ended fault status s = Wrote [] (Some fault) status s
 
 -- a file that stopped it
 pub record Stopped (request : Request) (s : Seen) (fault : Fault) : Type 0 where
@@ -55,21 +71,19 @@ pub data Story (asked : Option Request) (status : Status) (s : Seen) : Type 0 wh
   usage : asked ≡ None → s.files_after ≡ s.files → Ended faults.Usage status s → Story asked status s
   unbuilt : (request : Request) → asked ≡ Some request → is_built request ≡ false → s.files_after ≡ s.files → Ended faults.NotBuilt status s → Story asked status s
   made : (request : Request) → asked ≡ Some request → is_built request ≡ true → (bytes : List ℕ) (fault : Option Fault)
-      → Makes request s.files s.files_after bytes fault → IsDelivered bytes fault status s.out s.out_after s.err s.err_after → Story asked status s
+      → Makes request s.files s.files_after bytes fault → Wrote bytes fault status s → Story asked status s
   unwritten : (request : Request) → asked ≡ Some request → is_built request ≡ true → (bytes : List ℕ) (fault : Option Fault)
-      → Makes request s.files s.files_after bytes fault → IsCutOff bytes status s.out s.out_after s.err s.err_after → Story asked status s
+      → Makes request s.files s.files_after bytes fault → Broke bytes status s → Story asked status s
   wanting : (request : Request) → asked ≡ Some request → is_built request ≡ true → (fault : Fault) → WantsMemory request s.files s.files_after fault
       → Ended fault status s → Story asked status s
   failed : (request : Request) → asked ≡ Some request → is_built request ≡ true → (fault : Fault) → (stopped : Stopped request s fault)
       → FailsToRead stopped.file.1 s.files s.files_after fault → Ended fault status s → Story asked status s
   refusing : (request : Request) → asked ≡ Some request → is_built request ≡ true → (fault : Fault) → (stopped : Stopped request s fault)
       → IsRefusedThere stopped.earlier stopped.file stopped.known s.files fault → Ended fault status s → Story asked status s
+  followed : (request : Request) → asked ≡ Some request → is_built request ≡ true → (end : Option Fault)
+      → FollowsLog request s.files s.files_after s.out s.out_after end → status ≡ ending end → TakesLine s.err s.err_after (line_text end) → Story asked status s
 
-module _ (s : Seen) where
-  ended_as : (result : Result Output Fault) (fault : Fault) (status : Status) → result ≡ Err fault
-      → Concludes result status s.out s.out_after s.err s.err_after → Ended fault status s
-  ended_as result fault status e ends = subst (λ (r : Result Output Fault). Concludes r status s.out s.out_after s.err s.err_after) e ends
-
+module _ (s : Seen) (status : Status) where
   stopped_of : (request : Request) (fault : Fault) → StopsAt request s.files s.files_after fault → Stopped request s fault
   stopped_of request fault at = record {
     earlier = at.earlier;
@@ -81,33 +95,48 @@ module _ (s : Seen) where
     read = at.read;
   }
 
-  delivered : (request : Request) (status : Status) → is_built request ≡ true → (output : Output)
-      → Makes request s.files s.files_after output.bytes.items output.fault → Delivers output status s.out s.out_after s.err s.err_after
-      → Story (Some request) status s
-  delivered request status built output makes (inl end) = made request refl built output.bytes.items output.fault makes end
-  delivered request status built output makes (inr end) = unwritten request refl built output.bytes.items output.fault makes end
-
-  why_stopped : (request : Request) (status : Status) → is_built request ≡ true → (fault : Fault) (at : StopsAt request s.files s.files_after fault)
+  why_stopped : (request : Request) → is_built request ≡ true → (fault : Fault) (at : StopsAt request s.files s.files_after fault)
       → FailsToRead at.file.1 s.files s.files_after fault ⊎ IsRefusedThere at.earlier at.file at.known s.files fault → Ended fault status s → Story (Some request) status s
   unfolding stopped_of
-  why_stopped request status built fault at (inl fails) end = failed request refl built fault (stopped_of request fault at) fails end
-  why_stopped request status built fault at (inr is) end = refusing request refl built fault (stopped_of request fault at) is end
+  why_stopped request built fault at (inl fails) end = failed request refl built fault (stopped_of request fault at) fails end
+  why_stopped request built fault at (inr is) end = refusing request refl built fault (stopped_of request fault at) is end
 
-  request_story : (request : Request) (result : Result Output Fault) (status : Status) → is_built request ≡ true → Comes request s.files s.files_after result
-      → Concludes result status s.out s.out_after s.err s.err_after → Story (Some request) status s
-  request_story request (Ok output) status built comes ends = delivered request status built output comes ends
-  request_story request (Err fault) status built (inl want) ends = wanting request refl built fault want ends
-  request_story request (Err fault) status built (inr at) ends = why_stopped request status built fault at at.why ends
+  module _ (end : Option Fault) (status_is : status ≡ ending end) (says : TakesLine s.err s.err_after (line_text end)) where
+    wrote : (bytes : List ℕ) (fault : Option Fault) → IsDelivered bytes fault end s.out s.out_after → Wrote bytes fault status s
+    wrote bytes fault is = record {
+      written = is.written;
+      status_is = status_is ∙ ap ending is.end_is;
+      says = subst (λ (e : Option Fault). TakesLine s.err s.err_after (line_text e)) is.end_is says;
+    }
 
-  built_story : (request : Request) (result : Result Output Fault) (status : Status) (built : Bool) → is_built request ≡ built
-      → RequestComes built request s.files s.files_after result → Concludes result status s.out s.out_after s.err s.err_after → Story (Some request) status s
-  built_story request result status true is comes ends = request_story request result status is comes ends
-  built_story request result status false is comes ends = unbuilt request refl is comes.same (ended_as result faults.NotBuilt status comes.is ends)
+    broke : (bytes : List ℕ) → IsCutOff bytes end s.out s.out_after → Broke bytes status s
+    broke bytes is = record {
+      front = is.front;
+      failed = is.failed;
+      status_is = status_is ∙ ap ending is.end_is;
+      says = subst (λ (e : Option Fault). TakesLine s.err s.err_after (line_text e)) is.end_is says;
+    }
 
-  pub story : (asked : Option Request) (result : Result Output Fault) (status : Status) → AskedComes asked s.files s.files_after result
-      → Concludes result status s.out s.out_after s.err s.err_after → Story asked status s
-  story None result status comes ends = usage refl comes.same (ended_as result faults.Usage status comes.is ends)
-  story (Some request) result status comes ends = built_story request result status (is_built request) refl comes ends
+    did_nothing : (fault : Fault) → DoesNothing s.files s.files_after s.out s.out_after end fault → Ended fault status s
+    did_nothing fault is = wrote [] (Some fault) (record { written = is.written; end_is = is.end_is })
+
+    made_story : (request : Request) → is_built request ≡ true → (made : Result Output Fault) → Comes request s.files s.files_after made
+        → Delivers made end s.out s.out_after → Story (Some request) status s
+    made_story request built (Ok output) comes (inl is) =
+        made request refl built output.bytes.items output.fault comes (wrote output.bytes.items output.fault is)
+    made_story request built (Ok output) comes (inr is) = unwritten request refl built output.bytes.items output.fault comes (broke output.bytes.items is)
+    made_story request built (Err fault) (inl want) is = wanting request refl built fault want (wrote [] (Some fault) is)
+    made_story request built (Err fault) (inr at) is = why_stopped request built fault at at.why (wrote [] (Some fault) is)
+
+    built_story : (request : Request) (built : Bool) → is_built request ≡ built → EndsRequest built request s.files s.files_after s.out s.out_after end
+        → Story (Some request) status s
+    built_story request true is (inl ends) = made_story request is ends.made ends.comes ends.delivers
+    built_story request true is (inr follows) = followed request refl is end follows status_is says
+    built_story request false is ends = unbuilt request refl is ends.same (did_nothing faults.NotBuilt ends)
+
+    pub story : (asked : Option Request) → EndsAsked asked s.files s.files_after s.out s.out_after end → Story asked status s
+    story None ends = usage refl ends.same (did_nothing faults.Usage ends)
+    story (Some request) ends = built_story request (is_built request) refl ends
 
 -- ---- facts
 
@@ -276,6 +305,8 @@ module _ (s : Seen) where
         line = end.says;
         read = at.read;
       }) at.passed is.text_is))
+  answer asked status (followed request e built end follows is says) =
+      by_these AnswerOf asked (Some request) status (ending end) e is (follow.answer request built s end follows says)
 
   nothing_due : (asked : Option Request) → WritesAll s.out s.out_after [] → WritesDue asked s.files s.out s.out_after
   nothing_due asked quiet = of_all s.files.left _ (λ left. (Point.start, [], refl, front_none s.out s.out_after quiet))
@@ -303,6 +334,8 @@ module _ (s : Seen) where
   front asked status (wanting request e built fault want end) = nothing_due asked end.written
   front asked status (failed request e built fault at fails end) = nothing_due asked end.written
   front asked status (refusing request e built fault at is end) = nothing_due asked end.written
+  front asked status (followed request e built end follows is says) =
+      by_these FrontOf asked (Some request) status status e refl (follow.front request built s end follows)
 
   abbrev QuietOf : Option Request → Status → Type 0
   QuietOf asked status = KeepsQuiet asked status s.files s.files_after s.out s.out_after
@@ -317,6 +350,8 @@ module _ (s : Seen) where
   quiet asked status (wanting request e built fault want end) = keeps_quiet asked status s end.written
   quiet asked status (failed request e built fault at fails end) = keeps_quiet asked status s end.written
   quiet asked status (refusing request e built fault at is end) = keeps_quiet asked status s end.written
+  quiet asked status (followed request e built end follows is says) =
+      by_these QuietOf asked (Some request) status (ending end) e is (follow.quiet request built s end follows)
 
   abbrev LineOf : Option Request → Status → Type 0
   LineOf asked status = SaysStatus asked status s.err s.err_after
@@ -353,6 +388,9 @@ module _ (s : Seen) where
   line asked status (refusing request e built fault at is end) =
       by_these LineOf asked (Some request) status status e refl
       (record { fault = Some fault; status_is = end.status_is; says = end.says; names = (plain_of request built fault at is).names })
+  line asked status (followed request e built end follows is says) =
+      by_these LineOf asked (Some request) status status e refl
+      (record { fault = end; status_is = is; says = says; names = follow.names_word request built s end follows })
 
   pub ends : (asked : Option Request) (status : Status) → Story asked status s → MayEnd asked status
   ends asked status (usage e same end) = by_these MayEnd asked None status statuses.Usage e end.status_is refl
@@ -370,6 +408,8 @@ module _ (s : Seen) where
       (may_end request built statuses.ReadFault (some_file request built s fault at))
   ends asked status (refusing request e built fault at is end) =
       by_these MayEnd asked (Some request) status (status_of fault) e end.status_is (may_end request built (status_of fault) (plain_of request built fault at is).ends)
+  ends asked status (followed request e built end follows is says) =
+      by_these MayEnd asked (Some request) status (ending end) e is (follow.ends request built s end follows)
 
   abbrev OrderOf : Option Request → Status → Type 0
   OrderOf asked status = ReadsInOrder asked s.files s.files_after
@@ -384,6 +424,8 @@ module _ (s : Seen) where
   order asked status (wanting request e built fault want end) = by_these OrderOf asked (Some request) status status e refl (want.whole, want.read)
   order asked status (failed request e built fault at fails end) = by_these OrderOf asked (Some request) status status e refl (length at.earlier, at.read)
   order asked status (refusing request e built fault at is end) = by_these OrderOf asked (Some request) status status e refl (length at.earlier, at.read)
+  order asked status (followed request e built end follows is says) =
+      by_these OrderOf asked (Some request) status status e refl (length (judged_of request), follow.order request built s end follows)
 
   abbrev FaultOf : Option Request → Status → Type 0
   FaultOf asked status = Blames asked status s
@@ -423,6 +465,8 @@ module _ (s : Seen) where
       })
   fault asked status (refusing request e built why at is end) =
       by_these FaultOf asked (Some request) status (status_of why) e end.status_is (plain_of request built why at is).blames
+  fault asked status (followed request e built end follows is says) =
+      by_these FaultOf asked (Some request) status (ending end) e is (follow.fault request built s end follows says)
 
   abbrev FindsOf : Option Request → Status → Type 0
   FindsOf asked status = Finds asked status s.files s.out s.out_after
@@ -439,3 +483,5 @@ module _ (s : Seen) where
       by_these FindsOf asked (Some request) status statuses.ReadFault e (end.status_is ∙ ap status_of fails.is) tt
   finds asked status (refusing request e built why at is end) =
       by_these FindsOf asked (Some request) status (status_of why) e end.status_is (plain_of request built why at is).finds
+  finds asked status (followed request e built end follows is says) =
+      by_these FindsOf asked (Some request) status (ending end) e is (follow.finds request built s end follows)

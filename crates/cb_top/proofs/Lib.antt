@@ -3,6 +3,12 @@ pub mod Made
 pub mod Judging
 pub mod Finding
 pub mod Plain
+pub mod Lines
+pub mod Further
+pub mod Pieces
+pub mod Following
+pub mod Logged
+pub mod Followed
 pub mod Clauses
 pub mod Certified
 pub mod Writing

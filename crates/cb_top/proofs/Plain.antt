@@ -143,7 +143,7 @@ module _ (request : Request) (built : is_built request ≡ true) (s : Seen) (byt
   -- what the output finds, where there is one
   found : (fault ≡ Some faults.LimitEntries → ⊥) → Told s.files (FindsCause (Some request) s.out s.out_after)
   found room = if_some s.files.left _ _ (λ left said.
-      (makes.known, said, finds_for left request makes.known job_outcome s.out s.out_after built room (makes.gives left 0) written)) makes.said
+      (makes.known, said, finds_for left request makes.known job_outcome s.out s.out_after makes.alone room (makes.gives left 0) written)) makes.said
 
   fit_by : JobEnds request 0 job_outcome → IsFit request fault s
   fit_by (well none whole) = with_fault None none (record {

@@ -72,39 +72,18 @@ abbrev pub Comes : Request → FilesTold → FilesTold → Result Output Fault �
 Comes request old new (Ok output) = Makes request old new output.bytes.items output.fault
 Comes request old new (Err fault) = WantsMemory request old new fault ⊎ StopsAt request old new fault
 
--- no file is read, and there is this fault
-pub record ReadsNothing (old new : FilesTold) (result : Result Output Fault) (fault : Fault) : Type 0 where
-  pub same : new ≡ old
-  pub is : result ≡ Err fault
-
-abbrev pub RequestComes : Bool → Request → FilesTold → FilesTold → Result Output Fault → Type 0
-RequestComes true request old new result = Comes request old new result
-RequestComes false request old new result = ReadsNothing old new result faults.NotBuilt
-
--- what comes of what is asked for
-abbrev pub AskedComes : Option Request → FilesTold → FilesTold → Result Output Fault → Type 0
-AskedComes None old new result = ReadsNothing old new result faults.Usage
-AskedComes (Some request) old new result = RequestComes (is_built request) request old new result
-
--- all bytes were written, and the run ends with the fault, if there is one
-pub record IsDelivered (bytes : List ℕ) (fault : Option Fault) (status : Status) (out out' err err' : SinkTold) : Type 0 where
+-- all bytes were written, and this is wrong, if something is
+pub record IsDelivered (bytes : List ℕ) (fault end : Option Fault) (out out' : SinkTold) : Type 0 where
   pub written : WritesAll out out' bytes
-  pub status_is : status ≡ ending fault
-  pub says : TakesLine err err' (line_text fault)
+  pub end_is : end ≡ fault
 
--- a write failed, and the run ends with that
-pub record IsCutOff (bytes : List ℕ) (status : Status) (out out' err err' : SinkTold) : Type 0 where
+-- a write failed
+pub record IsCutOff (bytes : List ℕ) (end : Option Fault) (out out' : SinkTold) : Type 0 where
   pub front : WritesFront out out' bytes
   pub failed : WriteFailed out out'
-  pub status_is : status ≡ statuses.WriteFault
-  pub says : TakesLine err err' (fault_text faults.WriteFault)
+  pub end_is : end ≡ Some faults.WriteFault
 
--- how an output is written
-abbrev pub Delivers : Output → Status → SinkTold → SinkTold → SinkTold → SinkTold → Type 0
-Delivers output status out out' err err' =
-    IsDelivered output.bytes.items output.fault status out out' err err' ⊎ IsCutOff output.bytes.items status out out' err err'
-
--- how a run ends, once there is an output, or a fault and no output
-abbrev pub Concludes : Result Output Fault → Status → SinkTold → SinkTold → SinkTold → SinkTold → Type 0
-Concludes (Ok output) status out out' err err' = Delivers output status out out' err err'
-Concludes (Err fault) status out out' err err' = IsDelivered [] (Some fault) status out out' err err'
+-- how that is written which a command has made: its output, or none where there is a fault and no output
+abbrev pub Delivers : Result Output Fault → Option Fault → SinkTold → SinkTold → Type 0
+Delivers (Ok output) end out out' = IsDelivered output.bytes.items output.fault end out out' ⊎ IsCutOff output.bytes.items end out out'
+Delivers (Err fault) end out out' = IsDelivered [] (Some fault) end out out'

@@ -3,30 +3,32 @@ ghost use Rattle.std.specs.Prelude.{◌≡◌, Some, true};
 ghost use Rattle.cb_request.specs.Ranges.{IsInRange};
 ghost use Rattle.cb_outcome.specs.Jobs.{is_built};
 ghost use Rattle.cb_outcome.specs.Steps.{Counts};
-ghost use Rattle.cb_top.specs.Ending.{RequestComes};
+ghost use Rattle.cb_top.specs.Ways.{EndsRequest, wrong};
 
 use crate::burst::burst;
 use crate::codebook::codebook;
+use crate::correlate::{Correlation, correlate};
 use crate::matrix::matrix;
 use crate::model::model;
-use crate::output::Output;
+use crate::output::deliver;
 use crate::verify::verify;
-use cb_io::Files;
+use cb_io::{Files, Sink};
 use cb_report::Fault;
 use cb_request::Request;
 use cb_steps::Steps;
 use std::alloc::Global;
 use std::sync::ledger::Ledger;
 
-/// Reads and judges the files of a request, and makes its output.
-pub fn perform<'w, F: Files, L: Ledger>(
+/// Reads and judges the files of a request, makes its output and writes it.
+pub fn perform<'w, F: Files, O: Sink, L: Ledger>(
     alloc: Global,
     request: Request<'w>,
     files: &mut F,
+    out: &mut O,
     steps: &mut Steps<L>,
-) -> Result<Output<'w>, Fault<'w>>
+) -> Result<(), Fault<'w>>
     requires range { IsInRange request }
-    ensures comes { RequestComes (is_built request.entry) request.entry (F.tells files.old) (F.tells files.new) result }
+    ensures ends { EndsRequest (is_built request.entry) request.entry (F.tells files.old) (F.tells files.new) (O.tells out.old) (O.tells out.new) (wrong result) }
     ensures unread { (¬ (is_built request.entry ≡ true)) → files.new ≡ files.old }
     ensures steps { Counts (Some request.entry) steps.old steps.new }
 {
@@ -35,19 +37,37 @@ pub fn perform<'w, F: Files, L: Ledger>(
             model,
             topology,
             symptoms,
-        } => burst(alloc, files, model, topology, symptoms, steps),
-        Request::Model { model: name } => model(alloc, files, name),
-        Request::Matrix { model, topology } => matrix(alloc, files, model, topology, steps),
+        } => deliver(burst(alloc, files, model, topology, symptoms, steps), out),
+        Request::Model { model: name } => deliver(model(alloc, files, name), out),
+        Request::Matrix { model, topology } => {
+            deliver(matrix(alloc, files, model, topology, steps), out)
+        }
         Request::Codebook {
             model,
             topology,
             distance,
-        } => codebook(alloc, files, model, topology, distance, steps),
+        } => deliver(
+            codebook(alloc, files, model, topology, distance, steps),
+            out,
+        ),
         Request::Verify {
             model,
             topology,
             certificate,
-        } => verify(alloc, files, model, topology, certificate, steps),
+        } => deliver(
+            verify(alloc, files, model, topology, certificate, steps),
+            out,
+        ),
+        Request::Correlate {
+            model,
+            topology,
+            log,
+            distance,
+            window,
+        } => {
+            let asked = Correlation { distance, window };
+            correlate(alloc, files, out, model, topology, log, asked, steps)
+        }
         _ => Err(Fault::NotBuilt),
     }
 }

@@ -6,10 +6,9 @@ ghost use Rattle.cb_outcome.specs.Ends.{MayEnd, IsBuilt};
 ghost use Rattle.cb_outcome.specs.Finds.{Finds};
 ghost use Rattle.cb_outcome.specs.Seen.{seen};
 ghost use Rattle.cb_outcome.specs.Steps.{Counts};
-ghost use Rattle.cb_top.specs.Ending.{AskedComes};
+ghost use Rattle.cb_top.specs.Ways.{EndsAsked, wrong};
 
 use crate::conclude::conclude;
-use crate::output::Output;
 use crate::perform::perform;
 use cb_io::{Files, Sink};
 use cb_report::{Fault, Status};
@@ -58,23 +57,24 @@ pub fn run<F: Files, O: Sink, E: Sink, L: Ledger>(
     // No command counts a step but those that search.
     ensures steps { Counts (asked words.now) steps.old steps.new }
 {
-    let answer = answer(alloc, words, files, steps);
-    conclude(answer, out, err)
+    let end = answer(alloc, words, files, out, steps);
+    conclude(end, err)
 }
 
-// Reads and judges the files of what is asked for, and makes its output.
-fn answer<'w, F: Files, L: Ledger>(
+// Does what is asked for, but for telling what is wrong.
+fn answer<'w, F: Files, O: Sink, L: Ledger>(
     alloc: Global,
     words: &'w [String],
     files: &mut F,
+    out: &mut O,
     steps: &mut Steps<L>,
-) -> Result<Output<'w>, Fault<'w>>
-    ensures comes { AskedComes (asked words.now) (F.tells files.old) (F.tells files.new) result }
+) -> Result<(), Fault<'w>>
+    ensures ends { EndsAsked (asked words.now) (F.tells files.old) (F.tells files.new) (O.tells out.old) (O.tells out.new) (wrong result) }
     ensures unread { (¬ IsBuilt (asked words.now)) → files.new ≡ files.old }
     ensures steps { Counts (asked words.now) steps.old steps.new }
 {
     match Request::of(words) {
-        Some(request) => perform(alloc, request, files, steps),
+        Some(request) => perform(alloc, request, files, out, steps),
         None => Err(Fault::Usage),
     }
 }
