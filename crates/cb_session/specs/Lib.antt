@@ -1,1 +1,7 @@
 pub mod State
+pub mod Taken
+pub mod Ready
+pub mod Settled
+pub mod Told
+pub mod Acts
+pub mod Steps
