@@ -1,3 +1,4 @@
+pub mod Bases
 pub mod Behind
 pub mod Telling
 pub mod Stepping

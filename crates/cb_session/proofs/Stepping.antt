@@ -23,11 +23,12 @@ use Rattle.cb_alarm.proofs.OneSkip.{comes_to_one}
 use Rattle.cb_session.specs.declared.basis.Ready.{Ready}
 use Rattle.cb_session.specs.declared.told.Told.{Told}
 use Rattle.cb_session.specs.Acts.{Acts, GoesOn, IsWellNamed}
-use Rattle.cb_session.specs.Ready.{IsReady, HasBasis}
+use Rattle.cb_session.specs.Ready.{IsReady}
 use Rattle.cb_session.specs.Settled.{IsSettled}
 use Rattle.cb_session.specs.State.{State, IsBookOf, KeepsBook, StandsForEntries}
 use Rattle.cb_session.specs.Steps.{EntryTells, EntryStands}
 use Rattle.cb_session.specs.Told.{Tells, kept_of}
+use Rattle.cb_session.proofs.Bases.{ready_has_basis}
 use Rattle.cb_session.proofs.Behind.{records_said, records_stay, IsChangedBy, changed_by, body_gives}
 use Rattle.cb_session.proofs.Telling.{book_of, told_comes, keeps_behind, ready_stays}
 
@@ -82,10 +83,7 @@ all_stand line entry comes old new stands other too = subst (EntryStands old new
 -- what is ready has a basis, so its codebook is one of the topology
 book_is : (network : Topology) (d : ℕ) (ready : Option Ready) → IfSome ready (IsReady network (wanted d)) → IfSome (book_of ready) (IsBookOf network (wanted d))
 book_is network d None is = tt
-book_is network d (Some ready) is = (
-  record { columns = ready.matrix.columns; groups = ready.matrix.groups; matrix = is.matrix; book = ready.book; used = is.used },
-  refl,
-)
+book_is network d (Some ready) is = let has = ready_has_basis network (wanted d) ready is in (has.0, has.1.book)
 
 -- what the parts of a session show
 abbrev pub state_of : Topology → ℕ → Kept → Option Ready → State

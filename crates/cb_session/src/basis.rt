@@ -1,14 +1,14 @@
-//! What windows are diagnosed by.
+//! What windows are diagnosed by, and their diagnoses.
 ghost use Rattle.std.specs.Prelude.{◌≡◌, ◌++◌, List as Items, IfOk, OnOk};
 ghost use Rattle.std.specs.List.{All, AllZip};
 ghost use Rattle.cb_cert.specs.Format.{IsWanted};
-ghost use Rattle.cb_log.specs.declared.event.Event.{Event as TheEvent};
 ghost use Rattle.cb_log.specs.Basis.{Mode, wanted as for_wanted, Basis, IsDiagnosis, IsAnnounced};
+ghost use Rattle.cb_log.specs.declared.event.Event.{Event as EventOf};
 ghost use Rattle.cb_model.specs.NodeOrder.{node_cmp};
 ghost use Rattle.cb_model.specs.Order.{Rises};
 ghost use Rattle.cb_network.specs.Topology.{Topology};
+ghost use Rattle.cb_session.specs.Ready.{IsReady, IsSomewhereReady, HasBasis};
 ghost use Rattle.cb_topo.specs.Numbered.{topology_of};
-ghost use Rattle.cb_session.specs.Ready.{HasBasis, IsReady};
 
 use cb_cache::Cache;
 use cb_coding::Book;
@@ -35,8 +35,8 @@ impl Ready {
 
     /// The events that tell of the codebook, before the first diagnosis by it.
     pub fn announce(&self, alloc: Global, wanted: u32) -> Result<List<Event>, AllocError>
-        requires ready { (network : Topology) × IsReady network (for_wanted wanted) self.now }
-        ensures { IfOk result (λ events. (network : Topology) (basis : Basis network (for_wanted wanted)) → HasBasis basis self.now
+        requires { IsSomewhereReady self.now }
+        ensures { IfOk result (λ events. (network : Topology) (mode : Mode) (basis : Basis network mode) → HasBasis basis self.now
             → IsAnnounced basis wanted events) }
     {
         Err(AllocError)
@@ -47,13 +47,13 @@ impl Ready {
 pub(crate) fn diagnose(
     alloc: Global,
     ready: &Ready,
-    closing: List<Closed>,
+    closing: &List<Closed>,
     events: &mut List<Event>,
 ) -> Result<(), AllocError>
-    requires ready { (network : Topology) × (mode : Mode) × IsReady network mode ready.now }
-    requires rise { All (λ c. Rises node_cmp c.nodes) closing }
+    requires ready { IsSomewhereReady ready.now }
+    requires rise { All (λ c. Rises node_cmp c.nodes) closing.now }
     ensures { OnOk result ((network : Topology) (mode : Mode) (basis : Basis network mode) → HasBasis basis ready.now
-        → (diagnoses : Items TheEvent) × AllZip (IsDiagnosis basis) closing.entry diagnoses × (events.new ≡ events.old ++ diagnoses)) }
+        → (diagnoses : Items EventOf) × AllZip (IsDiagnosis basis) closing.now diagnoses × (events.new ≡ events.old ++ diagnoses)) }
 {
     Err(AllocError)
 }

@@ -120,7 +120,9 @@ impl Session {
         ensures same { OnErr result (self.new ≡ self.old) }
     {
         let closing = self.windows.due(alloc, record.at)?;
-        let mut told = tell(alloc, &self.cache, &self.ready, self.wanted, closing)?;
+        let told = tell(alloc, &self.cache, &self.ready, self.wanted, &closing);
+        drop(closing);
+        let mut told = told?;
         let changed = act(
             alloc,
             &mut self.cache,
@@ -141,7 +143,9 @@ impl Session {
             → EndGives opening self.now.mode self.now.windows.length (records_of before) events) }
     {
         let closing = self.windows.rest(alloc)?;
-        Ok(tell(alloc, &self.cache, &self.ready, self.wanted, closing)?.events)
+        let ends = tell(alloc, &self.cache, &self.ready, self.wanted, &closing);
+        drop(closing);
+        Ok(ends?.events)
     }
 
     /// The topology as it is, with its rows.

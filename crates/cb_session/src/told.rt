@@ -7,7 +7,7 @@ ghost use Rattle.cb_model.specs.NodeOrder.{node_cmp};
 ghost use Rattle.cb_model.specs.Order.{Rises};
 ghost use Rattle.cb_network.specs.Topology.{Topology};
 ghost use Rattle.cb_topo.specs.Numbered.{topology_of};
-ghost use Rattle.cb_session.specs.Ready.{IsReady};
+ghost use Rattle.cb_session.specs.Ready.{IsReady, IsSomewhereReady};
 ghost use Rattle.cb_session.specs.Told.{TellsInUse, TellsMade, Tells, kept_of};
 
 use crate::basis::{Ready, diagnose};
@@ -29,12 +29,12 @@ pub(crate) fn tell(
     cache: &Cache,
     ready: &Option<Ready>,
     wanted: u32,
-    closing: List<Closed>,
+    closing: &List<Closed>,
 ) -> Result<Told, AllocError>
     requires wanted { IsWanted wanted }
     requires ready { IfSome ready.now (IsReady (topology_of cache.now.graph) (for_wanted wanted)) }
-    requires rise { All (λ c. Rises node_cmp c.nodes) closing }
-    ensures { IfOk result (Tells (topology_of cache.now.graph) wanted ready.now closing.entry) }
+    requires rise { All (λ c. Rises node_cmp c.nodes) closing.now }
+    ensures { IfOk result (Tells (topology_of cache.now.graph) wanted ready.now closing.now) }
 {
     if closing.len() == 0 {
         return Ok(Told {
@@ -62,12 +62,12 @@ pub(crate) fn tell(
 fn told_in_use(
     alloc: Global,
     ready: &Ready,
-    closing: List<Closed>,
+    closing: &List<Closed>,
 ) -> Result<List<Event>, AllocError>
-    requires ready { (network : Topology) × (d : ℕ) × IsReady network (for_wanted d) ready.now }
-    requires rise { All (λ c. Rises node_cmp c.nodes) closing }
+    requires ready { IsSomewhereReady ready.now }
+    requires rise { All (λ c. Rises node_cmp c.nodes) closing.now }
     ensures { IfOk result (λ events. (network : Topology) (d : ℕ) → IsReady network (for_wanted d) ready.now
-        → TellsInUse network d ready.now closing.entry events) }
+        → TellsInUse network d ready.now closing.now events) }
 {
     let mut events = List::new(alloc);
     diagnose(alloc, ready, closing, &mut events)?;
@@ -79,12 +79,12 @@ fn told_made(
     alloc: Global,
     ready: &Ready,
     wanted: u32,
-    closing: List<Closed>,
+    closing: &List<Closed>,
 ) -> Result<List<Event>, AllocError>
-    requires ready { (network : Topology) × IsReady network (for_wanted wanted) ready.now }
-    requires rise { All (λ c. Rises node_cmp c.nodes) closing }
+    requires ready { IsSomewhereReady ready.now }
+    requires rise { All (λ c. Rises node_cmp c.nodes) closing.now }
     ensures { IfOk result (λ events. (network : Topology) → IsReady network (for_wanted wanted) ready.now
-        → TellsMade network wanted ready.now closing.entry events) }
+        → TellsMade network wanted ready.now closing.now events) }
 {
     let mut events = ready.announce(alloc, wanted)?;
     diagnose(alloc, ready, closing, &mut events)?;
