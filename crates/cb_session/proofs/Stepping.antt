@@ -1,6 +1,12 @@
 -- A session goes on by one entry.
-use Rattle.std.proofs.Common.{◌≡◌, ◌↔◌, ◌++◌, ℕ, List, [], ◌∷◌, length, Bool, true, false, Option, Some, None, IsSome, Ok, Err, refl, sym, subst, inl, inr}
+use Rattle.std.proofs.Common.{◌≡◌, ◌↔◌, ◌++◌, ℕ, List, [], ◌∷◌, length, Bool, true, false, Option, Some, None, IsSome, Ok, Err, refl, sym, subst, inl, inr, append-nil, get_or, arith}
 use Rattle.std.specs.Prelude.{IfSome}
+use Rattle.std.specs.List.{All}
+use Rattle.std.proofs.lemmas.List.Elements.{Contains-get_or}
+use Rattle.cb_model.specs.NodeOrder.{node_cmp}
+use Rattle.cb_model.specs.Order.{Rises}
+use Rattle.cb_cert.specs.Format.{IsWanted}
+use Rattle.cb_coding.specs.declared.book.Book.{Book}
 use Rattle.cb_edits.specs.Spelled.{HasNames}
 use Rattle.cb_network.specs.declared.edit.Edit.{Edit}
 use Rattle.cb_network.specs.declared.edit.Edit.TheVariants.{Create, Delete, Link, Unlink, Mute, Unmute}
@@ -12,9 +18,9 @@ use Rattle.cb_log.specs.declared.record.Body.{Body}
 use Rattle.cb_log.specs.declared.record.Body.TheVariants.{Raise, Clear, Change, Tick}
 use Rattle.cb_log.specs.declared.record.Record.{Record}
 use Rattle.cb_log.specs.Basis.{Mode, wanted, fixed}
-use Rattle.cb_log.specs.Closing.{AreClosing}
+use Rattle.cb_log.specs.Closing.{ClosesAt, AreClosing}
 use Rattle.cb_log.specs.Entries.{Entry, said, skipped, blank, records_of}
-use Rattle.cb_log.specs.Events.{IsNetwork, HasBook}
+use Rattle.cb_log.specs.Events.{IsNetwork, HasBook, EndGives}
 use Rattle.cb_log.specs.Kept.{Kept, StandsFor}
 use Rattle.cb_log.specs.Network.{IsNow}
 use Rattle.cb_alarm.specs.Lines.{Line, text, long, ComesTo}
@@ -24,7 +30,7 @@ use Rattle.cb_session.specs.declared.basis.Ready.{Ready}
 use Rattle.cb_session.specs.declared.told.Told.{Told}
 use Rattle.cb_session.specs.Acts.{Acts, GoesOn, IsWellNamed}
 use Rattle.cb_session.specs.Ready.{IsReady}
-use Rattle.cb_session.specs.Settled.{IsSettled}
+use Rattle.cb_session.specs.Settled.{IsOverSome, IsSettled}
 use Rattle.cb_session.specs.State.{State, IsBookOf, KeepsBook, StandsForEntries}
 use Rattle.cb_session.specs.Steps.{EntryTells, EntryStands}
 use Rattle.cb_session.specs.Told.{Tells, kept_of}
@@ -156,3 +162,43 @@ module _ (d number : ℕ) (r : Record) (network new : Topology) (windows later :
             book_is new d kept ready_kept,
           );
         }
+
+-- what is kept of a window that closes has its nodes in order
+abbrev pub HasRisingNodes : Closed → Type 0
+HasRisingNodes c = Rises node_cmp c.nodes
+
+all_rise : (records : List Record) (w place : ℕ) (closing : List Closed) → AreClosing records w place closing → All HasRisingNodes closing
+all_rise records w place closing closes = λ k d lt.
+    let c : Closed = get_or closing k d in
+    let at : ClosesAt records w place c = (closes.each c).0 (Contains-get_or closing k d lt) in
+    at.nodes.rise
+
+pub due_rise : (windows : Kept) (r : Record) (closing : List Closed) → IsOverSome windows → Closes windows r.at closing → All HasRisingNodes closing
+due_rise windows r closing over closes =
+    all_rise (over.0 ++ r ∷ []) windows.length (length over.0) closing (closes over.0 r refl over.1)
+
+-- the windows that close at the end
+abbrev pub ClosesAtEnd : Kept → List Closed → Type 0
+ClosesAtEnd windows closing = (records : List Record) → StandsFor windows records → AreClosing records windows.length (length records) closing
+
+pub end_rise : (windows : Kept) (closing : List Closed) → IsOverSome windows → ClosesAtEnd windows closing → All HasRisingNodes closing
+end_rise windows closing over closes = all_rise over.0 windows.length (length over.0) closing (closes over.0 over.1)
+
+-- what is told of them is what comes of the end
+pub end_tells : (network : Topology) (d : ℕ) (windows : Kept) (ready : Option Ready) (closing : List Closed) (told : Told) → ClosesAtEnd windows closing
+    → Tells network d ready closing told → (opening : Topology) (before : List Entry) → StandsForEntries (state_of network d windows ready) opening before
+    → EndGives opening (wanted d) windows.length (records_of before) told.events
+end_tells network d windows ready closing told closes tells opening before stands =
+    told_comes opening d windows.length (records_of before) [] network stands.network ready stands.book.0 closing
+    (subst (λ (rs : List Record). AreClosing rs windows.length (length (records_of before)) closing) (sym (append-nil (records_of before)))
+    (closes (records_of before) stands.windows)) told tells
+
+-- at the beginning no codebook is in use
+no_book : (opening : Topology) (w : ℕ) → IsSome {T = Book} None ↔ HasBook opening w []
+no_book opening w = (λ e. absurd (cc), λ has. let within = has.within in absurd (omega arith))
+
+pub opened_stands : (network : Topology) (d : ℕ) (windows : Kept) → StandsFor windows [] → StandsForEntries (state_of network d windows None) network []
+opened_stands network d windows stands = record { network = refl; windows = stands; book = (no_book network windows.length, tt) }
+
+pub opened_settled : (network : Topology) (d : ℕ) (windows : Kept) → IsWanted d → StandsFor windows [] → IsSettled network d windows None
+opened_settled network d windows distance stands = record { distance = distance; over = ([], stands); ready_is = tt }

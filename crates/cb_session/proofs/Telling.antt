@@ -1,5 +1,5 @@
 -- What is told of windows that close is what comes of them, and when a codebook is in use behind it.
-use Rattle.std.proofs.Common.{◌≡◌, ◌↔◌, ◌⊎◌, ◌++◌, ℕ, List, [], ◌∷◌, length, Bool, true, false, Option, Some, None, IsSome, refl, sym, ap, subst, ◌∙◌, inl, inr}
+use Rattle.std.proofs.Common.{◌≡◌, ◌≢◌, ◌↔◌, ◌⊎◌, ◌++◌, ℕ, List, [], ◌∷◌, length, Bool, true, false, Option, Some, None, IsSome, refl, sym, ap, subst, ◌∙◌, inl, inr}
 use Rattle.std.specs.Prelude.{option_map, IfSome}
 use Rattle.std.specs.List.{Contains}
 use Rattle.cb_model.proofs.Rising.{nothing_in_empty, contains_head}
@@ -17,14 +17,14 @@ use Rattle.cb_session.specs.declared.basis.Ready.{Ready}
 use Rattle.cb_session.specs.declared.told.Told.{Told}
 use Rattle.cb_session.specs.Ready.{IsReady, HasBasis}
 use Rattle.cb_session.specs.State.{IsBookOf}
-use Rattle.cb_session.specs.Told.{Tells, kept_of}
+use Rattle.cb_session.specs.Told.{TellsMade, Tells, kept_of}
 
 -- the codebook of what is ready
 abbrev pub book_of : Option Ready → Option Book
 book_of ready = option_map (λ (r : Ready). r.book) ready
 
-some_is_no_none : {X : Type 0} → IsSome {T = X} None → ⊥
-some_is_no_none e = cc
+none_is_no_some : IsSome {T = Book} None → ⊥
+none_is_no_some e = cc
 
 module _ (t : Topology) (d w : ℕ) (records : List Record) where
   -- something is ready exactly where a codebook is in use
@@ -49,7 +49,7 @@ module _ (t : Topology) (d w : ℕ) (records : List Record) where
     is_network = now;
     basis = tells.3.basis;
     opening = tells.3.announced;
-    is_opening = inr (λ has. some_is_no_none (keeps.1 has), tells.3.is_announced);
+    is_opening = inr (λ has. none_is_no_some (keeps.1 has), tells.3.is_announced);
     diagnoses = tells.3.diagnoses;
     each = tells.3.each;
     events_are = tells.3.events_are;
@@ -83,9 +83,9 @@ module _ (t : Topology) (d w : ℕ) (records : List Record) where
       λ e. rw tells.1,
     )
     ready_behind network None keeps [] closes told tells = (
-      λ e. absurd (some_is_no_none {X = Book} (rw tells.1 at e)),
+      λ e. absurd (none_is_no_some (rw tells.1 at e)),
       λ has. elim has [
-        | inl had ↦ absurd (some_is_no_none (keeps.1 had))
+        | inl had ↦ absurd (none_is_no_some (keeps.1 had))
         | inr some ↦ absurd (nothing_in_empty some.0 ((closes.each some.0).1 some.1))
       ],
     )
@@ -101,7 +101,7 @@ module _ (t : Topology) (d w : ℕ) (records : List Record) where
         → (changed ≡ false → ¬ IsAcceptedAt t (records ++ r ∷ []) (length records))
         → KeepsReady (kept_of changed ready told.made) (records ++ r ∷ [])
     keeps_behind network ready keeps closing closes told tells true accepted refused = (
-      λ e. absurd (some_is_no_none e),
+      λ e. absurd (none_is_no_some e),
       λ has. absurd (((book_steps t records r w).0 has).1 (accepted refl)),
     )
     keeps_behind network ready keeps closing closes told tells false accepted refused =
@@ -125,3 +125,11 @@ ready_stays network new d ready is closing told tells false same =
     here (Some ready) is (c ∷ closing) tells = rw tells.1 is
     here None is [] tells = rw tells.1 tt
     here None is (c ∷ closing) tells = rw tells.1 tells.2
+
+-- by a codebook that is made
+pub tells_made : (network : Topology) (d : ℕ) (ready : Option Ready) → ready ≡ None → (closing : List Closed) → length closing ≢ 0 → (made : Ready)
+    → IsReady network (wanted d) made → (events : List Event) → TellsMade network d made closing events
+    → Tells network d ready closing (record { events = events; made = Some made })
+tells_made network d ready none [] some made is events tells = absurd (some refl)
+tells_made network d None none (c ∷ closing) some made is events tells = (made, refl, is, tells)
+tells_made network d (Some ready) none (c ∷ closing) some made is events tells = absurd (cc)

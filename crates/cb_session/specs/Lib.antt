@@ -1,4 +1,5 @@
 pub mod State
+pub mod Codes
 pub mod Taken
 pub mod Ready
 pub mod Settled

@@ -23,7 +23,7 @@ pub(crate) enum Taken {
 
 /// What the line comes to.
 pub(crate) fn entry_of(alloc: Global, line: LogLine<'_>) -> Result<Taken, AllocError>
-    ensures { IfOk result (λ taken. ComesTo (line_of line) (entry_of_taken taken)) }
+    ensures { IfOk result (λ taken. ComesTo (line_of line.entry) (entry_of_taken taken)) }
 {
     match line {
         LogLine::Text { number, bytes } => entry_of_text(alloc, number, bytes),

@@ -40,12 +40,16 @@ impl Model for Session {
     ghost use Rattle.std.specs.Prelude.{option_map};
     ghost use Rattle.cb_log.specs.Basis.{wanted as for_wanted};
     ghost use Rattle.cb_topo.specs.Numbered.{topology_of};
+    ghost use Rattle.cb_session.specs.Codes.{state_code};
     ghost use Rattle.cb_session.specs.State.{State};
-    ghost use Rattle.cb_session.specs.Settled.{IsSettled};
 
     ghost Value = { State };
 
+    ghost coded = { state_code };
+
     ghost view = { λ s. record { mode = for_wanted s.wanted; network = topology_of s.cache.graph; windows = s.windows; book = option_map (λ ready. ready.book) s.ready } };
+
+    ghost use Rattle.cb_session.specs.Settled.{IsSettled};
 
     ghost invariant = { λ s. IsSettled (topology_of s.cache.graph) s.wanted s.windows s.ready };
 }
@@ -82,12 +86,12 @@ impl Session {
         steps: &mut Steps<L>,
     ) -> Result<List<Event>, AllocError>
         requires { IsFitting line }
-        ensures comes { IfOk result (λ events. (entry : Entry) × ComesTo (line_of line) entry) }
+        ensures comes { IfOk result (λ events. (entry : Entry) × ComesTo (line_of line.entry) entry) }
         ensures gives { IfOk result (λ events. (opening : Topology) (before : Items Entry) (entry : Entry) → IsRegular opening.model
-            → ComesTo (line_of line) entry → StandsForEntries self.old opening before
+            → ComesTo (line_of line.entry) entry → StandsForEntries self.old opening before
             → EntryGives opening self.old.mode self.old.windows.length (records_of before) entry events) }
         ensures stands { OnOk result ((opening : Topology) (before : Items Entry) (entry : Entry) → IsRegular opening.model
-            → ComesTo (line_of line) entry → StandsForEntries self.old opening before
+            → ComesTo (line_of line.entry) entry → StandsForEntries self.old opening before
             → StandsForEntries self.new opening (before ++ entry ∷ [])) }
         ensures mode { self.new.mode ≡ self.old.mode }
         ensures length { self.new.windows.length ≡ self.old.windows.length }
