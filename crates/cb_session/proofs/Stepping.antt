@@ -1,6 +1,6 @@
 -- A session goes on by one entry.
-use Rattle.std.proofs.Common.{◌≡◌, ◌↔◌, ◌++◌, ℕ, List, [], ◌∷◌, length, Bool, true, false, Option, Some, None, IsSome, Ok, Err, refl, sym, subst, inl, inr, append-nil, get_or, arith}
-use Rattle.std.specs.Prelude.{IfSome}
+use Rattle.std.proofs.Common.{◌≡◌, ◌↔◌, ◌++◌, ℕ, List, [], ◌∷◌, length, Bool, true, false, Option, Some, None, IsSome, Result, Ok, Err, refl, sym, subst, inl, inr, append-nil, get_or, arith}
+use Rattle.std.specs.Prelude.{IfSome, IfOk, OnOk}
 use Rattle.std.specs.List.{All}
 use Rattle.std.proofs.lemmas.List.Elements.{Contains-get_or}
 use Rattle.cb_model.specs.NodeOrder.{node_cmp}
@@ -11,6 +11,7 @@ use Rattle.cb_edits.specs.Spelled.{HasNames}
 use Rattle.cb_network.specs.declared.edit.Edit.{Edit}
 use Rattle.cb_network.specs.declared.edit.Edit.TheVariants.{Create, Delete, Link, Unlink, Mute, Unmute}
 use Rattle.cb_network.specs.Laws.{HasGoodName}
+use Rattle.cb_network.specs.Regular.{IsRegular}
 use Rattle.cb_network.specs.Topology.{Topology}
 use Rattle.cb_log.specs.declared.closed.Closed.{Closed}
 use Rattle.cb_log.specs.declared.event.Event.{Event}
@@ -20,7 +21,7 @@ use Rattle.cb_log.specs.declared.record.Record.{Record}
 use Rattle.cb_log.specs.Basis.{Mode, wanted, fixed}
 use Rattle.cb_log.specs.Closing.{ClosesAt, AreClosing}
 use Rattle.cb_log.specs.Entries.{Entry, said, skipped, blank, records_of}
-use Rattle.cb_log.specs.Events.{IsNetwork, HasBook, EndGives}
+use Rattle.cb_log.specs.Events.{IsNetwork, HasBook, EntryGives, EndGives}
 use Rattle.cb_log.specs.Kept.{Kept, StandsFor}
 use Rattle.cb_log.specs.Network.{IsNow}
 use Rattle.cb_alarm.specs.Lines.{Line, text, long, ComesTo}
@@ -202,3 +203,29 @@ opened_stands network d windows stands = record { network = refl; windows = stan
 
 pub opened_settled : (network : Topology) (d : ℕ) (windows : Kept) → IsWanted d → StandsFor windows [] → IsSettled network d windows None
 opened_settled network d windows distance stands = record { distance = distance; over = ([], stands); ready_is = tt }
+
+-- what comes of a line, whatever it comes to
+abbrev pub LineTells : Line → State → List Event → Type 0
+LineTells line s events = (opening : Topology) (before : List Entry) (entry : Entry) → IsRegular opening.model → ComesTo line entry
+    → StandsForEntries s opening before → EntryGives opening s.mode s.windows.length (records_of before) entry events
+
+-- what is stood for behind it
+abbrev pub LineStands : Line → State → State → Type 0
+LineStands line old new = (opening : Topology) (before : List Entry) (entry : Entry) → IsRegular opening.model → ComesTo line entry
+    → StandsForEntries old opening before → StandsForEntries new opening (before ++ entry ∷ [])
+
+pub line_tells : (line : Line) (entry : Entry) → ComesTo line entry → (s : State) (events : List Event) → EntryTells s entry events → LineTells line s events
+line_tells line entry comes s events tells = λ opening before other regular too stands. all_tell line entry comes s events tells other too opening before regular stands
+
+pub line_stands : (line : Line) (entry : Entry) → ComesTo line entry → (old new : State) → EntryStands old new entry → LineStands line old new
+line_stands line entry comes old new goes = λ opening before other regular too stands. all_stand line entry comes old new goes other too opening before regular stands
+
+pub if_line_tells : {E : Type 0} (line : Line) (entry : Entry) → ComesTo line entry → (s : State) (result : Result (List Event) E) → IfOk result (EntryTells s entry)
+    → IfOk result (LineTells line s)
+if_line_tells line entry comes s (Ok events) tells = line_tells line entry comes s events tells
+if_line_tells line entry comes s (Err e) tells = tt
+
+pub if_line_stands : {E : Type 0} (line : Line) (entry : Entry) → ComesTo line entry → (old new : State) (result : Result (List Event) E)
+    → OnOk result (EntryStands old new entry) → OnOk result (LineStands line old new)
+if_line_stands line entry comes old new (Ok events) stands = line_stands line entry comes old new stands
+if_line_stands line entry comes old new (Err e) stands = tt
