@@ -7,4 +7,5 @@ use Rattle.cb_session.specs.Taken.{entry_of_taken}
 use Rattle.cb_session.proofs.entry.entry_of.Goals as goal
 
 pub returns-in-Text : goal.returns-in-Text
-returns-in-Text c = let h = c.in-Text in ?
+returns-in-Text c =
+    subst (λ (line : LogLine). IfOk c.entry_of_text.result (λ (taken : Taken). ComesTo (line_of line) (entry_of_taken taken))) (sym c.in-Text.is) c.entry_of_text.ensures

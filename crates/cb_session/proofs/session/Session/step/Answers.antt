@@ -1,4 +1,4 @@
-use Rattle.std.proofs.Common.{◌≡◌, ◌++◌, ◌∷◌, [], List, refl, ap, subst, ◌∙◌}
+use Rattle.std.proofs.Common.{◌≡◌, ◌++◌, ◌∷◌, [], List, refl, subst}
 use Rattle.cb_alarm.specs.Lines.{ComesTo}
 use Rattle.cb_log.specs.declared.event.Event.{Event}
 use Rattle.cb_log.specs.declared.event.Event.TheVariants.{Skipped}
@@ -21,8 +21,9 @@ returns-in_ok-push-in-Skipped-clause-gives g c =
     let number = c.in-Skipped.number in
     let why = c.in-Skipped.why in
     let comes : ComesTo line (skipped number why) = subst (λ (taken : Taken). ComesTo line (entry_of_taken taken)) c.in-Skipped.is c.in_ok-entry_of.ensures in
+    let pushed = c.in_ok-push-in-Skipped.ensures.ok in
     let one : c.push.new.self ≡ Skipped number why ∷ [] =
-    c.in_ok-push-in-Skipped.ensures.ok ∙ ap (λ (es : List Event). es ++ Skipped number why ∷ []) c.new-events.ensures in
+    subst (λ (es : List Event). c.push.new.self ≡ es ++ Skipped number why ∷ []) c.new-events.ensures pushed in
     line_tells line (skipped number why) comes c.args.self.now c.push.new.self (λ opening before regular stands. one)
 
 pub returns-in_ok-push-in-Skipped-clause-stands : goal.returns-in_ok-push-in-Skipped-clause-stands
