@@ -40,8 +40,7 @@ module _ (t : Topology) (regular : IsRegular t.model) (records : List Record) (n
   accepted_here : IsAcceptedAt t (records ++ r ∷ []) (length records) → (edit : Edit) × (r.body ≡ Change edit) × IsAccepted network edit
   accepted_here a =
       let before : IsNow t records a.network = subst (λ (rs : List Record). IsNow t rs a.network) (take-append_seam records (r ∷ [])) a.is_now in
-      let same : a.network ≡ network = network_is_one t regular (wanted 0) records a.network network before now in
-      (
+      let same : a.network ≡ network = network_is_one t regular (wanted 0) records a.network network before now in (
         a.edit,
         is_last records r (λ s. s.body ≡ Change a.edit) a.says,
         subst (λ (u : Topology). IsAccepted u a.edit) same a.accepted,

@@ -153,7 +153,7 @@ module _ (d number : ℕ) (r : Record) (network new : Topology) (windows later :
         changed_by opening regular (records_of before) network stands.network r r.body refl number new changed acted goes.acts in
         let keeps : IsSome (book_of kept) ↔ HasBook opening windows.length (records_of before ++ r ∷ []) =
         keeps_behind opening d windows.length (records_of before) r network ready stands.book.0 closing
-            (goes.closes (records_of before) r refl stands.windows) told goes.tells changed by.accepted by.refused in
+        (goes.closes (records_of before) r refl stands.windows) told goes.tells changed by.accepted by.refused in
         record {
           network = subst (λ (rs : List Record). IsNow opening rs new) same by.is_now;
           windows = subst (StandsFor later) same (goes.on (records_of before) stands.windows);

@@ -21,33 +21,33 @@ pub(crate) fn act<L: Ledger>(
     cache: &mut Cache,
     windows: &mut Windows,
     number: u64,
-    record: &Record,
+    next: &Record,
     events: &mut List<Event>,
     steps: &mut Steps<L>,
 ) -> Result<bool, AllocError>
-    requires { IsWellNamed record.now.body }
-    ensures acts { IfOk result (λ changed. ActsBehind (topology_of cache.old.graph) number record.now.body (topology_of cache.new.graph) changed events.old events.new) }
-    ensures goes_on { OnOk result (GoesOn windows.old windows.new record.now) }
+    requires { IsWellNamed next.now.body }
+    ensures acts { IfOk result (λ changed. ActsBehind (topology_of cache.old.graph) number next.now.body (topology_of cache.new.graph) changed events.old events.new) }
+    ensures goes_on { OnOk result (GoesOn windows.old windows.new next.now) }
     ensures length { windows.new.length ≡ windows.old.length }
     ensures same_cache { OnErr result (cache.new ≡ cache.old) }
     ensures same_windows { OnErr result (windows.new ≡ windows.old) }
 {
-    match &record.body {
+    match &next.body {
         Body::Raise { from, node } => {
-            windows.raise(alloc, record.at, from, node)?;
+            windows.raise(alloc, next.at, from, node)?;
             Ok(false)
         }
         Body::Clear { from, node } => {
-            windows.clear(record.at, from, node);
+            windows.clear(next.at, from, node);
             Ok(false)
         }
         Body::Change { edit } => {
             let changed = change(alloc, cache, number, edit, events, steps)?;
-            windows.pass(record.at);
+            windows.pass(next.at);
             Ok(changed)
         }
         Body::Tick => {
-            windows.pass(record.at);
+            windows.pass(next.at);
             Ok(false)
         }
     }

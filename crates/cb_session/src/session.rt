@@ -113,17 +113,17 @@ impl Session {
         &mut self,
         alloc: Global,
         number: u64,
-        record: &Record,
+        next: &Record,
         steps: &mut Steps<L>,
     ) -> Result<List<Event>, AllocError>
-        requires { IsWellNamed record.now.body }
-        ensures gives { IfOk result (EntryTells self.old (said number record.now)) }
-        ensures stands { OnOk result (EntryStands self.old self.new (said number record.now)) }
+        requires { IsWellNamed next.now.body }
+        ensures gives { IfOk result (EntryTells self.old (said number next.now)) }
+        ensures stands { OnOk result (EntryStands self.old self.new (said number next.now)) }
         ensures mode { self.new.mode ≡ self.old.mode }
         ensures length { self.new.windows.length ≡ self.old.windows.length }
         ensures same { OnErr result (self.new ≡ self.old) }
     {
-        let closing = self.windows.due(alloc, record.at)?;
+        let closing = self.windows.due(alloc, next.at)?;
         let told = tell(alloc, &self.cache, &self.ready, self.wanted, &closing);
         drop(closing);
         let mut told = told?;
@@ -132,7 +132,7 @@ impl Session {
             &mut self.cache,
             &mut self.windows,
             number,
-            record,
+            next,
             &mut told.events,
             steps,
         )?;

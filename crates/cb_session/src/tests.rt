@@ -21,7 +21,10 @@ const LOG: [(Option<&str>, &str); 18] = [
     (Some(" \t"), ""),
     (Some("{\"at\":1,\"from\":\"c1\",\"raise\":\"S@a\"}"), ""),
     (Some("{\"at\":2,\"from\":\"c2\",\"raise\":\"S@b\"}"), ""),
-    (Some("{\"at\":1000,\"raise\":\"S@a\"}"), "skipped 6 Bad(BadSource)\n"),
+    (
+        Some("{\"at\":1000,\"raise\":\"S@a\"}"),
+        "skipped 6 Bad(BadSource)\n",
+    ),
     (Some("{\"at\":3,\"from\":\"c1\",\"raise\":\"T@a\"}"), ""),
     (Some("{\"at\":4,\"from\":\"c2\",\"raise\":\"T@b\"}"), ""),
     (
@@ -54,7 +57,8 @@ const LOG: [(Option<&str>, &str); 18] = [
     (Some("{\"at\":32,\"from\":\"c1\",\"clear\":\"T@b\"}"), ""),
 ];
 
-const END: &str = "c2 25 32 raised 1 unknown 1 distance 0 radius 0 true quiet\nc1 30 32 raised 2 unknown 0 distance 0 radius 0 true P@a\n";
+const END: &str =
+    "c2 25 32 raised 1 unknown 1 distance 0 radius 0 true quiet\nc1 30 32 raised 2 unknown 0 distance 0 radius 0 true P@a\n";
 
 fn put(out: &mut String, bytes: &[u8]) -> Result<(), AllocError> {
     for byte in bytes {
@@ -116,7 +120,9 @@ fn put_event(alloc: Global, out: &mut String, event: &Event) -> Result<(), Alloc
             radius,
             groups,
         } => {
-            out.push_str(format!(in alloc; "book {columns} of {of} distance {distance} radius {radius} groups {groups}")?.as_str())
+            out.push_str(format!(in alloc;
+                "book {columns} of {of} distance {distance} radius {radius} groups {groups}"
+            )?.as_str())
         }
         Event::Diagnosis {
             from,
@@ -125,7 +131,11 @@ fn put_event(alloc: Global, out: &mut String, event: &Event) -> Result<(), Alloc
             finding,
         } => {
             put(out, from.bytes())?;
-            out.push_str(format!(in alloc; " {opened} {closed} raised {} unknown {} distance {} radius {} {}", finding.raised, finding.unknown, finding.distance, finding.radius, finding.sure)?.as_str())?;
+            out.push_str(format!(in alloc;
+                " {opened} {closed} raised {} unknown {} distance {} radius {} {}",
+                finding.raised, finding.unknown, finding.distance, finding.radius, finding.sure
+            )?
+            .as_str())?;
             put_groups(out, &finding.groups)
         }
     }
@@ -143,7 +153,10 @@ fn text_of(alloc: Global, events: &List<Event>) -> Result<String, AllocError> {
 fn line_of(number: u64, text: Option<&'static str>) -> LogLine<'static> {
     match text {
         None => LogLine::Long { number },
-        Some(text) => LogLine::Text { number, bytes: text.as_bytes() },
+        Some(text) => LogLine::Text {
+            number,
+            bytes: text.as_bytes(),
+        },
     }
 }
 

@@ -7,8 +7,7 @@ use Rattle.cb_session.proofs.act.change.Goals as goal
 
 pub returns-in-Err-clause-acts : goal.returns-in-Err-clause-acts
 returns-in-Err-clause-acts g c =
-    let why = c.in-Err.why in
-    (
+    let why = c.in-Err.why in (
       Refused c.args.number (EditWhy why) ∷ [],
       (
         Err why,

@@ -8,8 +8,7 @@ use Rattle.cb_session.proofs.told.tell.Goals as goal
 
 pub told_in_use-requires-clause-ready : goal.told_in_use-requires-clause-ready
 told_in_use-requires-clause-ready c =
-    let network = topology_of c.args.cache.now.graph in
-    (
+    let network = topology_of c.args.cache.now.graph in (
       network,
       wanted c.args.wanted,
       subst (λ (ready : Option Ready). IfSome ready (IsReady network (wanted c.args.wanted))) c.in-Some.is c.requires.ready,

@@ -14,7 +14,7 @@ returns c = λ opening before regular stands.
     let told = c.in_ok-ends.field-0 in
     let all =
     subst (λ (s : State). StandsForEntries s opening before → ClosingGives opening s.mode s.windows.length (records_of before) [] told.events) c.self.view_is
-        (end_tells (topology_of c.self.inside.cache.graph) c.self.inside.wanted c.self.inside.windows c.self.inside.ready c.in_ok-closing.closing told
-        c.in_ok-closing.ensures c.in_ok-ends.ensures opening before)
+    (end_tells (topology_of c.self.inside.cache.graph) c.self.inside.wanted c.self.inside.windows c.self.inside.ready c.in_ok-closing.closing told
+    c.in_ok-closing.ensures c.in_ok-ends.ensures opening before)
     in
     all stands

@@ -11,7 +11,7 @@ use Rattle.cb_session.proofs.session.Session.go_on.Goals as goal
 
 pub tell-told-requires-clause-rise : goal.tell-told-requires-clause-rise
 tell-told-requires-clause-rise g c =
-    due_rise c.self.inside.windows c.args.record.now c.in_ok-closing.closing c.self.invariant.over c.in_ok-closing.ensures
+    due_rise c.self.inside.windows c.args.next.now c.in_ok-closing.closing c.self.invariant.over c.in_ok-closing.ensures
 
 pub invariant_of-self-2 : goal.invariant_of-self-2
 invariant_of-self-2 g c =
@@ -23,7 +23,7 @@ invariant_of-self-2 g c =
     let ready = c.self.inside.ready in
     let told = c.in_ok-told.told in
     let acts = c.in_ok-changed.ensures.acts in
-    let goes : Goes d c.args.number c.args.record.now network new windows later ready c.in_ok-closing.closing told c.in_ok-changed.changed acts.0 = record {
+    let goes : Goes d c.args.number c.args.next.now network new windows later ready c.in_ok-closing.closing told c.in_ok-changed.changed acts.0 = record {
       closes = c.in_ok-closing.ensures;
       tells = c.in_ok-told.ensures;
       acts = acts.1;
@@ -31,7 +31,7 @@ invariant_of-self-2 g c =
       same_length = c.in_ok-changed.ensures.length;
       settled = c.self.invariant;
     } in
-    subst (IsSettled new d later) (sym c.keep.ensures) (settled_still d c.args.number c.args.record.now network new windows later ready c.in_ok-closing.closing told c.in_ok-changed.changed acts.0 goes)
+    subst (IsSettled new d later) (sym c.keep.ensures) (settled_still d c.args.number c.args.next.now network new windows later ready c.in_ok-closing.closing told c.in_ok-changed.changed acts.0 goes)
 
 pub returns-clause-gives : goal.returns-clause-gives
 returns-clause-gives g c =
@@ -43,7 +43,7 @@ returns-clause-gives g c =
     let ready = c.self.inside.ready in
     let told = c.in_ok-told.told in
     let acts = c.in_ok-changed.ensures.acts in
-    let goes : Goes d c.args.number c.args.record.now network new windows later ready c.in_ok-closing.closing told c.in_ok-changed.changed acts.0 = record {
+    let goes : Goes d c.args.number c.args.next.now network new windows later ready c.in_ok-closing.closing told c.in_ok-changed.changed acts.0 = record {
       closes = c.in_ok-closing.ensures;
       tells = c.in_ok-told.ensures;
       acts = acts.1;
@@ -51,9 +51,9 @@ returns-clause-gives g c =
       same_length = c.in_ok-changed.ensures.length;
       settled = c.self.invariant;
     } in
-    let entry = said c.args.number c.args.record.now in
+    let entry = said c.args.number c.args.next.now in
     subst (λ (es : List Event). EntryTells c.args.self.now entry es) (sym acts.2)
-    (subst (λ (s : State). EntryTells s entry (told.events ++ acts.0)) c.self.view_is (record_tells d c.args.number c.args.record.now network new windows later ready c.in_ok-closing.closing told c.in_ok-changed.changed acts.0 goes))
+    (subst (λ (s : State). EntryTells s entry (told.events ++ acts.0)) c.self.view_is (record_tells d c.args.number c.args.next.now network new windows later ready c.in_ok-closing.closing told c.in_ok-changed.changed acts.0 goes))
 
 pub returns-clause-stands : goal.returns-clause-stands
 returns-clause-stands g c =
@@ -65,7 +65,7 @@ returns-clause-stands g c =
     let ready = c.self.inside.ready in
     let told = c.in_ok-told.told in
     let acts = c.in_ok-changed.ensures.acts in
-    let goes : Goes d c.args.number c.args.record.now network new windows later ready c.in_ok-closing.closing told c.in_ok-changed.changed acts.0 = record {
+    let goes : Goes d c.args.number c.args.next.now network new windows later ready c.in_ok-closing.closing told c.in_ok-changed.changed acts.0 = record {
       closes = c.in_ok-closing.ensures;
       tells = c.in_ok-told.ensures;
       acts = acts.1;
@@ -73,7 +73,7 @@ returns-clause-stands g c =
       same_length = c.in_ok-changed.ensures.length;
       settled = c.self.invariant;
     } in
-    let entry = said c.args.number c.args.record.now in
+    let entry = said c.args.number c.args.next.now in
     let after = λ (kept : Option Ready). state_of new d later kept in
     subst (λ (s : State). EntryStands s (after c.keep.new.ready) entry) c.self.view_is
-    (subst (λ (kept : Option Ready). EntryStands (state_of network d windows ready) (after kept) entry) (sym c.keep.ensures) (record_stands d c.args.number c.args.record.now network new windows later ready c.in_ok-closing.closing told c.in_ok-changed.changed acts.0 goes))
+    (subst (λ (kept : Option Ready). EntryStands (state_of network d windows ready) (after kept) entry) (sym c.keep.ensures) (record_stands d c.args.number c.args.next.now network new windows later ready c.in_ok-closing.closing told c.in_ok-changed.changed acts.0 goes))
