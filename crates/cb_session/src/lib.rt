@@ -1,6 +1,7 @@
 //! A log taken line by line: what comes of each line, and of the end.
 #![tactic(auto)]
 
+mod basis;
 mod line;
 mod session;
 
