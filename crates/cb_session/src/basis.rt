@@ -47,13 +47,13 @@ impl Ready {
 pub(crate) fn diagnose(
     alloc: Global,
     ready: &Ready,
-    closing: List<Closed>,
+    closing: &List<Closed>,
     events: &mut List<Event>,
 ) -> Result<(), AllocError>
     requires ready { IsSomewhereReady ready.now }
-    requires rise { All (λ c. Rises node_cmp c.nodes) closing }
+    requires rise { All (λ c. Rises node_cmp c.nodes) closing.now }
     ensures { OnOk result ((network : Topology) (mode : Mode) (basis : Basis network mode) → HasBasis basis ready.now
-        → (diagnoses : Items EventOf) × AllZip (IsDiagnosis basis) closing.entry diagnoses × (events.new ≡ events.old ++ diagnoses)) }
+        → (diagnoses : Items EventOf) × AllZip (IsDiagnosis basis) closing.now diagnoses × (events.new ≡ events.old ++ diagnoses)) }
 {
     Err(AllocError)
 }
