@@ -34,10 +34,10 @@ pub record StandsForEntries (s : State) (opening : Topology) (entries : List Ent
 
 -- the line of the log
 abbrev pub line_of : LogLine → Line
-line_of (Text number bytes) = text number bytes
+line_of (Text number bytes) = text number bytes.now
 line_of (Long number) = long number
 
 -- a text has not too many bytes
 abbrev pub IsFitting : LogLine → Type 0
-IsFitting (Text number bytes) = length bytes ≤ log_line_limit
+IsFitting (Text number bytes) = length bytes.now ≤ log_line_limit
 IsFitting (Long number) = Unit {0}

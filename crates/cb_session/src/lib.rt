@@ -1,8 +1,15 @@
 //! A log taken line by line: what comes of each line, and of the end.
 #![tactic(auto)]
 
+mod act;
+mod basis;
+mod entry;
 mod line;
 mod session;
+mod told;
 
 pub use line::LogLine;
 pub use session::Session;
+
+#[cfg(test)]
+mod tests;

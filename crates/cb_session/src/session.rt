@@ -3,16 +3,22 @@ ghost use Rattle.std.specs.Prelude.{◌≡◌, ◌≤◌, ◌++◌, ℕ, List as
 ghost use Rattle.cb_alarm.specs.Lines.{ComesTo, log_line_limit};
 ghost use Rattle.cb_cert.specs.Format.{IsWanted};
 ghost use Rattle.cb_log.specs.Basis.{wanted as for_wanted};
-ghost use Rattle.cb_log.specs.Entries.{Entry, records_of};
+ghost use Rattle.cb_log.specs.Entries.{Entry, said, records_of};
 ghost use Rattle.cb_log.specs.Events.{EntryGives, EndGives};
 ghost use Rattle.cb_network.specs.Regular.{IsRegular};
 ghost use Rattle.cb_network.specs.Topology.{Topology};
 ghost use Rattle.cb_topo.specs.Numbered.{topology_of};
+ghost use Rattle.cb_session.specs.Acts.{IsWellNamed};
 ghost use Rattle.cb_session.specs.State.{State, StandsForEntries, line_of, IsFitting};
+ghost use Rattle.cb_session.specs.Steps.{EntryTells, EntryStands};
 
+use crate::act::act;
+use crate::basis::Ready;
+use crate::entry::{Taken, entry_of};
 use crate::line::LogLine;
+use crate::told::{keep, tell};
 use cb_cache::Cache;
-use cb_log::Event;
+use cb_log::{Event, Record};
 use cb_model::List;
 use cb_steps::Steps;
 use cb_window::Windows;
@@ -26,17 +32,26 @@ pub struct Session {
     cache: Cache,
     windows: Windows,
     wanted: u32,
+    // What windows are diagnosed by, where a codebook is in use.
+    ready: Option<Ready>,
 }
 
 impl Model for Session {
-    ghost use Rattle.std.specs.Prelude.{None};
+    ghost use Rattle.std.specs.Prelude.{option_map};
     ghost use Rattle.cb_log.specs.Basis.{wanted as for_wanted};
     ghost use Rattle.cb_topo.specs.Numbered.{topology_of};
+    ghost use Rattle.cb_session.specs.Codes.{state_code};
     ghost use Rattle.cb_session.specs.State.{State};
 
     ghost Value = { State };
 
-    ghost view = { λ s. record { mode = for_wanted s.wanted; network = topology_of s.cache.graph; windows = s.windows; book = None } };
+    ghost coded = { state_code };
+
+    ghost view = { λ s. record { mode = for_wanted s.wanted; network = topology_of s.cache.graph; windows = s.windows; book = option_map (λ ready. ready.book) s.ready } };
+
+    ghost use Rattle.cb_session.specs.Settled.{IsSettled};
+
+    ghost invariant = { λ s. IsSettled (topology_of s.cache.graph) s.wanted s.windows s.ready };
 }
 
 impl Session {
@@ -54,7 +69,12 @@ impl Session {
         ensures length { IfOk result (λ s. s.windows.length ≡ length) }
         ensures stands { IfOk result (λ s. StandsForEntries s (topology_of cache.graph) []) }
     {
-        Err(AllocError)
+        Ok(Session {
+            cache,
+            windows: Windows::new(alloc, length),
+            wanted,
+            ready: None,
+        })
     }
 
     /// What comes of the next line: the diagnoses of the windows that it closes, and then what comes of its body. An edit is made behind
@@ -66,17 +86,58 @@ impl Session {
         steps: &mut Steps<L>,
     ) -> Result<List<Event>, AllocError>
         requires { IsFitting line }
+        ensures comes { IfOk result (λ events. (entry : Entry) × ComesTo (line_of line.entry) entry) }
         ensures gives { IfOk result (λ events. (opening : Topology) (before : Items Entry) (entry : Entry) → IsRegular opening.model
-            → ComesTo (line_of line) entry → StandsForEntries self.old opening before
+            → ComesTo (line_of line.entry) entry → StandsForEntries self.old opening before
             → EntryGives opening self.old.mode self.old.windows.length (records_of before) entry events) }
         ensures stands { OnOk result ((opening : Topology) (before : Items Entry) (entry : Entry) → IsRegular opening.model
-            → ComesTo (line_of line) entry → StandsForEntries self.old opening before
+            → ComesTo (line_of line.entry) entry → StandsForEntries self.old opening before
             → StandsForEntries self.new opening (before ++ entry ∷ [])) }
         ensures mode { self.new.mode ≡ self.old.mode }
         ensures length { self.new.windows.length ≡ self.old.windows.length }
         ensures same { OnErr result (self.new ≡ self.old) }
     {
-        Err(AllocError)
+        match entry_of(alloc, line)? {
+            Taken::Blank => Ok(List::new(alloc)),
+            Taken::Skipped { number, why } => {
+                let mut events = List::new(alloc);
+                events.push(Event::Skipped { line: number, why })?;
+                Ok(events)
+            }
+            Taken::Said { number, record } => self.go_on(alloc, number, &record, steps),
+        }
+    }
+
+    // What comes of a record, which is made behind it.
+    fn go_on<L: Ledger>(
+        &mut self,
+        alloc: Global,
+        number: u64,
+        next: &Record,
+        steps: &mut Steps<L>,
+    ) -> Result<List<Event>, AllocError>
+        requires { IsWellNamed next.now.body }
+        ensures gives { IfOk result (EntryTells self.old (said number next.now)) }
+        ensures stands { OnOk result (EntryStands self.old self.new (said number next.now)) }
+        ensures mode { self.new.mode ≡ self.old.mode }
+        ensures length { self.new.windows.length ≡ self.old.windows.length }
+        ensures same { OnErr result (self.new ≡ self.old) }
+    {
+        let closing = self.windows.due(alloc, next.at)?;
+        let told = tell(alloc, &self.cache, &self.ready, self.wanted, &closing);
+        drop(closing);
+        let mut told = told?;
+        let changed = act(
+            alloc,
+            &mut self.cache,
+            &mut self.windows,
+            number,
+            next,
+            &mut told.events,
+            steps,
+        )?;
+        keep(&mut self.ready, told.made, changed);
+        Ok(told.events)
     }
 
     /// What comes of the end of the log: the diagnoses of the windows that are open. A second call says the same.
@@ -85,7 +146,10 @@ impl Session {
             → StandsForEntries self.now opening before
             → EndGives opening self.now.mode self.now.windows.length (records_of before) events) }
     {
-        Err(AllocError)
+        let closing = self.windows.rest(alloc)?;
+        let ends = tell(alloc, &self.cache, &self.ready, self.wanted, &closing);
+        drop(closing);
+        Ok(ends?.events)
     }
 
     /// The topology as it is, with its rows.

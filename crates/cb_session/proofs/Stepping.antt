@@ -1,0 +1,231 @@
+-- A session goes on by one entry.
+use Rattle.std.proofs.Common.{◌≡◌, ◌↔◌, ◌++◌, ℕ, List, [], ◌∷◌, length, Bool, true, false, Option, Some, None, IsSome, Result, Ok, Err, refl, sym, subst, inl, inr, append-nil, get_or, arith}
+use Rattle.std.specs.Prelude.{IfSome, IfOk, OnOk}
+use Rattle.std.specs.List.{All}
+use Rattle.std.proofs.lemmas.List.Elements.{Contains-get_or}
+use Rattle.cb_model.specs.NodeOrder.{node_cmp}
+use Rattle.cb_model.specs.Order.{Rises}
+use Rattle.cb_cert.specs.Format.{IsWanted}
+use Rattle.cb_coding.specs.declared.book.Book.{Book}
+use Rattle.cb_edits.specs.Spelled.{HasNames}
+use Rattle.cb_network.specs.declared.edit.Edit.{Edit}
+use Rattle.cb_network.specs.declared.edit.Edit.TheVariants.{Create, Delete, Link, Unlink, Mute, Unmute}
+use Rattle.cb_network.specs.Laws.{HasGoodName}
+use Rattle.cb_network.specs.Regular.{IsRegular}
+use Rattle.cb_network.specs.Topology.{Topology}
+use Rattle.cb_log.specs.declared.closed.Closed.{Closed}
+use Rattle.cb_log.specs.declared.event.Event.{Event}
+use Rattle.cb_log.specs.declared.record.Body.{Body}
+use Rattle.cb_log.specs.declared.record.Body.TheVariants.{Raise, Clear, Change, Tick}
+use Rattle.cb_log.specs.declared.record.Record.{Record}
+use Rattle.cb_log.specs.Basis.{Mode, wanted, fixed}
+use Rattle.cb_log.specs.Closing.{ClosesAt, AreClosing}
+use Rattle.cb_log.specs.Entries.{Entry, said, skipped, blank, records_of}
+use Rattle.cb_log.specs.Events.{IsNetwork, HasBook, EntryGives, EndGives}
+use Rattle.cb_log.specs.Kept.{Kept, StandsFor}
+use Rattle.cb_log.specs.Network.{IsNow}
+use Rattle.cb_alarm.specs.Lines.{Line, text, long, ComesTo}
+use Rattle.cb_alarm.specs.Spelled.{Spells, SaysBody}
+use Rattle.cb_alarm.proofs.OneSkip.{comes_to_one}
+use Rattle.cb_session.specs.declared.basis.Ready.{Ready}
+use Rattle.cb_session.specs.declared.told.Told.{Told}
+use Rattle.cb_session.specs.Acts.{Acts, GoesOn, IsWellNamed}
+use Rattle.cb_session.specs.Ready.{IsReady}
+use Rattle.cb_session.specs.Settled.{IsOverSome, IsSettled}
+use Rattle.cb_session.specs.State.{State, IsBookOf, KeepsBook, StandsForEntries}
+use Rattle.cb_session.specs.Steps.{EntryTells, EntryStands}
+use Rattle.cb_session.specs.Told.{Tells, kept_of}
+use Rattle.cb_session.proofs.Bases.{ready_has_basis}
+use Rattle.cb_session.proofs.Behind.{records_said, records_stay, IsChangedBy, changed_by, body_gives}
+use Rattle.cb_session.proofs.Telling.{book_of, told_comes, keeps_behind, ready_stays}
+
+-- the instance that an edit makes has a name of the grammar, where all its names are
+good_name : (edit : Edit) → HasNames edit → HasGoodName edit
+good_name (Create name class) names = names.0
+good_name (Delete name) names = tt
+good_name (Link a rel b) names = tt
+good_name (Unlink a rel b) names = tt
+good_name (Mute event name) names = tt
+good_name (Unmute event name) names = tt
+
+spelled_named : (line : List ℕ) (r : Record) → Spells line r → (body : Body) → r.body ≡ body → IsWellNamed body
+spelled_named line r spells (Raise source node) is = tt
+spelled_named line r spells (Clear source node) is = tt
+spelled_named line r spells (Change edit) is = let says = subst (SaysBody spells.members) is spells.body in good_name edit says.2.names
+spelled_named line r spells Tick is = tt
+
+-- so has that of an edit that a line comes to
+pub well_named : (line : Line) (number : ℕ) (r : Record) → ComesTo line (said number r) → IsWellNamed r.body
+well_named (long k) number r comes = absurd (cc)
+well_named (text k bytes) number r (inl (is_blank, e)) = absurd (cc)
+well_named (text k bytes) number r (inr (some, inl (s, spells, e))) =
+    let same : s ≡ r = cc in
+    spelled_named bytes r (subst (Spells bytes) same spells) r.body refl
+well_named (text k bytes) number r (inr (some, inr (kind, is_skipped, e))) = absurd (cc)
+
+-- an entry without a record leaves what is stood for
+keeps_same : (opening : Topology) (mode : Mode) (w : ℕ) (s : State) (xs ys : List Entry) → records_of xs ≡ records_of ys
+    → KeepsBook opening mode w s xs → KeepsBook opening mode w s ys
+keeps_same opening (wanted d) w s xs ys same keeps = (subst (λ (rs : List Record). IsSome s.book ↔ HasBook opening w rs) same keeps.0, keeps.1)
+keeps_same opening (fixed book) w s xs ys same keeps = keeps
+
+pub aside_stands : (s : State) (entry : Entry) → records_of (entry ∷ []) ≡ [] → EntryStands s s entry
+aside_stands s entry none = λ opening before regular stands.
+    let same : records_of before ≡ records_of (before ++ entry ∷ []) = sym (records_stay before entry none) in
+    record {
+      network = subst (λ (rs : List Record). IsNetwork opening s.mode rs s.network) same stands.network;
+      windows = subst (StandsFor s.windows) same stands.windows;
+      book = keeps_same opening s.mode s.windows.length s before (before ++ entry ∷ []) same stands.book;
+    }
+
+-- what is told of the entry that a line comes to is told of each that it comes to
+pub all_tell : (line : Line) (entry : Entry) → ComesTo line entry → (s : State) (events : List Event) → EntryTells s entry events
+    → (other : Entry) → ComesTo line other → EntryTells s other events
+all_tell line entry comes s events tells other too = subst (λ (e : Entry). EntryTells s e events) (comes_to_one line entry other comes too) tells
+
+pub all_stand : (line : Line) (entry : Entry) → ComesTo line entry → (old new : State) → EntryStands old new entry
+    → (other : Entry) → ComesTo line other → EntryStands old new other
+all_stand line entry comes old new stands other too = subst (EntryStands old new) (comes_to_one line entry other comes too) stands
+
+-- what is ready has a basis, so its codebook is one of the topology
+book_is : (network : Topology) (d : ℕ) (ready : Option Ready) → IfSome ready (IsReady network (wanted d)) → IfSome (book_of ready) (IsBookOf network (wanted d))
+book_is network d None is = tt
+book_is network d (Some ready) is = let has = ready_has_basis network (wanted d) ready is in (has.0, has.1.book)
+
+-- what the parts of a session show
+abbrev pub state_of : Topology → ℕ → Kept → Option Ready → State
+state_of network d windows ready = record { mode = wanted d; network = network; windows = windows; book = book_of ready }
+
+-- the windows close at the next record
+abbrev pub Closes : Kept → ℕ → List Closed → Type 0
+Closes windows at closing = (records : List Record) (r : Record) → r.at ≡ at → StandsFor windows records
+    → AreClosing (records ++ r ∷ []) windows.length (length records) closing
+
+module _ (d number : ℕ) (r : Record) (network new : Topology) (windows later : Kept) (ready : Option Ready) where
+  -- a record closes windows, is told, and acts
+  pub record Goes (closing : List Closed) (told : Told) (changed : Bool) (acted : List Event) : Type 0 where
+    pub closes : Closes windows r.at closing
+    pub tells : Tells network d ready closing told
+    pub acts : Acts network number r.body new changed acted
+    pub on : GoesOn windows later r
+    pub same_length : later.length ≡ windows.length
+    pub settled : IsSettled network d windows ready
+
+  module _ (closing : List Closed) (told : Told) (changed : Bool) (acted : List Event) (goes : Goes closing told changed acted) where
+    pub record_tells : EntryTells (state_of network d windows ready) (said number r) (told.events ++ acted)
+    record_tells = λ opening before regular stands. record {
+      closings = told.events;
+      closing = told_comes opening d windows.length (records_of before) (r ∷ []) network stands.network ready stands.book.0 closing
+          (goes.closes (records_of before) r refl stands.windows) told goes.tells;
+      refusals = acted;
+      body = body_gives opening regular (records_of before) network stands.network r d r.body number new changed acted goes.acts;
+      events_are = refl;
+    }
+
+    -- what stays ready
+    abbrev kept : Option Ready
+    kept = kept_of changed ready told.made
+
+    same_network : changed ≡ false → new ≡ network
+    same_network = acts_same r.body goes.acts
+      where
+        acts_same : (body : Body) → Acts network number body new changed acted → changed ≡ false → new ≡ network
+        acts_same (Raise source node) acts e = acts.0
+        acts_same (Clear source node) acts e = acts.0
+        acts_same (Change edit) (Ok u, after, refusal, leaves) e = let yes_changed = leaves.1 in absurd (cc)
+        acts_same (Change edit) (Err why, after, refusal, leaves) e = leaves.0
+        acts_same Tick acts e = acts.0
+
+    ready_kept : IfSome kept (IsReady new (wanted d))
+    ready_kept = ready_stays network new d ready goes.settled.ready_is closing told goes.tells changed same_network
+
+    pub settled_still : IsSettled new d later kept
+    settled_still = record {
+      distance = goes.settled.distance;
+      over = (goes.settled.over.0 ++ r ∷ [], goes.on goes.settled.over.0 goes.settled.over.1);
+      ready_is = ready_kept;
+    }
+
+    pub record_stands : EntryStands (state_of network d windows ready) (state_of new d later kept) (said number r)
+    record_stands = λ opening before regular stands.
+        let same : records_of before ++ r ∷ [] ≡ records_of (before ++ said number r ∷ []) = sym (records_said before number r) in
+        let by : IsChangedBy opening regular (records_of before) network stands.network r new changed =
+        changed_by opening regular (records_of before) network stands.network r r.body refl number new changed acted goes.acts in
+        let keeps : IsSome (book_of kept) ↔ HasBook opening windows.length (records_of before ++ r ∷ []) =
+        keeps_behind opening d windows.length (records_of before) r network ready stands.book.0 closing
+        (goes.closes (records_of before) r refl stands.windows) told goes.tells changed by.accepted by.refused in
+        record {
+          network = subst (λ (rs : List Record). IsNow opening rs new) same by.is_now;
+          windows = subst (StandsFor later) same (goes.on (records_of before) stands.windows);
+          book = (
+            subst (λ (rs : List Record). IsSome (book_of kept) ↔ HasBook opening later.length rs) same
+                (subst (λ (w : ℕ). IsSome (book_of kept) ↔ HasBook opening w (records_of before ++ r ∷ [])) (sym goes.same_length) keeps),
+            book_is new d kept ready_kept,
+          );
+        }
+
+-- what is kept of a window that closes has its nodes in order
+abbrev pub HasRisingNodes : Closed → Type 0
+HasRisingNodes c = Rises node_cmp c.nodes
+
+all_rise : (records : List Record) (w place : ℕ) (closing : List Closed) → AreClosing records w place closing → All HasRisingNodes closing
+all_rise records w place closing closes = λ k d lt.
+    let c : Closed = get_or closing k d in
+    let at : ClosesAt records w place c = (closes.each c).0 (Contains-get_or closing k d lt) in
+    at.nodes.rise
+
+pub due_rise : (windows : Kept) (r : Record) (closing : List Closed) → IsOverSome windows → Closes windows r.at closing → All HasRisingNodes closing
+due_rise windows r closing over closes =
+    all_rise (over.0 ++ r ∷ []) windows.length (length over.0) closing (closes over.0 r refl over.1)
+
+-- the windows that close at the end
+abbrev pub ClosesAtEnd : Kept → List Closed → Type 0
+ClosesAtEnd windows closing = (records : List Record) → StandsFor windows records → AreClosing records windows.length (length records) closing
+
+pub end_rise : (windows : Kept) (closing : List Closed) → IsOverSome windows → ClosesAtEnd windows closing → All HasRisingNodes closing
+end_rise windows closing over closes = all_rise over.0 windows.length (length over.0) closing (closes over.0 over.1)
+
+-- what is told of them is what comes of the end
+pub end_tells : (network : Topology) (d : ℕ) (windows : Kept) (ready : Option Ready) (closing : List Closed) (told : Told) → ClosesAtEnd windows closing
+    → Tells network d ready closing told → (opening : Topology) (before : List Entry) → StandsForEntries (state_of network d windows ready) opening before
+    → EndGives opening (wanted d) windows.length (records_of before) told.events
+end_tells network d windows ready closing told closes tells opening before stands =
+    told_comes opening d windows.length (records_of before) [] network stands.network ready stands.book.0 closing
+    (subst (λ (rs : List Record). AreClosing rs windows.length (length (records_of before)) closing) (sym (append-nil (records_of before)))
+    (closes (records_of before) stands.windows)) told tells
+
+-- at the beginning no codebook is in use
+no_book : (opening : Topology) (w : ℕ) → IsSome {T = Book} None ↔ HasBook opening w []
+no_book opening w = (λ e. absurd (cc), λ has. let within = has.within in absurd (omega arith))
+
+pub opened_stands : (network : Topology) (d : ℕ) (windows : Kept) → StandsFor windows [] → StandsForEntries (state_of network d windows None) network []
+opened_stands network d windows stands = record { network = refl; windows = stands; book = (no_book network windows.length, tt) }
+
+pub opened_settled : (network : Topology) (d : ℕ) (windows : Kept) → IsWanted d → StandsFor windows [] → IsSettled network d windows None
+opened_settled network d windows distance stands = record { distance = distance; over = ([], stands); ready_is = tt }
+
+-- what comes of a line, whatever it comes to
+abbrev pub LineTells : Line → State → List Event → Type 0
+LineTells line s events = (opening : Topology) (before : List Entry) (entry : Entry) → IsRegular opening.model → ComesTo line entry
+    → StandsForEntries s opening before → EntryGives opening s.mode s.windows.length (records_of before) entry events
+
+-- what is stood for behind it
+abbrev pub LineStands : Line → State → State → Type 0
+LineStands line old new = (opening : Topology) (before : List Entry) (entry : Entry) → IsRegular opening.model → ComesTo line entry
+    → StandsForEntries old opening before → StandsForEntries new opening (before ++ entry ∷ [])
+
+pub line_tells : (line : Line) (entry : Entry) → ComesTo line entry → (s : State) (events : List Event) → EntryTells s entry events → LineTells line s events
+line_tells line entry comes s events tells = λ opening before other regular too stands. all_tell line entry comes s events tells other too opening before regular stands
+
+pub line_stands : (line : Line) (entry : Entry) → ComesTo line entry → (old new : State) → EntryStands old new entry → LineStands line old new
+line_stands line entry comes old new goes = λ opening before other regular too stands. all_stand line entry comes old new goes other too opening before regular stands
+
+pub if_line_tells : {E : Type 0} (line : Line) (entry : Entry) → ComesTo line entry → (s : State) (result : Result (List Event) E) → IfOk result (EntryTells s entry)
+    → IfOk result (LineTells line s)
+if_line_tells line entry comes s (Ok events) tells = line_tells line entry comes s events tells
+if_line_tells line entry comes s (Err e) tells = tt
+
+pub if_line_stands : {E : Type 0} (line : Line) (entry : Entry) → ComesTo line entry → (old new : State) (result : Result (List Event) E)
+    → OnOk result (EntryStands old new entry) → OnOk result (LineStands line old new)
+if_line_stands line entry comes old new (Ok events) stands = line_stands line entry comes old new stands
+if_line_stands line entry comes old new (Err e) stands = tt

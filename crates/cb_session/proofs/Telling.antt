@@ -1,0 +1,135 @@
+-- What is told of windows that close is what comes of them, and when a codebook is in use behind it.
+use Rattle.std.proofs.Common.{◌≡◌, ◌≢◌, ◌↔◌, ◌⊎◌, ◌++◌, ℕ, List, [], ◌∷◌, length, Bool, true, false, Option, Some, None, IsSome, refl, sym, ap, subst, ◌∙◌, inl, inr}
+use Rattle.std.specs.Prelude.{option_map, IfSome}
+use Rattle.std.specs.List.{Contains}
+use Rattle.cb_model.proofs.Rising.{nothing_in_empty, contains_head}
+use Rattle.cb_coding.specs.declared.book.Book.{Book}
+use Rattle.cb_network.specs.Topology.{Topology}
+use Rattle.cb_log.specs.declared.closed.Closed.{Closed}
+use Rattle.cb_log.specs.declared.event.Event.{Event}
+use Rattle.cb_log.specs.declared.record.Record.{Record}
+use Rattle.cb_log.specs.Basis.{wanted, Basis}
+use Rattle.cb_log.specs.Closing.{ClosesAt, AreClosing}
+use Rattle.cb_log.specs.Events.{HasBook, ClosingGives, Diagnoses}
+use Rattle.cb_log.specs.Network.{IsNow, IsAcceptedAt}
+use Rattle.cb_log.proofs.BookSteps.{book_steps}
+use Rattle.cb_session.specs.declared.basis.Ready.{Ready}
+use Rattle.cb_session.specs.declared.told.Told.{Told}
+use Rattle.cb_session.specs.Ready.{IsReady, HasBasis}
+use Rattle.cb_session.specs.State.{IsBookOf}
+use Rattle.cb_session.specs.Told.{TellsMade, Tells, kept_of}
+
+-- the codebook of what is ready
+abbrev pub book_of : Option Ready → Option Book
+book_of ready = option_map (λ (r : Ready). r.book) ready
+
+none_is_no_some : IsSome {T = Book} None → ⊥
+none_is_no_some e = cc
+
+module _ (t : Topology) (d w : ℕ) (records : List Record) where
+  -- something is ready exactly where a codebook is in use
+  abbrev pub KeepsReady : Option Ready → List Record → Type 0
+  KeepsReady ready rs = IsSome (book_of ready) ↔ HasBook t w rs
+
+  diagnosed : (network : Topology) → IsNow t records network → (ready : Option Ready) → KeepsReady ready records
+      → (closing : List Closed) (told : Told) → Tells network d ready closing told → Diagnoses t (wanted d) w records closing told.events
+  diagnosed network now ready keeps [] told tells = tells.0
+  diagnosed network now (Some ready) keeps (c ∷ closing) told tells = record {
+    network = network;
+    is_network = now;
+    basis = tells.0.basis;
+    opening = [];
+    is_opening = inl (keeps.0 refl, refl);
+    diagnoses = told.events;
+    each = tells.0.each;
+    events_are = refl;
+  }
+  diagnosed network now None keeps (c ∷ closing) told tells = record {
+    network = network;
+    is_network = now;
+    basis = tells.3.basis;
+    opening = tells.3.announced;
+    is_opening = inr (λ has. none_is_no_some (keeps.1 has), tells.3.is_announced);
+    diagnoses = tells.3.diagnoses;
+    each = tells.3.each;
+    events_are = tells.3.events_are;
+  }
+
+  -- what is told is what comes of the windows
+  pub told_comes : (next : List Record) (network : Topology) → IsNow t records network → (ready : Option Ready) → KeepsReady ready records
+      → (closing : List Closed) → AreClosing (records ++ next) w (length records) closing → (told : Told) → Tells network d ready closing told
+      → ClosingGives t (wanted d) w records next told.events
+  told_comes next network now ready keeps closing closes told tells = record {
+    closing = closing;
+    closes = closes;
+    diagnoses = diagnosed network now ready keeps closing told tells;
+  }
+
+  module _ (r : Record) where
+    -- the record closes a window
+    abbrev pub ClosesSome : Type 0
+    ClosesSome = (c : Closed) × ClosesAt (records ++ r ∷ []) w (length records) c
+
+    -- behind what is told a codebook is ready exactly where one was in use, or the record closes a window
+    ready_behind : (network : Topology) (ready : Option Ready) → KeepsReady ready records → (closing : List Closed)
+        → AreClosing (records ++ r ∷ []) w (length records) closing → (told : Told) → Tells network d ready closing told
+        → IsSome (book_of (kept_of false ready told.made)) ↔ (HasBook t w records ⊎ ClosesSome)
+    ready_behind network (Some ready) keeps [] closes told tells = (
+      λ e. inl (keeps.0 refl),
+      λ e. rw tells.1,
+    )
+    ready_behind network (Some ready) keeps (c ∷ closing) closes told tells = (
+      λ e. inl (keeps.0 refl),
+      λ e. rw tells.1,
+    )
+    ready_behind network None keeps [] closes told tells = (
+      λ e. absurd (none_is_no_some (rw tells.1 at e)),
+      λ has. elim has [
+        | inl had ↦ absurd (none_is_no_some (keeps.1 had))
+        | inr some ↦ absurd (nothing_in_empty some.0 ((closes.each some.0).1 some.1))
+      ],
+    )
+    ready_behind network None keeps (c ∷ closing) closes told tells = (
+      λ e. inr (c, (closes.each c).0 (contains_head c closing)),
+      λ has. rw tells.1,
+    )
+
+    -- what stays ready is so exactly where a codebook is in use behind the record
+    pub keeps_behind : (network : Topology) (ready : Option Ready) → KeepsReady ready records → (closing : List Closed)
+        → AreClosing (records ++ r ∷ []) w (length records) closing → (told : Told) → Tells network d ready closing told → (changed : Bool)
+        → (changed ≡ true → IsAcceptedAt t (records ++ r ∷ []) (length records))
+        → (changed ≡ false → ¬ IsAcceptedAt t (records ++ r ∷ []) (length records))
+        → KeepsReady (kept_of changed ready told.made) (records ++ r ∷ [])
+    keeps_behind network ready keeps closing closes told tells true accepted refused = (
+      λ e. absurd (none_is_no_some e),
+      λ has. absurd (((book_steps t records r w).0 has).1 (accepted refl)),
+    )
+    keeps_behind network ready keeps closing closes told tells false accepted refused =
+        let both = ready_behind network ready keeps closing closes told tells in
+        let steps = book_steps t records r w in (
+          λ e. steps.1 (both.0 e, refused refl),
+          λ has. both.1 (steps.0 has).0,
+        )
+
+-- what stays ready is ready for the topology
+pub ready_stays : (network new : Topology) (d : ℕ) (ready : Option Ready) → IfSome ready (IsReady network (wanted d)) → (closing : List Closed) (told : Told)
+    → Tells network d ready closing told → (changed : Bool) → (changed ≡ false → new ≡ network)
+    → IfSome (kept_of changed ready told.made) (IsReady new (wanted d))
+ready_stays network new d ready is closing told tells true same = tt
+ready_stays network new d ready is closing told tells false same =
+    subst (λ (u : Topology). IfSome (kept_of false ready told.made) (IsReady u (wanted d))) (sym (same refl)) (here ready is closing tells)
+  where
+    here : (ready : Option Ready) → IfSome ready (IsReady network (wanted d)) → (closing : List Closed) → Tells network d ready closing told
+        → IfSome (kept_of false ready told.made) (IsReady network (wanted d))
+    here (Some ready) is [] tells = rw tells.1 is
+    here (Some ready) is (c ∷ closing) tells = rw tells.1 is
+    here None is [] tells = rw tells.1 tt
+    here None is (c ∷ closing) tells = rw tells.1 tells.2
+
+-- by a codebook that is made
+pub tells_made : (network : Topology) (d : ℕ) (ready : Option Ready) → ready ≡ None → (closing : List Closed) → length closing ≢ 0 → (made : Ready)
+    → IsReady network (wanted d) made → (events : List Event) → TellsMade network d made closing events
+    → Tells network d ready closing (record { events = events; made = Some made })
+tells_made network d ready none [] some made is events tells = absurd (some refl)
+tells_made network d None none (c ∷ closing) some made is events tells = (made, refl, is, tells)
+tells_made network d (Some ready) none (c ∷ closing) some made is events tells = absurd (cc)

@@ -1,0 +1,48 @@
+use Rattle.std.proofs.Common.{◌≡◌, ◌++◌, ◌∷◌, [], List, refl, subst}
+use Rattle.cb_alarm.specs.Lines.{ComesTo}
+use Rattle.cb_log.specs.declared.event.Event.{Event}
+use Rattle.cb_log.specs.declared.event.Event.TheVariants.{Skipped}
+use Rattle.cb_log.specs.Entries.{said, skipped, blank}
+use Rattle.cb_session.specs.declared.entry.Taken.{Taken}
+use Rattle.cb_session.specs.State.{line_of}
+use Rattle.cb_session.specs.Taken.{entry_of_taken}
+use Rattle.cb_session.proofs.Stepping.{aside_stands, line_tells, line_stands, if_line_tells, if_line_stands}
+use Rattle.cb_session.proofs.session.Session.step.Goals as goal
+
+pub returns-in-Blank-clause-stands : goal.returns-in-Blank-clause-stands
+returns-in-Blank-clause-stands g c =
+    let line = line_of c.args.line in
+    let comes : ComesTo line blank = subst (λ (taken : Taken). ComesTo line (entry_of_taken taken)) c.in-Blank.is c.in_ok-entry_of.ensures in
+    line_stands line blank comes c.args.self.now c.args.self.now (aside_stands c.args.self.now blank refl)
+
+pub returns-in_ok-push-in-Skipped-clause-gives : goal.returns-in_ok-push-in-Skipped-clause-gives
+returns-in_ok-push-in-Skipped-clause-gives g c =
+    let line = line_of c.args.line in
+    let number = c.in-Skipped.number in
+    let why = c.in-Skipped.why in
+    let comes : ComesTo line (skipped number why) = subst (λ (taken : Taken). ComesTo line (entry_of_taken taken)) c.in-Skipped.is c.in_ok-entry_of.ensures in
+    let pushed = c.in_ok-push-in-Skipped.ensures.ok in
+    let one : c.push.new.self ≡ Skipped number why ∷ [] =
+    subst (λ (es : List Event). c.push.new.self ≡ es ++ Skipped number why ∷ []) c.new-events.ensures pushed in
+    line_tells line (skipped number why) comes c.args.self.now c.push.new.self (λ opening before regular stands. one)
+
+pub returns-in_ok-push-in-Skipped-clause-stands : goal.returns-in_ok-push-in-Skipped-clause-stands
+returns-in_ok-push-in-Skipped-clause-stands g c =
+    let line = line_of c.args.line in
+    let entry = skipped c.in-Skipped.number c.in-Skipped.why in
+    let comes : ComesTo line entry = subst (λ (taken : Taken). ComesTo line (entry_of_taken taken)) c.in-Skipped.is c.in_ok-entry_of.ensures in
+    line_stands line entry comes c.args.self.now c.args.self.now (aside_stands c.args.self.now entry refl)
+
+pub returns-in-Said-clause-gives : goal.returns-in-Said-clause-gives
+returns-in-Said-clause-gives g c =
+    let line = line_of c.args.line in
+    let entry = said c.in-Said.number c.in-Said.record in
+    let comes : ComesTo line entry = subst (λ (taken : Taken). ComesTo line (entry_of_taken taken)) c.in-Said.is c.in_ok-entry_of.ensures in
+    if_line_tells line entry comes c.args.self.now c.go_on.result c.go_on.ensures.gives
+
+pub returns-in-Said-clause-stands : goal.returns-in-Said-clause-stands
+returns-in-Said-clause-stands g c =
+    let line = line_of c.args.line in
+    let entry = said c.in-Said.number c.in-Said.record in
+    let comes : ComesTo line entry = subst (λ (taken : Taken). ComesTo line (entry_of_taken taken)) c.in-Said.is c.in_ok-entry_of.ensures in
+    if_line_stands line entry comes c.args.self.now c.go_on.new.self c.go_on.result c.go_on.ensures.stands

@@ -1,0 +1,54 @@
+-- What windows are diagnosed by, as a session holds it.
+use Rattle.std.specs.Prelude.{◌≡◌, ◌≤◌, ◌+◌, ℕ, List, length, Bool, Some}
+use Rattle.cb_model.specs.declared.node.GroupName.{GroupName}
+use Rattle.cb_coding.specs.declared.book.Book.{Book}
+use Rattle.cb_coding.specs.declared.book.Pair.{Pair}
+use Rattle.cb_coding.specs.declared.group.Group.{Group}
+use Rattle.cb_coding.specs.Books.{IsBook}
+use Rattle.cb_coding.specs.Groups.{codes_of}
+use Rattle.cb_coding.specs.Pairs.{IsLeast}
+use Rattle.cb_finding.specs.Finding.{IsCalled}
+use Rattle.cb_finding.specs.Matrix.{IsMatrix}
+use Rattle.cb_log.specs.declared.event.Event.{Event}
+use Rattle.cb_log.specs.declared.event.Event.TheVariants.{Thin}
+use Rattle.cb_log.specs.Basis.{Mode, IsUsed, Basis}
+use Rattle.cb_network.specs.Sound.{problem_limit, symptom_limit}
+use Rattle.cb_network.specs.Topology.{Topology}
+use Rattle.cb_session.specs.declared.basis.Ready.{Ready}
+
+-- the matrix of the topology, and the codebook in use for it, within their limits
+pub record IsReady (network : Topology) (mode : Mode) (ready : Ready) : Type 0 where
+  pub matrix : IsMatrix network ready.matrix.columns ready.matrix.groups
+  pub used : IsUsed mode (length ready.matrix.columns) (codes_of ready.matrix.groups) ready.book
+  pub few_columns : length ready.matrix.columns ≤ symptom_limit
+  pub few_groups : length ready.matrix.groups ≤ problem_limit + 1
+  pub few_kept : length ready.book.columns ≤ symptom_limit
+
+-- it is ready for some topology
+abbrev pub IsSomewhereReady : Ready → Type 0
+IsSomewhereReady ready = (network : Topology) × (mode : Mode) × IsReady network mode ready
+
+-- the columns and groups of the topology are those of its matrix, and the codebook in use is its book
+pub record HasBasis {network : Topology} {mode : Mode} (basis : Basis network mode) (ready : Ready) : Type 0 where
+  pub columns : basis.columns ≡ ready.matrix.columns
+  pub groups : basis.groups ≡ ready.matrix.groups
+  pub book : basis.book ≡ ready.book
+
+-- a book at the distance of the closest two codes
+pub record IsOfClosest (width : ℕ) (codes : List (List Bool)) (book : Book) : Type 0 where
+  pub is_book : IsBook width codes book
+  pub pair : Pair
+  pub least : IsLeast width codes (Some pair)
+  pub distance : book.distance ≡ pair.distance
+
+-- the group at a place is called by something
+abbrev pub HasName : List Group → ℕ → Type 0
+HasName groups place = (name : GroupName) × IsCalled groups place name
+
+-- it tells these two groups by their names, with their distance
+pub record NamesPair (groups : List Group) (wanted : ℕ) (pair : Pair) (event : Event) : Type 0 where
+  pub first : GroupName
+  pub first_is : IsCalled groups pair.first first
+  pub second : GroupName
+  pub second_is : IsCalled groups pair.second second
+  pub is : event ≡ Thin wanted first second pair.distance

@@ -1,0 +1,19 @@
+-- What always holds of the parts of a session.
+use Rattle.std.specs.Prelude.{ℕ, List, Option, IfSome}
+use Rattle.cb_cert.specs.Format.{IsWanted}
+use Rattle.cb_network.specs.Topology.{Topology}
+use Rattle.cb_log.specs.declared.record.Record.{Record}
+use Rattle.cb_log.specs.Basis.{wanted}
+use Rattle.cb_log.specs.Kept.{Kept, StandsFor}
+use Rattle.cb_session.specs.declared.basis.Ready.{Ready}
+use Rattle.cb_session.specs.Ready.{IsReady}
+
+-- the windows are those over some records
+abbrev pub IsOverSome : Kept → Type 0
+IsOverSome windows = (records : List Record) × StandsFor windows records
+
+-- the distance may be wanted, the windows are over some records, and what is ready is so for the topology
+pub record IsSettled (network : Topology) (d : ℕ) (windows : Kept) (ready : Option Ready) : Type 0 where
+  pub distance : IsWanted d
+  pub over : IsOverSome windows
+  pub ready_is : IfSome ready (IsReady network (wanted d))

@@ -1,0 +1,18 @@
+-- What an entry makes of a session, whatever the session stands for.
+use Rattle.std.specs.Prelude.{◌++◌, List, [], ◌∷◌}
+use Rattle.cb_network.specs.Regular.{IsRegular}
+use Rattle.cb_network.specs.Topology.{Topology}
+use Rattle.cb_log.specs.declared.event.Event.{Event}
+use Rattle.cb_log.specs.Entries.{Entry, records_of}
+use Rattle.cb_log.specs.Events.{EntryGives}
+use Rattle.cb_session.specs.State.{State, StandsForEntries}
+
+-- these events come of the entry
+abbrev pub EntryTells : State → Entry → List Event → Type 0
+EntryTells s entry events = (opening : Topology) (before : List Entry) → IsRegular opening.model → StandsForEntries s opening before
+    → EntryGives opening s.mode s.windows.length (records_of before) entry events
+
+-- the session stands for what it stood for, with the entry behind it
+abbrev pub EntryStands : State → State → Entry → Type 0
+EntryStands old new entry = (opening : Topology) (before : List Entry) → IsRegular opening.model → StandsForEntries old opening before
+    → StandsForEntries new opening (before ++ entry ∷ [])

@@ -1,0 +1,179 @@
+//! What windows are diagnosed by, and their diagnoses.
+ghost use Rattle.std.specs.Prelude.{◌≡◌, ◌≤◌, ◌<◌, ◌^◌, ◌++◌, List as Items, length, IfOk, OnOk};
+ghost use Rattle.std.specs.List.{All, AllZip};
+ghost use Rattle.cb_cert.specs.Format.{IsWanted};
+ghost use Rattle.cb_coding.specs.Answers.{radius as radius_of};
+ghost use Rattle.cb_coding.specs.Books.{IsInUse};
+ghost use Rattle.cb_finding.specs.Finding.{IsCalled};
+ghost use Rattle.cb_log.specs.Basis.{Mode, wanted as for_wanted, Basis, IsDiagnosis, IsAnnounced, book_made as book_made_by};
+ghost use Rattle.cb_log.specs.declared.event.Event.{Event as EventOf};
+ghost use Rattle.cb_model.specs.NodeOrder.{node_cmp};
+ghost use Rattle.cb_model.specs.Order.{Rises};
+ghost use Rattle.cb_network.specs.Topology.{Topology};
+ghost use Rattle.cb_session.specs.Ready.{IsReady, IsSomewhereReady, HasBasis, IsOfClosest, HasName, NamesPair};
+ghost use Rattle.cb_topo.specs.Numbered.{topology_of};
+
+use cb_cache::Cache;
+use cb_codes::{Codes, Groups};
+use cb_coding::{Book, Pair};
+use cb_decode::find;
+use cb_log::{Closed, Event};
+use cb_matrix::Matrix;
+use cb_model::{GroupName, List, Name};
+use cb_reduce::{Refused, first_close, least, reduce};
+use std::alloc::{AllocError, Global};
+
+/// What windows are diagnosed by: the matrix of a topology, and the codebook in use for it.
+#[derive(Drop)]
+pub(crate) struct Ready {
+    matrix: Matrix,
+    book: Book,
+}
+
+impl Ready {
+    /// Of the topology of a cache, for a wanted distance.
+    pub fn of(alloc: Global, cache: &Cache, wanted: u32) -> Result<Ready, AllocError>
+        requires { IsWanted wanted }
+        ensures { IfOk result (IsReady (topology_of cache.now.graph) (for_wanted wanted)) }
+    {
+        let matrix = Matrix::of(alloc, cache)?;
+        match book_in_use(alloc, matrix.codes(), wanted) {
+            Ok(book) => Ok(Ready { matrix, book }),
+            Err(none) => {
+                drop(matrix);
+                Err(none)
+            }
+        }
+    }
+
+    /// The events that tell of the codebook, before the first diagnosis by it.
+    pub fn announce(&self, alloc: Global, wanted: u32) -> Result<List<Event>, AllocError>
+        requires { IsSomewhereReady self.now }
+        ensures { IfOk result (λ events. (network : Topology) (mode : Mode) (basis : Basis network mode) → HasBasis basis self.now
+            → IsAnnounced basis wanted events) }
+    {
+        let mut events = List::new(alloc);
+        if let Some(pair) = first_close(self.matrix.codes(), wanted) {
+            events.push(thin(alloc, self.matrix.coded_groups(), pair, wanted)?)?;
+        }
+        events.push(self.book_made())?;
+        Ok(events)
+    }
+
+    // The numbers of the codebook.
+    fn book_made(&self) -> Event
+        requires { IsSomewhereReady self.now }
+        ensures { (network : Topology) (mode : Mode) (basis : Basis network mode) → HasBasis basis self.now → result ≡ book_made_by basis }
+    {
+        Event::BookMade {
+            columns: self.book.columns.len() as u32,
+            of: self.matrix.columns().len() as u32,
+            distance: self.book.distance,
+            radius: radius(self.book.distance),
+            groups: self.matrix.groups().len() as u32,
+        }
+    }
+
+    // The diagnosis of a window that closes.
+    fn diagnosis(&self, alloc: Global, closed: &Closed) -> Result<Event, AllocError>
+        requires ready { IsSomewhereReady self.now }
+        requires rise { Rises node_cmp closed.now.nodes }
+        ensures { IfOk result (λ event. (network : Topology) (mode : Mode) (basis : Basis network mode) → HasBasis basis self.now
+            → IsDiagnosis basis closed.now event) }
+    {
+        let finding = find(
+            alloc,
+            self.matrix.columns(),
+            self.matrix.coded_groups(),
+            &self.book,
+            &closed.nodes,
+        )?;
+        Ok(Event::Diagnosis {
+            from: Name::of(alloc, closed.from.bytes())?,
+            opened: closed.opened,
+            closed: closed.closed,
+            finding,
+        })
+    }
+}
+
+/// The diagnoses of windows that close, in their order, put behind the events so far.
+pub(crate) fn diagnose(
+    alloc: Global,
+    ready: &Ready,
+    closing: &List<Closed>,
+    events: &mut List<Event>,
+) -> Result<(), AllocError>
+    requires ready { IsSomewhereReady ready.now }
+    requires rise { All (λ c. Rises node_cmp c.nodes) closing.now }
+    ensures { OnOk result ((network : Topology) (mode : Mode) (basis : Basis network mode) → HasBasis basis ready.now
+        → (diagnoses : Items EventOf) × AllZip (IsDiagnosis basis) closing.now diagnoses × (events.new ≡ events.old ++ diagnoses)) }
+{
+    for k in 0..closing.len() {
+        events.push(ready.diagnosis(alloc, closing.at(k))?)?;
+    }
+    Ok(())
+}
+
+// The codebook in use for a wanted distance: at that distance, or at the least one where two codes are closer.
+fn book_in_use(alloc: Global, codes: &Codes, wanted: u32) -> Result<Book, AllocError>
+    requires places_fit { length codes.now.rows ≤ 2 ^ 16 }
+    requires columns_fit { codes.now.width ≤ 2 ^ 16 }
+    ensures { IfOk result (IsInUse codes.now.width codes.now.rows wanted) }
+{
+    match reduce(alloc, codes, wanted) {
+        Ok(book) => Ok(book),
+        Err(Refused::TooClose(_)) => book_of_closest(alloc, codes),
+        Err(Refused::NoMemory) => Err(AllocError),
+    }
+}
+
+// The codebook at the least distance of two codes. None is closer, so it isn't refused.
+fn book_of_closest(alloc: Global, codes: &Codes) -> Result<Book, AllocError>
+    requires some { 1 < length codes.now.rows }
+    requires places_fit { length codes.now.rows ≤ 2 ^ 16 }
+    requires columns_fit { codes.now.width ≤ 2 ^ 16 }
+    ensures { IfOk result (IsOfClosest codes.now.width codes.now.rows) }
+{
+    let pair = least(codes).unwrap();
+    match reduce(alloc, codes, pair.distance) {
+        Ok(book) => Ok(book),
+        Err(Refused::TooClose(_)) => unreachable!(),
+        Err(Refused::NoMemory) => Err(AllocError),
+    }
+}
+
+// Tells that these two groups are closer than wanted.
+fn thin(alloc: Global, groups: &Groups, pair: Pair, wanted: u32) -> Result<Event, AllocError>
+    requires first { HasName groups.now.groups pair.first }
+    requires second { HasName groups.now.groups pair.second }
+    ensures { IfOk result (NamesPair groups.now.groups wanted pair) }
+{
+    let first = called(alloc, groups, pair.first)?;
+    let second = called(alloc, groups, pair.second)?;
+    Ok(Event::Thin {
+        wanted,
+        first,
+        second,
+        distance: pair.distance,
+    })
+}
+
+// What the group at a place is called.
+fn called(alloc: Global, groups: &Groups, place: u32) -> Result<GroupName, AllocError>
+    requires { HasName groups.now.groups place }
+    ensures { IfOk result (IsCalled groups.now.groups place) }
+{
+    if place == 0 {
+        return Ok(GroupName::Quiet);
+    }
+    let group = groups.named().at(place as usize);
+    Ok(GroupName::Least(group.members.at(0).copy(alloc)?))
+}
+
+// How many lost or spurious symptoms codes that are so far apart put up with.
+fn radius(distance: u32) -> u32
+    ensures { result ≡ radius_of distance }
+{
+    distance.saturating_sub(1) / 2
+}
