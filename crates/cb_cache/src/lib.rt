@@ -4,6 +4,7 @@
 mod cache;
 mod fill;
 mod order;
+mod problems;
 mod rows;
 mod scratch;
 mod search;
