@@ -1,19 +1,15 @@
 -- Once every problem is searched from, the rows are right, and the steps are no more than what all problems cause.
-use Rattle.std.proofs.Common.{◌≡◌, ◌≢◌, ◌↔◌, ℕ, zero, suc, ◌+◌, ◌<◌, ◌≤◌, List, [], ◌∷◌, length, sum, replicate, Option, Some, None, slice_index_or, refl, sym, subst, inl, inr, arith}
-use Rattle.std.specs.declared.cmp.Ordering.TheVariants.{Less}
+use Rattle.std.proofs.Common.{◌≡◌, ◌≢◌, ◌↔◌, ℕ, zero, suc, ◌+◌, ◌<◌, ◌≤◌, List, [], ◌∷◌, length, sum, replicate, Option, Some, None, slice_index_or, refl, subst, inl, inr, arith}
 use Rattle.std.specs.List.{All, AllZip, AllPairs, Contains}
-use Rattle.std.specs.List.Sorted.{IsPermutation}
-use Rattle.std.proofs.lemmas.List.Sorted.{IsPermutation-sym, Contains-permutation, length_permutation}
 use Rattle.std.proofs.lemmas.List.Elements.{Contains-get_or}
 use Rattle.cb_model.proofs.Numbers.{slice_get-replicate}
-use Rattle.cb_model.proofs.Rising.{contains_cases, contains_head, contains_tail, nothing_in_empty, node_strict, node_cmp_total, node_cmp_exact}
+use Rattle.cb_model.proofs.Rising.{contains_cases, contains_head, contains_tail, nothing_in_empty, node_cmp_total, node_cmp_exact}
 use Rattle.cb_model.specs.declared.node.NodeName.{NodeName}
 use Rattle.cb_model.specs.Order.{Rises}
 use Rattle.cb_model.specs.NodeOrder.{node_cmp}
 use Rattle.cb_network.specs.Causes.{Causes}
 use Rattle.cb_network.specs.Topology.{Topology}
-use Rattle.cb_network.specs.Nodes.{AreProblems, IsProblem, IsNodeOf, IsCount, IsWithin}
-use Rattle.cb_network.specs.Sound.{Sound, problem_limit}
+use Rattle.cb_network.specs.Nodes.{IsProblem, IsNodeOf, IsCount, IsWithin}
 use Rattle.cb_network.proofs.Counts.{count_of_rising}
 use Rattle.cb_network.proofs.Sets.{len_of_part}
 use Rattle.cb_change.specs.Costs.{IsOpenCost}
@@ -26,9 +22,8 @@ use Rattle.cb_graph.specs.Edges.{number}
 use Rattle.cb_graph.proofs.Chains.{named_once}
 use Rattle.cb_cache.specs.Reached.{HasSlot}
 use Rattle.cb_cache.specs.Filled.{HaveRows, HasSize, CostAtMost}
-use Rattle.cb_cache.specs.Numbers.{AreOnce, AreProblemNumbers}
+use Rattle.cb_cache.specs.Numbers.{AreProblemNumbers}
 use Rattle.cb_cache.specs.Kept.{AreRight}
-use Rattle.cb_cache.proofs.Permuted.{once_permuted}
 
 -- the name of a listed number, and the number of a listed name
 name_of : (n : Numbered) (ids : List NodeId) (names : List NodeName) → AreNamed n ids names → (id : NodeId) → Contains ids id → (name : NodeName) × Contains names name × IsNodeNamed n id name

@@ -1,5 +1,5 @@
 -- Memory for rows that aren't there yet.
-use Rattle.std.specs.Prelude.{◌≡◌, ◌≤◌, ℕ, List, [], None, length, replicate, vec_capacity}
+use Rattle.std.specs.Prelude.{◌≡◌, ◌≤◌, ℕ, [], None, length, replicate, vec_capacity}
 use Rattle.cb_bits.specs.Bits.{words_for}
 use Rattle.cb_network.specs.declared.edit.Edit.{Edit}
 use Rattle.cb_topo.specs.Applied.{Applies}

@@ -10,3 +10,8 @@ mod scratch;
 mod search;
 
 pub use cache::Cache;
+
+#[cfg(test)]
+mod pipes;
+#[cfg(test)]
+mod tests;

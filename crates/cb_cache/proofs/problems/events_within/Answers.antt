@@ -1,7 +1,6 @@
-use Rattle.std.proofs.Common.{◌≡◌, ◌≤◌, List, length, ap, sym, subst, ◌∙◌, arith}
+use Rattle.std.proofs.Common.{◌≡◌, sym, subst, arith}
 use Rattle.std.proofs.lemmas.Option.{slice_get_within}
 use Rattle.cb_model.specs.declared.id.ClassId.{ClassId}
-use Rattle.cb_model.specs.declared.id.EventId.{EventId}
 use Rattle.cb_model.specs.Views.{AreEventsOf}
 use Rattle.cb_network.specs.declared.edit.Edit.TheVariants.{Create}
 use Rattle.cb_accept.proofs.Members.{one_class}
