@@ -8,3 +8,5 @@ pub mod Sizes
 pub mod Filling
 pub mod Opened
 pub mod Slots
+pub mod Gathered
+pub mod Growing

@@ -1,19 +1,15 @@
 -- Once every problem is searched from, the rows are right, and the steps are no more than what all problems cause.
-use Rattle.std.proofs.Common.{◌≡◌, ◌≢◌, ◌↔◌, ℕ, zero, suc, ◌+◌, ◌<◌, ◌≤◌, List, [], ◌∷◌, length, sum, replicate, Option, Some, None, slice_index_or, refl, sym, subst, inl, inr, arith}
-use Rattle.std.specs.declared.cmp.Ordering.TheVariants.{Less}
+use Rattle.std.proofs.Common.{◌≡◌, ◌≢◌, ◌↔◌, ℕ, zero, suc, ◌+◌, ◌<◌, ◌≤◌, List, [], ◌∷◌, length, sum, replicate, Option, Some, None, slice_index_or, refl, subst, inl, inr, arith}
 use Rattle.std.specs.List.{All, AllZip, AllPairs, Contains}
-use Rattle.std.specs.List.Sorted.{IsPermutation}
-use Rattle.std.proofs.lemmas.List.Sorted.{IsPermutation-sym, Contains-permutation, length_permutation}
 use Rattle.std.proofs.lemmas.List.Elements.{Contains-get_or}
 use Rattle.cb_model.proofs.Numbers.{slice_get-replicate}
-use Rattle.cb_model.proofs.Rising.{contains_cases, contains_head, contains_tail, nothing_in_empty, node_strict, node_cmp_total, node_cmp_exact}
+use Rattle.cb_model.proofs.Rising.{contains_cases, contains_head, contains_tail, nothing_in_empty, node_cmp_total, node_cmp_exact}
 use Rattle.cb_model.specs.declared.node.NodeName.{NodeName}
 use Rattle.cb_model.specs.Order.{Rises}
 use Rattle.cb_model.specs.NodeOrder.{node_cmp}
 use Rattle.cb_network.specs.Causes.{Causes}
 use Rattle.cb_network.specs.Topology.{Topology}
-use Rattle.cb_network.specs.Nodes.{AreProblems, IsProblem, IsNodeOf, IsCount, IsWithin}
-use Rattle.cb_network.specs.Sound.{Sound, problem_limit}
+use Rattle.cb_network.specs.Nodes.{IsProblem, IsNodeOf, IsCount, IsWithin}
 use Rattle.cb_network.proofs.Counts.{count_of_rising}
 use Rattle.cb_network.proofs.Sets.{len_of_part}
 use Rattle.cb_change.specs.Costs.{IsOpenCost}
@@ -26,9 +22,8 @@ use Rattle.cb_graph.specs.Edges.{number}
 use Rattle.cb_graph.proofs.Chains.{named_once}
 use Rattle.cb_cache.specs.Reached.{HasSlot}
 use Rattle.cb_cache.specs.Filled.{HaveRows, HasSize, CostAtMost}
-use Rattle.cb_cache.specs.Numbers.{AreOnce, AreProblemNumbers}
+use Rattle.cb_cache.specs.Numbers.{AreProblemNumbers}
 use Rattle.cb_cache.specs.Kept.{AreRight}
-use Rattle.cb_cache.proofs.Permuted.{once_permuted}
 
 -- the name of a listed number, and the number of a listed name
 name_of : (n : Numbered) (ids : List NodeId) (names : List NodeName) → AreNamed n ids names → (id : NodeId) → Contains ids id → (name : NodeName) × Contains names name × IsNodeNamed n id name
@@ -48,12 +43,6 @@ number_of n (a ∷ ids) (x ∷ names) zip name has = elim (contains_cases x name
   | inr later ↦ let f = number_of n ids names zip.1 name later in (f.0, contains_tail a ids f.0 f.1, f.2)
 ]
 
-pub names_once : (names : List NodeName) → Rises node_cmp names → AllPairs (λ p q. p ≢ q) names
-names_once names rise i j d lt within same =
-    let less = rise i j d lt within in
-    let turned = subst (λ q. node_cmp q q ≡ Less) same (subst (λ q. node_cmp (slice_index_or names i d) q ≡ Less) (sym same) less) in
-    node_strict (slice_index_or names j d) (slice_index_or names j d) turned turned
-
 -- the names of two numbers at two places
 at_place : (n : Numbered) (ids : List NodeId) (names : List NodeName) → AreNamed n ids names → (i : ℕ) (d : NodeId) (e : NodeName) → i < length ids
     → (i < length names) × IsNodeNamed n (slice_index_or ids i d) (slice_index_or names i e)
@@ -61,14 +50,6 @@ at_place n [] names zip i d e lt = absurd (omega arith)
 at_place n (a ∷ ids) [] zip i d e lt = absurd zip
 at_place n (a ∷ ids) (x ∷ names) zip zero d e lt = (omega arith, zip.0)
 at_place n (a ∷ ids) (x ∷ names) zip (suc i) d e lt = let f = at_place n ids names zip.1 i d e (omega arith) in (omega (arith, f.0), f.1)
-
-pub ids_once : (n : Numbered) (ids : List NodeId) (names : List NodeName) → Rises node_cmp names → AreNamed n ids names → AreOnce ids
-ids_once n ids names rise zip i j d lt within same =
-    let e : NodeName = record { event = []; instance = [] } in
-    let first = at_place n ids names zip i d e (omega arith) in
-    let second = at_place n ids names zip j d e within in
-    names_once names rise i j e lt second.0
-    (named_once n (slice_index_or ids j d) _ _ (subst (λ (k : NodeId). IsNodeNamed n k (slice_index_or names i e)) same first.1) second.1)
 
 -- nothing is there where no place has a slot
 pub no_rows : (n : Numbered) (room : ℕ) (slots : List (Option Slot)) (p : Pool) → slots ≡ replicate room None → HaveRows n [] slots p
@@ -108,13 +89,6 @@ length_named n [] (x ∷ names) zip = absurd zip
 length_named n (a ∷ ids) [] zip = absurd zip
 length_named n (a ∷ ids) (x ∷ names) zip = let e = length_named n ids names zip.1 in omega arith
 
-pub few_problems : (n : Numbered) → Sound (topology_of n) → (ids : List NodeId) (names : List NodeName) → AreProblems (topology_of n) names → AreNamed n ids names → length ids ≤ problem_limit
-few_problems n sound ids names problems named =
-    let few = few_of_rising (IsProblem (topology_of n)) (IsProblem (topology_of n)) names problem_limit problems.rise (λ q. (problems.each q, problems.all q)) (λ q problem. problem)
-    sound.few_problems in
-    let same = length_named n ids names named in
-    omega arith
-
 sized : (n : Numbered) (ids : List NodeId) (names : List NodeName) (sizes : List ℕ) → AreNamed n ids names → AllZip (HasSize n) ids sizes
     → AllZip (λ p k. IsCount (Causes (topology_of n) p) k) names sizes
 sized n [] [] [] named zip = tt
@@ -124,21 +98,7 @@ sized n (a ∷ ids) [] sizes named zip = absurd named
 sized n (a ∷ ids) (x ∷ names) [] named zip = absurd zip
 sized n (a ∷ ids) (x ∷ names) (k ∷ sizes) named zip = (zip.0 x named.0, sized n ids names sizes named.1 zip.1)
 
--- the numbers of all problems, in another order
-pub problem_numbers : (n : Numbered) → IsWhole n → Sound (topology_of n) → (ids order : List NodeId) (names : List NodeName) → AreProblems (topology_of n) names → AreNamed n ids names
-    → IsPermutation ids order → AreProblemNumbers n order
-problem_numbers n whole sound ids order names problems named permuted = record {
-  once = once_permuted ids order permuted (ids_once n ids names problems.rise named);
-  each = λ id. (
-    λ has. let f = name_of n ids names named id (Contains-permutation order ids id (IsPermutation-sym ids order permuted) has) in (f.0, f.2, problems.each f.0 f.1),
-    λ (name, is, problem).
-        let f = number_of n ids names named name (problems.all name problem) in
-        subst (Contains order) (whole.one f.0 id name f.2 is) (Contains-permutation ids order f.0 permuted f.1),
-  );
-  few = (let long = length_permutation ids order permuted in let few = few_problems n sound ids names problems named in omega arith);
-}
-
-node_of_problem : (t : Topology) (p : NodeName) → IsProblem t p → IsNodeOf t p
+pub node_of_problem : (t : Topology) (p : NodeName) → IsProblem t p → IsNodeOf t p
 node_of_problem t p x = (x.event, record { class = x.class; of_class = x.of_class; named = (x.problem.has, x.named) })
 
 module _ (n : Numbered) (whole : IsWhole n) (ids : List NodeId) (are : AreProblemNumbers n ids) where

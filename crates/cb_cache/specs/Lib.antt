@@ -6,3 +6,5 @@ pub mod Room
 pub mod Kept
 pub mod Filled
 pub mod Edited
+pub mod Most
+pub mod Prepared

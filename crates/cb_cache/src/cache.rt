@@ -13,7 +13,7 @@ ghost use Rattle.cb_cache.specs.Edited.{Hinders};
 ghost use Rattle.cb_cache.specs.Numbers.{IsProblemNumber};
 ghost use Rattle.cb_cache.specs.Reached.{HasSlot};
 
-use crate::rows::{Rows, search_all};
+use crate::rows::{Rows, room_after, search_after, search_all};
 use cb_graph::Graph;
 use cb_nodes::NodeId;
 use cb_pool::{RowPool, Slot};
@@ -108,8 +108,15 @@ impl Cache {
         ensures fault { IfErr result (Hinders self.old.graph edit.now) }
         ensures kept { OnErr result (self.new ≡ self.old) }
     {
-        self.graph.topology().allows(edit)?;
-        Err(EditFault::NoMemory)
+        let mut unfilled = room_after(alloc, self.graph.topology(), edit)?;
+        search_after(
+            alloc,
+            &mut self.graph,
+            edit,
+            &mut unfilled,
+            &mut self.rows,
+            steps,
+        )
     }
 
     /// The graph alone.

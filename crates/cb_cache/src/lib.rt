@@ -4,8 +4,14 @@
 mod cache;
 mod fill;
 mod order;
+mod problems;
 mod rows;
 mod scratch;
 mod search;
 
 pub use cache::Cache;
+
+#[cfg(test)]
+mod pipes;
+#[cfg(test)]
+mod tests;

@@ -1,5 +1,5 @@
 use Rattle.std.proofs.lemmas.List.Sorted.{IsPermutation-trans}
-use Rattle.cb_cache.proofs.order.scattered.Goals as goal
+use Rattle.cb_cache.proofs.order.scatter.Goals as goal
 
 pub loop-place-preserved : goal.loop-place-preserved
 loop-place-preserved g c = IsPermutation-trans _ _ _ c.loop-place.invariant c.trade.ensures

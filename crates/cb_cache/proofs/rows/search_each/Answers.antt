@@ -1,0 +1,76 @@
+use Rattle.std.proofs.Common.{List, length, ap, sym, subst, ◌∙◌, arith}
+use Rattle.std.specs.Prelude.{vec_capacity}
+use Rattle.std.specs.List.{All}
+use Rattle.std.proofs.lemmas.List.{length-replicate}
+use Rattle.cb_nodes.specs.declared.id.NodeId.{NodeId}
+use Rattle.cb_topo.specs.Numbered.{Numbered, topology_of, IsWhole, IsLiveNode}
+use Rattle.cb_cache.specs.Filled.{HaveRows, CostAtMost}
+use Rattle.cb_cache.specs.Most.{HasAtMost}
+use Rattle.cb_cache.specs.Numbers.{AreProblemNumbers, AreOnce}
+use Rattle.cb_cache.proofs.Opened.{all_live, no_rows, are_right, within_cost}
+use Rattle.cb_cache.proofs.Gathered.{within_most}
+use Rattle.cb_cache.proofs.rows.search_each.Goals as goal
+
+pub list_problems-requires-clause-room : goal.list_problems-requires-clause-room
+list_problems-requires-clause-room g c =
+    let (count, most, empty) = c.requires in
+    subst (λ (m : Numbered). HasAtMost (topology_of m) (vec_capacity c.args.unfilled.now.order)) (sym c.topology.ensures)
+    (λ k is. let few = most k is in let room = empty.listed in omega arith)
+
+pub add_rows-requires-clause-live : goal.add_rows-requires-clause-live
+add_rows-requires-clause-live g c =
+    let n = c.args.graph.now in
+    let ids = c.list_problems.new.list.items in
+    let whole = subst IsWhole c.topology.ensures c.list_problems.ensures.whole in
+    let are = subst (λ (m : Numbered). AreProblemNumbers m ids) c.topology.ensures c.list_problems.ensures.problems in
+    subst (λ (xs : List NodeId). All (IsLiveNode n) xs) (sym c.deref.ensures.value) (all_live n whole ids are)
+
+pub add_rows-requires-clause-whole : goal.add_rows-requires-clause-whole
+add_rows-requires-clause-whole g c = subst IsWhole c.topology.ensures c.list_problems.ensures.whole
+
+pub add_rows-requires-clause-once : goal.add_rows-requires-clause-once
+add_rows-requires-clause-once g c =
+    subst AreOnce (sym c.deref.ensures.value) c.list_problems.ensures.problems.once
+
+pub add_rows-requires-clause-none : goal.add_rows-requires-clause-none
+add_rows-requires-clause-none g c =
+    let (count, most, empty) = c.requires in
+    let n = c.args.graph.now in
+    no_rows n (length n.nodes) c.args.unfilled.now.rows.slots.items c.args.unfilled.now.rows.pool empty.slots
+
+pub add_rows-requires-clause-room : goal.add_rows-requires-clause-room
+add_rows-requires-clause-room g c =
+    let (count, most, empty) = c.requires in
+    let n = c.args.graph.now in
+    record { slots = ap length empty.slots ∙ length-replicate (length n.nodes) _; width = empty.width; scratch = empty.scratch }
+
+pub add_rows-requires-clause-spare : goal.add_rows-requires-clause-spare
+add_rows-requires-clause-spare g c =
+    let (count, most, empty) = c.requires in
+    let n = c.args.graph.now in
+    let ids = c.list_problems.new.list.items in
+    let whole = subst IsWhole c.topology.ensures c.list_problems.ensures.whole in
+    let are = subst (λ (m : Numbered). AreProblemNumbers m ids) c.topology.ensures c.list_problems.ensures.problems in
+    let few = within_most n whole ids count are most in
+    let room = empty.spare in
+    let long = ap length c.deref.ensures.value in
+    omega arith
+
+pub returns-clause-kept : goal.returns-clause-kept
+returns-clause-kept g c =
+    let n = c.args.graph.now in
+    let ids = c.list_problems.new.list.items in
+    let whole = subst IsWhole c.topology.ensures c.list_problems.ensures.whole in
+    let are = subst (λ (m : Numbered). AreProblemNumbers m ids) c.topology.ensures c.list_problems.ensures.problems in
+    let made = c.add_rows.new.rows in
+    let rows = subst (λ (xs : List NodeId). HaveRows n xs made.slots.items made.pool) c.deref.ensures.value c.add_rows.ensures.rows in
+    record { whole = whole; right = are_right n whole ids are made.slots.items made.pool rows; room = c.add_rows.ensures.room }
+
+pub returns-clause-cost : goal.returns-clause-cost
+returns-clause-cost g c = λ cost is.
+    let n = c.args.graph.now in
+    let ids = c.list_problems.new.list.items in
+    let whole = subst IsWhole c.topology.ensures c.list_problems.ensures.whole in
+    let are = subst (λ (m : Numbered). AreProblemNumbers m ids) c.topology.ensures c.list_problems.ensures.problems in
+    let most = subst (λ (xs : List NodeId). CostAtMost n xs c.args.steps.now c.add_rows.new.steps) c.deref.ensures.value c.add_rows.ensures.cost in
+    within_cost n whole ids are c.args.steps.now c.add_rows.new.steps cost most is

@@ -1,0 +1,87 @@
+//! The problems of a topology by their numbers, and how many there can be after an edit.
+ghost use Rattle.std.specs.Prelude.{◌≡◌, ◌≤◌, ◌↔◌, [], IsTrue, vec_capacity};
+ghost use Rattle.cb_model.specs.WellTyped.{WellTyped};
+ghost use Rattle.cb_network.specs.Edits.{Changes};
+ghost use Rattle.cb_network.specs.Nodes.{IsProblem, IsCount};
+ghost use Rattle.cb_network.specs.Sound.{problem_limit};
+ghost use Rattle.cb_network.specs.Topology.{Topology as Instances};
+ghost use Rattle.cb_topo.specs.Numbered.{topology_of, IsWhole};
+ghost use Rattle.cb_cache.specs.Numbers.{IsProblemNumber, AreProblemNumbers};
+ghost use Rattle.cb_cache.specs.Most.{HasAtMost, HasEventsWithin, problem_room_limit};
+
+use crate::order::scatter;
+use cb_model::Model;
+use cb_network::Edit;
+use cb_nodes::NodeId;
+use cb_topo::Topology;
+
+/// How many problems there are. Each number of a node is looked at.
+pub fn problem_count(topology: &Topology) -> usize
+    ensures count { IsCount (IsProblem (topology_of topology.now)) result }
+    ensures few { result ≤ problem_limit }
+{
+    let mut count = 0;
+    for place in 0..topology.node_room() {
+        if is_problem_number(topology, NodeId(place as u32)) {
+            count += 1;
+        }
+    }
+    count
+}
+
+/// At least as many as there are problems once the edit is made: a further instance has no more than its class has events.
+pub fn problem_room_after(topology: &Topology, edit: &Edit) -> usize
+    ensures most { (new : Instances) → Changes (topology_of topology.now) edit.now new → HasAtMost new result }
+    ensures few { result ≤ problem_room_limit }
+{
+    problem_count(topology) + events_within(topology.model(), edit)
+}
+
+// How many events the class of a further instance has.
+fn events_within(model: &Model, edit: &Edit) -> usize
+    requires { WellTyped model.now }
+    ensures events { HasEventsWithin model.now edit.now result }
+    ensures few { result ≤ 256 }
+{
+    match edit {
+        Edit::Create { class, .. } => match model.class_named(class.bytes()) {
+            Some(class) => model.events_of(class).len(),
+            None => 0,
+        },
+        _ => 0,
+    }
+}
+
+/// Lists the numbers of all problems, in an order in which a search along a chain, whichever way it runs, soon meets a node that
+/// was searched from before. It takes no memory.
+pub fn list_problems(topology: &Topology, list: &mut Vec<NodeId>)
+    requires empty { list.old.items ≡ [] }
+    requires room { HasAtMost (topology_of topology.now) (vec_capacity list.old) }
+    ensures problems { AreProblemNumbers topology.now list.new.items }
+    ensures whole { IsWhole topology.now }
+{
+    push_problems(topology, list);
+    scatter(list);
+}
+
+// Lists the numbers of all problems as they rise.
+fn push_problems(topology: &Topology, list: &mut Vec<NodeId>)
+    requires empty { list.old.items ≡ [] }
+    requires room { HasAtMost (topology_of topology.now) (vec_capacity list.old) }
+    ensures problems { AreProblemNumbers topology.now list.new.items }
+    ensures whole { IsWhole topology.now }
+{
+    for place in 0..topology.node_room() {
+        let node = NodeId(place as u32);
+        if is_problem_number(topology, node) {
+            list.push_reserved(node);
+        }
+    }
+}
+
+// Whether the number is that of a problem.
+fn is_problem_number(topology: &Topology, node: NodeId) -> bool
+    ensures { IsTrue result ↔ IsProblemNumber topology.now node }
+{
+    topology.is_live(node) && topology.is_problem(node)
+}
