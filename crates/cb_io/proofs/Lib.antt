@@ -3,3 +3,4 @@ pub mod Told
 pub mod Memory
 pub mod Host
 pub mod Failures
+pub mod HandLemmas

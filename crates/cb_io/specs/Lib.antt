@@ -1,6 +1,8 @@
 pub mod Pairs
 pub mod Outside
 pub mod Stops
+pub mod Pieces
+pub mod Hand
 pub mod LineReading
 pub mod Memory
 pub mod Host

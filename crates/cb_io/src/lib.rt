@@ -7,6 +7,7 @@
 #![tactic(auto)]
 
 mod calls;
+mod hand;
 mod host_files;
 mod host_sink;
 mod line_reader;
