@@ -4,3 +4,4 @@ pub mod Memory
 pub mod Host
 pub mod Failures
 pub mod HandLemmas
+pub mod LineSearchLemmas

@@ -4,6 +4,7 @@ pub mod Stops
 pub mod Pieces
 pub mod Hand
 pub mod LineReading
+pub mod LineSearch
 pub mod Memory
 pub mod Host
 pub mod Never

@@ -10,6 +10,7 @@ mod calls;
 mod hand;
 mod host_files;
 mod host_sink;
+mod line_end;
 mod line_reader;
 mod mem_files;
 mod mem_sink;
