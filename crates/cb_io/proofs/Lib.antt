@@ -5,3 +5,4 @@ pub mod Host
 pub mod Failures
 pub mod HandLemmas
 pub mod LineSearchLemmas
+pub mod LineReadingLemmas

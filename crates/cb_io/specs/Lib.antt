@@ -5,6 +5,7 @@ pub mod Pieces
 pub mod Hand
 pub mod LineReading
 pub mod LineSearch
+pub mod LineGiving
 pub mod Memory
 pub mod Host
 pub mod Never
