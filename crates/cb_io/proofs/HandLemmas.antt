@@ -1,7 +1,7 @@
 -- The parts of the buffer in hand, after some were given and after more came.
-use Rattle.std.proofs.Common.{◌≡◌, ℕ, ◌+◌, ◌-◌, ◌<◌, ◌≤◌, List, [], ◌++◌, length, take, drop, refl, sym, ap, ◌∙◌, arith, length-take, length-drop}
+use Rattle.std.proofs.Common.{◌≡◌, ℕ, ◌+◌, ◌-◌, ◌<◌, ◌≤◌, List, ◌++◌, length, take, drop, refl, sym, ap, ◌∙◌, arith, length-take, length-drop}
 use Rattle.std.proofs.Math.Seq.{take-add}
-use Rattle.std.proofs.lemmas.List.{take-take, drop-take, drop-drop, take_at, take-append-le}
+use Rattle.std.proofs.lemmas.List.{take-take, drop-take, drop-drop, take_at}
 use Rattle.std.specs.Prelude.{slice_range}
 use Rattle.std.specs.List.{copy_within}
 use Rattle.std.specs.Io.KnownBytes.{Consumes, IsAtEnd}
@@ -48,7 +48,7 @@ pub refilled : (items now text : List ℕ) (from to count size new_size : ℕ) (
     Consumes (left_of before name) (left_of after name) (take count (drop (to - from) now)) →
     (count ≡ 0 → 0 < length (drop (to - from) now) → IsAtEnd (left_of after name)) →
     Grows (record { text = text; kept = slice_range items from to; size = size })
-        (record { text = slice_range now 0 0; kept = slice_range now 0 (to - from + count); size = new_size }) before after name count
+    (record { text = slice_range now 0 0; kept = slice_range now 0 (to - from + count); size = new_size }) before after name count
 refilled items now text from to count size new_size before after name whole part moved moves same within room few came end =
     let behind : List ℕ = drop (to - from) now in
     let all : to - from + count - 0 ≡ to - from + count = omega arith in

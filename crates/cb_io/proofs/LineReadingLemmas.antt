@@ -1,5 +1,5 @@
 -- What the next answer of a reader of lines says, from what was found.
-use Rattle.std.proofs.Common.{◌≡◌, ◌≢◌, ◌⊎◌, ℕ, ◌+◌, ◌-◌, ◌<◌, ◌≤◌, Bool, true, false, List, [], ◌∷◌, ◌++◌, length, take, drop, Some, None, Result, Ok, Err, refl, sym, ap, subst, ◌∙◌, inl, inr, arith, length-drop, length-append, append_assoc, append-nil}
+use Rattle.std.proofs.Common.{◌≡◌, ◌⊎◌, ℕ, ◌+◌, ◌-◌, ◌<◌, ◌≤◌, Bool, true, false, List, [], ◌∷◌, ◌++◌, length, take, drop, Some, None, Ok, Err, refl, sym, ap, ◌∙◌, inl, inr, arith, length-append, append_assoc, append-nil}
 use Rattle.std.proofs.lemmas.List.{length-take-le, take_all, drop_all, nil_from_length}
 use Rattle.std.specs.Prelude.{Option, IfSome}
 use Rattle.std.specs.Option.{option_map}
@@ -11,9 +11,9 @@ use Rattle.cb_io.specs.declared.whole.ReadStop.{ReadStop}
 use Rattle.cb_io.specs.declared.whole.ReadStop.TheVariants.{ReadFault, TooMuch, NoMemory}
 use Rattle.cb_io.specs.Hand.{Held}
 use Rattle.cb_io.specs.LineGiving.{Tells, behind_line}
-use Rattle.cb_io.specs.LineReading.{Reading, coming, IsOneLine, BeginWith, AreLast, GivesEnded, GivesLast, GivesLine, Says, IsNumbered, GoesOn}
-use Rattle.cb_io.specs.LineSearch.{HasCome, IsLostWhole, Finds, GivesUp, EndsBy, lf_count, behind_of, size_of}
-use Rattle.cb_io.specs.Outside.{FilesTold, left_of, ReadsFront, KeepsOthers, NoCountFalls}
+use Rattle.cb_io.specs.LineReading.{Reading, coming, IsOneLine, GivesEnded, GivesLast, GivesLine, Says}
+use Rattle.cb_io.specs.LineSearch.{HasCome, Finds, GivesUp, EndsBy, lf_count, behind_of, size_of}
+use Rattle.cb_io.specs.Outside.{FilesTold, left_of, ReadsFront}
 
 -- ---- what is left of the file
 

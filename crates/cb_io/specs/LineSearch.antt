@@ -5,7 +5,7 @@ use Rattle.cb_io.specs.declared.line_end.LineEnd.{LineEnd}
 use Rattle.cb_io.specs.declared.whole.ReadStop.{ReadStop}
 use Rattle.cb_io.specs.declared.whole.ReadStop.TheVariants.{ReadFault, TooMuch, NoMemory}
 use Rattle.cb_io.specs.Hand.{Held}
-use Rattle.cb_io.specs.LineReading.{IsOneLine, BeginWith}
+use Rattle.cb_io.specs.LineReading.{IsOneLine}
 use Rattle.cb_io.specs.Outside.{FilesTold, left_of, KeepsOthers, NoCountFalls}
 use Rattle.cb_io.specs.Pieces.{piece_limit}
 

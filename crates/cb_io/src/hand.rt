@@ -26,9 +26,10 @@ impl Model for Hand {
     ghost Value = { Held };
 
     ghost view = { λ h. record {
-        text = slice_range h.buffer.items h.text_from h.text_to;
-        kept = slice_range h.buffer.items h.kept_from h.kept_to;
-        size = vec_len h.buffer } };
+      text = slice_range h.buffer.items h.text_from h.text_to;
+      kept = slice_range h.buffer.items h.kept_from h.kept_to;
+      size = vec_len h.buffer;
+    } };
 
     ghost invariant = { λ h.
         IsPart (vec_len h.buffer) h.text_from h.text_to × IsPart (vec_len h.buffer) h.kept_from h.kept_to };

@@ -44,15 +44,16 @@ impl<'n> Model for LineReader<'n> {
     ghost Value = { Reading };
 
     ghost view = { λ r. record {
-        name = r.name.now;
-        line_most = r.line_most;
-        total_most = r.total_most;
-        number = r.number;
-        given = r.given;
-        text = r.hand.text;
-        kept = r.hand.kept;
-        ended = r.ended;
-        refused = r.refused } };
+      name = r.name.now;
+      line_most = r.line_most;
+      total_most = r.total_most;
+      number = r.number;
+      given = r.given;
+      text = r.hand.text;
+      kept = r.hand.kept;
+      ended = r.ended;
+      refused = r.refused;
+    } };
 
     ghost invariant = { λ r.
         (r.number ≤ r.given) × (r.given ≤ r.total_most) × (r.line_most < r.hand.size) × (r.refused ≡ false → length r.hand.kept ≤ piece_limit) };
@@ -120,16 +121,13 @@ impl<'n> LineReader<'n> {
             return Line::End;
         }
         self.number += 1;
+        let number = self.number;
         if end.lost + end.length as u64 > self.line_most as u64 {
             self.hand.give(0, behind);
-            return Line::Long {
-                number: self.number,
-            };
+            return Line::Long { number };
         }
         self.hand.give(end.length, behind);
-        Line::Text {
-            number: self.number,
-        }
+        Line::Text { number }
     }
 
     /// The bytes of the last text.

@@ -1,6 +1,5 @@
-use Rattle.std.proofs.Common.{arith, length, ap, sym, ◌∙◌, ℕ, List}
 use Rattle.std.proofs.lemmas.Result.{err_from_is_err_and}
-use Rattle.cb_io.proofs.LineSearchLemmas.{Sought, searched_one, found_lf, over_lf, over_hand, thrown_long, read_failed, searched_on, found_end}
+use Rattle.cb_io.proofs.LineSearchLemmas.{searched_one, found_lf, over_lf, over_hand, thrown_long, read_failed, searched_on, found_end}
 use Rattle.cb_io.proofs.line_end.find_end.Goals as goal
 
 pub find_lf-requires-clause-none : goal.find_lf-requires-clause-none
