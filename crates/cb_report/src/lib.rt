@@ -4,6 +4,7 @@
 
 mod accepted;
 mod certificate_line;
+mod events;
 mod fault;
 mod fault_line;
 mod fault_words;
@@ -15,6 +16,7 @@ mod piece;
 mod status;
 
 pub use accepted::accepted_text;
+pub use events::{event_text, events_text};
 pub use fault::Fault;
 pub use fault_line::say_fault;
 pub use finding::burst_text;
