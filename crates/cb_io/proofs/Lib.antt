@@ -3,3 +3,6 @@ pub mod Told
 pub mod Memory
 pub mod Host
 pub mod Failures
+pub mod HandLemmas
+pub mod LineSearchLemmas
+pub mod LineReadingLemmas

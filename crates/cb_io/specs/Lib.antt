@@ -1,7 +1,11 @@
 pub mod Pairs
 pub mod Outside
 pub mod Stops
+pub mod Pieces
+pub mod Hand
 pub mod LineReading
+pub mod LineSearch
+pub mod LineGiving
 pub mod Memory
 pub mod Host
 pub mod Never

@@ -1,5 +1,5 @@
 -- A file that is read line by line: where its reader stands, and what its next answer says of the bytes that come.
-use Rattle.std.specs.Prelude.{◌≡◌, ◌≢◌, ◌⊎◌, ℕ, ◌+◌, ◌<◌, ◌≤◌, ◌++◌, List, [], ◌∷◌, length, Bool, true, false, Option, None, Some, Result, Ok, Err, IfSome}
+use Rattle.std.specs.Prelude.{◌≡◌, ◌≢◌, ◌⊎◌, ℕ, ◌+◌, ◌<◌, ◌≤◌, ◌++◌, List, [], ◌∷◌, length, Bool, true, false, Option, Some, Result, Ok, Err}
 use Rattle.std.specs.Option.{option_map}
 use Rattle.std.specs.List.{Contains}
 use Rattle.cb_io.specs.declared.line_reader.Line.{Line}
@@ -7,6 +7,7 @@ use Rattle.cb_io.specs.declared.line_reader.Line.TheVariants.{Text, Long, End}
 use Rattle.cb_io.specs.declared.whole.ReadStop.{ReadStop}
 use Rattle.cb_io.specs.declared.whole.ReadStop.TheVariants.{ReadFault, TooMuch, NoMemory}
 use Rattle.cb_io.specs.Outside.{FilesTold, left_of}
+use Rattle.cb_io.specs.Pieces.{piece_limit}
 
 -- Where a reader stands: its file, the most bytes of a line and of the file, how many lines were given and how many bytes they have, their
 -- LFs among them; the bytes of the last text, those that were taken and not given yet, whether the end has come, and whether a call was
@@ -32,10 +33,6 @@ pub record ReadsSame (old new : Reading) : Type 0 where
   pub name : new.name ≡ old.name
   pub line_most : new.line_most ≡ old.line_most
   pub total_most : new.total_most ≡ old.total_most
-
--- at most so many bytes are taken behind the line that was given
-abbrev pub piece_limit : ℕ
-piece_limit = 65536
 
 -- the bytes that come: those that were taken and not given, and those left of the file
 abbrev pub coming : Reading → FilesTold → Option (List ℕ)

@@ -7,8 +7,10 @@
 #![tactic(auto)]
 
 mod calls;
+mod hand;
 mod host_files;
 mod host_sink;
+mod line_end;
 mod line_reader;
 mod mem_files;
 mod mem_sink;

@@ -1,8 +1,13 @@
 //! A file line by line, over any files.
-ghost use Rattle.std.specs.Prelude.{◌≡◌, ◌≤◌, length, false, IfOk, IfSome, IsErrOf};
+ghost use Rattle.std.specs.Prelude.{◌≡◌, ◌+◌, ◌≤◌, length, true, false, IfOk, IfSome, OnErr, IsErrOf};
+ghost use Rattle.cb_io.specs.LineGiving.{Tells};
 ghost use Rattle.cb_io.specs.LineReading.{Reading, unread, coming, ReadsSame, Says, IsNumbered, GoesOn};
+ghost use Rattle.cb_io.specs.LineSearch.{behind_of, size_of};
+ghost use Rattle.cb_io.specs.Pieces.{piece_limit};
 ghost use Rattle.cb_io.specs.Outside.{ReadsFront, KeepsOthers, NoCountFalls, ReadFailed};
 
+use crate::hand::Hand;
+use crate::line_end::{LineEnd, find_end};
 use crate::{Files, ReadStop};
 use std::alloc::{AllocError, Global};
 use std::marker::Model;
@@ -18,23 +23,40 @@ pub enum Line {
     End,
 }
 
-/// No value.
-#[derive(Clone, Copy, Debug)]
-pub enum Never {}
-
 /// Reads a file line by line, in pieces of one buffer.
 #[derive(Drop)]
 pub struct LineReader<'n> {
     name: &'n str,
-    never: Never,
+    line_most: usize,
+    total_most: u64,
+    number: u64,
+    given: u64,
+    hand: Hand,
+    ended: bool,
+    refused: bool,
 }
 
 impl<'n> Model for LineReader<'n> {
-    ghost use Rattle.cb_io.specs.LineReading.{Reading, unread};
+    ghost use Rattle.std.specs.Prelude.{◌≡◌, ◌≤◌, ◌<◌, length, false};
+    ghost use Rattle.cb_io.specs.LineReading.{Reading};
+    ghost use Rattle.cb_io.specs.Pieces.{piece_limit};
 
     ghost Value = { Reading };
 
-    ghost view = { λ r. unread r.name.now 0 0 };
+    ghost view = { λ r. record {
+      name = r.name.now;
+      line_most = r.line_most;
+      total_most = r.total_most;
+      number = r.number;
+      given = r.given;
+      text = r.hand.text;
+      kept = r.hand.kept;
+      ended = r.ended;
+      refused = r.refused;
+    } };
+
+    ghost invariant = { λ r.
+        (r.number ≤ r.given) × (r.given ≤ r.total_most) × (r.line_most < r.hand.size) × (r.refused ≡ false → length r.hand.kept ≤ piece_limit) };
 }
 
 impl<'n> LineReader<'n> {
@@ -48,7 +70,16 @@ impl<'n> LineReader<'n> {
     ) -> Result<LineReader<'n>, AllocError>
         ensures { IfOk result (λ reader. reader ≡ unread name.now line_most total_most) }
     {
-        Err(AllocError)
+        Ok(LineReader {
+            name,
+            line_most,
+            total_most,
+            number: 0,
+            given: 0,
+            hand: Hand::new(alloc, line_most)?,
+            ended: false,
+            refused: false,
+        })
     }
 
     /// The next line. Where one is there already, nothing is read. A reader that was refused is of no more use: a front of the line
@@ -60,26 +91,56 @@ impl<'n> LineReader<'n> {
         ensures says { IfSome (coming self.old (F.tells files.old)) (Says self.old self.new (F.tells files.new) result) }
         ensures number { IfOk result (IsNumbered self.new) }
         ensures goes_on { IfOk result (λ line. GoesOn self.new) }
+        ensures refused { OnErr result (self.new.refused ≡ true) }
         ensures failed { IsErrOf result ReadStop.ReadFault → ReadFailed (F.tells files.old) (F.tells files.new) self.old.name }
         // In every case:
         ensures front { ReadsFront (F.tells files.old) (F.tells files.new) self.old.name }
         ensures others { KeepsOthers (F.tells files.old) (F.tells files.new) self.old.name }
         ensures counts { NoCountFalls (F.tells files.old) (F.tells files.new) }
     {
-        match self.never {}
+        self.refused = true;
+        let room = self.total_most - self.given;
+        let end = find_end(&mut self.hand, files, self.name, self.line_most, room)?;
+        Ok(self.give(end))
+    }
+
+    // Goes behind the line whose end was found, for which there is room.
+    fn give(&mut self, end: LineEnd) -> Line
+        requires in_hand { behind_of end ≤ length self.old.kept }
+        requires within { self.old.given + size_of end ≤ self.old.total_most }
+        requires few { length self.old.kept ≤ behind_of end + piece_limit }
+        ensures { Tells self.old end self.new result }
+    {
+        self.ended = end.is_last;
+        self.refused = false;
+        let behind = end.behind();
+        let size = end.size();
+        self.given += size;
+        if size == 0 {
+            self.hand.give(0, behind);
+            return Line::End;
+        }
+        self.number += 1;
+        let number = self.number;
+        if end.lost + end.length as u64 > self.line_most as u64 {
+            self.hand.give(0, behind);
+            return Line::Long { number };
+        }
+        self.hand.give(end.length, behind);
+        Line::Text { number }
     }
 
     /// The bytes of the last text.
     pub fn text(&self) -> &[u8]
         ensures { result.now ≡ self.now.text }
     {
-        match self.never {}
+        self.hand.text()
     }
 
     /// Whether the end has come, so that no line comes behind the one that was given.
     pub fn has_ended(&self) -> bool
         ensures { result ≡ self.now.ended }
     {
-        match self.never {}
+        self.ended
     }
 }

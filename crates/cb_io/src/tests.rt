@@ -2,6 +2,7 @@ ghost use Rattle.std.specs.Prelude.{◌<◌};
 
 use crate::*;
 use std::alloc::Global;
+use std::str::from_utf8;
 use std::test::Fail;
 
 // Files with "abcde" under `a` and nothing under `b`, which give so many bytes at once and fail at one call, if not 0.
@@ -117,5 +118,92 @@ fn what_never_fails_gives_all_and_takes_all(rt: HostRuntime) -> Result<(), Fail>
         assert_eq!(rt; all.as_slice(), bytes.as_bytes(), "{name}");
     }
     assert!(rt; write_all(&mut NeverSink::new(), b"abcde").is_ok());
+    Ok(())
+}
+
+// What a reader tells of a file, answer by answer, up to the end or a refusal; a line that is known to be the last has a dot.
+fn told_lines(
+    alloc: Global,
+    files: &mut MemFiles,
+    name: &str,
+    line_most: usize,
+    total_most: u64,
+) -> Result<String, Fail> {
+    let mut reader = LineReader::new(alloc, name, line_most, total_most)?;
+    let mut told = String::new(alloc);
+    'answers: for _ in 0..9 {
+        let line = match reader.next_line(files) {
+            Ok(line) => line,
+            Err(stop) => {
+                told.push_str(format!(in alloc; "{stop}")?.as_str())?;
+                return Ok(told);
+            }
+        };
+        let word = match line {
+            Line::Text { number } => format!(in alloc;
+                "{number}:{}",
+                from_utf8(reader.text()).unwrap_or("?")
+            )?,
+            Line::Long { number } => format!(in alloc; "{number} long")?,
+            Line::End => return Ok(told),
+        };
+        told.push_str(word.as_str())?;
+        told.push_str(if reader.has_ended() { ". " } else { ", " })?;
+    }
+    Ok(told)
+}
+
+// The file and the most bytes in all, where a line has at most 3; the piece, the call that fails, if not 0, and what is told.
+const LINE_CASES: [(&str, u64, usize, u64, &str); 19] = [
+    ("ab\nabcd\nx", 8, 1, 0, "1:ab, 2 long, too much"),
+    ("ab\nabcd\nx", 8, 2, 0, "1:ab, 2 long, too much"),
+    ("ab\nabcd\nx", 8, 8, 0, "1:ab, 2 long, too much"),
+    ("ab\nabcd\n", 8, 1, 0, "1:ab, 2 long, "),
+    ("ab\nabcd\n", 8, 2, 0, "1:ab, 2 long, "),
+    ("ab\nabcd\n", 8, 8, 0, "1:ab, 2 long, "),
+    ("abc\n", 3, 9, 0, "too much"),
+    ("abc", 3, 9, 0, "1:abc. "),
+    ("abc", 2, 1, 0, "too much"),
+    ("abc\nabcd", 99, 5, 0, "1:abc, 2 long. "),
+    ("\n\na", 99, 2, 0, "1:, 2:, 3:a. "),
+    ("a\r\n", 99, 9, 0, "1:a\r, "),
+    ("", 0, 9, 0, ""),
+    ("abcdefghij\nk\n", 99, 2, 0, "1 long, 2:k, "),
+    ("ab\ncd\n", 99, 3, 1, "read fault"),
+    ("ab\ncd\n", 99, 3, 2, "1:ab, read fault"),
+    ("ab\ncd\n", 99, 3, 3, "1:ab, 2:cd, read fault"),
+    ("ab\ncd\n", 99, 3, 4, "1:ab, 2:cd, "),
+    ("ab\ncd", 99, 1, 6, "1:ab, read fault"),
+];
+
+// What is told of a file that is read in such pieces and fails at one call, if not 0.
+fn told_by(
+    alloc: Global,
+    text: &str,
+    total_most: u64,
+    piece: usize,
+    failing: u64,
+) -> Result<String, Fail>
+    requires { 0 < piece }
+{
+    let mut files = MemFiles::new(alloc);
+    files.add("a", text.as_bytes())?;
+    files.piece(piece);
+    if failing > 0 {
+        files.fail_at(failing)?;
+    }
+    told_lines(alloc, &mut files, "a", 3, total_most)
+}
+
+#[test]
+fn lines_are_told_in_any_pieces(rt: HostRuntime) -> Result<(), Fail> {
+    let alloc = rt.alloc();
+    for (text, total_most, piece, failing, answer) in LINE_CASES {
+        assert!(rt; piece > 0);
+        let told = told_by(alloc, text, total_most, piece, failing)?;
+        assert_eq!(rt; told.as_str(), answer, "{text} by {piece}, {failing}");
+    }
+    let told = told_lines(alloc, &mut MemFiles::new(alloc), "a", 3, 99)?;
+    assert_eq!(rt; told.as_str(), "read fault");
     Ok(())
 }

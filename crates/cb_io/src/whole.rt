@@ -7,7 +7,7 @@ use std::alloc::{AllocError, Global};
 use thiserror::Error;
 
 // How many bytes are asked for at once: enough that a system call for each costs nothing beside the copying.
-const PIECE: usize = 64 << 10;
+pub(crate) const PIECE: usize = 64 << 10;
 
 /// Why a file wasn't read whole. A front of it may have been taken.
 #[derive(Clone, Copy, Debug, PartialEq, Eq, Error)]

@@ -16,7 +16,7 @@ mod piece;
 mod status;
 
 pub use accepted::accepted_text;
-pub use events::events_text;
+pub use events::{event_text, events_text};
 pub use fault::Fault;
 pub use fault_line::say_fault;
 pub use finding::burst_text;

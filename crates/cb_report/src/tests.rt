@@ -1,7 +1,9 @@
 //! The lines of a finding, as an operator reads them.
-use crate::burst_text;
+use crate::{burst_text, event_text, events_text};
 use cb_finding::Finding;
-use cb_model::{List, Name, NamedGroup, NodeName};
+use cb_log::{Event, RefusedWhy, SkipKind, SkipWhy};
+use cb_model::{GroupName, List, Name, NamedGroup, NodeName};
+use cb_network::EditRefusal;
 use std::alloc::{AllocError, Global};
 use std::test::Fail;
 
@@ -40,5 +42,75 @@ fn a_tie_lists_quiet_and_the_others(rt: HostRuntime) -> Result<(), Fail> {
         text.as_slice(),
         b"burst raised 18446744073709551615 unknown 0 distance 1 radius 12 unsure groups 2\n  group quiet\n  group Dry@p1 Worn@p1\n".as_slice()
     );
+    Ok(())
+}
+
+// A finding that names the quiet group alone.
+fn quiet_finding(alloc: Global) -> Result<Finding, AllocError> {
+    let mut groups = List::new(alloc);
+    groups.push(NamedGroup {
+        quiet: true,
+        members: List::new(alloc),
+    })?;
+    Ok(Finding {
+        raised: 1,
+        unknown: 0,
+        distance: 1,
+        radius: 1,
+        sure: true,
+        groups,
+    })
+}
+
+// Adds an event of each kind.
+fn add_events(alloc: Global, events: &mut List<Event>) -> Result<(), AllocError> {
+    events.push(Event::Skipped {
+        line: 1,
+        why: SkipWhy::Long,
+    })?;
+    events.push(Event::Skipped {
+        line: 22,
+        why: SkipWhy::Bad(SkipKind::BadAt),
+    })?;
+    events.push(Event::Refused {
+        line: 23,
+        why: RefusedWhy::Edit(EditRefusal::Exists),
+    })?;
+    events.push(Event::Refused {
+        line: 24,
+        why: RefusedWhy::Fixed,
+    })?;
+    events.push(Event::Thin {
+        wanted: 3,
+        first: GroupName::Quiet,
+        second: GroupName::Least(node(alloc, b"Dry", b"p1")?),
+        distance: 2,
+    })?;
+    events.push(Event::BookMade {
+        columns: 7,
+        of: 9,
+        distance: 3,
+        radius: 1,
+        groups: 5,
+    })?;
+    events.push(Event::Diagnosis {
+        from: Name::of(alloc, b"probe")?,
+        opened: 10,
+        closed: 70,
+        finding: quiet_finding(alloc)?,
+    })
+}
+
+const EVENT_LINES: &str = "skipped 1 long\nskipped 22 bad-at\nrefused 23 exists\nrefused 24 fixed\nthin wanted 3 first quiet second Dry@p1 distance 2\nbook columns 7 of 9 distance 3 radius 1 groups 5\ndiagnosis probe 10 70 raised 1 unknown 0 distance 1 radius 1 sure groups 1\n  group quiet\n";
+
+#[test]
+fn each_event_has_its_lines(rt: HostRuntime) -> Result<(), Fail> {
+    let alloc = rt.alloc();
+    let mut events = List::new(alloc);
+    add_events(alloc, &mut events)?;
+    let text = events_text(alloc, &events)?;
+    assert_eq!(rt; text.as_slice(), EVENT_LINES.as_bytes());
+    let first = event_text(alloc, &events.as_slice()[0])?;
+    assert_eq!(rt; first.as_slice(), b"skipped 1 long\n".as_slice());
     Ok(())
 }

@@ -33,7 +33,8 @@ fn write<'w, O: Sink>(output: Output<'w>, out: &mut O) -> Result<(), Fault<'w>>
     if write_all(out, &output.bytes).is_err() {
         return Err(Fault::WriteFault);
     }
-    match output.fault {
+    let Output { fault, .. } = output;
+    match fault {
         Some(fault) => Err(fault),
         None => Ok(()),
     }

@@ -1,0 +1,254 @@
+-- The end of a line, as it is looked for.
+use Rattle.std.proofs.Common.{◌≡◌, ℕ, ◌+◌, ◌<◌, ◌≤◌, min, true, false, nat_eq, List, [], ◌∷◌, ◌++◌, length, get_or, take, drop, Some, None, Result, Ok, Err, refl, sym, ap, subst, ◌∙◌, inl, inr, arith, length-take, length-drop, length-append, append_assoc, append-nil}
+use Rattle.std.proofs.KnownBytes.{Consumes-nil, Consumes-trans, Consumes-kept, Keeps-refl}
+use Rattle.std.proofs.lemmas.Bool.{eqb-true, eq-eqb}
+use Rattle.std.proofs.lemmas.List.{take-append-le, take-append-drop, length-take-le, take_all, take_at, drop_more, get_or-take, get_or-drop, get_or_default}
+use Rattle.std.proofs.Math.Seq.{take-add}
+use Rattle.memchr.specs.Find.{IsFirstByte, is_byte}
+use Rattle.std.proofs.lemmas.List.Elements.{Contains-append_left, Contains-append_right, Contains-append_cases}
+use Rattle.std.specs.Prelude.{IfOk, IfErr}
+use Rattle.std.specs.List.{Contains}
+use Rattle.std.specs.Io.KnownBytes.{Keeps, Consumes}
+use Rattle.cb_io.specs.declared.line_end.LineEnd.{LineEnd}
+use Rattle.cb_io.specs.declared.outside.FileStop.{FileStop}
+use Rattle.cb_io.specs.declared.outside.FileStop.TheVariants.{Failed, NoMemory}
+use Rattle.cb_io.specs.declared.whole.ReadStop.{ReadStop}
+use Rattle.cb_io.specs.declared.whole.ReadStop.TheVariants.{TooMuch}
+use Rattle.cb_io.specs.Hand.{Held, Grows}
+use Rattle.cb_io.specs.LineReading.{IsOneLine, BeginWith}
+use Rattle.cb_io.specs.LineSearch.{HasCome, IsLostWhole, ThrowsLong, Finds, IsOver, GivesUp}
+use Rattle.cb_io.specs.Stops.{stop_of}
+use Rattle.cb_io.specs.Outside.{FilesTold, left_of, KeepsOthers, NoCountFalls}
+use Rattle.cb_io.specs.Pieces.{piece_limit}
+use Rattle.cb_io.proofs.Told.{NoCountFalls-trans, KeepsOthers-trans}
+
+-- ---- what has come
+
+pub come_none : (start : List ℕ) (files : FilesTold) (name : List ℕ) → HasCome start files files name start
+come_none start files name = record {
+  came = [];
+  are = append-nil start;
+  read = Consumes-nil (left_of files name);
+  others = λ other ne. Keeps-refl (left_of files other);
+  counts = λ other. omega arith;
+}
+
+-- more came
+pub come_more : {start : List ℕ} {a b : FilesTold} (c : FilesTold) {name all : List ℕ} (more : List ℕ) → HasCome start a b name all →
+    Consumes (left_of b name) (left_of c name) more → KeepsOthers b c name → NoCountFalls b c → HasCome start a c name (all ++ more)
+come_more {start} {a} {b} c {name} {all} more come read others counts = record {
+  came = come.came ++ more;
+  are = sym (append_assoc start come.came more) ∙ ap (λ (l : List ℕ). l ++ more) come.are;
+  read = Consumes-trans (left_of a name) (left_of b name) (left_of c name) come.came more come.read read;
+  others = KeepsOthers-trans a b c name come.others others;
+  counts = NoCountFalls-trans a b c come.counts counts;
+}
+
+-- a read gave nothing
+pub come_kept : {start : List ℕ} {a b : FilesTold} (c : FilesTold) {name all : List ℕ} → HasCome start a b name all →
+    Keeps (left_of b name) (left_of c name) → KeepsOthers b c name → NoCountFalls b c → HasCome start a c name all
+come_kept {start} {a} {b} c {name} {all} come kept others counts = record {
+  came = come.came;
+  are = come.are;
+  read = Consumes-kept (left_of a name) (left_of b name) (left_of c name) come.came come.read kept;
+  others = KeepsOthers-trans a b c name come.others others;
+  counts = NoCountFalls-trans a b c come.counts counts;
+}
+
+-- ---- bytes without a LF
+
+pub one_front : (front back : List ℕ) → IsOneLine (front ++ back) → IsOneLine front
+one_front front back one = λ has. one (Contains-append_left front back 10 has)
+
+pub one_back : (front back : List ℕ) → IsOneLine (front ++ back) → IsOneLine back
+one_back front back one = λ has. one (Contains-append_right front back 10 has)
+
+pub one_both : (front back : List ℕ) → IsOneLine front → IsOneLine back → IsOneLine (front ++ back)
+one_both front back first second = λ has. elim (Contains-append_cases front back 10 has) [
+  | inl left ↦ first left
+  | inr right ↦ second right
+]
+
+-- more bytes than there is room for
+pub over : (line rest : List ℕ) (room : ℕ) → IsOneLine line → room ≤ length line → room < length (line ++ rest) → IsOver room (line ++ rest)
+over line rest room one within more = record {
+  front = take room (line ++ rest);
+  behind = drop room (line ++ rest);
+  are = sym (take-append-drop room (line ++ rest));
+  one = subst IsOneLine (sym (take-append-le room line rest within))
+      (one_front (take room line) (drop room line) (subst IsOneLine (sym (take-append-drop room line)) one));
+  full = length-take-le room (line ++ rest) (omega arith);
+  more = λ none. let zero = ap length none in omega (arith, zero, length-drop room (line ++ rest), more);
+}
+
+-- ---- the search
+
+-- so many bytes of the line were thrown away, and so many of those in hand were searched, without a LF
+pub record Sought (start : List ℕ) (before now : FilesTold) (name : List ℕ) (line_most room size : ℕ) (hand : Held) (lost searched : ℕ) : Type 0 where
+  pub thrown : List ℕ
+  pub lost_is : length thrown ≡ lost
+  pub come : HasCome start before now name (thrown ++ hand.kept)
+  pub one : IsOneLine (thrown ++ take searched hand.kept)
+  pub long : IsLostWhole line_most lost
+  pub within : lost + searched ≤ room
+  pub in_hand : searched ≤ length hand.kept
+  pub few : length hand.kept ≤ searched + piece_limit
+  pub size_is : hand.size ≡ size
+
+-- ---- a LF
+
+-- where the search for a byte passed no place, the front has none
+absent_before : (cut n : ℕ) (bytes : List ℕ) → ((k : ℕ) → k < n → k < length bytes → ¬ (nat_eq (get_or bytes k 0) cut ≡ true)) → ¬ Contains (take n bytes) cut
+absent_before cut n bytes before (k, low, is) =
+    let within : k < min n (length bytes) = omega (arith, low, length-take n bytes) in
+    let same = get_or-take n bytes k cut (omega arith) ∙ get_or_default bytes k cut 0 (omega arith) in
+    before k (omega arith) (omega arith) (eq-eqb (get_or bytes k 0) cut (sym same ∙ is))
+
+module _ (bytes : List ℕ) (searched : ℕ) (within : searched ≤ length bytes) (one : IsOneLine (take searched bytes)) where
+  -- a LF was found behind the bytes that were searched before
+  pub lf_at : (n : ℕ) → IsFirstByte (is_byte 10) (drop searched bytes) (Some n) → BeginWith bytes (take (searched + n) bytes) (drop (searched + n + 1) bytes)
+  lf_at n found =
+      let rest : List ℕ = drop searched bytes in
+      let low : searched + n < length bytes = omega (arith, found.0.high, length-drop searched bytes) in
+      let between : IsOneLine (take n rest) = absent_before 10 n rest (λ k below inside. found.0.before k (omega arith) (omega arith)) in
+      let lf : get_or bytes (searched + n) 0 ≡ 10 = sym (get_or-drop searched bytes n 0) ∙ eqb-true (get_or rest n 0) 10 found.1 in
+      let behind : drop (searched + n) bytes ≡ 10 ∷ drop (searched + n + 1) bytes =
+      drop_more bytes (searched + n) 0 low ∙ ap (λ b. b ∷ drop (searched + n + 1) bytes) lf in
+      record {
+        one = subst IsOneLine (sym (take-add searched n bytes)) (one_both (take searched bytes) (take n rest) one between);
+        are = sym (take-append-drop (searched + n) bytes) ∙ ap (λ (l : List ℕ). take (searched + n) bytes ++ l) behind;
+      }
+
+  -- there is none
+  pub no_lf : IsFirstByte (is_byte 10) (drop searched bytes) None → IsOneLine bytes
+  no_lf found =
+      let rest : List ℕ = drop searched bytes in
+      let behind : IsOneLine (take (length rest) rest) = absent_before 10 (length rest) rest (λ k below inside. found k (omega arith) inside) in
+      subst IsOneLine (take-append-drop searched bytes) (one_both (take searched bytes) rest one (subst IsOneLine (take_all (length rest) rest (omega arith)) behind))
+
+-- ---- the end of the line
+
+module _ {start : List ℕ} {before now : FilesTold} {name : List ℕ} {line_most room size : ℕ} {hand : Held} {lost : ℕ} where
+  -- what was searched of the bytes in hand has no LF
+  pub searched_one : {searched : ℕ} → Sought start before now name line_most room size hand lost searched → IsOneLine (take searched hand.kept)
+  searched_one {searched} sought = one_back sought.thrown (take searched hand.kept) sought.one
+
+  -- a LF ends the line, and there is room for it
+  pub found_lf : {searched : ℕ} (sought : Sought start before now name line_most room size hand lost searched) (at : ℕ) (end : Result LineEnd ReadStop) →
+      BeginWith hand.kept (take at hand.kept) (drop (at + 1) hand.kept) → searched ≤ at → at < length hand.kept →
+      IfOk end (λ e. e ≡ record { lost = lost; length = at; is_last = false }) → IfOk end (λ e. lost + at < room) →
+      IfOk end (Finds start before now name line_most room hand)
+  found_lf sought at (Err stop) begin low high is within = tt
+  found_lf {searched} sought at (Ok end) begin low high is within = rw is (record {
+    thrown = sought.thrown;
+    lost_is = sought.lost_is;
+    come = sought.come;
+    one = one_both sought.thrown (take at hand.kept) (one_front sought.thrown (take searched hand.kept) sought.one) begin.one;
+    way = begin.are;
+    in_hand = omega (arith, high);
+    within = omega (arith, within);
+    few = omega (arith, sought.few, low);
+    long = sought.long;
+  })
+
+  -- a LF ends the line, and there is no room for it
+  pub over_lf : {searched : ℕ} (sought : Sought start before now name line_most room size hand lost searched) (at : ℕ) (end : Result LineEnd ReadStop) →
+      BeginWith hand.kept (take at hand.kept) (drop (at + 1) hand.kept) → at < length hand.kept →
+      IfErr end (λ stop. (stop ≡ TooMuch) × (room ≤ lost + at)) → IfErr end (GivesUp start before now name room)
+  over_lf sought at (Ok end) begin high over_it = tt
+  over_lf {searched} sought at (Err stop) begin high over_it =
+      let line : List ℕ = sought.thrown ++ take at hand.kept in
+      let whole : line ++ drop at hand.kept ≡ sought.thrown ++ hand.kept =
+      append_assoc sought.thrown (take at hand.kept) (drop at hand.kept) ∙ ap (λ (l : List ℕ). sought.thrown ++ l) (take-append-drop at hand.kept) in
+      let one = one_both sought.thrown (take at hand.kept) (one_front sought.thrown (take searched hand.kept) sought.one) begin.one in
+      let length_is = length-append sought.thrown (take at hand.kept) in
+      let all_is = length-append sought.thrown hand.kept in
+      let full : room ≤ length line = omega (arith, over_it.1, length_is, length-take-le at hand.kept (omega arith), sought.lost_is) in
+      let more : room < length (line ++ drop at hand.kept) = rw whole (omega (arith, over_it.1, all_is, sought.lost_is, high)) in
+      rw over_it.0 (record { all = sought.thrown ++ hand.kept; come = sought.come; why = subst (IsOver room) whole (over line (drop at hand.kept) room one full more) })
+
+  -- no LF is in hand, and there is no room for what is
+  pub over_hand : {searched : ℕ} (sought : Sought start before now name line_most room size hand lost searched) (stop : ReadStop) →
+      IsOneLine hand.kept → (stop ≡ TooMuch) × (room < lost + length hand.kept) → GivesUp start before now name room stop
+  over_hand {searched} sought stop none over_it =
+      let all : List ℕ = sought.thrown ++ hand.kept in
+      let one = one_both sought.thrown hand.kept (one_front sought.thrown (take searched hand.kept) sought.one) none in
+      let all_is = length-append sought.thrown hand.kept in
+      let more : room < length (all ++ []) = rw append-nil (omega (arith, over_it.1, all_is, sought.lost_is)) in
+      let full : room ≤ length all = omega (arith, over_it.1, all_is, sought.lost_is) in
+      rw over_it.0 (record { all = all; come = sought.come; why = subst (IsOver room) (append-nil all) (over all [] room one full more) })
+
+  -- bytes of a line that is too long were thrown away, and all that is in hand was searched
+  pub thrown_long : {searched : ℕ} (sought : Sought start before now name line_most room size hand lost searched) (new : Held) (now_lost : ℕ) →
+      IsOneLine hand.kept → ThrowsLong line_most hand new lost now_lost → now_lost + length new.kept ≤ room → new.size ≡ hand.size →
+      Sought start before now name line_most room size new now_lost (length new.kept)
+  thrown_long {searched} sought new now_lost none throws within same =
+      let none_there = one_front sought.thrown (take searched hand.kept) sought.one in
+      let whole : sought.thrown ++ hand.kept ≡ sought.thrown ++ throws.thrown ++ new.kept =
+      ap (λ (l : List ℕ). sought.thrown ++ l) throws.kept ∙ sym (append_assoc sought.thrown throws.thrown new.kept) in
+      record {
+        thrown = sought.thrown ++ throws.thrown;
+        lost_is = omega (arith, length-append sought.thrown throws.thrown, sought.lost_is, throws.lost_is);
+        come = subst (HasCome start before now name) whole sought.come;
+        one = rw (take_all (length new.kept) new.kept (omega arith)) (subst IsOneLine whole (one_both sought.thrown hand.kept none_there none));
+        long = throws.long;
+        within = within;
+        in_hand = omega arith;
+        few = omega arith;
+        size_is = same ∙ sought.size_is;
+      }
+
+module _ {start : List ℕ} {before now : FilesTold} {name : List ℕ} {line_most room size : ℕ} {hand : Held} {lost : ℕ}
+    (sought : Sought start before now name line_most room size hand lost (length hand.kept)) where
+  whole_one : IsOneLine (sought.thrown ++ hand.kept)
+  whole_one = subst (λ (l : List ℕ). IsOneLine (sought.thrown ++ l)) (take_all (length hand.kept) hand.kept (omega arith)) sought.one
+
+  -- a read failed
+  pub read_failed : (after : FilesTold) (stop : FileStop) → Keeps (left_of now name) (left_of after name) → KeepsOthers now after name → NoCountFalls now after →
+      GivesUp start before after name room (stop_of stop)
+  read_failed after Failed kept others counts = record { all = sought.thrown ++ hand.kept; come = come_kept after sought.come kept others counts; why = whole_one }
+  read_failed after NoMemory kept others counts = record { all = sought.thrown ++ hand.kept; come = come_kept after sought.come kept others counts; why = whole_one }
+
+  module _ (after : FilesTold) (new : Held) (count : ℕ) (grows : Grows hand new now after name count) (others : KeepsOthers now after name) (counts : NoCountFalls now after) where
+    come_on : HasCome start before after name (sought.thrown ++ new.kept)
+    come_on =
+        let whole : sought.thrown ++ hand.kept ++ grows.more ≡ sought.thrown ++ new.kept =
+        append_assoc sought.thrown hand.kept grows.more ∙ ap (λ (l : List ℕ). sought.thrown ++ l) (sym grows.kept) in
+        subst (HasCome start before after name) whole (come_more after grows.more sought.come grows.came others counts)
+
+    new_length : length new.kept ≡ length hand.kept + count
+    new_length = ap length grows.kept ∙ (length-append hand.kept grows.more ∙ ap (λ n. length hand.kept + n) grows.count_is)
+
+    old_front : take (length hand.kept) new.kept ≡ hand.kept
+    old_front = ap (take (length hand.kept)) grows.kept ∙ take_at hand.kept grows.more (length hand.kept) refl
+
+    one_on : IsOneLine (sought.thrown ++ take (length hand.kept) new.kept)
+    one_on = subst IsOneLine (ap (λ (l : List ℕ). sought.thrown ++ l) (sym old_front)) whole_one
+
+    -- more bytes came
+    pub searched_on : new.size ≡ hand.size → Sought start before after name line_most room size new lost (length hand.kept)
+    searched_on same = record {
+      thrown = sought.thrown;
+      lost_is = sought.lost_is;
+      come = come_on;
+      one = one_on;
+      long = sought.long;
+      within = sought.within;
+      in_hand = omega (arith, new_length);
+      few = omega (arith, new_length, grows.few);
+      size_is = same ∙ sought.size_is;
+    }
+
+    -- nothing came
+    pub found_end : count ≡ 0 → Finds start before after name line_most room new (record { lost = lost; length = length hand.kept; is_last = true })
+    found_end none = record {
+      thrown = sought.thrown;
+      lost_is = sought.lost_is;
+      come = come_on;
+      one = one_on;
+      way = (omega (arith, new_length, none), grows.end none);
+      in_hand = omega (arith, new_length);
+      within = omega (arith, sought.within);
+      few = omega (arith, new_length, grows.few);
+      long = sought.long;
+    }

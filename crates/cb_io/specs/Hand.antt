@@ -1,0 +1,35 @@
+-- What is in hand of a file that is read line by line, and what more bytes make of it.
+use Rattle.std.specs.Prelude.{◌≡◌, ℕ, ◌≤◌, List, ◌++◌, length, take, drop, Result}
+use Rattle.std.specs.Result.{MatchResult}
+use Rattle.std.specs.Io.KnownBytes.{Keeps, Consumes, IsAtEnd}
+use Rattle.cb_io.specs.Outside.{FilesTold, left_of}
+use Rattle.cb_io.specs.Pieces.{piece_limit}
+
+-- the text of the last line, the bytes that were taken behind it, and how many bytes there is room for
+pub record Held : Type 0 where
+  pub text : List ℕ
+  pub kept : List ℕ
+  pub size : ℕ
+
+-- a part of so many bytes, from one place to another
+pub record IsPart (size from to : ℕ) : Type 0 where
+  pub in_order : from ≤ to
+  pub within : to ≤ size
+
+-- the first bytes of what was kept are the text, and those from a place on are kept
+abbrev pub with_text : Held → ℕ → ℕ → Held
+with_text held line behind = record held { text = take line held.kept; kept = drop behind held.kept }
+
+-- so many bytes of the file came, at most one piece, and stand behind those that were kept; none came only at the end
+pub record Grows (old new : Held) (before after : FilesTold) (name : List ℕ) (count : ℕ) : Type 0 where
+  pub more : List ℕ
+  pub kept : new.kept ≡ old.kept ++ more
+  pub count_is : length more ≡ count
+  pub few : count ≤ piece_limit
+  pub came : Consumes (left_of before name) (left_of after name) more
+  pub end : count ≡ 0 → IsAtEnd (left_of after name)
+
+-- a read came to this: more bytes, or none
+abbrev pub Refills : {E : Type 0} → Held → Held → FilesTold → FilesTold → List ℕ → Result ℕ E → Type 0
+Refills old new before after name result =
+    MatchResult result (Grows old new before after name) (λ _. Keeps (left_of before name) (left_of after name))

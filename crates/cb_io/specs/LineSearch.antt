@@ -1,0 +1,81 @@
+-- How the end of the next line is looked for, among the bytes in hand and those that are read behind them.
+use Rattle.std.specs.Prelude.{◌≡◌, ◌≢◌, ◌⊎◌, ℕ, ◌+◌, ◌<◌, ◌≤◌, ◌++◌, List, [], ◌∷◌, length, take, drop, Bool, true, false}
+use Rattle.std.specs.Io.KnownBytes.{Consumes, IsAtEnd}
+use Rattle.cb_io.specs.declared.line_end.LineEnd.{LineEnd}
+use Rattle.cb_io.specs.declared.whole.ReadStop.{ReadStop}
+use Rattle.cb_io.specs.declared.whole.ReadStop.TheVariants.{ReadFault, TooMuch, NoMemory}
+use Rattle.cb_io.specs.Hand.{Held}
+use Rattle.cb_io.specs.LineReading.{IsOneLine}
+use Rattle.cb_io.specs.Outside.{FilesTold, left_of, KeepsOthers, NoCountFalls}
+use Rattle.cb_io.specs.Pieces.{piece_limit}
+
+-- the bytes at the start and those that were read of the file since are these, and nothing else changed
+pub record HasCome (start : List ℕ) (before after : FilesTold) (name all : List ℕ) : Type 0 where
+  pub came : List ℕ
+  pub are : start ++ came ≡ all
+  pub read : Consumes (left_of before name) (left_of after name) came
+  pub others : KeepsOthers before after name
+  pub counts : NoCountFalls before after
+
+-- a line of which bytes were thrown away is too long
+abbrev pub IsLostWhole : ℕ → ℕ → Type 0
+IsLostWhole line_most lost = (lost ≡ 0) ⊎ (line_most < lost)
+
+-- the bytes in hand of an open line were thrown away, or the line isn't too long yet
+pub record ThrowsLong (line_most : ℕ) (old new : Held) (lost now_lost : ℕ) : Type 0 where
+  pub thrown : List ℕ
+  pub kept : old.kept ≡ thrown ++ new.kept
+  pub lost_is : now_lost ≡ lost + length thrown
+  pub long : IsLostWhole line_most now_lost
+  pub few : length new.kept ≤ line_most
+
+-- how many LFs end a line: none ends the last line
+abbrev pub lf_count : Bool → ℕ
+lf_count true = 0
+lf_count false = 1
+
+-- how many of the bytes in hand are those of the line, with its LF
+abbrev pub behind_of : LineEnd → ℕ
+behind_of end = end.length + lf_count end.is_last
+
+-- how many bytes a line has in all, with its LF
+abbrev pub size_of : LineEnd → ℕ
+size_of end = end.lost + behind_of end
+
+-- the bytes in hand end a line at a place: a LF is there, or nothing comes behind them
+abbrev pub EndsBy : List ℕ → FilesTold → List ℕ → ℕ → Bool → Type 0
+EndsBy kept after name length_is true = (length_is ≡ length kept) × IsAtEnd (left_of after name)
+EndsBy kept after name length_is false = kept ≡ take length_is kept ++ 10 ∷ drop (length_is + 1) kept
+
+-- the end of the line was found, and there is room for the line
+pub record Finds (start : List ℕ) (before after : FilesTold) (name : List ℕ) (line_most room : ℕ) (hand : Held) (end : LineEnd) : Type 0 where
+  pub thrown : List ℕ
+  pub lost_is : length thrown ≡ end.lost
+  pub come : HasCome start before after name (thrown ++ hand.kept)
+  pub one : IsOneLine (thrown ++ take end.length hand.kept)
+  pub way : EndsBy hand.kept after name end.length end.is_last
+  pub in_hand : behind_of end ≤ length hand.kept
+  pub within : size_of end ≤ room
+  pub few : length hand.kept ≤ behind_of end + piece_limit
+  pub long : IsLostWhole line_most end.lost
+
+-- there are more bytes than there is room for, and no LF among those for which there is
+pub record IsOver (room : ℕ) (all : List ℕ) : Type 0 where
+  pub front : List ℕ
+  pub behind : List ℕ
+  pub are : all ≡ front ++ behind
+  pub one : IsOneLine front
+  pub full : length front ≡ room
+  pub more : behind ≢ []
+
+-- why the end wasn't found among the bytes that came
+abbrev pub IsStop : ℕ → List ℕ → ReadStop → Type 0
+IsStop room all TooMuch = IsOver room all
+IsStop room all ReadFault = IsOneLine all
+IsStop room all NoMemory = IsOneLine all
+
+-- the end of the line wasn't found
+pub record GivesUp (start : List ℕ) (before after : FilesTold) (name : List ℕ) (room : ℕ) (stop : ReadStop) : Type 0 where
+  pub all : List ℕ
+  pub come : HasCome start before after name all
+  pub why : IsStop room all stop

@@ -1,0 +1,125 @@
+//! Where the next line of a file ends.
+ghost use Rattle.std.specs.Prelude.{◌≡◌, ◌+◌, ◌^◌, ◌<◌, ◌≤◌, false, length, take, drop, IfOk, IfErr, IfSome, IfNone, IsErrOf};
+ghost use Rattle.cb_io.specs.LineReading.{IsOneLine, BeginWith};
+ghost use Rattle.cb_io.specs.LineSearch.{ThrowsLong, IsLostWhole, Finds, GivesUp, behind_of, size_of};
+ghost use Rattle.cb_io.specs.Outside.{ReadFailed};
+ghost use Rattle.cb_io.specs.Pieces.{piece_limit};
+
+use crate::hand::Hand;
+use crate::{Files, ReadStop};
+use memchr::memchr;
+
+// Where a line ends: how many of its bytes were thrown away, how many it has of those in hand, and whether it is the last one,
+// which the end of the file ends, not a LF.
+#[derive(Clone, Copy, Debug)]
+pub(crate) struct LineEnd {
+    pub(crate) lost: u64,
+    pub(crate) length: usize,
+    pub(crate) is_last: bool,
+}
+
+impl LineEnd {
+    // How many of the bytes in hand are those of the line, with its LF.
+    pub(crate) fn behind(&self) -> usize
+        requires { behind_of self.now < 2 ^ 64 }
+        ensures { result ≡ behind_of self.now }
+    {
+        if self.is_last {
+            self.length
+        } else {
+            self.length + 1
+        }
+    }
+
+    // How many bytes the line has in all, with its LF.
+    pub(crate) fn size(&self) -> u64
+        requires { size_of self.now < 2 ^ 64 }
+        ensures { result ≡ size_of self.now }
+    {
+        self.lost + self.behind() as u64
+    }
+}
+
+// The place of the first LF, which isn't among the bytes that were searched before.
+fn find_lf(bytes: &[u8], searched: usize) -> Option<usize>
+    requires within { searched ≤ length bytes.now }
+    requires none { IsOneLine (take searched bytes.now) }
+    ensures none { IfNone result (IsOneLine bytes.now) }
+    ensures lf { IfSome result (λ at. BeginWith bytes.now (take at bytes.now) (drop (at + 1) bytes.now)) }
+    ensures new { IfSome result (λ at. searched ≤ at) }
+    ensures within { IfSome result (λ at. at < length bytes.now) }
+{
+    let at = memchr(b'\n', &bytes[searched..])?;
+    Some(searched + at)
+}
+
+// The line that a LF ends, if there is room for it.
+fn end_at(lost: u64, length: usize, room: u64) -> Result<LineEnd, ReadStop>
+    requires { lost ≤ room }
+    ensures end { IfOk result (λ end. end ≡ record { lost = lost; length = length; is_last = false }) }
+    ensures within { IfOk result (λ end. lost + length < room) }
+    ensures over { IfErr result (λ stop. (stop ≡ ReadStop.TooMuch) × (room ≤ lost + length)) }
+{
+    if length as u64 >= room - lost {
+        return Err(ReadStop::TooMuch);
+    }
+    Ok(LineEnd {
+        lost,
+        length,
+        is_last: false,
+    })
+}
+
+// Throws away what is in hand of a line without its end, where the line is too long, and says how many bytes of it are lost.
+fn throw_long(hand: &mut Hand, lost: u64, line_most: usize, room: u64) -> Result<u64, ReadStop>
+    requires room { lost ≤ room }
+    requires long { IsLostWhole line_most lost }
+    ensures size { hand.new.size ≡ hand.old.size }
+    ensures throws { IfOk result (ThrowsLong line_most hand.old hand.new lost) }
+    ensures within { IfOk result (λ now_lost. now_lost + length hand.new.kept ≤ room) }
+    ensures over { IfErr result (λ stop. (stop ≡ ReadStop.TooMuch) × (room < lost + length hand.old.kept)) }
+{
+    let length = hand.kept().len();
+    if length as u64 > room - lost {
+        return Err(ReadStop::TooMuch);
+    }
+    let open = lost + length as u64;
+    if open <= line_most as u64 {
+        return Ok(lost);
+    }
+    hand.give(0, length);
+    Ok(open)
+}
+
+// Reads on to the end of the next line. A line has at most `line_most` bytes without its LF, and there is room for so many with it.
+pub(crate) fn find_end<F: Files>(
+    hand: &mut Hand,
+    files: &mut F,
+    name: &str,
+    line_most: usize,
+    room: u64,
+) -> Result<LineEnd, ReadStop>
+    requires few { length hand.old.kept ≤ piece_limit }
+    requires size { line_most < hand.old.size }
+    ensures size { hand.new.size ≡ hand.old.size }
+    ensures found { IfOk result (Finds hand.old.kept (F.tells files.old) (F.tells files.new) name.now line_most room hand.new) }
+    ensures stopped { IfErr result (GivesUp hand.old.kept (F.tells files.old) (F.tells files.new) name.now room) }
+    ensures failed { IsErrOf result ReadStop.ReadFault → ReadFailed (F.tells files.old) (F.tells files.new) name.now }
+{
+    let mut lost = 0;
+    let mut searched = 0;
+    'reads: loop {
+        if let Some(length) = find_lf(hand.kept(), searched) {
+            return end_at(lost, length, room);
+        }
+        lost = throw_long(hand, lost, line_most, room)?;
+        searched = hand.kept().len();
+        if hand.refill(files, name)? == 0 {
+            return Ok(LineEnd {
+                lost,
+                length: searched,
+                is_last: true,
+            });
+        }
+    }
+}
