@@ -101,7 +101,8 @@ fn add_events(alloc: Global, events: &mut List<Event>) -> Result<(), AllocError>
     })
 }
 
-const EVENT_LINES: &str = "skipped 1 long\nskipped 22 bad-at\nrefused 23 exists\nrefused 24 fixed\nthin wanted 3 first quiet second Dry@p1 distance 2\nbook columns 7 of 9 distance 3 radius 1 groups 5\ndiagnosis probe 10 70 raised 1 unknown 0 distance 1 radius 1 sure groups 1\n  group quiet\n";
+const EVENT_LINES: &str =
+    "skipped 1 long\nskipped 22 bad-at\nrefused 23 exists\nrefused 24 fixed\nthin wanted 3 first quiet second Dry@p1 distance 2\nbook columns 7 of 9 distance 3 radius 1 groups 5\ndiagnosis probe 10 70 raised 1 unknown 0 distance 1 radius 1 sure groups 1\n  group quiet\n";
 
 #[test]
 fn each_event_has_its_lines(rt: HostRuntime) -> Result<(), Fail> {
