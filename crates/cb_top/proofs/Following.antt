@@ -1,5 +1,5 @@
 -- What each way out of a step along a log leaves.
-use Rattle.std.proofs.Common.{◌≡◌, ◌∙◌, ◌⊎◌, ◌≤◌, ◌<◌, ◌+◌, ◌×◌, ℕ, min, Bool, true, false, List, [], ◌∷◌, ◌++◌, append_assoc, append-nil, length, take, refl, sym, ap, subst, inl, inr, arith, Result, Ok, Err}
+use Rattle.std.proofs.Common.{◌≡◌, ◌∙◌, ◌⊎◌, ◌≤◌, ◌<◌, ◌+◌, ℕ, min, Bool, true, false, List, [], ◌∷◌, ◌++◌, append_assoc, append-nil, length, take, refl, sym, ap, subst, inl, inr, arith, Result, Ok, Err}
 use Rattle.std.specs.Prelude.{Option, None, Some, IfSome, IsSome}
 use Rattle.std.specs.Option.{option_map}
 use Rattle.std.specs.Io.KnownBytes.{Appends}
@@ -19,7 +19,7 @@ use Rattle.cb_top.specs.declared.stop.LogStop.TheVariants as stops
 use Rattle.cb_top.specs.Following.{IsDueUpto, IsDueOfAll, IsToldWhole, IsToldToLimit, IsToldAsTaken, IsToldSoFar, IsToldInPart, IsNotFar, IsCutShort, TellsLog, EndsLog}
 use Rattle.cb_top.specs.Kinds.{ReadsOnly}
 use Rattle.cb_top.specs.Stops.{stop_of_read, fault_of_stop}
-use Rattle.cb_top.specs.Telling.{joined, IsAt, ComesNext, ComesLast, Comes, PieceSays, ReadsLog, HasTold, Going, GoesOrEnds}
+use Rattle.cb_top.specs.Telling.{joined, IsAt, ComesNext, ComesLast, Comes, PieceSays, StopSays, ReadsLog, HasTold, Going, GoesOrEnds}
 use Rattle.cb_top.proofs.Chain.{if_some, if_some2, of_all}
 use Rattle.cb_top.proofs.Lines.{one_none}
 use Rattle.cb_top.proofs.Further.{told_is_due, due_is_short}
@@ -151,7 +151,7 @@ module _ (watch : Watch) (now : FilesTold) (out : SinkTold) (reader : Reading) (
   }
 
   -- what is wrong where the next piece is refused
-  pub refused : (stop : ReadStop) → IfSome (coming reader files) (PieceSays reader reader' files' session session' (Err stop))
+  pub refused : (stop : ReadStop) → IfSome (coming reader files) (StopSays reader files' stop)
       → (stop ≡ reads.ReadFault → ReadFailed files files' reader.name)
       → EndsLog watch reader'.name now files' out out_now (Some (fault_of_stop reader'.name (stop_of_read stop)))
   refused reads.TooMuch says failed = too_much says
@@ -160,11 +160,11 @@ module _ (watch : Watch) (now : FilesTold) (out : SinkTold) (reader : Reading) (
 
   -- ---- the next piece came
 
-  module _ (text : List ℕ) (says : IfSome (coming reader files) (PieceSays reader reader' files' session session' (Ok text))) (out' : SinkTold)
+  module _ (text : List ℕ) (says : IfSome (coming reader files) (PieceSays reader reader' files' session session' text)) (out' : SinkTold)
       (counts : out_now.faults ≤ out'.faults) where
 
     piece : (log : List ℕ) (has : HasTold watch log reader files session out out_now) → Comes reader'.ended watch log reader reader' files' session' has.told text has.rest
-    piece log has = there (coming reader files) (PieceSays reader reader' files' session session' (Ok text)) has.rest has.comes says watch log has.told going.regular has.is_at
+    piece log has = there (coming reader files) (PieceSays reader reader' files' session session' text) has.rest has.comes says watch log has.told going.regular has.is_at
 
     faults_all : out.faults ≤ out'.faults
     faults_all = let before = going.faults in omega (arith, before, counts)

@@ -1,5 +1,5 @@
 -- What the next piece of a log says.
-use Rattle.std.proofs.Common.{◌≡◌, ◌∙◌, ◌⊎◌, ◌≤◌, ◌<◌, ◌+◌, ◌×◌, ℕ, Bool, true, false, List, [], ◌∷◌, ◌++◌, length, refl, sym, ap, subst, inl, inr, arith, Ok}
+use Rattle.std.proofs.Common.{◌≡◌, ◌∙◌, ◌⊎◌, ◌≤◌, ◌<◌, ◌+◌, ℕ, Bool, true, false, List, [], ◌∷◌, ◌++◌, length, refl, sym, ap, subst, inl, inr, arith, Ok}
 use Rattle.std.specs.Prelude.{Some, leb, nat_le, cond}
 use Rattle.std.proofs.lemmas.Bool.{le-leb}
 use Rattle.std.proofs.lemmas.Bool.Decides.{leb_tells}
@@ -9,7 +9,8 @@ use Rattle.cb_io.specs.declared.line_reader.Line.TheVariants as given
 use Rattle.cb_io.specs.LineReading.{Reading, coming, IsOneLine, GivesEnded, GivesLast, GivesLine, IsAtEnd, IsNumbered, Says}
 use Rattle.cb_io.specs.Outside.{FilesTold}
 use Rattle.cb_network.specs.Regular.{IsRegular}
-use Rattle.cb_alarm.specs.Lines.{Line, text, long, line_of, log_line_limit}
+use Rattle.cb_alarm.specs.Lines.{Line, line_of, log_line_limit}
+use Rattle.cb_alarm.specs.Lines as lines
 use Rattle.cb_outcome.specs.LogJobs.{Watch, WholeTells, log_limit}
 use Rattle.cb_session.specs.State.{State}
 use Rattle.cb_top.specs.Telling.{joined, IsAt, TellsLine, TellsGiven, TellsEnd, Comes, ReadsLog}
@@ -35,11 +36,11 @@ not_within a b past =
     ]
 
 -- a line as its number and its bytes
-short_line : (number : ℕ) (line : List ℕ) → length line ≤ log_line_limit → line_of (number, line) ≡ text number line
-short_line number line short = cond_true (nat_le (length line) log_line_limit) (text number line) (long number) (le-leb (length line) log_line_limit short)
+short_line : (number : ℕ) (line : List ℕ) → length line ≤ log_line_limit → line_of (number, line) ≡ lines.text number line
+short_line number line short = cond_true (nat_le (length line) log_line_limit) (lines.text number line) (lines.long number) (le-leb (length line) log_line_limit short)
 
-long_line : (number : ℕ) (line : List ℕ) → log_line_limit < length line → line_of (number, line) ≡ long number
-long_line number line past = cond_false (nat_le (length line) log_line_limit) (text number line) (long number) (not_within (length line) log_line_limit past)
+long_line : (number : ℕ) (line : List ℕ) → log_line_limit < length line → line_of (number, line) ≡ lines.long number
+long_line number line past = cond_false (nat_le (length line) log_line_limit) (lines.text number line) (lines.long number) (not_within (length line) log_line_limit past)
 
 module _ (old new : Reading) (after : FilesTold) (session mid : State) (told_text out : List ℕ) (reads_log : ReadsLog old)
     (mode : mid.mode ≡ session.mode) (window : mid.windows.length ≡ session.windows.length) (ends : EndsWith new.ended mid told_text out)
@@ -108,13 +109,13 @@ module _ (old new : Reading) (after : FilesTold) (session mid : State) (told_tex
   piece_says (given.Text number) is tells says =
       let limit = reads_log.line_most in
       let short = says.short in
-      let here : line_of (old.number + 1, new.text) ≡ text number new.text =
-      short_line (old.number + 1) new.text (omega (arith, limit, short)) ∙ ap (λ (n : ℕ). text n new.text) (sym says.line.number ∙ sym is) in
+      let here : line_of (old.number + 1, new.text) ≡ lines.text number new.text =
+      short_line (old.number + 1) new.text (omega (arith, limit, short)) ∙ ap (λ (n : ℕ). lines.text n new.text) (sym says.line.number ∙ sym is) in
       by_way new.text (subst (λ (l : Line). TellsLine session mid l told_text) (sym here) tells) says.line says.line.way
   piece_says (given.Long number) is tells says =
       let limit = reads_log.line_most in
       let past = says.long in
-      let here : line_of (old.number + 1, says.line) ≡ long number =
-      long_line (old.number + 1) says.line (omega (arith, limit, past)) ∙ ap (λ (n : ℕ). long n) (sym says.gives.number ∙ sym is) in
+      let here : line_of (old.number + 1, says.line) ≡ lines.long number =
+      long_line (old.number + 1) says.line (omega (arith, limit, past)) ∙ ap (λ (n : ℕ). lines.long n) (sym says.gives.number ∙ sym is) in
       by_way says.line (subst (λ (l : Line). TellsLine session mid l told_text) (sym here) tells) says.gives says.gives.way
   piece_says given.End is tells says = at_end tells.0 tells.1 says

@@ -94,13 +94,16 @@ abbrev pub Comes : Bool → Watch → List ℕ → Reading → Reading → Files
 Comes false watch log old new after session told text bytes = ComesNext watch log old new after session told text bytes
 Comes true watch log old new after session told text bytes = ComesLast watch log old new after told text bytes
 
--- what the next piece says, where these bytes were to come
-abbrev pub PieceSays : Reading → Reading → FilesTold → State → State → Result (List ℕ) ReadStop → List ℕ → Type 0
-PieceSays old new after session session' (Ok text) bytes = (watch : Watch) (log told : List ℕ) → IsRegular watch.from.model
+-- what the text of the next piece says, where these bytes were to come
+abbrev pub PieceSays : Reading → Reading → FilesTold → State → State → List ℕ → List ℕ → Type 0
+PieceSays old new after session session' text bytes = (watch : Watch) (log told : List ℕ) → IsRegular watch.from.model
     → IsAt watch log old.number old.given bytes session told → Comes new.ended watch log old new after session' told text bytes
-PieceSays old new after session session' (Err reads.TooMuch) bytes = RunsOver old after bytes
-PieceSays old new after session session' (Err reads.ReadFault) bytes = StopsWithin old after bytes
-PieceSays old new after session session' (Err reads.NoMemory) bytes = Unit {0}
+
+-- what it says that there is none
+abbrev pub StopSays : Reading → FilesTold → ReadStop → List ℕ → Type 0
+StopSays old after reads.TooMuch bytes = RunsOver old after bytes
+StopSays old after reads.ReadFault bytes = StopsWithin old after bytes
+StopSays old after reads.NoMemory bytes = Unit {0}
 
 -- ---- the log as a whole
 

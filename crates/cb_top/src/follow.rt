@@ -1,12 +1,12 @@
 //! A log, followed line by line: what comes of each is written before the next one is asked for.
-ghost use Rattle.std.specs.Prelude.{◌≡◌, ◌≤◌, IfOk, IfSome, IsErrOf};
+ghost use Rattle.std.specs.Prelude.{◌≡◌, IfOk, IfErr, IfSome, IsErrOf};
 ghost use Rattle.cb_alarm.specs.Lines.{log_line_limit};
 ghost use Rattle.cb_io.specs.LineReading.{coming, unread, ReadsSame, GoesOn};
 ghost use Rattle.cb_io.specs.Outside.{FilesTold, SinkTold, ReadFailed};
 ghost use Rattle.cb_outcome.specs.LogJobs.{Watch, log_limit};
 ghost use Rattle.cb_top.specs.Following.{EndsLog};
 ghost use Rattle.cb_top.specs.Kinds.{ReadsOnly};
-ghost use Rattle.cb_top.specs.Telling.{PieceSays, ReadsLog, Going, wrong_of, GoesOrEnds, Opens};
+ghost use Rattle.cb_top.specs.Telling.{PieceSays, StopSays, ReadsLog, Going, wrong_of, GoesOrEnds, Opens};
 ghost use Rattle.cb_top.specs.Ways.{wrong};
 
 use crate::stop::LogStop;
@@ -120,8 +120,9 @@ fn next_piece<F: Files, L: Ledger>(
     ensures goes_on { IfOk result (λ text. GoesOn reader.new) }
     ensures only { ReadsOnly reader.old.name (F.tells files.old) (F.tells files.new) }
     ensures failed { IsErrOf result ReadStop.ReadFault → ReadFailed (F.tells files.old) (F.tells files.new) reader.old.name }
-    ensures says { IfSome (coming reader.old (F.tells files.old))
-        (PieceSays reader.old reader.new (F.tells files.new) session.old session.new (map_ok (λ text. text.items) result)) }
+    ensures says { IfOk result (λ text. IfSome (coming reader.old (F.tells files.old))
+        (PieceSays reader.old reader.new (F.tells files.new) session.old session.new text.items)) }
+    ensures stops { IfErr result (λ stop. IfSome (coming reader.old (F.tells files.old)) (StopSays reader.old (F.tells files.new) stop)) }
 {
     let line = reader.next_line(files)?;
     let mut text = text_of_line(alloc, line, reader.text(), session, steps)?;

@@ -41,7 +41,7 @@ fn text_of_step<L: Ledger>(
     requires { IsFitting line }
     ensures mode { session.new.mode ≡ session.old.mode }
     ensures length { session.new.windows.length ≡ session.old.windows.length }
-    ensures tells { IfOk result (λ text. TellsLine session.old session.new (line_of line) text.items) }
+    ensures tells { IfOk result (λ text. TellsLine session.old session.new (line_of line.entry) text.items) }
 {
     let events = session.step(alloc, line, steps)?;
     events_text(alloc, &events)

@@ -1,0 +1,25 @@
+use Rattle.std.proofs.Common.{◌∙◌, Bool, List, ℕ, ap, subst}
+use Rattle.cb_io.specs.LineReading.{coming}
+use Rattle.cb_top.specs.Telling.{TellsGiven}
+use Rattle.cb_top.proofs.Chain.{if_some}
+use Rattle.cb_top.proofs.Pieces.{EndsWith, piece_says}
+use Rattle.cb_top.proofs.follow.next_piece.Goals.{then-has_ended+in_ok-text_of_end, else-has_ended}
+use Rattle.cb_top.proofs.follow.next_piece.Goals as goal
+
+pub returns-clause-says : goal.returns-clause-says
+returns-clause-says g c =
+    let ends : EndsWith c.next_line.new.self.ended c.text_of_line.new.session c.in_ok-text.text.items c.if-has_ended.text.items =
+    elim c.if-has_ended.branch [
+      | then-has_ended+in_ok-text_of_end w ↦
+          let (ends, tells_end, is) = w.in_ok-text_of_end.ensures in
+          subst (λ (b : Bool). EndsWith b c.text_of_line.new.session c.in_ok-text.text.items c.if-has_ended.text.items) w.if-has_ended.ensures
+          (ends, tells_end, ap (λ v. v.items) w.text-is ∙ is)
+      | else-has_ended w ↦
+          subst (λ (b : Bool). EndsWith b c.text_of_line.new.session c.in_ok-text.text.items c.if-has_ended.text.items) w.if-has_ended.ensures
+          (ap (λ v. v.items) w.text-is)
+    ] in
+    let tells = subst (λ (bytes : List ℕ). TellsGiven c.args.session.now c.text_of_line.new.session c.in_ok-line.line bytes c.in_ok-text.text.items) c.text.ensures c.in_ok-text.ensures.tells in
+    if_some (coming c.args.reader.now (g.F.Files.tells c.args.files.now)) _ _ (λ bytes said watch log told regular is_at.
+    piece_says c.args.reader.now c.next_line.new.self (g.F.Files.tells c.next_line.new.files) c.args.session.now c.text_of_line.new.session c.in_ok-text.text.items
+    c.if-has_ended.text.items c.requires c.in_ok-text.ensures.mode c.in_ok-text.ensures.length ends watch log told bytes regular is_at c.in_ok-line.line
+    c.in_ok-line.ensures.number tells said) c.in_ok-line.ensures.says
