@@ -171,9 +171,9 @@ fn check_log<L: Ledger>(
     session: &mut Session,
     steps: &mut Steps<L>,
 ) -> Result<(), AllocError> {
-    let mut number = 0;
+    let mut number: u64 = 0;
     for (text, wanted) in LOG {
-        number += 1;
+        number = u64::saturating_add(number, 1);
         let events = session.step(alloc, line_of(number, text), steps)?;
         assert_eq!(rt; text_of(alloc, &events)?.as_str(), wanted);
     }
