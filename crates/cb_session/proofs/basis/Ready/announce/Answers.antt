@@ -37,14 +37,14 @@ returns c = λ network mode basis has.
           let told = w.in_ok-thin.field-0 in
           let before : c.match-first_close.events ≡ told ∷ [] = w.events-is ∙ (w.in_ok-push.ensures.ok ∙ ap (λ (es : List Event). es ++ told ∷ []) c.new-events.ensures) in
           let are : c.push-2.new.self ≡ told ∷ book_made basis ∷ [] =
-              pushed ∙ (ap (λ (es : List Event). es ++ made ∷ []) before ∙ ap (λ (e : Event). told ∷ e ∷ []) made_is) in
+          pushed ∙ (ap (λ (es : List Event). es ++ made ∷ []) before ∙ ap (λ (e : Event). told ∷ e ∷ []) made_is) in
           let close = rw (c.codes.ensures.rows, c.codes.ensures.width) at w.in-Some.ensures.pair in
           let names = rw w.coded_groups.ensures.groups at w.in_ok-thin.ensures in
           subst (λ (es : List Event). IsAnnounced basis d es) (sym are) (announced_thin basis ready has d w.in-Some.pair told close names)
       | in_default w ↦
           let before : c.match-first_close.events ≡ [] = w.events-is ∙ c.new-events.ensures in
           let are : c.push-2.new.self ≡ book_made basis ∷ [] =
-              pushed ∙ (ap (λ (es : List Event). es ++ made ∷ []) before ∙ ap (λ (e : Event). e ∷ []) made_is) in
+          pushed ∙ (ap (λ (es : List Event). es ++ made ∷ []) before ∙ ap (λ (e : Event). e ∷ []) made_is) in
           let good = rw (c.codes.ensures.rows, c.codes.ensures.width) at w.in_default.ensures.none in
           subst (λ (es : List Event). IsAnnounced basis d es) (sym are) (announced_good basis ready has d good)
     ]
