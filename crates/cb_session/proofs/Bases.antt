@@ -15,14 +15,11 @@ use Rattle.cb_coding.specs.declared.group.Group.{Group}
 use Rattle.cb_coding.specs.declared.group.Problem.{Problem}
 use Rattle.cb_coding.specs.Books.{IsBook, IsInUse}
 use Rattle.cb_coding.specs.Distance.{all_columns}
-use Rattle.cb_coding.specs.Groups.{AreGroups, IsGroup, codes_of, group_of, zeros}
+use Rattle.cb_coding.specs.Groups.{IsGroup, codes_of, group_of, zeros}
 use Rattle.cb_coding.specs.Pairs.{Good, IsFirstClose}
-use Rattle.cb_finding.specs.declared.finding.Finding.{Finding}
-use Rattle.cb_finding.specs.Finding.{IsFinding}
 use Rattle.cb_finding.specs.Matrix.{IsMatrix}
 use Rattle.cb_log.specs.declared.closed.Closed.{Closed}
 use Rattle.cb_log.specs.declared.event.Event.{Event}
-use Rattle.cb_log.specs.declared.event.Event.TheVariants.{Diagnosis}
 use Rattle.cb_log.specs.Basis.{Mode, wanted, Basis, IsDiagnosis, IsAnnounced, book_made}
 use Rattle.cb_network.specs.Sound.{problem_limit, symptom_limit}
 use Rattle.cb_network.specs.Topology.{Topology}

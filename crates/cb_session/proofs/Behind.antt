@@ -1,5 +1,5 @@
 -- What stands for entries, with one more behind them.
-use Rattle.std.proofs.Common.{◌≡◌, ◌≢◌, ◌↔◌, ◌⊎◌, ◌++◌, ℕ, List, [], ◌∷◌, length, take, Bool, true, false, Option, Some, None, IsSome, Result, Ok, Err, refl, sym, ap, subst, ◌∙◌, inl, inr, append-nil}
+use Rattle.std.proofs.Common.{◌≡◌, ◌≢◌, ◌++◌, ℕ, List, [], ◌∷◌, length, Bool, true, false, Result, Ok, Err, refl, sym, ap, subst, ◌∙◌, append-nil}
 use Rattle.std.proofs.Math.Seq.{take-append_seam}
 use Rattle.cb_network.specs.declared.edit.Edit.{Edit}
 use Rattle.cb_network.specs.declared.edit.EditRefusal.{EditRefusal}
@@ -11,8 +11,8 @@ use Rattle.cb_log.specs.declared.record.Body.{Body}
 use Rattle.cb_log.specs.declared.record.Body.TheVariants.{Raise, Clear, Change, Tick}
 use Rattle.cb_log.specs.declared.record.Record.{Record}
 use Rattle.cb_log.specs.Basis.{wanted}
-use Rattle.cb_log.specs.Entries.{Entry, said, skipped, blank, records_of}
-use Rattle.cb_log.specs.Events.{IsRefusal, BodyGives}
+use Rattle.cb_log.specs.Entries.{Entry, said, records_of}
+use Rattle.cb_log.specs.Events.{BodyGives}
 use Rattle.cb_log.specs.Network.{then_edits, IsNow, IsAcceptedAt}
 use Rattle.cb_log.proofs.EventsOne.{network_is_one}
 use Rattle.cb_log.proofs.Longer.{at_last, is_last}

@@ -1,5 +1,5 @@
 -- The codebook in use, from what a reduction answers.
-use Rattle.std.proofs.Common.{◌≡◌, ℕ, ◌<◌, ◌≤◌, List, length, refl, sym, subst, arith, Bool, Ok, Err, Some, Option}
+use Rattle.std.proofs.Common.{◌≡◌, ℕ, List, subst, arith, Bool, Ok, Err, Some}
 use Rattle.std.specs.Prelude.{IfOk, Result}
 use Rattle.cb_coding.specs.declared.book.Book.{Book}
 use Rattle.cb_coding.specs.declared.book.Pair.{Pair}
@@ -21,10 +21,6 @@ module _ (width : ℕ) (codes : List (List Bool)) where
     wanted_is = λ good. same;
     least_is = λ bad. absurd (bad (subst (Good codes (all_columns width)) same is.good));
   }
-
-  -- where two codes are too close, the others are there
-  pub two_codes : (d : ℕ) (pair : Pair) → IsFirstClose (all_columns width) codes d pair → 1 < length codes
-  two_codes d pair close = let (below, within) = close.is_pair in omega arith
 
   -- a pair that is too close isn't good
   too_close : (d : ℕ) (pair : Pair) → IsFirstClose (all_columns width) codes d pair → ¬ Good codes (all_columns width) d

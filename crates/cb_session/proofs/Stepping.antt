@@ -1,5 +1,5 @@
 -- A session goes on by one entry.
-use Rattle.std.proofs.Common.{◌≡◌, ◌↔◌, ◌++◌, ℕ, List, [], ◌∷◌, length, Bool, true, false, Option, Some, None, IsSome, Result, Ok, Err, refl, sym, subst, inl, inr, append-nil, get_or, arith}
+use Rattle.std.proofs.Common.{◌≡◌, ◌↔◌, ◌++◌, ℕ, List, [], ◌∷◌, length, Bool, false, Option, Some, None, IsSome, Result, Ok, Err, refl, sym, subst, inl, inr, append-nil, get_or, arith}
 use Rattle.std.specs.Prelude.{IfSome, IfOk, OnOk}
 use Rattle.std.specs.List.{All}
 use Rattle.std.proofs.lemmas.List.Elements.{Contains-get_or}
@@ -20,7 +20,7 @@ use Rattle.cb_log.specs.declared.record.Body.TheVariants.{Raise, Clear, Change, 
 use Rattle.cb_log.specs.declared.record.Record.{Record}
 use Rattle.cb_log.specs.Basis.{Mode, wanted, fixed}
 use Rattle.cb_log.specs.Closing.{ClosesAt, AreClosing}
-use Rattle.cb_log.specs.Entries.{Entry, said, skipped, blank, records_of}
+use Rattle.cb_log.specs.Entries.{Entry, said, records_of}
 use Rattle.cb_log.specs.Events.{IsNetwork, HasBook, EntryGives, EndGives}
 use Rattle.cb_log.specs.Kept.{Kept, StandsFor}
 use Rattle.cb_log.specs.Network.{IsNow}

@@ -1,22 +1,20 @@
 -- What is told of windows that close is what comes of them, and when a codebook is in use behind it.
-use Rattle.std.proofs.Common.{◌≡◌, ◌≢◌, ◌↔◌, ◌⊎◌, ◌++◌, ℕ, List, [], ◌∷◌, length, Bool, true, false, Option, Some, None, IsSome, refl, sym, ap, subst, ◌∙◌, inl, inr}
+use Rattle.std.proofs.Common.{◌≡◌, ◌≢◌, ◌↔◌, ◌⊎◌, ◌++◌, ℕ, List, [], ◌∷◌, length, Bool, true, false, Option, Some, None, IsSome, refl, sym, subst, inl, inr}
 use Rattle.std.specs.Prelude.{option_map, IfSome}
-use Rattle.std.specs.List.{Contains}
 use Rattle.cb_model.proofs.Rising.{nothing_in_empty, contains_head}
 use Rattle.cb_coding.specs.declared.book.Book.{Book}
 use Rattle.cb_network.specs.Topology.{Topology}
 use Rattle.cb_log.specs.declared.closed.Closed.{Closed}
 use Rattle.cb_log.specs.declared.event.Event.{Event}
 use Rattle.cb_log.specs.declared.record.Record.{Record}
-use Rattle.cb_log.specs.Basis.{wanted, Basis}
+use Rattle.cb_log.specs.Basis.{wanted}
 use Rattle.cb_log.specs.Closing.{ClosesAt, AreClosing}
 use Rattle.cb_log.specs.Events.{HasBook, ClosingGives, Diagnoses}
 use Rattle.cb_log.specs.Network.{IsNow, IsAcceptedAt}
 use Rattle.cb_log.proofs.BookSteps.{book_steps}
 use Rattle.cb_session.specs.declared.basis.Ready.{Ready}
 use Rattle.cb_session.specs.declared.told.Told.{Told}
-use Rattle.cb_session.specs.Ready.{IsReady, HasBasis}
-use Rattle.cb_session.specs.State.{IsBookOf}
+use Rattle.cb_session.specs.Ready.{IsReady}
 use Rattle.cb_session.specs.Told.{TellsMade, Tells, kept_of}
 
 -- the codebook of what is ready

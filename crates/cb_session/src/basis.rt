@@ -31,7 +31,8 @@ pub(crate) struct Ready {
 }
 
 impl Ready {
-    /// Of the topology of a cache, for a wanted distance.
+    /// Of the topology of a cache, for a wanted distance: at that distance where all groups are so far apart, and else at the least
+    /// distance of two groups.
     pub fn of(alloc: Global, cache: &Cache, wanted: u32) -> Result<Ready, AllocError>
         requires { IsWanted wanted }
         ensures { IfOk result (IsReady (topology_of cache.now.graph) (for_wanted wanted)) }
@@ -97,7 +98,8 @@ impl Ready {
     }
 }
 
-/// The diagnoses of windows that close, in their order, put behind the events so far.
+/// The diagnoses of windows that close, in their order, put behind the events so far. Where memory is wanting, some of them may
+/// stand there already.
 pub(crate) fn diagnose(
     alloc: Global,
     ready: &Ready,

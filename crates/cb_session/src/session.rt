@@ -108,7 +108,7 @@ impl Session {
         }
     }
 
-    // What comes of a record, which is made behind it.
+    // What comes of the next record. Its body acts behind the windows that it closes.
     fn go_on<L: Ledger>(
         &mut self,
         alloc: Global,

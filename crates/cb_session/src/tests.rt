@@ -1,5 +1,6 @@
 //! A log over the sample model, with the texts of what comes of each line.
 ghost use Rattle.std.specs.Prelude.{◌≡◌, ◌<◌};
+ghost use Rattle.cb_session.specs.State.{IsFitting};
 
 use crate::{LogLine, Session};
 use cb_cache::Cache;
@@ -150,13 +151,19 @@ fn text_of(alloc: Global, events: &List<Event>) -> Result<String, AllocError> {
     Ok(out)
 }
 
-fn line_of(number: u64, text: Option<&'static str>) -> LogLine<'static> {
+// The line, without its bytes where there are none or too many.
+fn line_of(number: u64, text: Option<&'static str>) -> LogLine<'static>
+    ensures { IsFitting result }
+{
     match text {
         None => LogLine::Long { number },
-        Some(text) => LogLine::Text {
-            number,
-            bytes: text.as_bytes(),
-        },
+        Some(text) => {
+            let bytes = text.as_bytes();
+            if bytes.len() > 65_536 {
+                return LogLine::Long { number };
+            }
+            LogLine::Text { number, bytes }
+        }
     }
 }
 
@@ -171,9 +178,9 @@ fn check_log<L: Ledger>(
     session: &mut Session,
     steps: &mut Steps<L>,
 ) -> Result<(), AllocError> {
-    let mut number = 0;
+    let mut number: u64 = 0;
     for (text, wanted) in LOG {
-        number += 1;
+        number = u64::saturating_add(number, 1);
         let events = session.step(alloc, line_of(number, text), steps)?;
         assert_eq!(rt; text_of(alloc, &events)?.as_str(), wanted);
     }

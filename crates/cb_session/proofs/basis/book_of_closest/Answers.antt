@@ -1,4 +1,4 @@
-use Rattle.std.proofs.Common.{subst, ◌∙◌, sym, Err, Some, Option}
+use Rattle.std.proofs.Common.{subst, Err, Option}
 use Rattle.cb_coding.specs.declared.book.Pair.{Pair}
 use Rattle.cb_coding.specs.Pairs.{IsLeast}
 use Rattle.cb_reduce.specs.declared.codebook.Refused.{Refused}

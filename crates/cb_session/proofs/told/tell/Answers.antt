@@ -1,4 +1,4 @@
-use Rattle.std.proofs.Common.{◌≢◌, Option, IfSome, length, sym, subst, ◌∙◌}
+use Rattle.std.proofs.Common.{◌≢◌, Option, IfSome, length, subst, ◌∙◌}
 use Rattle.cb_log.specs.Basis.{wanted}
 use Rattle.cb_topo.specs.Numbered.{topology_of}
 use Rattle.cb_session.specs.declared.basis.Ready.{Ready}
