@@ -137,3 +137,7 @@ pub record GoesOn (new : Reading) : Type 0 where
   pub refused : new.refused ≡ false
   pub few : length new.kept ≤ piece_limit
   pub short : length new.text ≤ new.line_most
+
+-- each answer goes on within the limit of the file, unless the end has come
+abbrev pub Advances : Reading → Reading → Type 0
+Advances old new = (new.ended ≡ true) ⊎ ((old.given < new.given) × (new.given ≤ old.total_most))

@@ -1,5 +1,6 @@
 -- The lines of bytes that are put together of lines.
 use Rattle.std.proofs.Common.{◌≡◌, ◌≢◌, ◌∙◌, ◌==◌, ◌≤◌, ◌<◌, ◌+◌, ℕ, suc, Bool, true, false, List, [], ◌∷◌, ◌++◌, append_assoc, append-nil, map, length, take, drop, refl, sym, ap, subst, inl, inr, arith}
+use Rattle.std.specs.Prelude.{slice_index_or}
 use Rattle.std.specs.List.{All, AllZip, Contains, slice_split, enumerate_from}
 use Rattle.std.proofs.lemmas.Bool.Decides.{eqb_tells}
 use Rattle.std.proofs.lemmas.List.{length-append, take-append-drop}
@@ -20,7 +21,7 @@ lf b = b == 10
 
 no_lf : (bytes : List ℕ) → IsOneLine bytes → All (λ b. lf b ≡ false) bytes
 no_lf bytes one k d low =
-    elim (eqb_tells _ 10) [
+    elim (eqb_tells (slice_index_or bytes k d) 10) [
       | inl is ↦ absurd (one (subst (Contains bytes) is.1 (All-contains_itself bytes k d low)))
       | inr not ↦ not.0
     ]

@@ -18,7 +18,7 @@ use Rattle.cb_top.proofs.Lines.{one_none}
 use Rattle.cb_top.proofs.Further.{next_at, last_told, end_told}
 
 -- what stands behind the text of a line: that of the end, where it has come
-pub EndsWith : Bool → State → List ℕ → List ℕ → Type 0
+abbrev pub EndsWith : Bool → State → List ℕ → List ℕ → Type 0
 EndsWith false session text out = out ≡ text
 EndsWith true session text out = (ends : List ℕ) × TellsEnd session ends × (out ≡ text ++ ends)
 
