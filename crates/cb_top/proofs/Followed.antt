@@ -1,48 +1,44 @@
 -- The clauses of a run that has come to its log.
-use Rattle.std.proofs.Common.{◌≡◌, ◌≢◌, ◌⊎◌, ◌∙◌, ◌≤◌, ◌<◌, ◌+◌, ◌-◌, ℕ, suc, min, Bool, true, false, List, [], ◌∷◌, ◌++◌, append-nil, length, take, slice_get, refl, sym, ap, subst, inl, inr, arith}
-use Rattle.std.specs.Prelude.{Option, None, Some, IfSome, IsSome, map, unwrap_or, cond}
+use Rattle.std.proofs.Common.{◌≡◌, ◌≢◌, ◌⊎◌, ◌∙◌, ℕ, zero, suc, min, Bool, true, false, List, [], ◌∷◌, ◌++◌, append-nil, length, take, slice_get, refl, sym, ap, subst, inl, inr, arith}
+use Rattle.std.specs.Prelude.{Option, None, Some, IfSome, unwrap_or, cond}
 use Rattle.std.specs.List.{Contains, list_any}
 use Rattle.std.specs.Str.{bytes_eq}
-use Rattle.std.proofs.lemmas.List.{length-append, length-map, take-append-drop, length-take-le}
+use Rattle.std.proofs.lemmas.List.{length-append, length-map, length-take-le}
 use Rattle.std.proofs.lemmas.List.Elements.{Contains-append_right}
 use Rattle.std.proofs.lemmas.Map.Views.{Contains-from_any}
 use Rattle.std.proofs.lemmas.Slice.Eq.{bytes_eq-Decides}
 use Rattle.cb_model.proofs.Rising.{contains_head}
-use Rattle.cb_io.specs.Outside.{FilesTold, SinkTold, bytes_of, contents, left_of, TakesAll, ReadsAll, ReadsEach, WritesAll, WritesFront}
+use Rattle.cb_io.specs.Outside.{SinkTold, contents, left_of, TakesAll, ReadsEach, WritesAll, WritesFront}
 use Rattle.cb_io.proofs.Told.{ReadFailed-after, ReadsEach-nil, ReadsEach-next}
 use Rattle.cb_network.specs.Regular.{IsRegular}
-use Rattle.cb_log.specs.Basis.{Basis}
-use Rattle.cb_log.specs.Whole.{KeepsApart}
 use Rattle.cb_request.specs.declared.request.Request.{Request}
 use Rattle.cb_request.specs.declared.request.Request.TheVariants.{Burst, Model, Matrix, Codebook, Verify, Decode, Correlate, Grow}
 use Rattle.cb_request.specs.Files.{Role, judged_of, logs_of, names_of}
 use Rattle.cb_request.specs.Ranges.{IsInRange}
 use Rattle.cb_report.specs.declared.fault.Fault.{Fault}
 use Rattle.cb_report.specs.declared.fault.Fault.TheVariants as faults
-use Rattle.cb_report.specs.declared.status.Status.{Status}
-use Rattle.cb_report.specs.declared.status.Status.TheVariants as statuses
 use Rattle.cb_report.specs.Status.{OnAnswer}
 use Rattle.cb_report.specs.Faults.{ending}
 use Rattle.cb_report.specs.FaultTexts.{line_text}
 use Rattle.cb_report.specs.Said.{TakesLine}
 use Rattle.cb_outcome.specs.Outcome.{Outcome, done, done_with}
-use Rattle.cb_outcome.specs.Judged.{File, Known, nothing, network, Says, PassFrom}
+use Rattle.cb_outcome.specs.Judged.{File, Known, nothing, network, PassFrom}
 use Rattle.cb_outcome.specs.Jobs.{is_built, JobGives}
 use Rattle.cb_outcome.specs.LogJobs.{Watch, IsWatch, WholeTells, FrontTells, LogTells, Follows, log_limit}
 use Rattle.cb_outcome.specs.Contents.{Left, with_texts, files_from, log_from}
-use Rattle.cb_outcome.specs.Answer.{RequestAnswers, IsOutcome, IsToldUpto, IsDue}
+use Rattle.cb_outcome.specs.Answer.{RequestAnswers, IsOutcome, IsDue}
 use Rattle.cb_outcome.specs.Point.{Point}
 use Rattle.cb_outcome.specs.Reading.{Told, ReadsTo}
 use Rattle.cb_outcome.specs.Seen.{Seen}
 use Rattle.cb_outcome.specs.Ends.{MayEndIfBuilt, RequestEnds, MayEnd}
 use Rattle.cb_outcome.specs.Clauses.{Answers, WritesDue, ReadsJudged, HaveAllPassed, HasComeToLog, KeepsQuiet, NamesFileWord, HasTaken, WritesAllDue, BlamesRead, WritesPastStart, IsNotFarAhead, ReadsNotFarAhead, BlamesWrite, Blames}
-use Rattle.cb_outcome.specs.Finds.{PrintsLog, FindsFor, FindsCause, Finds}
+use Rattle.cb_outcome.specs.Finds.{PrintsLog, FindsFor, Finds}
 use Rattle.cb_outcome.proofs.LogsOne.{watch_is_one, watch_is_regular}
 use Rattle.cb_outcome.proofs.Once.{IsSound, says_sound, pass_sound, says_one}
 use Rattle.cb_outcome.proofs.Outcomes.{texts_count, some_name}
 use Rattle.cb_top.specs.Ending.{names}
-use Rattle.cb_top.specs.Following.{IsDueUpto, IsDueOfAll, IsToldWhole, IsToldToLimit, IsToldAsTaken, IsToldSoFar, IsToldInPart, IsCutShort, TellsLog, GoesWrong, FollowsLog}
-use Rattle.cb_top.proofs.Chain.{if_some, if_some2, of_all, take_whole, take_front, at_front, reads_all, reads_front}
+use Rattle.cb_top.specs.Following.{IsDueUpto, IsDueOfAll, TellsLog, GoesWrong, FollowsLog}
+use Rattle.cb_top.proofs.Chain.{if_some, if_some2, take_whole, take_front, at_front, reads_all, reads_front}
 use Rattle.cb_top.proofs.Logged.{all_apart, prints_log}
 use Rattle.cb_top.proofs.Made.{gives_job}
 
@@ -78,9 +74,10 @@ job_follows left (Correlate one two log d w) name known whole outcome e f =
     subst (λ (n : List ℕ). Follows left (Correlate one two log d w) n known whole outcome) (one_log name log e) f
 job_follows left (Grow sites start) name known whole outcome e f = absurd (some_name name [] (sym e))
 
-take_nil : (n : ℕ) → take n [] ≡ []
-take_nil 0 = refl
-take_nil (suc n) = refl
+take_none : (n : ℕ) (xs : List ℕ) → xs ≡ [] → take n xs ≡ []
+take_none zero xs e = refl
+take_none (suc n) [] e = refl
+take_none (suc n) (x ∷ xs) e = cc
 
 no_more : (xs ys : List ℕ) → [] ≡ xs ++ ys → (xs ≡ []) × (ys ≡ [])
 no_more [] ys e = (refl, sym e)
@@ -144,8 +141,8 @@ module _ (request : Request) (built : is_built request ≡ true) (s : Seen) (end
   -- ---- what is due
 
   -- what is told of the log, by the bytes left of each name
-  in_log : {P : List ℕ → Type 0} → IfSome (left_of follows.now follows.name) P → Told s.files (λ left. P (log_from left request follows.name))
-  in_log {P} told =
+  in_log : (P : List ℕ → Type 0) → IfSome (left_of follows.now follows.name) P → Told s.files (λ left. P (log_from left request follows.name))
+  in_log P told =
       if_some s.files.left _ _ (λ left known. there (left_of follows.now follows.name) P (log_from left request follows.name) (known follows.name) told) follows.read
 
   module _ (left : Left) (passed : PassFrom nothing (files_from left request) follows.known) where
@@ -223,7 +220,7 @@ module _ (request : Request) (built : is_built request ≡ true) (s : Seen) (end
         output = is.written;
         line = says;
         read = all_read (if_some (left_of follows.now follows.name) _ _ (λ log whole. whole.none) tells);
-      }) follows.passed (in_log tells)
+      }) follows.passed (in_log _ tells)
   answer_by (Some (faults.LimitBytes other)) wrong tells says =
       if_some2 s.files.left _ _ _ (λ left passed is. record {
         outcome = done_with is.due (faults.LimitBytes follows.name) (length (judged_of request));
@@ -233,7 +230,7 @@ module _ (request : Request) (built : is_built request ≡ true) (s : Seen) (end
         output = is.written;
         line = named (λ n. faults.LimitBytes n) other wrong says;
         read = read_judged;
-      }) follows.passed (in_log tells)
+      }) follows.passed (in_log _ tells)
   answer_by (Some (faults.ReadFault other)) wrong tells says = tt
   answer_by (Some faults.WriteFault) wrong tells says = tt
   answer_by (Some faults.Memory) wrong tells says = tt
@@ -246,7 +243,7 @@ module _ (request : Request) (built : is_built request ≡ true) (s : Seen) (end
         is.due,
         (done is.due (suc (length (judged_of request))), whole_outcome left passed is.due is.is_due, refl),
         front_all is.due is.written,
-      )) follows.passed (in_log tells)
+      )) follows.passed (in_log _ tells)
   front_by (Some (faults.LimitBytes other)) wrong tells =
       if_some2 s.files.left _ _ _ (λ left passed is. (
         Point.end,
@@ -258,16 +255,16 @@ module _ (request : Request) (built : is_built request ≡ true) (s : Seen) (end
           refl,
         ),
         front_all is.due is.written,
-      )) follows.passed (in_log tells)
+      )) follows.passed (in_log _ tells)
   front_by (Some (faults.ReadFault other)) wrong tells =
       if_some2 s.files.left _ _ _ (λ left passed is.
-          (Point.upto (length is.front), is.due, due_upto left passed (length is.front) is.due is.is_due, front_all is.due is.written)) follows.passed (in_log tells)
+          (Point.upto (length is.front), is.due, due_upto left passed (length is.front) is.due is.is_due, front_all is.due is.written)) follows.passed (in_log _ tells)
   front_by (Some faults.WriteFault) wrong tells =
       if_some2 s.files.left _ _ _ (λ left passed is.
-          let (point, past, rest) = part_due left passed is.part.0 is.part.1.0 is.part.1.1 in (point, rest)) follows.passed (in_log tells)
+          let (point, past, written) = part_due left passed is.part.0 is.part.1 is.part.2 in (point, written.0, written.1, written.2)) follows.passed (in_log _ tells)
   front_by (Some faults.Memory) wrong tells =
       if_some2 s.files.left _ _ _ (λ left passed is.
-          (Point.upto is.taken, is.due, due_upto left passed is.taken is.due is.is_due, front_all is.due is.written)) follows.passed (in_log tells)
+          (Point.upto is.taken, is.due, due_upto left passed is.taken is.due is.is_due, front_all is.due is.written)) follows.passed (in_log _ tells)
   front_by (Some fault) wrong tells = absurd wrong
 
   quiet_by : (e : Option Fault) → Wrong e → KeepsQuiet (Some request) (ending e) s.files s.files_after s.out s.out_after
@@ -317,7 +314,7 @@ module _ (request : Request) (built : is_built request ≡ true) (s : Seen) (end
           let all = contents left [] follows.name in
           let none : log_from left request follows.name ≡ [] = ap (λ (b : Bool). cond b [] all) e in
           let (front_none, rest_none) = no_more front rest (sym none ∙ log_is) in
-          let cut : (n : ℕ) → take n (log_from left request follows.name) ≡ [] = λ n. ap (take n) none ∙ take_nil n in (
+          let cut : (n : ℕ) → take n (log_from left request follows.name) ≡ [] = λ n. take_none n (log_from left request follows.name) none in (
             length all,
             record {
               within = omega arith;
@@ -348,9 +345,16 @@ module _ (request : Request) (built : is_built request ≡ true) (s : Seen) (end
   left_at_first : Told s.files (λ left. (name : List ℕ) → left_of s.files name ≡ Some (contents left [] name))
   left_at_first = ReadsEach-nil s.files
 
+  -- the judged files have passed, and this was left of each name at first
+  abbrev Begun : Left → Type 0
+  Begun left = PassFrom nothing (files_from left request) follows.known × ((name : List ℕ) → left_of s.files name ≡ Some (contents left [] name))
+
+  begun : Told s.files Begun
+  begun = if_some2 s.files.left _ _ Begun (λ left passed known. (passed, known)) follows.passed left_at_first
+
   all_written : TellsIt (Some (faults.ReadFault follows.name)) → Told s.files (WritesAllDue (Some request) follows.name s)
   all_written tells =
-      if_some2 s.files.left _ _ _ (λ left both is.
+      if_some2 s.files.left Begun _ _ (λ left both is.
           let (taken, has_taken, is_due) =
           taken_of left (both.1 follows.name) is.front is.rest is.log_is is.left_is is.due is.is_due in record {
             taken = taken;
@@ -358,7 +362,7 @@ module _ (request : Request) (built : is_built request ≡ true) (s : Seen) (end
             due = is.due;
             is_due = due_upto left both.0 taken is.due is_due;
             written = is.written;
-          }) (if_some2 s.files.left _ _ _ (λ left passed known. (passed, known)) follows.passed left_at_first) (in_log tells)
+          }) begun (in_log _ tells)
 
   blames_read : Wrong (Some (faults.ReadFault follows.name)) → TellsIt (Some (faults.ReadFault follows.name))
       → TakesLine s.err s.err_after (line_text (Some (faults.ReadFault follows.name))) → BlamesRead (Some request) s
@@ -407,7 +411,7 @@ module _ (request : Request) (built : is_built request ≡ true) (s : Seen) (end
 
   not_far : TellsIt (Some faults.WriteFault) → Told s.files (ReadsNotFarAhead (Some request) s)
   not_far tells =
-      if_some2 s.files.left _ _ _ (λ left both is other log alone some.
+      if_some2 s.files.left Begun _ _ (λ left both is other log alone some.
           let name : other ≡ follows.name = one_log other follows.name (sym follows.log ∙ log) in
           subst (λ (n : List ℕ). IsNotFarAhead (Some request) n s left) (sym name)
           (λ upto taken due written has is_due all less.
@@ -418,7 +422,7 @@ module _ (request : Request) (built : is_built request ≡ true) (s : Seen) (end
           let near = is.near some upto (take taken all_of) has.rest due written (log_alone left alone_here ∙ bytes) has.after
           (due_here left both.0 upto due is_due) all less in
           omega (arith, size, near)))
-      (if_some2 s.files.left _ _ _ (λ left passed known. (passed, known)) follows.passed left_at_first) (in_log tells)
+      begun (in_log _ tells)
 
   blames_write : Wrong (Some faults.WriteFault) → TellsIt (Some faults.WriteFault) → TakesLine s.err s.err_after (line_text (Some faults.WriteFault))
       → BlamesWrite (Some request) s
@@ -427,7 +431,7 @@ module _ (request : Request) (built : is_built request ≡ true) (s : Seen) (end
     says = says;
     read = has_read;
     passed = has_passed;
-    due = if_some2 s.files.left _ _ _ (λ left passed is. part_due left passed is.part.0 is.part.1.0 is.part.1.1) follows.passed (in_log tells);
+    due = if_some2 s.files.left _ _ _ (λ left passed is. part_due left passed is.part.0 is.part.1 is.part.2) follows.passed (in_log _ tells);
     ahead = not_far tells;
   }
 
@@ -450,7 +454,7 @@ module _ (request : Request) (built : is_built request ≡ true) (s : Seen) (end
             passed,
             finds_log left request follows.name follows.known follows.watch is.due s.out s.out_after built follows.range follows.log follows.watches regular
                 is.is_due.tells is.written,
-          )) follows.passed (in_log tells)
+          )) follows.passed (in_log _ tells)
   finds_by (Some (faults.LimitBytes other)) wrong tells = tt
   finds_by (Some (faults.ReadFault other)) wrong tells = tt
   finds_by (Some faults.WriteFault) wrong tells = tt

@@ -1,26 +1,25 @@
 -- What each way out of a step along a log leaves.
-use Rattle.std.proofs.Common.{◌≡◌, ◌∙◌, ◌⊎◌, ◌≤◌, ◌<◌, ◌+◌, ℕ, min, Bool, true, false, List, [], ◌∷◌, ◌++◌, append_assoc, append-nil, length, take, refl, sym, ap, subst, inl, inr, arith, Result, Ok, Err}
+use Rattle.std.proofs.Common.{◌≡◌, ◌∙◌, ◌≤◌, ◌<◌, ◌+◌, ℕ, min, Bool, true, false, List, [], ◌∷◌, ◌++◌, append_assoc, append-nil, length, take, refl, sym, ap, subst, inl, inr, arith, Ok}
 use Rattle.std.specs.Prelude.{Option, None, Some, IfSome, IsSome}
 use Rattle.std.specs.Option.{option_map}
 use Rattle.std.specs.Io.KnownBytes.{Appends}
-use Rattle.std.proofs.KnownBytes.{Appends-trans, Consumes-trans}
+use Rattle.std.proofs.KnownBytes.{Appends-trans, Consumes-nil, Consumes-trans, Keeps-refl}
 use Rattle.std.proofs.lemmas.Bool.{cases_lt}
 use Rattle.std.proofs.lemmas.List.{length-append}
 use Rattle.cb_io.specs.declared.whole.ReadStop.{ReadStop}
 use Rattle.cb_io.specs.declared.whole.ReadStop.TheVariants as reads
-use Rattle.cb_io.specs.LineReading.{Reading, coming, ReadsSame, IsOneLine, GoesOn, RunsOver, StopsWithin}
-use Rattle.cb_io.specs.Outside.{FilesTold, SinkTold, left_of, next_count, ReadFailed, WritesAll, WritesFront, WriteFailed}
+use Rattle.cb_io.specs.LineReading.{Reading, unread, coming, ReadsSame, IsOneLine, GoesOn, RunsOver, StopsWithin}
+use Rattle.cb_io.specs.Outside.{FilesTold, SinkTold, left_of, ReadFailed, WritesAll, WritesFront, WriteFailed}
 use Rattle.cb_io.proofs.Told.{NoCountFalls-trans, ReadFailed-after, KeepsOthers-trans, WritesFront-second}
-use Rattle.cb_report.specs.declared.fault.Fault.{Fault}
 use Rattle.cb_report.specs.declared.fault.Fault.TheVariants as faults
-use Rattle.cb_outcome.specs.LogJobs.{Watch, FrontTells, WholeTells, log_limit}
+use Rattle.cb_alarm.specs.Lines.{log_line_limit}
+use Rattle.cb_outcome.specs.LogJobs.{Watch, FrontTells, log_limit}
 use Rattle.cb_session.specs.State.{State}
-use Rattle.cb_top.specs.declared.stop.LogStop.TheVariants as stops
-use Rattle.cb_top.specs.Following.{IsDueUpto, IsDueOfAll, IsToldWhole, IsToldToLimit, IsToldAsTaken, IsToldSoFar, IsToldInPart, IsNotFar, IsCutShort, TellsLog, EndsLog}
+use Rattle.cb_top.specs.Following.{IsDueUpto, IsToldInPart, EndsLog}
 use Rattle.cb_top.specs.Kinds.{ReadsOnly}
 use Rattle.cb_top.specs.Stops.{stop_of_read, fault_of_stop}
-use Rattle.cb_top.specs.Telling.{joined, IsAt, ComesNext, ComesLast, Comes, PieceSays, StopSays, ReadsLog, HasTold, Going, GoesOrEnds}
-use Rattle.cb_top.proofs.Chain.{if_some, if_some2, of_all}
+use Rattle.cb_top.specs.Telling.{joined, ComesNext, ComesLast, Comes, PieceSays, StopSays, ReadsLog, HasTold, Going, GoesOrEnds, Opens}
+use Rattle.cb_top.proofs.Chain.{if_some}
 use Rattle.cb_top.proofs.Lines.{one_none}
 use Rattle.cb_top.proofs.Further.{told_is_due, due_is_short}
 
@@ -58,7 +57,7 @@ some_is_one x y e = cc
 -- at least all that was told was written, where the output is told
 written_all : (taken a b : Option (List ℕ)) (written told text : List ℕ) → IsSome taken → Appends taken a told → Appends a b text → Appends taken b written
     → length told ≤ length written
-written_all None a b written told text some one two all = absurd some
+written_all None a b written told text some one two all = let none : ⊥ = cc in absurd none
 written_all (Some xs) None b written told text some one two all = absurd one
 written_all (Some xs) (Some ys) None written told text some one two all = absurd two
 written_all (Some xs) (Some ys) (Some zs) written told text some one two all =
@@ -69,6 +68,50 @@ written_all (Some xs) (Some ys) (Some zs) written told text some one two all =
     let b = length-append ys text in
     let c = length-append xs written in
     omega (arith, p, q, r, a, b, c)
+
+-- a fact of what an option holds, where it holds something
+told_by : {X : Type 0} (o : Option X) (P : X → Type 0) → ((x : X) → o ≡ Some x → P x) → IfSome o P
+told_by None P f = tt
+told_by (Some x) P f = f x refl
+
+-- nothing was read of it
+pub reads_nothing : (files : FilesTold) (name : List ℕ) → ReadsOnly name files files
+reads_nothing files name = record {
+  front = ([], Consumes-nil (left_of files name));
+  others = λ other not. Keeps-refl (left_of files other);
+  counts = λ other. omega arith;
+}
+
+-- a log at its beginning
+pub begins : (watch : Watch) (session : State) (out out_now : SinkTold) (files : FilesTold) (name : List ℕ) → Opens watch session out out_now
+    → Going watch files out (unread name log_line_limit log_limit) files out_now session
+begins watch session out out_now files name opens = record {
+  regular = opens.regular;
+  only = reads_nothing files name;
+  faults = opens.faults;
+  told = told_by (left_of files name) _ (λ log is. record {
+    rest = log;
+    comes = ap (λ (o : Option (List ℕ)). option_map (λ l. [] ++ l) o) is;
+    told = watch.opening;
+    is_at = record {
+      lines = [];
+      one_each = λ k d low. absurd (omega (arith, low));
+      log_is = refl;
+      number_is = refl;
+      given_is = refl;
+      within = omega arith;
+      entries = [];
+      come = tt;
+      events = [];
+      gives = refl;
+      told_is = sym (append-nil watch.opening);
+      mode = opens.mode;
+      window = opens.window;
+      stands = opens.stands;
+    };
+    written = opens.written;
+  });
+}
 
 module _ (watch : Watch) (now : FilesTold) (out : SinkTold) (reader : Reading) (files : FilesTold) (out_now : SinkTold) (session : State)
     (going : Going watch now out reader files out_now session) (reads_log : ReadsLog reader) (reader' : Reading) (files' : FilesTold) (session' : State)
@@ -138,7 +181,7 @@ module _ (watch : Watch) (now : FilesTold) (out : SinkTold) (reader : Reading) (
         });
   }
 
-  no_memory : EndsLog watch reader'.name now files' out out_now (Some faults.Memory)
+  pub no_memory : EndsLog watch reader'.name now files' out out_now (Some faults.Memory)
   no_memory = record {
     only = only_all;
     wrong = tt;
@@ -238,7 +281,7 @@ module _ (watch : Watch) (now : FilesTold) (out : SinkTold) (reader : Reading) (
         not_early : (line rest : List ℕ) → has.rest ≡ line ++ rest → IsOneLine line → upto ≤ reader.given + length line → ⊥
         not_early line rest are one early =
             let short = due_is_short watch going.regular log reader.number reader.given has.rest session has.told has.is_at line rest are one upto due early is_due in
-            let told = written_all out.taken out_now.taken out'.taken written has.told (take front.0 text) some has.written front.1.1 all in
+            let told = written_all out.taken out_now.taken out'.taken written has.told (take front.0 text) some has.written front.2 all in
             omega (arith, short, told, less)
 
         log_size : length log ≡ reader.given + length has.rest

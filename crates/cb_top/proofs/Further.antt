@@ -1,23 +1,23 @@
 -- A log, one line further, and what is due of its first bytes.
-use Rattle.std.proofs.Common.{◌≡◌, ◌∙◌, ◌≤◌, ◌<◌, ◌+◌, ◌-◌, ℕ, min, List, [], ◌∷◌, ◌++◌, append_assoc, append-nil, length, take, drop, refl, sym, ap, subst, inl, inr, arith}
+use Rattle.std.proofs.Common.{◌≡◌, ◌∙◌, ◌≤◌, ◌+◌, ◌-◌, ℕ, min, List, [], ◌∷◌, ◌++◌, append_assoc, append-nil, length, take, drop, refl, sym, ap, subst, inl, arith}
 use Rattle.std.specs.List.{All}
 use Rattle.std.proofs.lemmas.Grind.{flat_map-append}
 use Rattle.std.proofs.lemmas.List.{length-append, take-append-drop, take-append-le}
 use Rattle.std.proofs.lemmas.List.Elements.{All-cons, All-append}
 use Rattle.std.proofs.Math.Seq.{take-append-add}
-use Rattle.cb_io.specs.LineReading.{IsOneLine, BeginWith, AreLast}
+use Rattle.cb_io.specs.LineReading.{IsOneLine}
 use Rattle.cb_text.specs.Lines.{last_line}
 use Rattle.cb_network.specs.Regular.{IsRegular}
 use Rattle.cb_log.specs.declared.event.Event.{Event}
 use Rattle.cb_log.specs.Basis.{Mode}
-use Rattle.cb_log.specs.Entries.{Entry, records_of}
+use Rattle.cb_log.specs.Entries.{records_of}
 use Rattle.cb_log.specs.Events.{EntryGives, EndGives}
 use Rattle.cb_log.proofs.OneMore.{entries_give_more}
-use Rattle.cb_alarm.specs.Lines.{Line, line_of, ComesTo, ComeTo, log_lines, FrontGives, LogGives}
+use Rattle.cb_alarm.specs.Lines.{Line, line_of, ComesTo, ComeTo, log_lines, FrontGives}
 use Rattle.cb_report.specs.EventTexts.{event_text, events_text}
 use Rattle.cb_outcome.specs.LogJobs.{Watch, WholeTells, FrontTells, log_limit}
 use Rattle.cb_outcome.proofs.LogFronts.{front_is_front}
-use Rattle.cb_session.specs.State.{State, StandsForEntries}
+use Rattle.cb_session.specs.State.{State}
 use Rattle.cb_top.specs.Following.{IsDueUpto}
 use Rattle.cb_top.specs.Telling.{joined, numbered, IsAt, StepTells, TellsLine, TellsEnd}
 use Rattle.cb_top.proofs.Lines.{one_take, one_none, ended_are, lines_are, numbered_more, joined_more, length_more, zip_more}

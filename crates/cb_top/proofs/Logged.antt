@@ -1,24 +1,21 @@
 -- What is printed of a whole log names the causes.
-use Rattle.std.proofs.Common.{◌≡◌, ◌∙◌, ◌≤◌, ◌<◌, ℕ, List, ◌++◌, sym, ap, subst}
+use Rattle.std.proofs.Common.{◌≡◌, ◌<◌, ℕ, List, sym, subst}
 use Rattle.cb_io.specs.Outside.{SinkTold, WritesAll}
 use Rattle.cb_network.specs.Regular.{IsRegular}
 use Rattle.cb_network.specs.Topology.{Topology}
-use Rattle.cb_log.specs.declared.closed.Closed.{Closed}
 use Rattle.cb_log.specs.declared.event.Event.{Event}
-use Rattle.cb_log.specs.declared.record.Record.{Record}
 use Rattle.cb_log.specs.Basis.{Mode, wanted, Basis}
 use Rattle.cb_log.specs.Entries.{records_of}
 use Rattle.cb_log.specs.Sources.{SourceAlone}
-use Rattle.cb_log.specs.Whole.{Explains, OneForEach, KeepsApart}
+use Rattle.cb_log.specs.Whole.{OneForEach, KeepsApart}
 use Rattle.cb_log.proofs.Alone.{wanted_keeps_apart, named_alone}
 use Rattle.cb_log.proofs.OneForEach.{one_for_each}
 use Rattle.cb_log.proofs.QuietExists.{quieter}
-use Rattle.cb_report.specs.EventTexts.{events_text}
 use Rattle.cb_request.specs.declared.request.Request.{Request}
 use Rattle.cb_outcome.specs.Judged.{Known}
 use Rattle.cb_outcome.specs.Contents.{Left, log_from}
 use Rattle.cb_outcome.specs.LogJobs.{Watch, IsWatch, WholeTells}
-use Rattle.cb_outcome.specs.Finds.{ListsTheNearest, far_from, PrintsLog}
+use Rattle.cb_outcome.specs.Finds.{PrintsLog}
 use Rattle.cb_top.proofs.Finding.{lists_nearest}
 
 -- over any codebook for a wanted distance the groups are far enough apart

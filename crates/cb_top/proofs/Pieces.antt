@@ -1,17 +1,17 @@
 -- What the next piece of a log says.
-use Rattle.std.proofs.Common.{◌≡◌, ◌∙◌, ◌⊎◌, ◌≤◌, ◌<◌, ◌+◌, ℕ, Bool, true, false, List, [], ◌∷◌, ◌++◌, length, refl, sym, ap, subst, inl, inr, arith, Ok}
+use Rattle.std.proofs.Common.{◌≡◌, ◌∙◌, ◌⊎◌, ◌≤◌, ◌<◌, ◌+◌, ℕ, Bool, true, false, List, [], ◌++◌, length, sym, ap, subst, inl, inr, arith, Ok}
 use Rattle.std.specs.Prelude.{Some, leb, nat_le, cond}
 use Rattle.std.proofs.lemmas.Bool.{le-leb}
 use Rattle.std.proofs.lemmas.Bool.Decides.{leb_tells}
 use Rattle.std.proofs.lemmas.List.{length-append}
 use Rattle.cb_io.specs.declared.line_reader.Line.{Line as Given}
 use Rattle.cb_io.specs.declared.line_reader.Line.TheVariants as given
-use Rattle.cb_io.specs.LineReading.{Reading, coming, IsOneLine, GivesEnded, GivesLast, GivesLine, IsAtEnd, IsNumbered, Says}
+use Rattle.cb_io.specs.LineReading.{Reading, IsOneLine, GivesEnded, GivesLast, GivesLine, IsAtEnd, IsNumbered, Says}
 use Rattle.cb_io.specs.Outside.{FilesTold}
 use Rattle.cb_network.specs.Regular.{IsRegular}
 use Rattle.cb_alarm.specs.Lines.{Line, line_of, log_line_limit}
 use Rattle.cb_alarm.specs.Lines as lines
-use Rattle.cb_outcome.specs.LogJobs.{Watch, WholeTells, log_limit}
+use Rattle.cb_outcome.specs.LogJobs.{Watch, WholeTells}
 use Rattle.cb_session.specs.State.{State}
 use Rattle.cb_top.specs.Telling.{joined, IsAt, TellsLine, TellsGiven, TellsEnd, Comes, ReadsLog}
 use Rattle.cb_top.proofs.Lines.{one_none}

@@ -1,17 +1,12 @@
 -- What a command leaves whose output is made before it is written. `old` is told before its files are read, `new` after that.
-use Rattle.std.specs.Prelude.{◌≡◌, ◌⊎◌, ℕ, List, [], ◌∷◌, ◌++◌, length, map, Bool, true, false, Option, None, Some, Result, Ok, Err}
+use Rattle.std.specs.Prelude.{◌≡◌, ◌⊎◌, ℕ, List, [], ◌∷◌, ◌++◌, length, map, Option, Some, Result, Ok, Err}
 use Rattle.cb_io.specs.Outside.{FilesTold, SinkTold, contents, ReadsEach, NoCountFalls, WritesAll, WritesFront, WriteFailed}
 use Rattle.cb_request.specs.declared.request.Request.{Request}
 use Rattle.cb_request.specs.Files.{Role, judged_of, logs_of, names_of}
 use Rattle.cb_report.specs.declared.fault.Fault.{Fault}
 use Rattle.cb_report.specs.declared.fault.Fault.TheVariants as faults
-use Rattle.cb_report.specs.declared.status.Status.{Status}
-use Rattle.cb_report.specs.declared.status.Status.TheVariants as statuses
-use Rattle.cb_report.specs.Faults.{ending}
-use Rattle.cb_report.specs.FaultTexts.{fault_text, line_text}
-use Rattle.cb_report.specs.Said.{TakesLine}
 use Rattle.cb_outcome.specs.Judged.{Known, nothing, Refuses, PassFrom}
-use Rattle.cb_outcome.specs.Jobs.{is_built, JobGives}
+use Rattle.cb_outcome.specs.Jobs.{JobGives}
 use Rattle.cb_outcome.specs.Contents.{Left, with_texts, files_from}
 use Rattle.cb_outcome.specs.Reading.{Told, ReadsTo}
 use Rattle.cb_top.specs.declared.output.Output.{Output}

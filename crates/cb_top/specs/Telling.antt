@@ -5,7 +5,7 @@ use Rattle.cb_io.specs.declared.line_reader.Line.{Line as Given}
 use Rattle.cb_io.specs.declared.line_reader.Line.TheVariants as given
 use Rattle.cb_io.specs.declared.whole.ReadStop.{ReadStop}
 use Rattle.cb_io.specs.declared.whole.ReadStop.TheVariants as reads
-use Rattle.cb_io.specs.LineReading.{Reading, coming, IsOneLine, BeginWith, GoesOn, RunsOver, StopsWithin}
+use Rattle.cb_io.specs.LineReading.{Reading, coming, IsOneLine, BeginWith, RunsOver, StopsWithin}
 use Rattle.cb_io.specs.Outside.{FilesTold, SinkTold, left_of, WritesAll}
 use Rattle.cb_log.specs.declared.event.Event.{Event}
 use Rattle.cb_log.specs.Entries.{Entry, records_of}

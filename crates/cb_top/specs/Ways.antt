@@ -1,5 +1,5 @@
 -- How a run ends: the files are told before and after it, the output too, and `end` is what is wrong, if something is.
-use Rattle.std.specs.Prelude.{◌≡◌, ◌⊎◌, List, [], Bool, true, false, Option, None, Some, Result, Ok, Err}
+use Rattle.std.specs.Prelude.{◌≡◌, ◌⊎◌, [], Bool, true, false, Option, None, Some, Result, Ok, Err}
 use Rattle.cb_io.specs.Outside.{FilesTold, SinkTold, WritesAll}
 use Rattle.cb_request.specs.declared.request.Request.{Request}
 use Rattle.cb_report.specs.declared.fault.Fault.{Fault}

@@ -2,6 +2,7 @@
 ghost use Rattle.std.specs.Prelude.{◌≡◌, ◌≤◌, [], IfOk};
 ghost use Rattle.cb_cert.specs.Format.{IsWanted};
 ghost use Rattle.cb_log.specs.Basis.{wanted as for_wanted};
+ghost use Rattle.cb_network.specs.Regular.{IsRegular};
 ghost use Rattle.cb_request.specs.declared.request.Request.TheVariants.{Correlate};
 ghost use Rattle.cb_request.specs.Ranges.{IsInRange};
 ghost use Rattle.cb_session.specs.State.{StandsForEntries};
@@ -62,7 +63,9 @@ fn opened<L: Ledger>(
     ensures mode { IfOk result (λ session. session.mode ≡ for_wanted asked.distance) }
     ensures length { IfOk result (λ session. session.windows.length ≡ asked.window) }
     ensures stands { IfOk result (λ session. StandsForEntries session (topology_of topology) []) }
+    ensures regular { IsRegular (topology_of topology).model }
 {
+    let _typed = topology.model();
     let graph = Graph::new(alloc, topology)?;
     let cache = Cache::open(alloc, graph, steps)?;
     Session::open(alloc, cache, asked.distance as u32, asked.window)

@@ -1,7 +1,7 @@
 //! A log, followed line by line: what comes of each is written before the next one is asked for.
-ghost use Rattle.std.specs.Prelude.{◌≡◌, IfOk, IfErr, IfSome, IsErrOf};
+ghost use Rattle.std.specs.Prelude.{◌≡◌, ◌⊎◌, ◌<◌, ◌≤◌, true, IfOk, IfErr, IfSome, IsErrOf};
 ghost use Rattle.cb_alarm.specs.Lines.{log_line_limit};
-ghost use Rattle.cb_io.specs.LineReading.{coming, unread, ReadsSame, GoesOn};
+ghost use Rattle.cb_io.specs.LineReading.{coming, unread, Advances, ReadsSame, GoesOn};
 ghost use Rattle.cb_io.specs.Outside.{FilesTold, SinkTold, ReadFailed};
 ghost use Rattle.cb_outcome.specs.LogJobs.{Watch, log_limit};
 ghost use Rattle.cb_top.specs.Following.{EndsLog};
@@ -98,6 +98,7 @@ fn tell_next<F: Files, O: Sink, L: Ledger>(
     requires { ReadsLog reader.old }
     ensures same { ReadsSame reader.old reader.new }
     ensures goes_on { IfOk result (λ ended. ReadsLog reader.new) }
+    ensures advances { IfOk result (λ ended. (ended ≡ true) ⊎ ((reader.old.given < reader.new.given) × (reader.new.given ≤ reader.old.total_most))) }
     ensures tells { (watch : Watch) (now : FilesTold) (before : SinkTold)
         → Going watch now before reader.old (F.tells files.old) (O.tells out.old) session.old
         → GoesOrEnds watch now before reader.new (F.tells files.new) (O.tells out.new) session.new result }
@@ -118,6 +119,7 @@ fn next_piece<F: Files, L: Ledger>(
     requires { ReadsLog reader.old }
     ensures same { ReadsSame reader.old reader.new }
     ensures goes_on { IfOk result (λ text. GoesOn reader.new) }
+    ensures advances { IfOk result (λ text. Advances reader.old reader.new) }
     ensures only { ReadsOnly reader.old.name (F.tells files.old) (F.tells files.new) }
     ensures failed { IsErrOf result ReadStop.ReadFault → ReadFailed (F.tells files.old) (F.tells files.new) reader.old.name }
     ensures says { IfOk result (λ text. IfSome (coming reader.old (F.tells files.old))

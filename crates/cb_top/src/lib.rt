@@ -26,4 +26,6 @@ pub use cb_report::Status;
 pub use top::run;
 
 #[cfg(test)]
+mod log_tests;
+#[cfg(test)]
 mod tests;

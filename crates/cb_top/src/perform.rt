@@ -68,6 +68,7 @@ pub fn perform<'w, F: Files, O: Sink, L: Ledger>(
             let asked = Correlation { distance, window };
             correlate(alloc, files, out, model, topology, log, asked, steps)
         }
-        _ => Err(Fault::NotBuilt),
+        Request::Decode { .. } => Err(Fault::NotBuilt),
+        Request::Grow { .. } => Err(Fault::NotBuilt),
     }
 }

@@ -23,11 +23,11 @@ const PUMP_IN_A_LINE: &str =
     "class Pump{problem Worn;problem Dry;symptom Noise;symptom Heat;symptom LowFlow;rule n:Worn=>Noise;rule h:Worn=>Heat;rule h2:Dry=>Heat;rule f:Dry=>LowFlow;}#x";
 
 // A cut link silences both its ports.
-const LINK: &str =
+pub(crate) const LINK: &str =
     "class Link {\n  problem Cut;\n  symptom Loss;\n  relation ends to Port many inverse on;\n  rule here: Cut => Loss;\n  rule far: Cut => ends.NoSignal;\n}\nclass Port {\n  problem Fail;\n  symptom NoSignal;\n  relation on to Link one inverse ends;\n  rule down: Fail => NoSignal;\n}\n";
 
 // A link with its two ports; and the same with a comment, an empty line and a mute.
-const LINKED: &str = "create L1 Link\ncreate a Port\ncreate b Port\nlink L1 ends a\nlink b on L1\n";
+pub(crate) const LINKED: &str = "create L1 Link\ncreate a Port\ncreate b Port\nlink L1 ends a\nlink b on L1\n";
 
 const LINKED_AND_MUTED: &str =
     "# core site\r\n\r\ncreate L1 Link\r\ncreate a Port\r\ncreate b Port\r\nlink L1 ends a\r\nlink b on L1\r\nmute NoSignal@b";
@@ -61,20 +61,20 @@ const CREATE_64: &str =
 
 /// What a run is made on: the words, the files, and what the outside does to it.
 #[derive(Clone, Copy)]
-struct Case<'a> {
-    words: &'a [&'a str],
-    files: &'a [(&'a str, &'a str)],
-    piece: usize,
-    failing_read: u64,
-    failing_write: u64,
+pub(crate) struct Case<'a> {
+    pub words: &'a [&'a str],
+    pub files: &'a [(&'a str, &'a str)],
+    pub piece: usize,
+    pub failing_read: u64,
+    pub failing_write: u64,
 }
 
 /// What is wanted of it.
 #[derive(Clone, Copy)]
-struct Wanted<'a> {
-    code: u8,
-    out: &'a str,
-    err: &'a str,
+pub(crate) struct Wanted<'a> {
+    pub code: u8,
+    pub out: &'a str,
+    pub err: &'a str,
 }
 
 fn words_of(alloc: Global, words: &[&str]) -> Result<Vec<String>, AllocError> {
@@ -126,7 +126,7 @@ fn ran<L: Ledger>(
 }
 
 // Runs the case in a ledger of its own.
-fn check(
+pub(crate) fn check(
     rt: &impl Abort,
     alloc: Global,
     case: &Case<'_>,
@@ -352,7 +352,7 @@ fn each_call_fails_in_turn(rt: HostRuntime) -> Result<(), Fail> {
 fn words_are_a_command_or_not(rt: HostRuntime) -> Result<(), Fail> {
     const USAGE: (u8, &str) = (2, "error 2 usage\n");
     const NOT_BUILT: (u8, &str) = (11, "error 11 not-built\n");
-    let cases: [(&[&str], (u8, &str)); 14] = [
+    let cases: [(&[&str], (u8, &str)); 13] = [
         (&[], USAGE),
         (&["burst", "m", "t"], USAGE),
         (&["Burst", "m", "t", "s"], USAGE),
@@ -364,7 +364,6 @@ fn words_are_a_command_or_not(rt: HostRuntime) -> Result<(), Fail> {
         (&["decode", "m", "t", "c", "l", "1000000000001"], USAGE),
         (&["decode", "m", "t", "c", "l", "1000000000000"], NOT_BUILT),
         (&["correlate", "m", "t", "l", "10", "0"], USAGE),
-        (&["correlate", "m", "t", "l", "1", "10"], NOT_BUILT),
         (&["grow", "257", "0"], USAGE),
         (&["grow", "256", "18446744073709551615"], NOT_BUILT),
     ];

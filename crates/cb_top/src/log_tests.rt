@@ -1,0 +1,221 @@
+//! Logs that are followed, over files and sinks in memory.
+use crate::tests::{Case, LINK, LINKED, Wanted, check};
+use crate::run;
+use cb_io::{MemFiles, MemSink, read_whole};
+use cb_steps::Steps;
+use std::alloc::{AllocError, Global};
+use std::marker::Brand;
+use std::process::Abort;
+use std::sync::ledger::Blank;
+use std::test::Fail;
+
+// A path of two places.
+const PATH: &str =
+    "class A {\n  problem P;\n  relation mid to B many inverse top;\n  rule r: P => mid.low.S;\n}\nclass B {\n  relation top to A many inverse mid;\n  relation low to C many inverse up;\n}\nclass C {\n  symptom S;\n  relation up to B many inverse low;\n}\n";
+
+const PATHS: &str = "create a1 A\ncreate b1 B\ncreate c1 C\nlink a1 mid b1\n";
+
+/// A log, what it is followed over, and what comes of it.
+#[derive(Clone, Copy)]
+struct Followed<'a> {
+    model: &'a str,
+    topology: &'a str,
+    distance: &'a str,
+    window: &'a str,
+    log: &'a str,
+    out: &'a str,
+}
+
+const LOGS: [Followed<'static>; 10] = [
+    // An edit that is refused, and the instance made before it counts as a column.
+    Followed {
+        model: LINK,
+        topology: LINKED,
+        distance: "1",
+        window: "10",
+        log: "{\"at\":1,\"edit\":\"create L2 Link\"}\n{\"at\":2,\"edit\":\"link a on L2\"}\n{\"at\":3,\"from\":\"c1\",\"raise\":\"NoSignal@a\"}\n",
+        out: "refused 2 occupied\nbook columns 3 of 4 distance 1 radius 0 groups 5\ndiagnosis c1 3 3 raised 1 unknown 0 distance 0 radius 0 sure groups 1\n  group Fail@a\n",
+    },
+    // What is raised is diagnosed by the topology of the moment at which its window closes.
+    Followed {
+        model: LINK,
+        topology: LINKED,
+        distance: "1",
+        window: "10",
+        log: "{\"at\":10,\"from\":\"c1\",\"raise\":\"Loss@L1\"}\n{\"at\":11,\"from\":\"c1\",\"raise\":\"NoSignal@a\"}\n{\"at\":12,\"edit\":\"delete L1\"}\n{\"at\":20,\"tick\":true}\n",
+        out: "book columns 2 of 2 distance 1 radius 0 groups 3\ndiagnosis c1 10 20 raised 2 unknown 1 distance 0 radius 0 sure groups 1\n  group Fail@a\n",
+    },
+    // A clear, and a raise that closes a window and opens the next.
+    Followed {
+        model: LINK,
+        topology: LINKED,
+        distance: "1",
+        window: "10",
+        log: "{\"at\":5,\"from\":\"c1\",\"raise\":\"NoSignal@a\"}\n{\"at\":6,\"from\":\"c1\",\"raise\":\"NoSignal@b\"}\n{\"at\":7,\"from\":\"c1\",\"clear\":\"NoSignal@b\"}\n{\"at\":15,\"from\":\"c1\",\"raise\":\"NoSignal@b\"}\n",
+        out: "book columns 2 of 3 distance 1 radius 0 groups 4\ndiagnosis c1 5 15 raised 1 unknown 0 distance 0 radius 0 sure groups 1\n  group Fail@a\ndiagnosis c1 15 15 raised 1 unknown 0 distance 0 radius 0 sure groups 1\n  group Fail@b\n",
+    },
+    // Two sources have windows of their own.
+    Followed {
+        model: LINK,
+        topology: LINKED,
+        distance: "1",
+        window: "10",
+        log: "{\"at\":1,\"from\":\"c1\",\"raise\":\"NoSignal@a\"}\n{\"at\":1,\"from\":\"c2\",\"raise\":\"NoSignal@b\"}\n{\"at\":2,\"from\":\"c2\",\"raise\":\"NoSignal@a\"}\n{\"at\":12,\"tick\":true}\n",
+        out: "book columns 2 of 3 distance 1 radius 0 groups 4\ndiagnosis c1 1 12 raised 1 unknown 0 distance 0 radius 0 sure groups 1\n  group Fail@a\ndiagnosis c2 1 12 raised 2 unknown 0 distance 0 radius 0 sure groups 1\n  group Cut@L1\n",
+    },
+    // Times that fall, and the greatest.
+    Followed {
+        model: LINK,
+        topology: LINKED,
+        distance: "1",
+        window: "10",
+        log: "{\"at\":100,\"from\":\"c1\",\"raise\":\"NoSignal@a\"}\n{\"at\":50,\"from\":\"c1\",\"raise\":\"NoSignal@b\"}\n{\"at\":18446744073709551615,\"tick\":true}\n{\"at\":18446744073709551615,\"from\":\"c1\",\"raise\":\"NoSignal@a\"}\n",
+        out: "book columns 2 of 3 distance 1 radius 0 groups 4\ndiagnosis c1 100 18446744073709551615 raised 2 unknown 0 distance 0 radius 0 sure groups 1\n  group Cut@L1\ndiagnosis c1 18446744073709551615 18446744073709551615 raised 1 unknown 0 distance 0 radius 0 sure groups 1\n  group Fail@a\n",
+    },
+    // Groups that are closer than wanted are told before the book.
+    Followed {
+        model: LINK,
+        topology: LINKED,
+        distance: "2",
+        window: "10",
+        log: "{\"at\":1,\"from\":\"c1\",\"raise\":\"NoSignal@a\"}\n{\"at\":2,\"from\":\"c1\",\"raise\":\"NoSignal@b\"}\n",
+        out: "thin wanted 2 first quiet second Fail@a distance 1\nbook columns 2 of 3 distance 1 radius 0 groups 4\ndiagnosis c1 1 2 raised 2 unknown 0 distance 0 radius 0 sure groups 1\n  group Cut@L1\n",
+    },
+    // A link at the second place of a path.
+    Followed {
+        model: PATH,
+        topology: PATHS,
+        distance: "1",
+        window: "5",
+        log: "{\"at\":1,\"edit\":\"link b1 low c1\"}\n{\"at\":2,\"from\":\"s1\",\"raise\":\"S@c1\"}\n",
+        out: "book columns 1 of 1 distance 1 radius 0 groups 2\ndiagnosis s1 2 2 raised 1 unknown 0 distance 0 radius 0 sure groups 1\n  group P@a1\n",
+    },
+    // Lines that are no records, a blank one, members of others, a CR, and a last line without a LF.
+    Followed {
+        model: LINK,
+        topology: LINKED,
+        distance: "1",
+        window: "10",
+        log: "nonsense\n[1]\n \r\n{\"severity\":\"major\",\"at\":17,\"from\":\"nms-1\",\"raise\":\"NoSignal@a\",\"text\":\"port down\"}\r",
+        out: "skipped 1 not-json\nskipped 2 not-object\nbook columns 2 of 3 distance 1 radius 0 groups 4\ndiagnosis nms-1 17 17 raised 1 unknown 0 distance 0 radius 0 sure groups 1\n  group Fail@a\n",
+    },
+    // No line, and time alone.
+    Followed {
+        model: LINK,
+        topology: LINKED,
+        distance: "1",
+        window: "10",
+        log: "",
+        out: "",
+    },
+    Followed {
+        model: LINK,
+        topology: LINKED,
+        distance: "1",
+        window: "10",
+        log: "{\"at\":5,\"tick\":true}",
+        out: "",
+    },
+];
+
+// Follows the log in pieces of so many bytes.
+fn is_followed(
+    rt: &impl Abort,
+    alloc: Global,
+    row: &Followed<'_>,
+    piece: usize,
+) -> Result<(), AllocError> {
+    let case = Case {
+        words: &["correlate", "m", "t", "l", row.distance, row.window],
+        files: &[("m", row.model), ("t", row.topology), ("l", row.log)],
+        piece,
+        failing_read: 0,
+        failing_write: 0,
+    };
+    let wanted = Wanted {
+        code: 0,
+        out: row.out,
+        err: "",
+    };
+    check(rt, alloc, &case, &wanted)
+}
+
+#[test]
+fn a_log_is_followed_in_any_pieces(rt: HostRuntime) -> Result<(), Fail> {
+    for row in &LOGS {
+        for piece in [1, 7, 65_536] {
+            is_followed(&rt, rt.alloc(), row, piece)?;
+        }
+    }
+    Ok(())
+}
+
+// A raise, its clear, and a raise that closes the window, each line with its LF.
+const RAISES: &str =
+    "{\"at\":5,\"from\":\"c1\",\"raise\":\"NoSignal@a\"}\n{\"at\":6,\"from\":\"c1\",\"raise\":\"NoSignal@b\"}\n{\"at\":7,\"from\":\"c1\",\"clear\":\"NoSignal@b\"}\n{\"at\":15,\"from\":\"c1\",\"raise\":\"NoSignal@b\"}\n";
+
+const FIRST_DIAGNOSIS: &str =
+    "book columns 2 of 3 distance 1 radius 0 groups 4\ndiagnosis c1 5 15 raised 1 unknown 0 distance 0 radius 0 sure groups 1\n  group Fail@a\n";
+
+#[test]
+fn a_log_that_fails_keeps_what_was_told(rt: HostRuntime) -> Result<(), Fail> {
+    // The call that fails, if not 0: of reads, of which the model and the topology take two each, and of writes.
+    let cases: [(u64, u64, u8, &str, &str); 4] = [
+        (5, 0, 8, "", "error 8 read l\n"),
+        (6, 0, 8, FIRST_DIAGNOSIS, "error 8 read l\n"),
+        (0, 1, 9, "", "error 9 write\n"),
+        (0, 2, 9, FIRST_DIAGNOSIS, "error 9 write\n"),
+    ];
+    for (failing_read, failing_write, code, out, err) in cases {
+        let case = Case {
+            words: &["correlate", "m", "t", "l", "1", "10"],
+            files: &[("m", LINK), ("t", LINKED), ("l", RAISES)],
+            piece: 65_536,
+            failing_read,
+            failing_write,
+        };
+        check(&rt, rt.alloc(), &case, &Wanted { code, out, err })?;
+    }
+    Ok(())
+}
+
+// The words, and files with this log, behind which stand so many bytes.
+fn lengthened(alloc: Global, log: &str, byte: &[u8], count: usize) -> Result<MemFiles, AllocError> {
+    let mut files = MemFiles::new(alloc);
+    files.add("m", LINK.as_bytes())?;
+    files.add("t", LINKED.as_bytes())?;
+    files.add("l", log.as_bytes())?;
+    let mut rest = Vec::new(alloc);
+    while rest.len() < count {
+        rest.extend_from_slice(byte)?;
+    }
+    files.add("l", &rest)?;
+    Ok(files)
+}
+
+// How many bytes are left of the log, where the first write of a run fails.
+fn left_of_log(alloc: Global, mut files: MemFiles) -> Result<(u8, usize), AllocError> {
+    let mut words = Vec::new(alloc);
+    for word in ["correlate", "m", "t", "l", "1", "10"] {
+        words.push(String::from_str(alloc, word)?)?;
+    }
+    let mut out = MemSink::new(alloc, 4096)?;
+    let mut err = MemSink::new(alloc, 4096)?;
+    out.fail_at(1)?;
+    let mut steps = Steps::<Brand>::new(Blank::new(1));
+    let status = run(alloc, &words, &mut files, &mut out, &mut err, &mut steps);
+    let left = match read_whole(alloc, &mut files, "l", 1 << 20) {
+        Ok(rest) => rest.len(),
+        Err(_) => return Err(AllocError),
+    };
+    Ok((status.code(), left))
+}
+
+#[test]
+fn a_log_is_not_read_far_ahead_of_a_failed_write(rt: HostRuntime) -> Result<(), Fail> {
+    let files = lengthened(rt.alloc(), RAISES, b"\n", 200_000)?;
+    let (code, left) = left_of_log(rt.alloc(), files)?;
+    assert_eq!(rt; code, 9);
+    assert!(rt; 134_464 <= left, "{left}");
+    Ok(())
+}
