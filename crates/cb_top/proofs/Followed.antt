@@ -147,15 +147,18 @@ module _ (request : Request) (built : is_built request ≡ true) (s : Seen) (end
 
   module _ (left : Left) (passed : PassFrom nothing (files_from left request) follows.known) where
     due_upto : (taken : ℕ) (due : List ℕ) → IsDueUpto follows.watch (log_from left request follows.name) taken due → IsDue (Some request) left (Point.upto taken) due
-    due_upto taken due is_due = (built, record {
-      known = follows.known;
-      pass = passed;
-      name = follows.name;
-      log = follows.log;
-      watch = follows.watch;
-      follows = follows.watches;
-      tells = is_due;
-    })
+    due_upto taken due is_due = (
+      built,
+      record {
+        known = follows.known;
+        pass = passed;
+        name = follows.name;
+        log = follows.log;
+        watch = follows.watch;
+        follows = follows.watches;
+        tells = is_due;
+      },
+    )
 
     answers_as : (outcome : Outcome) → LogTells follows.watch follows.name (log_from left request follows.name) (length (judged_of request)) outcome
         → IsOutcome (Some request) left outcome
@@ -163,10 +166,13 @@ module _ (request : Request) (built : is_built request ≡ true) (s : Seen) (end
         subst (λ (b : Bool). RequestAnswers b request left outcome) (sym built)
         (gives_job (JobGives left request) (files_from left request) nothing follows.known 0 outcome passed
         (λ w e.
-            let count = texts_count left [] (judged_of request) in
-            let whole : length (judged_of request) ≡ w = omega (arith, e, count) in
-            job_follows left request follows.name follows.known w outcome follows.log (follows.watch, follows.watches,
-            subst (λ (n : ℕ). LogTells follows.watch follows.name (log_from left request follows.name) n outcome) whole tells)))
+        let count = texts_count left [] (judged_of request) in
+        let whole : length (judged_of request) ≡ w = omega (arith, e, count) in
+        job_follows left request follows.name follows.known w outcome follows.log (
+          follows.watch,
+          follows.watches,
+          subst (λ (n : ℕ). LogTells follows.watch follows.name (log_from left request follows.name) n outcome) whole tells,
+        )))
 
     whole_outcome : (due : List ℕ) → IsDueOfAll follows.watch (log_from left request follows.name) due
         → IsOutcome (Some request) left (done due (suc (length (judged_of request))))
@@ -258,13 +264,13 @@ module _ (request : Request) (built : is_built request ≡ true) (s : Seen) (end
       )) follows.passed (in_log _ tells)
   front_by (Some (faults.ReadFault other)) wrong tells =
       if_some2 s.files.left _ _ _ (λ left passed is.
-          (Point.upto (length is.front), is.due, due_upto left passed (length is.front) is.due is.is_due, front_all is.due is.written)) follows.passed (in_log _ tells)
+      (Point.upto (length is.front), is.due, due_upto left passed (length is.front) is.due is.is_due, front_all is.due is.written)) follows.passed (in_log _ tells)
   front_by (Some faults.WriteFault) wrong tells =
       if_some2 s.files.left _ _ _ (λ left passed is.
-          let (point, past, written) = part_due left passed is.part.0 is.part.1 is.part.2 in (point, written.0, written.1, written.2)) follows.passed (in_log _ tells)
+      let (point, past, written) = part_due left passed is.part.0 is.part.1 is.part.2 in (point, written.0, written.1, written.2)) follows.passed (in_log _ tells)
   front_by (Some faults.Memory) wrong tells =
       if_some2 s.files.left _ _ _ (λ left passed is.
-          (Point.upto is.taken, is.due, due_upto left passed is.taken is.due is.is_due, front_all is.due is.written)) follows.passed (in_log _ tells)
+      (Point.upto is.taken, is.due, due_upto left passed is.taken is.due is.is_due, front_all is.due is.written)) follows.passed (in_log _ tells)
   front_by (Some fault) wrong tells = absurd wrong
 
   quiet_by : (e : Option Fault) → Wrong e → KeepsQuiet (Some request) (ending e) s.files s.files_after s.out s.out_after
@@ -355,14 +361,14 @@ module _ (request : Request) (built : is_built request ≡ true) (s : Seen) (end
   all_written : TellsIt (Some (faults.ReadFault follows.name)) → Told s.files (WritesAllDue (Some request) follows.name s)
   all_written tells =
       if_some2 s.files.left Begun _ _ (λ left both is.
-          let (taken, has_taken, is_due) =
-          taken_of left (both.1 follows.name) is.front is.rest is.log_is is.left_is is.due is.is_due in record {
-            taken = taken;
-            has_taken = has_taken;
-            due = is.due;
-            is_due = due_upto left both.0 taken is.due is_due;
-            written = is.written;
-          }) begun (in_log _ tells)
+      let (taken, has_taken, is_due) =
+      taken_of left (both.1 follows.name) is.front is.rest is.log_is is.left_is is.due is.is_due in record {
+        taken = taken;
+        has_taken = has_taken;
+        due = is.due;
+        is_due = due_upto left both.0 taken is.due is_due;
+        written = is.written;
+      }) begun (in_log _ tells)
 
   blames_read : Wrong (Some (faults.ReadFault follows.name)) → TellsIt (Some (faults.ReadFault follows.name))
       → TakesLine s.err s.err_after (line_text (Some (faults.ReadFault follows.name))) → BlamesRead (Some request) s
@@ -412,16 +418,16 @@ module _ (request : Request) (built : is_built request ≡ true) (s : Seen) (end
   not_far : TellsIt (Some faults.WriteFault) → Told s.files (ReadsNotFarAhead (Some request) s)
   not_far tells =
       if_some2 s.files.left Begun _ _ (λ left both is other log alone some.
-          let name : other ≡ follows.name = one_log other follows.name (sym follows.log ∙ log) in
-          subst (λ (n : List ℕ). IsNotFarAhead (Some request) n s left) (sym name)
-          (λ upto taken due written has is_due all less.
-          let all_of = contents left [] follows.name in
-          let alone_here = subst (λ (n : List ℕ). ¬ Contains (names (judged_of request)) n) name alone in
-          let bytes = same_some all_of (take taken all_of ++ has.rest) (sym (both.1 follows.name) ∙ has.before) in
-          let size = length-take-le taken all_of has.within in
-          let near = is.near some upto (take taken all_of) has.rest due written (log_alone left alone_here ∙ bytes) has.after
-          (due_here left both.0 upto due is_due) all less in
-          omega (arith, size, near)))
+      let name : other ≡ follows.name = one_log other follows.name (sym follows.log ∙ log) in
+      subst (λ (n : List ℕ). IsNotFarAhead (Some request) n s left) (sym name)
+      (λ upto taken due written has is_due all less.
+      let all_of = contents left [] follows.name in
+      let alone_here = subst (λ (n : List ℕ). ¬ Contains (names (judged_of request)) n) name alone in
+      let bytes = same_some all_of (take taken all_of ++ has.rest) (sym (both.1 follows.name) ∙ has.before) in
+      let size = length-take-le taken all_of has.within in
+      let near = is.near some upto (take taken all_of) has.rest due written (log_alone left alone_here ∙ bytes) has.after
+      (due_here left both.0 upto due is_due) all less in
+      omega (arith, size, near)))
       begun (in_log _ tells)
 
   blames_write : Wrong (Some faults.WriteFault) → TellsIt (Some faults.WriteFault) → TakesLine s.err s.err_after (line_text (Some faults.WriteFault))
@@ -449,12 +455,12 @@ module _ (request : Request) (built : is_built request ≡ true) (s : Seen) (end
   finds_by : (e : Option Fault) → Wrong e → TellsIt e → Finds (Some request) (ending e) s.files s.out s.out_after
   finds_by None wrong tells =
       if_some2 s.files.left _ _ _ (λ left passed is.
-          let regular = watch_is_regular request follows.known follows.watch (pass_sound nothing (files_from left request) follows.known tt passed) follows.watches in (
-            follows.known,
-            passed,
-            finds_log left request follows.name follows.known follows.watch is.due s.out s.out_after built follows.range follows.log follows.watches regular
-                is.is_due.tells is.written,
-          )) follows.passed (in_log _ tells)
+      let regular = watch_is_regular request follows.known follows.watch (pass_sound nothing (files_from left request) follows.known tt passed) follows.watches in (
+        follows.known,
+        passed,
+        finds_log left request follows.name follows.known follows.watch is.due s.out s.out_after built follows.range follows.log follows.watches regular
+            is.is_due.tells is.written,
+      )) follows.passed (in_log _ tells)
   finds_by (Some (faults.LimitBytes other)) wrong tells = tt
   finds_by (Some (faults.ReadFault other)) wrong tells = tt
   finds_by (Some faults.WriteFault) wrong tells = tt

@@ -116,7 +116,6 @@ begins watch session out out_now files name opens = record {
 module _ (watch : Watch) (now : FilesTold) (out : SinkTold) (reader : Reading) (files : FilesTold) (out_now : SinkTold) (session : State)
     (going : Going watch now out reader files out_now session) (reads_log : ReadsLog reader) (reader' : Reading) (files' : FilesTold) (session' : State)
     (same : ReadsSame reader reader') (only : ReadsOnly reader.name files files') where
-
   only_all : ReadsOnly reader'.name now files'
   only_all = subst (λ (n : List ℕ). ReadsOnly n now files') (sym same.name) (reads_on now files files' reader.name going.only only)
 
@@ -205,7 +204,6 @@ module _ (watch : Watch) (now : FilesTold) (out : SinkTold) (reader : Reading) (
 
   module _ (text : List ℕ) (says : IfSome (coming reader files) (PieceSays reader reader' files' session session' text)) (out' : SinkTold)
       (counts : out_now.faults ≤ out'.faults) where
-
     piece : (log : List ℕ) (has : HasTold watch log reader files session out out_now) → Comes reader'.ended watch log reader reader' files' session' has.told text has.rest
     piece log has = there (coming reader files) (PieceSays reader reader' files' session session' text) has.rest has.comes says watch log has.told going.regular has.is_at
 
@@ -259,21 +257,19 @@ module _ (watch : Watch) (now : FilesTold) (out : SinkTold) (reader : Reading) (
     module _ (goes : GoesOn reader') (front : WritesFront out_now out' text) (failed : WriteFailed out_now out') where
       part : (log : List ℕ) (has : HasTold watch log reader files session out out_now) (b : Bool) → Comes b watch log reader reader' files' session' has.told text has.rest
           → IsToldInPart watch log out out'
-      part log has false next =
-          (
-            has.told ++ text,
-            inl (
-              reader'.given + 0,
-              told_is_due watch going.regular log reader'.number reader'.given next.rest session' (has.told ++ text) next.is_at [] next.rest refl one_none,
-            ),
-            WritesFront-second out out_now out' has.told text has.written front,
-          )
-      part log has true last =
-          (
-            has.told ++ text,
-            inr (record { short = last.within; tells = last.tells }),
-            WritesFront-second out out_now out' has.told text has.written front,
-          )
+      part log has false next = (
+        has.told ++ text,
+        inl (
+          reader'.given + 0,
+          told_is_due watch going.regular log reader'.number reader'.given next.rest session' (has.told ++ text) next.is_at [] next.rest refl one_none,
+        ),
+        WritesFront-second out out_now out' has.told text has.written front,
+      )
+      part log has true last = (
+        has.told ++ text,
+        inr (record { short = last.within; tells = last.tells }),
+        WritesFront-second out out_now out' has.told text has.written front,
+      )
 
       -- no more is due than was told, where these bytes of the next line are behind the point
       module _ (log : List ℕ) (has : HasTold watch log reader files session out out_now) (some : IsSome out.taken) (upto : ℕ) (due written : List ℕ)

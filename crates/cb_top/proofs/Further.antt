@@ -156,8 +156,8 @@ module _ (watch : Watch) (regular : IsRegular watch.from.model) (log : List ℕ)
             events_are = refl;
           },
           sym (append_assoc told text ends)
-          ∙ text_more watch.opening (told ++ text) ends (is_at.events ++ step.events) events
-          (text_more watch.opening told text is_at.events step.events is_at.told_is step.text_is) text_is,
+              ∙ text_more watch.opening (told ++ text) ends (is_at.events ++ step.events) events
+              (text_more watch.opening told text is_at.events step.events is_at.told_is step.text_is) text_is,
         )
 
   -- where no line comes

@@ -45,7 +45,6 @@ long_line number line past = cond_false (nat_le (length line) log_line_limit) (l
 module _ (old new : Reading) (after : FilesTold) (session mid : State) (told_text out : List ℕ) (reads_log : ReadsLog old)
     (mode : mid.mode ≡ session.mode) (window : mid.windows.length ≡ session.windows.length) (ends : EndsWith new.ended mid told_text out)
     (watch : Watch) (log told bytes : List ℕ) (regular : IsRegular watch.from.model) (is_at : IsAt watch log old.number old.given bytes session told) where
-
   size : length log ≡ old.given + length bytes
   size =
       let a = ap length is_at.log_is in

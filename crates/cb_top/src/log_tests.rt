@@ -1,6 +1,6 @@
 //! Logs that are followed, over files and sinks in memory.
-use crate::tests::{Case, LINK, LINKED, Wanted, check};
 use crate::run;
+use crate::tests::{Case, LINK, LINKED, Wanted, check};
 use cb_io::{MemFiles, MemSink, read_whole};
 use cb_steps::Steps;
 use std::alloc::{AllocError, Global};

@@ -25,7 +25,12 @@ pub fn text_of_line<L: Ledger>(
     ensures tells { IfOk result (λ text. TellsGiven session.old session.new line bytes.now text.items) }
 {
     match line {
-        Line::Text { number } => text_of_step(alloc, LogLine::Text { number, bytes }, session, steps),
+        Line::Text { number } => text_of_step(
+            alloc,
+            LogLine::Text { number, bytes },
+            session,
+            steps,
+        ),
         Line::Long { number } => text_of_step(alloc, LogLine::Long { number }, session, steps),
         Line::End => Ok(Vec::new(alloc)),
     }
@@ -48,11 +53,7 @@ fn text_of_step<L: Ledger>(
 }
 
 /// Puts the text of what comes of the end behind a text.
-pub fn text_of_end(
-    alloc: Global,
-    session: &Session,
-    text: &mut Vec<u8>,
-) -> Result<(), AllocError>
+pub fn text_of_end(alloc: Global, session: &Session, text: &mut Vec<u8>) -> Result<(), AllocError>
     ensures { OnOk result ((ends : List ℕ) × TellsEnd session.now ends × (text.new.items ≡ text.old.items ++ ends)) }
 {
     let events = session.finish(alloc)?;

@@ -27,7 +27,8 @@ pub(crate) const LINK: &str =
     "class Link {\n  problem Cut;\n  symptom Loss;\n  relation ends to Port many inverse on;\n  rule here: Cut => Loss;\n  rule far: Cut => ends.NoSignal;\n}\nclass Port {\n  problem Fail;\n  symptom NoSignal;\n  relation on to Link one inverse ends;\n  rule down: Fail => NoSignal;\n}\n";
 
 // A link with its two ports; and the same with a comment, an empty line and a mute.
-pub(crate) const LINKED: &str = "create L1 Link\ncreate a Port\ncreate b Port\nlink L1 ends a\nlink b on L1\n";
+pub(crate) const LINKED: &str =
+    "create L1 Link\ncreate a Port\ncreate b Port\nlink L1 ends a\nlink b on L1\n";
 
 const LINKED_AND_MUTED: &str =
     "# core site\r\n\r\ncreate L1 Link\r\ncreate a Port\r\ncreate b Port\r\nlink L1 ends a\r\nlink b on L1\r\nmute NoSignal@b";
