@@ -17,16 +17,16 @@ const PATHS: &str = "create a1 A\ncreate b1 B\ncreate c1 C\nlink a1 mid b1\n";
 
 /// A log, what it is followed over, and what comes of it.
 #[derive(Clone, Copy)]
-struct Followed<'a> {
-    model: &'a str,
-    topology: &'a str,
-    distance: &'a str,
-    window: &'a str,
-    log: &'a str,
-    out: &'a str,
+struct Followed {
+    model: &'static str,
+    topology: &'static str,
+    distance: &'static str,
+    window: &'static str,
+    log: &'static str,
+    out: &'static str,
 }
 
-const LOGS: [Followed<'static>; 10] = [
+const LOGS: [Followed; 10] = [
     // An edit that is refused, and the instance made before it counts as a column.
     Followed {
         model: LINK,
@@ -122,7 +122,7 @@ const LOGS: [Followed<'static>; 10] = [
 fn is_followed(
     rt: &impl Abort,
     alloc: Global,
-    row: &Followed<'_>,
+    row: &Followed,
     piece: usize,
 ) -> Result<(), AllocError> {
     let case = Case {
