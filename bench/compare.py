@@ -4,12 +4,13 @@
     bench/compare.py --peer PROGRAM [--program PROGRAM] [--seed N] [RUNS]
 
 Each run makes a model text (some of them with a fault in their spelling or in their types), a topology with edits of all
-six kinds, some of them refused, a symptom file, and a certificate (of the other program, mostly damaged), hands them to both
+six kinds, some of them refused, a symptom file, a certificate (of the other program, mostly damaged) and a log, hands them to both
 programs, and compares the status, the output and the line on standard error. A run that the program isn't built for (status 11) is counted apart. It ends with status 1 where two
 answers differ, and says nothing but a word where the other program isn't there. The program is built by the gate,
 or by `rt run` in crates/cb_cli, which leave it in out/.
 """
 import argparse
+import json
 import pathlib
 import random
 import subprocess
@@ -240,6 +241,43 @@ def symptom_text(rng, network, faulty):
     return "\n".join(lines) + rng.choice(("", "\n", "\r\n"))
 
 
+def record(rng, network, at):
+    """A record of the log, mostly a raise."""
+    source = rng.choice(("a", "a", "b", "c-1", "d/2"))
+    kind = rng.randrange(12)
+    if kind < 6:
+        return {"at": at, "from": source, "raise": network.node()}
+    if kind < 8:
+        return {"at": at, "from": source, "clear": network.node()}
+    if kind < 11:
+        return {"at": at, "edit": network.line() or "create i1 C0"}
+    return {"at": at, "tick": True}
+
+
+def odd_line(rng, network, at):
+    """A line that is no record, mostly."""
+    one = record(rng, network, at)
+    return rng.choice(
+        (
+            "", " \t", "\r", "nonsense", "[1]", "17", "{}", "{" * 130, "\xff", "x" * 65536, "x" * 65537,
+            json.dumps({**one, "at": -1}), json.dumps({**one, "at": "5"}), json.dumps({**one, "at": 2**64 - 1}), json.dumps({**one, "at": 5.0}),
+            json.dumps({**one, "from": "9 a"}), json.dumps({**one, "tick": True, "raise": "e0@i0"}), json.dumps({**one, "tick": False}),
+            json.dumps({"at": at, "from": "a", "raise": "e0"}), json.dumps({"at": at, "raise": "e0@i0"}), json.dumps({"at": at, "edit": "move i1"}),
+            json.dumps({"at": at, "from": "a", "raise": 5}), json.dumps({**one, "more": [1, {"at": 2}]}), json.dumps(one)[:-1],
+            json.dumps(one)[:-1] + ',"at":' + str(at) + "}",
+        )
+    )
+
+
+def log_text(rng, network):
+    """Records whose times rise, mostly, with lines that are none between them."""
+    at, lines = rng.randrange(50), []
+    for _ in range(rng.randrange(30)):
+        at = max(0, at + rng.choice((0, 0, 1, 1, 2, 5, 20, -3)))
+        lines.append(odd_line(rng, network, at) if rng.random() < 0.15 else json.dumps(record(rng, network, at)))
+    return rng.choice(("\n", "\n", "\r\n")).join(lines) + rng.choice(("", "\n", "\n\n"))
+
+
 def accepted_only(rng, peer, folder, text):
     """The text without the lines at which the other program stops, so that the rest of the work is compared too."""
     lines = text.split("\n")
@@ -275,6 +313,8 @@ def words_of(rng):
             ["codebook", "m", "t", str(rng.choice((1, 1, 2, 3, 9999)))],
             ["verify", "m", "t", "c"],
             ["verify", "m", "t", "c"],
+            ["correlate", "m", "t", "l", str(rng.choice((1, 1, 2, 3, 9999))), str(rng.choice((1, 5, 10, 10**12)))],
+            ["correlate", "m", "t", "l", str(rng.choice((1, 2))), str(rng.choice((3, 10)))],
             ["burst", "m", "t", "s"],
             ["burst", "m", "t", "s"],
         )
@@ -330,6 +370,7 @@ def compare(program, peer, rng, folder):
         topology = accepted_only(rng, peer, folder, topology)
     (folder / "t").write_text(topology, newline="")
     (folder / "c").write_text(certificate_text(rng, peer, folder), newline="")
+    (folder / "l").write_bytes(log_text(rng, network).encode("latin-1"))
     words = words_of(rng)
     return words, answer(program, words, folder), answer(peer, words, folder)
 
