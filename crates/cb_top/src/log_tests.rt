@@ -1,4 +1,6 @@
 //! Logs that are followed, over files and sinks in memory.
+ghost use Rattle.std.specs.Prelude.{◌≡◌, ◌<◌};
+
 use crate::run;
 use crate::tests::{Case, LINK, LINKED, Wanted, check};
 use cb_io::{MemFiles, MemSink, read_whole};
@@ -6,7 +8,7 @@ use cb_steps::Steps;
 use std::alloc::{AllocError, Global};
 use std::marker::Brand;
 use std::process::Abort;
-use std::sync::ledger::Blank;
+use std::sync::ledger::{Blank, Ledger};
 use std::test::Fail;
 
 // A path of two places.
@@ -194,7 +196,15 @@ fn lengthened(alloc: Global, log: &str, byte: &[u8], count: usize) -> Result<Mem
 }
 
 // How many bytes are left of the log, where the first write of a run fails.
-fn left_of_log(alloc: Global, mut files: MemFiles) -> Result<(u8, usize), AllocError> {
+fn left_of_log<L: Ledger>(
+    alloc: Global,
+    mut files: MemFiles,
+    blank: Blank,
+) -> Result<(u8, usize), AllocError>
+    requires name { blank.name ≡ L.name }
+    requires parts { blank.parts ≡ L.parts }
+    requires some { 0 < L.parts }
+{
     let mut words = Vec::new(alloc);
     for word in ["correlate", "m", "t", "l", "1", "10"] {
         words.push(String::from_str(alloc, word)?)?;
@@ -202,7 +212,7 @@ fn left_of_log(alloc: Global, mut files: MemFiles) -> Result<(u8, usize), AllocE
     let mut out = MemSink::new(alloc, 4096)?;
     let mut err = MemSink::new(alloc, 4096)?;
     out.fail_at(1)?;
-    let mut steps = Steps::<Brand>::new(Blank::new(1));
+    let mut steps = Steps::<L>::new(blank);
     let status = run(alloc, &words, &mut files, &mut out, &mut err, &mut steps);
     let left = match read_whole(alloc, &mut files, "l", 1 << 20) {
         Ok(rest) => rest.len(),
@@ -214,7 +224,7 @@ fn left_of_log(alloc: Global, mut files: MemFiles) -> Result<(u8, usize), AllocE
 #[test]
 fn a_log_is_not_read_far_ahead_of_a_failed_write(rt: HostRuntime) -> Result<(), Fail> {
     let files = lengthened(rt.alloc(), RAISES, b"\n", 200_000)?;
-    let (code, left) = left_of_log(rt.alloc(), files)?;
+    let (code, left) = left_of_log::<Brand>(rt.alloc(), files, Blank::new(1))?;
     assert_eq!(rt; code, 9);
     assert!(rt; 134_464 <= left, "{left}");
     Ok(())
