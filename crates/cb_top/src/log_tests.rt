@@ -2,7 +2,7 @@
 ghost use Rattle.std.specs.Prelude.{◌≡◌, ◌<◌};
 
 use crate::run;
-use crate::tests::{Case, LINK, LINKED, Wanted, check};
+use crate::tests::{Case, LINK, LINKED, Wanted, check, words_of};
 use cb_io::{MemFiles, MemSink, read_whole};
 use cb_steps::Steps;
 use std::alloc::{AllocError, Global};
@@ -181,51 +181,92 @@ fn a_log_that_fails_keeps_what_was_told(rt: HostRuntime) -> Result<(), Fail> {
     Ok(())
 }
 
-// The words, and files with this log, behind which stand so many bytes.
-fn lengthened(alloc: Global, log: &str, byte: &[u8], count: usize) -> Result<MemFiles, AllocError> {
+// Files with a log of three parts, the second of which is so many times one byte.
+fn in_parts(
+    alloc: Global,
+    first: &str,
+    byte: u8,
+    count: usize,
+    last: &str,
+) -> Result<MemFiles, AllocError> {
     let mut files = MemFiles::new(alloc);
     files.add("m", LINK.as_bytes())?;
     files.add("t", LINKED.as_bytes())?;
-    files.add("l", log.as_bytes())?;
-    let mut rest = Vec::new(alloc);
-    while rest.len() < count {
-        rest.extend_from_slice(byte)?;
-    }
-    files.add("l", &rest)?;
+    files.add("l", first.as_bytes())?;
+    let many = vec![in alloc; byte; count]?;
+    files.add("l", &many)?;
+    files.add("l", last.as_bytes())?;
     Ok(files)
 }
 
-// How many bytes are left of the log, where the first write of a run fails.
-fn left_of_log<L: Ledger>(
+// What a run over these files answers and writes, and how many bytes are left of the log, where a write fails, if not 0.
+fn ends<L: Ledger>(
+    rt: &impl Abort,
     alloc: Global,
-    mut files: MemFiles,
+    files: &mut MemFiles,
+    failing_write: u64,
+    wanted: &Wanted<'_>,
     blank: Blank,
-) -> Result<(u8, usize), AllocError>
+) -> Result<(), AllocError>
     requires name { blank.name ≡ L.name }
     requires parts { blank.parts ≡ L.parts }
     requires some { 0 < L.parts }
 {
-    let mut words = Vec::new(alloc);
-    for word in ["correlate", "m", "t", "l", "1", "10"] {
-        words.push(String::from_str(alloc, word)?)?;
-    }
+    let words = words_of(alloc, &["correlate", "m", "t", "l", "1", "10"])?;
     let mut out = MemSink::new(alloc, 4096)?;
     let mut err = MemSink::new(alloc, 4096)?;
-    out.fail_at(1)?;
+    out.fail_at(failing_write)?;
     let mut steps = Steps::<L>::new(blank);
-    let status = run(alloc, &words, &mut files, &mut out, &mut err, &mut steps);
-    let left = match read_whole(alloc, &mut files, "l", 1 << 20) {
-        Ok(rest) => rest.len(),
-        Err(_) => return Err(AllocError),
-    };
-    Ok((status.code(), left))
+    let status = run(alloc, &words, files, &mut out, &mut err, &mut steps);
+    assert_eq!(rt; status.code(), wanted.code);
+    assert_eq!(rt; out.bytes(), wanted.out.as_bytes());
+    assert_eq!(rt; err.bytes(), wanted.err.as_bytes());
+    Ok(())
 }
 
 #[test]
 fn a_log_is_not_read_far_ahead_of_a_failed_write(rt: HostRuntime) -> Result<(), Fail> {
-    let files = lengthened(rt.alloc(), RAISES, b"\n", 200_000)?;
-    let (code, left) = left_of_log::<Brand>(rt.alloc(), files, Blank::new(1))?;
-    assert_eq!(rt; code, 9);
+    let alloc = rt.alloc();
+    let mut files = in_parts(alloc, RAISES, b'\n', 200_000, "")?;
+    let wanted = Wanted {
+        code: 9,
+        out: "",
+        err: "error 9 write\n",
+    };
+    ends::<Brand>(&rt, alloc, &mut files, 1, &wanted, Blank::new(1))?;
+    let left = read_whole(alloc, &mut files, "l", 1 << 20).map_or(0, |rest| rest.len());
     assert!(rt; 134_464 <= left, "{left}");
+    Ok(())
+}
+
+#[test]
+fn a_line_that_is_too_long_is_skipped(rt: HostRuntime) -> Result<(), Fail> {
+    let alloc = rt.alloc();
+    let raise = "\n{\"at\":1,\"from\":\"c1\",\"raise\":\"Loss@L1\"}";
+    let mut files = in_parts(alloc, "nonsense\n[1]\n", b'x', 65_537, raise)?;
+    let wanted = Wanted {
+        code: 0,
+        out: "skipped 1 not-json\nskipped 2 not-object\nskipped 3 long\nbook columns 2 of 3 distance 1 radius 0 groups 4\ndiagnosis c1 1 1 raised 1 unknown 0 distance 0 radius 0 sure groups 1\n  group quiet\n",
+        err: "",
+    };
+    ends::<Brand>(&rt, alloc, &mut files, 0, &wanted, Blank::new(1))?;
+    Ok(())
+}
+
+#[test]
+fn a_log_that_was_read_as_the_model_is_empty(rt: HostRuntime) -> Result<(), Fail> {
+    let case = Case {
+        words: &["correlate", "m", "t", "m", "1", "10"],
+        files: &[("m", LINK), ("t", LINKED)],
+        piece: 7,
+        failing_read: 0,
+        failing_write: 0,
+    };
+    let wanted = Wanted {
+        code: 0,
+        out: "",
+        err: "",
+    };
+    check(&rt, rt.alloc(), &case, &wanted)?;
     Ok(())
 }

@@ -37,7 +37,7 @@ pub fn run<F: Files, O: Sink, E: Sink, L: Ledger>(
     ensures line { SaysStatus (asked words.now) result (E.tells err.old) (E.tells err.new) }
 
     // Which words end how, whatever the files tell: 2 comes exactly where they are none of the table, 11 exactly where they are
-    // those of a command that isn't built, 4 for `burst` and `matrix` alone.
+    // those of a command that isn't built, 4 for commands with a topology alone.
     ensures ends { MayEnd (asked words.now) result }
     // Nothing is read but for a command that is built.
     ensures unread { (¬ IsBuilt (asked words.now)) → files.new ≡ files.old }
@@ -52,7 +52,8 @@ pub fn run<F: Files, O: Sink, E: Sink, L: Ledger>(
 
     // The headline: what `burst` prints at 0 are exactly the groups nearest to what is raised, by codes from what causes what; and
     // where no more symptoms of one group are lost or spurious than the radius says, that group alone, and it is sure. What
-    // `codebook` prints at 0 and at 6 is a valid certificate.
+    // `codebook` prints at 0 and at 6 is a valid certificate, and of each window of a log that `correlate` follows to 0 the same as of
+    // `burst` is said, over the codebook in use.
     ensures finds { Finds (asked words.now) result (F.tells files.old) (O.tells out.old) (O.tells out.new) }
     // No command counts a step but those that search.
     ensures steps { Counts (asked words.now) steps.old steps.new }
