@@ -224,6 +224,17 @@ fn ends<L: Ledger>(
     Ok(())
 }
 
+// The same, in a ledger of its own.
+fn ends_so(
+    rt: &impl Abort,
+    alloc: Global,
+    files: &mut MemFiles,
+    failing_write: u64,
+    wanted: &Wanted<'_>,
+) -> Result<(), AllocError> {
+    ends::<Brand>(rt, alloc, files, failing_write, wanted, Blank::new(1))
+}
+
 #[test]
 fn a_log_is_not_read_far_ahead_of_a_failed_write(rt: HostRuntime) -> Result<(), Fail> {
     let alloc = rt.alloc();
@@ -233,7 +244,7 @@ fn a_log_is_not_read_far_ahead_of_a_failed_write(rt: HostRuntime) -> Result<(), 
         out: "",
         err: "error 9 write\n",
     };
-    ends::<Brand>(&rt, alloc, &mut files, 1, &wanted, Blank::new(1))?;
+    ends_so(&rt, alloc, &mut files, 1, &wanted)?;
     let left = read_whole(alloc, &mut files, "l", 1 << 20).map_or(0, |rest| rest.len());
     assert!(rt; 134_464 <= left, "{left}");
     Ok(())
@@ -249,7 +260,7 @@ fn a_line_that_is_too_long_is_skipped(rt: HostRuntime) -> Result<(), Fail> {
         out: "skipped 1 not-json\nskipped 2 not-object\nskipped 3 long\nbook columns 2 of 3 distance 1 radius 0 groups 4\ndiagnosis c1 1 1 raised 1 unknown 0 distance 0 radius 0 sure groups 1\n  group quiet\n",
         err: "",
     };
-    ends::<Brand>(&rt, alloc, &mut files, 0, &wanted, Blank::new(1))?;
+    ends_so(&rt, alloc, &mut files, 0, &wanted)?;
     Ok(())
 }
 
