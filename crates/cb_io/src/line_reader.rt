@@ -91,7 +91,7 @@ impl<'n> LineReader<'n> {
         ensures says { IfSome (coming self.old (F.tells files.old)) (Says self.old self.new (F.tells files.new) result) }
         ensures number { IfOk result (IsNumbered self.new) }
         ensures goes_on { IfOk result (λ line. GoesOn self.new) }
-        ensures advances { IfOk result (λ line. Advances self.old self.new) }
+        ensures advances { IfOk result (Advances self.old self.new) }
         ensures refused { OnErr result (self.new.refused ≡ true) }
         ensures failed { IsErrOf result ReadStop.ReadFault → ReadFailed (F.tells files.old) (F.tells files.new) self.old.name }
         // In every case:
@@ -131,7 +131,7 @@ impl<'n> LineReader<'n> {
         Line::Text { number }
     }
 
-    /// The bytes of the last text.
+    /// The bytes of the last answer, where it was a text; else none.
     pub fn text(&self) -> &[u8]
         ensures { result.now ≡ self.now.text }
     {
