@@ -1,7 +1,7 @@
 //! A file line by line, over any files.
 ghost use Rattle.std.specs.Prelude.{◌≡◌, ◌+◌, ◌≤◌, length, true, false, IfOk, IfSome, OnErr, IsErrOf};
 ghost use Rattle.cb_io.specs.LineGiving.{Tells};
-ghost use Rattle.cb_io.specs.LineReading.{Reading, unread, coming, ReadsSame, Says, IsNumbered, GoesOn, Advances};
+ghost use Rattle.cb_io.specs.LineReading.{Reading, unread, coming, ReadsSame, Says, IsOneLine, IsNumbered, GoesOn, Advances};
 ghost use Rattle.cb_io.specs.LineSearch.{behind_of, size_of};
 ghost use Rattle.cb_io.specs.Pieces.{piece_limit};
 ghost use Rattle.cb_io.specs.Outside.{ReadsFront, KeepsOthers, NoCountFalls, ReadFailed};
@@ -92,6 +92,7 @@ impl<'n> LineReader<'n> {
         ensures number { IfOk result (IsNumbered self.new) }
         ensures goes_on { IfOk result (λ line. GoesOn self.new) }
         ensures advances { IfOk result (Advances self.old self.new) }
+        ensures in_hand { (¬ IsOneLine self.old.kept) → files.new ≡ files.old }
         ensures refused { OnErr result (self.new.refused ≡ true) }
         ensures failed { IsErrOf result ReadStop.ReadFault → ReadFailed (F.tells files.old) (F.tells files.new) self.old.name }
         // In every case:

@@ -29,3 +29,9 @@ pub returns-in_err-end-clause-says : goal.returns-in_err-end-clause-says
 returns-in_err-end-clause-says g c =
     let p = err_from_is_err_and c.from_residual.result c.from_residual.ensures.1 in
     rw (← c.self.view_is, p.1, p.2) (says_stop _ c.args.self.now (g.F.Files.tells c.args.files.now) (g.F.Files.tells c.find_end.new.files) c.self.invariant.1 c.in_err-end.field-0.0 c.in_err-end.ensures.stopped)
+
+pub returns-clause-in_hand : goal.returns-clause-in_hand
+returns-clause-in_hand g c = rw (← c.self.view_is) c.in_ok-end.ensures.in_hand
+
+pub returns-in_err-end-clause-in_hand : goal.returns-in_err-end-clause-in_hand
+returns-in_err-end-clause-in_hand g c = rw (← c.self.view_is) c.in_err-end.ensures.in_hand
