@@ -11,7 +11,7 @@ use Rattle.cb_io.specs.declared.whole.ReadStop.{ReadStop}
 use Rattle.cb_io.specs.declared.whole.ReadStop.TheVariants.{ReadFault, TooMuch, NoMemory}
 use Rattle.cb_io.specs.Hand.{Held}
 use Rattle.cb_io.specs.LineGiving.{Tells, behind_line}
-use Rattle.cb_io.specs.LineReading.{Reading, coming, IsOneLine, GivesEnded, GivesLast, GivesLine, Says}
+use Rattle.cb_io.specs.LineReading.{Reading, coming, IsOneLine, GivesEnded, GivesLast, GivesLine, Says, Advances}
 use Rattle.cb_io.specs.LineSearch.{HasCome, Finds, GivesUp, EndsBy, lf_count, behind_of, size_of}
 use Rattle.cb_io.specs.Outside.{FilesTold, left_of, ReadsFront}
 
@@ -51,6 +51,11 @@ pub come_front : {start : List ℕ} {before after : FilesTold} {name all : List 
 come_front come = (come.came, come.read)
 
 -- ---- a line
+
+-- a line without bytes is the last
+last_none : (is_last : Bool) (lost n : ℕ) → lost + (n + lf_count is_last) ≡ 0 → is_last ≡ true
+last_none true lost n zero = refl
+last_none false lost n zero = absurd (omega (arith, zero))
 
 -- the reader while a line is looked for
 abbrev pub looking : Reading → Held → Reading
@@ -147,6 +152,7 @@ module _ (old : Reading) (hand : Held) (before after : FilesTold) (end : LineEnd
       line = found.thrown ++ take end.length hand.kept;
       gives = gives_line 0 tells.0;
       long = omega (arith, tells.1, length-append found.thrown (take end.length hand.kept), found.lost_is, length-take-le end.length hand.kept (omega (arith, found.in_hand)));
+      text = refl;
     })
     says_at new End tells =
         let zero = tells.0 in
@@ -162,11 +168,18 @@ module _ (old : Reading) (hand : Held) (before after : FilesTold) (end : LineEnd
           number = refl;
           given = omega (arith, zero);
           ended = none.0;
+          text = refl;
         })
 
   -- what the answer says, where the files tell the bytes
   pub says_line : (new : Reading) (told_line : Line) → Tells (looking old hand) end new told_line → IfSome (coming old before) (Says old new after (Ok told_line))
   says_line new told_line tells = if_coming old.kept (left_of before old.name) (Says old new after (Ok told_line)) (λ left told. says_at left told new told_line tells)
+
+  -- how far the answer goes on, whatever the files tell
+  pub advances_line : (new : Reading) (told_line : Line) → Tells (looking old hand) end new told_line → Advances old new told_line
+  advances_line new (Text number) tells = rw tells.3 (refl, omega (arith, tells.0), omega (arith, found.within, room))
+  advances_line new (Long number) tells = rw tells.3 (refl, omega (arith, tells.0), omega (arith, found.within, room))
+  advances_line new End tells = rw tells.1 (last_none end.is_last end.lost end.length tells.0, refl, omega (arith, tells.0))
 
 -- ---- no line
 

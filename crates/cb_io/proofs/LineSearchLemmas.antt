@@ -1,5 +1,5 @@
 -- The end of a line, as it is looked for.
-use Rattle.std.proofs.Common.{◌≡◌, ℕ, ◌+◌, ◌<◌, ◌≤◌, min, true, false, nat_eq, List, [], ◌∷◌, ◌++◌, length, get_or, take, drop, Some, None, Result, Ok, Err, refl, sym, ap, subst, ◌∙◌, inl, inr, arith, length-take, length-drop, length-append, append_assoc, append-nil}
+use Rattle.std.proofs.Common.{◌≡◌, ◌⊎◌, ℕ, ◌+◌, ◌<◌, ◌≤◌, min, true, false, nat_eq, List, [], ◌∷◌, ◌++◌, length, get_or, take, drop, Some, None, Result, Ok, Err, refl, sym, ap, subst, ◌∙◌, inl, inr, arith, length-take, length-drop, length-append, append_assoc, append-nil}
 use Rattle.std.proofs.KnownBytes.{Consumes-nil, Consumes-trans, Consumes-kept, Keeps-refl}
 use Rattle.std.proofs.lemmas.Bool.{eqb-true, eq-eqb}
 use Rattle.std.proofs.lemmas.List.{take-append-le, take-append-drop, length-take-le, take_all, take_at, drop_more, get_or-take, get_or-drop, get_or_default}
@@ -68,6 +68,11 @@ one_both front back first second = λ has. elim (Contains-append_cases front bac
   | inl left ↦ first left
   | inr right ↦ second right
 ]
+
+-- where a whole line was in hand, nothing was read
+pub nothing_read : {F : Type 0} {now before : F} (start : List ℕ) → IsOneLine start ⊎ (now ≡ before) → ¬ IsOneLine start → now ≡ before
+nothing_read start (inl one) whole = absurd (whole one)
+nothing_read start (inr same) whole = same
 
 -- more bytes than there is room for
 pub over : (line rest : List ℕ) (room : ℕ) → IsOneLine line → room ≤ length line → room < length (line ++ rest) → IsOver room (line ++ rest)
@@ -202,6 +207,10 @@ module _ {start : List ℕ} {before now : FilesTold} {name : List ℕ} {line_mos
     (sought : Sought start before now name line_most room size hand lost (length hand.kept)) where
   whole_one : IsOneLine (sought.thrown ++ hand.kept)
   whole_one = subst (λ (l : List ℕ). IsOneLine (sought.thrown ++ l)) (take_all (length hand.kept) hand.kept (omega arith)) sought.one
+
+  -- so what was in hand at the start has no LF
+  pub start_one : IsOneLine start
+  start_one = one_front start sought.come.came (subst IsOneLine (sym sought.come.are) whole_one)
 
   -- a read failed
   pub read_failed : (after : FilesTold) (stop : FileStop) → Keeps (left_of now name) (left_of after name) → KeepsOthers now after name → NoCountFalls now after →

@@ -10,8 +10,8 @@ use Rattle.cb_io.specs.Outside.{FilesTold, left_of}
 use Rattle.cb_io.specs.Pieces.{piece_limit}
 
 -- Where a reader stands: its file, the most bytes of a line and of the file, how many lines were given and how many bytes they have, their
--- LFs among them; the bytes of the last text, those that were taken and not given yet, whether the end has come, and whether a call was
--- refused.
+-- LFs among them; the bytes of the last answer, where it was a text, else none; those that were taken and not given yet, whether the end has
+-- come, and whether a call was refused.
 pub record Reading : Type 0 where
   pub name : List ℕ
   pub line_most : ℕ
@@ -84,6 +84,7 @@ pub record TellsLong (old new : Reading) (after : FilesTold) (bytes : List ℕ) 
   pub line : List ℕ
   pub gives : GivesLine old new after bytes line
   pub long : old.line_most < length line
+  pub text : new.text ≡ []
 
 -- no byte comes any more
 pub record IsAtEnd (old new : Reading) (after : FilesTold) (bytes : List ℕ) : Type 0 where
@@ -92,6 +93,7 @@ pub record IsAtEnd (old new : Reading) (after : FilesTold) (bytes : List ℕ) : 
   pub number : new.number ≡ old.number
   pub given : new.given ≡ old.given
   pub ended : new.ended ≡ true
+  pub text : new.text ≡ []
 
 -- a front of the bytes was taken and is lost, and these are left of the file
 pub record Loses (old : Reading) (after : FilesTold) (bytes front rest : List ℕ) : Type 0 where
@@ -138,6 +140,7 @@ pub record GoesOn (new : Reading) : Type 0 where
   pub few : length new.kept ≤ piece_limit
   pub short : length new.text ≤ new.line_most
 
--- each answer goes on within the limit of the file, unless the end has come
-abbrev pub Advances : Reading → Reading → Type 0
-Advances old new = (new.ended ≡ true) ⊎ ((old.given < new.given) × (new.given ≤ old.total_most))
+-- a line has the next number and takes bytes, within the limit of the file; the end takes none
+abbrev pub Advances : Reading → Reading → Line → Type 0
+Advances old new End = (new.ended ≡ true) × (new.number ≡ old.number) × (new.given ≡ old.given)
+Advances old new line = (new.number ≡ old.number + 1) × (old.given < new.given) × (new.given ≤ old.total_most)

@@ -104,6 +104,7 @@ pub(crate) fn find_end<F: Files>(
     ensures size { hand.new.size ≡ hand.old.size }
     ensures found { IfOk result (Finds hand.old.kept (F.tells files.old) (F.tells files.new) name.now line_most room hand.new) }
     ensures stopped { IfErr result (GivesUp hand.old.kept (F.tells files.old) (F.tells files.new) name.now room) }
+    ensures in_hand { (¬ IsOneLine hand.old.kept) → files.new ≡ files.old }
     ensures failed { IsErrOf result ReadStop.ReadFault → ReadFailed (F.tells files.old) (F.tells files.new) name.now }
 {
     let mut lost = 0;

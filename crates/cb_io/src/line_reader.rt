@@ -1,7 +1,7 @@
 //! A file line by line, over any files.
 ghost use Rattle.std.specs.Prelude.{◌≡◌, ◌+◌, ◌≤◌, length, true, false, IfOk, IfSome, OnErr, IsErrOf};
 ghost use Rattle.cb_io.specs.LineGiving.{Tells};
-ghost use Rattle.cb_io.specs.LineReading.{Reading, unread, coming, ReadsSame, Says, IsNumbered, GoesOn, Advances};
+ghost use Rattle.cb_io.specs.LineReading.{Reading, unread, coming, ReadsSame, Says, IsOneLine, IsNumbered, GoesOn, Advances};
 ghost use Rattle.cb_io.specs.LineSearch.{behind_of, size_of};
 ghost use Rattle.cb_io.specs.Pieces.{piece_limit};
 ghost use Rattle.cb_io.specs.Outside.{ReadsFront, KeepsOthers, NoCountFalls, ReadFailed};
@@ -91,7 +91,8 @@ impl<'n> LineReader<'n> {
         ensures says { IfSome (coming self.old (F.tells files.old)) (Says self.old self.new (F.tells files.new) result) }
         ensures number { IfOk result (IsNumbered self.new) }
         ensures goes_on { IfOk result (λ line. GoesOn self.new) }
-        ensures advances { IfOk result (λ line. Advances self.old self.new) }
+        ensures advances { IfOk result (Advances self.old self.new) }
+        ensures in_hand { (¬ IsOneLine self.old.kept) → files.new ≡ files.old }
         ensures refused { OnErr result (self.new.refused ≡ true) }
         ensures failed { IsErrOf result ReadStop.ReadFault → ReadFailed (F.tells files.old) (F.tells files.new) self.old.name }
         // In every case:
@@ -131,7 +132,7 @@ impl<'n> LineReader<'n> {
         Line::Text { number }
     }
 
-    /// The bytes of the last text.
+    /// The bytes of the last answer, where it was a text; else none.
     pub fn text(&self) -> &[u8]
         ensures { result.now ≡ self.now.text }
     {
