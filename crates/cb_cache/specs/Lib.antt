@@ -5,6 +5,6 @@ pub mod Codes
 pub mod Room
 pub mod Kept
 pub mod Filled
-pub mod Edited
+pub mod Hindered
 pub mod Most
 pub mod Prepared

@@ -16,7 +16,7 @@ use Rattle.cb_network.specs.Topology.{Topology}
 abbrev pub HasAtMost : Topology → ℕ → Type 0
 HasAtMost t most = (count : ℕ) → IsCount (IsProblem t) count → count ≤ most
 
--- a further instance brings at most so many events, and an edit that brings no instance any number
+-- a further instance brings at most so many events, and of an edit that brings none nothing is said
 abbrev pub HasEventsWithin : Tables → Edit → ℕ → Type 0
 HasEventsWithin tables (Create name class) most = (c : ClassId) → NamesClass tables class c → (events : List EventId) × AreEventsOf tables c events × (length events ≤ most)
 HasEventsWithin tables edit most = Unit {0}

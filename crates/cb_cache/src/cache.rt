@@ -9,7 +9,7 @@ ghost use Rattle.cb_network.specs.Laws.{HasGoodName};
 ghost use Rattle.cb_topo.specs.Applied.{Applies};
 ghost use Rattle.cb_topo.specs.Numbered.{topology_of, IsNodeNamed};
 ghost use Rattle.cb_cache.specs.Cached.{IsReachedRow, IsCausedRow};
-ghost use Rattle.cb_cache.specs.Edited.{Hinders};
+ghost use Rattle.cb_cache.specs.Hindered.{Hinders};
 ghost use Rattle.cb_cache.specs.Numbers.{IsProblemNumber};
 ghost use Rattle.cb_cache.specs.Reached.{HasSlot};
 
@@ -96,7 +96,7 @@ impl Cache {
     }
 
     /// Makes the edit: the topology is the one after it, and every row is right again. Where the edit is refused, or memory is wanting,
-    /// nothing is changed.
+    /// nothing is changed, and no step is counted.
     pub fn apply<L: Ledger>(
         &mut self,
         alloc: Global,
@@ -107,6 +107,7 @@ impl Cache {
         ensures made { OnOk result (Applies self.old.graph edit.now self.new.graph) }
         ensures fault { IfErr result (Hinders self.old.graph edit.now) }
         ensures kept { OnErr result (self.new ≡ self.old) }
+        ensures steps { OnErr result (steps.new ≡ steps.old) }
     {
         let mut unfilled = room_after(alloc, self.graph.topology(), edit)?;
         search_after(

@@ -4,7 +4,7 @@ ghost use Rattle.cb_change.specs.Costs.{IsOpenCost};
 ghost use Rattle.cb_network.specs.Laws.{HasGoodName};
 ghost use Rattle.cb_topo.specs.Applied.{Applies};
 ghost use Rattle.cb_topo.specs.Numbered.{topology_of};
-ghost use Rattle.cb_cache.specs.Edited.{Hinders};
+ghost use Rattle.cb_cache.specs.Hindered.{Hinders};
 ghost use Rattle.cb_cache.specs.Kept.{IsKept};
 ghost use Rattle.cb_cache.specs.Prepared.{IsEmptyFor, IsRoomFor, IsRoomAfter};
 ghost use Rattle.cb_cache.specs.Room.{HasRoomFor};
@@ -55,7 +55,7 @@ pub fn search_all<L: Ledger>(
 }
 
 /// Makes the edit and all rows anew, in the memory that was taken for them. Where the edit is refused, or memory for it is wanting,
-/// nothing is changed.
+/// nothing is changed, and no step is counted.
 pub fn search_after<L: Ledger>(
     alloc: Global,
     graph: &mut Graph,
@@ -71,6 +71,7 @@ pub fn search_after<L: Ledger>(
     ensures fault { IfErr result (Hinders graph.old edit.now) }
     ensures graph { OnErr result (graph.new ≡ graph.old) }
     ensures rows { OnErr result (rows.new ≡ rows.old) }
+    ensures steps { OnErr result (steps.new ≡ steps.old) }
 {
     graph.apply(alloc, edit)?;
     search_each(graph, unfilled, steps);

@@ -15,7 +15,7 @@ use std::alloc::{AllocError, Global};
 use std::sync::ledger::Ledger;
 
 /// Makes the edit of a record, or raises or clears its node, and lets its time go by. Answers whether the topology has changed. A refusal
-/// is put behind the events so far. Where memory is wanting, topology and windows are as before.
+/// is put behind the events so far. Where memory is wanting, topology and windows are as before, and no step is counted.
 pub(crate) fn act<L: Ledger>(
     alloc: Global,
     cache: &mut Cache,
@@ -31,6 +31,7 @@ pub(crate) fn act<L: Ledger>(
     ensures length { windows.new.length ≡ windows.old.length }
     ensures same_cache { OnErr result (cache.new ≡ cache.old) }
     ensures same_windows { OnErr result (windows.new ≡ windows.old) }
+    ensures steps { OnErr result (steps.new ≡ steps.old) }
 {
     match &next.body {
         Body::Raise { from, node } => {
@@ -65,6 +66,7 @@ fn change<L: Ledger>(
     requires { HasGoodName edit.now }
     ensures acts { IfOk result (λ changed. ActsBehind (topology_of cache.old.graph) number (Change edit.now) (topology_of cache.new.graph) changed events.old events.new) }
     ensures same { OnErr result (cache.new ≡ cache.old) }
+    ensures steps { OnErr result (steps.new ≡ steps.old) }
 {
     if let Err(why) = cache.graph().topology().allows(edit) {
         events.push(Event::Refused {

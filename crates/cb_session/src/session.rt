@@ -56,7 +56,7 @@ impl Model for Session {
 
 impl Session {
     /// A session at the beginning of a log, over the topology of a cache: a distance at which codebooks are wanted, and the length of
-    /// windows in the log's unit of time. The cache is dropped where memory is wanting.
+    /// windows in the log's unit of time. No memory is taken.
     pub fn open(
         alloc: Global,
         cache: Cache,
@@ -78,7 +78,7 @@ impl Session {
     }
 
     /// What comes of the next line: the diagnoses of the windows that it closes, and then what comes of its body. An edit is made behind
-    /// them. Where memory is wanting the session is as before the call.
+    /// them. Where memory is wanting the session is as before the call, and no step is counted.
     pub fn step<L: Ledger>(
         &mut self,
         alloc: Global,
@@ -96,6 +96,7 @@ impl Session {
         ensures mode { self.new.mode ≡ self.old.mode }
         ensures length { self.new.windows.length ≡ self.old.windows.length }
         ensures same { OnErr result (self.new ≡ self.old) }
+        ensures steps { OnErr result (steps.new ≡ steps.old) }
     {
         match entry_of(alloc, line)? {
             Taken::Blank => Ok(List::new(alloc)),
@@ -122,6 +123,7 @@ impl Session {
         ensures mode { self.new.mode ≡ self.old.mode }
         ensures length { self.new.windows.length ≡ self.old.windows.length }
         ensures same { OnErr result (self.new ≡ self.old) }
+        ensures steps { OnErr result (steps.new ≡ steps.old) }
     {
         let closing = self.windows.due(alloc, next.at)?;
         let told = tell(alloc, &self.cache, &self.ready, self.wanted, &closing);
