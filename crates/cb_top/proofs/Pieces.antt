@@ -6,7 +6,7 @@ use Rattle.std.proofs.lemmas.Bool.Decides.{leb_tells}
 use Rattle.std.proofs.lemmas.List.{length-append}
 use Rattle.cb_io.specs.declared.line_reader.Line.{Line as Given}
 use Rattle.cb_io.specs.declared.line_reader.Line.TheVariants as given
-use Rattle.cb_io.specs.LineReading.{Reading, IsOneLine, GivesEnded, GivesLast, GivesLine, IsAtEnd, IsNumbered, Says}
+use Rattle.cb_io.specs.LineReading.{Reading, IsOneLine, GivesEnded, GivesLast, GivesLine, IsAtEnd, IsNumbered, Says, Advances}
 use Rattle.cb_io.specs.Outside.{FilesTold}
 use Rattle.cb_network.specs.Regular.{IsRegular}
 use Rattle.cb_alarm.specs.Lines.{Line, line_of, log_line_limit}
@@ -118,3 +118,9 @@ module _ (old new : Reading) (after : FilesTold) (session mid : State) (told_tex
       long_line (old.number + 1) says.line (omega (arith, limit, past)) ∙ ap (λ (n : ℕ). lines.long n) (sym says.gives.number ∙ sym is) in
       by_way says.line (subst (λ (l : Line). TellsLine session mid l told_text) (sym here) tells) says.gives says.gives.way
   piece_says given.End is tells says = at_end tells.0 tells.1 says
+
+-- an answer goes on within the limit of the file, or the end has come
+pub goes_further : (old new : Reading) (line : Given) → Advances old new line → (new.ended ≡ true) ⊎ ((old.given < new.given) × (new.given ≤ old.total_most))
+goes_further old new (given.Text number) goes = inr (goes.1, goes.2)
+goes_further old new (given.Long number) goes = inr (goes.1, goes.2)
+goes_further old new given.End goes = inl goes.0

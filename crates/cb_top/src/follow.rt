@@ -1,7 +1,7 @@
 //! A log, followed line by line: what comes of each is written before the next one is asked for.
 ghost use Rattle.std.specs.Prelude.{◌≡◌, ◌⊎◌, ◌<◌, ◌≤◌, true, IfOk, IfErr, IfSome, IsErrOf};
 ghost use Rattle.cb_alarm.specs.Lines.{log_line_limit};
-ghost use Rattle.cb_io.specs.LineReading.{coming, unread, Advances, ReadsSame, GoesOn};
+ghost use Rattle.cb_io.specs.LineReading.{coming, unread, ReadsSame, GoesOn};
 ghost use Rattle.cb_io.specs.Outside.{FilesTold, SinkTold, ReadFailed};
 ghost use Rattle.cb_outcome.specs.LogJobs.{Watch, log_limit};
 ghost use Rattle.cb_top.specs.Following.{EndsLog};
@@ -119,7 +119,7 @@ fn next_piece<F: Files, L: Ledger>(
     requires { ReadsLog reader.old }
     ensures same { ReadsSame reader.old reader.new }
     ensures goes_on { IfOk result (λ text. GoesOn reader.new) }
-    ensures advances { IfOk result (λ text. Advances reader.old reader.new) }
+    ensures advances { IfOk result (λ text. (reader.new.ended ≡ true) ⊎ ((reader.old.given < reader.new.given) × (reader.new.given ≤ reader.old.total_most))) }
     ensures only { ReadsOnly reader.old.name (F.tells files.old) (F.tells files.new) }
     ensures failed { IsErrOf result ReadStop.ReadFault → ReadFailed (F.tells files.old) (F.tells files.new) reader.old.name }
     ensures says { IfOk result (λ text. IfSome (coming reader.old (F.tells files.old))

@@ -2,7 +2,7 @@ use Rattle.std.proofs.Common.{◌∙◌, Bool, List, ℕ, ap, subst}
 use Rattle.cb_io.specs.LineReading.{coming}
 use Rattle.cb_top.specs.Telling.{TellsGiven}
 use Rattle.cb_top.proofs.Chain.{if_some}
-use Rattle.cb_top.proofs.Pieces.{EndsWith, piece_says}
+use Rattle.cb_top.proofs.Pieces.{EndsWith, goes_further, piece_says}
 use Rattle.cb_top.proofs.follow.next_piece.Goals.{then-has_ended+in_ok-text_of_end, else-has_ended}
 use Rattle.cb_top.proofs.follow.next_piece.Goals as goal
 
@@ -23,3 +23,6 @@ returns-clause-says g c =
     piece_says c.args.reader.now c.next_line.new.self (g.F.Files.tells c.next_line.new.files) c.args.session.now c.text_of_line.new.session c.in_ok-text.text.items
     c.if-has_ended.text.items c.requires c.in_ok-text.ensures.mode c.in_ok-text.ensures.length ends watch log told bytes regular is_at c.in_ok-line.line
     c.in_ok-line.ensures.number tells said) c.in_ok-line.ensures.says
+
+pub returns-clause-advances : goal.returns-clause-advances
+returns-clause-advances g c = goes_further c.args.reader.now c.next_line.new.self c.in_ok-line.line c.in_ok-line.ensures.advances
