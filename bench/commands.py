@@ -3,7 +3,7 @@
 
     bench/commands.py --peer PROGRAM [--program PROGRAM] WORKLOAD
 
-WORKLOAD is the script that writes a network (files m, t and s) into a folder. Each command is run three times by both programs, and the least
+WORKLOAD is the script that writes a network (files m, t and s, and a log) into a folder. Each command is run three times by both programs, and the least
 time is taken; a table is printed, in the form of docs/speed.md. Nothing here is a test: read ratios out of one run.
 """
 import pathlib
@@ -14,6 +14,9 @@ import tempfile
 import measure
 
 NETWORKS = (("ring", 2048, 1), ("limits", 2048, None), ("random", 4000, 1), ("dense", 4000, 4), ("chain", 1000, 1), ("mesh", 1024, 1))
+
+# Networks with a log: how many lines it has, and that each so many of them one is an edit.
+LOGS = (("ring", 200, 100_000, 10_000), ("ring", 200, 1_000_000, 10_000))
 
 
 def least(program, command, folder):
@@ -49,6 +52,12 @@ def main():
                 certificate = line(words, ["codebook", "m", "t", str(distance)], network, folder)
                 (folder / "c").write_bytes(certificate)
                 line(words, ["verify", "m", "t", "c"], network, folder)
+    for kind, sites, lines, every in LOGS:
+        with tempfile.TemporaryDirectory() as name:
+            folder = pathlib.Path(name)
+            asked = [kind, str(sites), str(folder), str(lines), str(every)]
+            subprocess.run([sys.executable, words.sizes[0], *asked], check=True, stdout=subprocess.DEVNULL)
+            line(words, ["correlate", "m", "t", "log", "1", "30"], f"{kind} {sites:,}, {lines:,} lines", folder)
 
 
 if __name__ == "__main__":
