@@ -161,18 +161,25 @@ const FIRST_DIAGNOSIS: &str =
 
 #[test]
 fn a_log_that_fails_keeps_what_was_told(rt: HostRuntime) -> Result<(), Fail> {
-    // The call that fails, if not 0: of reads, of which the model and the topology take two each, and of writes.
-    let cases: [(u64, u64, u8, &str, &str); 4] = [
-        (5, 0, 8, "", "error 8 read l\n"),
-        (6, 0, 8, FIRST_DIAGNOSIS, "error 8 read l\n"),
-        (0, 1, 9, "", "error 9 write\n"),
-        (0, 2, 9, FIRST_DIAGNOSIS, "error 9 write\n"),
+    // The pieces, and the call that fails, if not 0: of reads, of which the model and the topology take some each and the log one or more
+    // before its end, or of writes.
+    let cases: [(usize, u64, u64, u8, &str, &str); 10] = [
+        (1, 343, 0, 8, "", "error 8 read l\n"),
+        (1, 512, 0, 8, FIRST_DIAGNOSIS, "error 8 read l\n"),
+        (1, 0, 1, 9, "", "error 9 write\n"),
+        (7, 53, 0, 8, "", "error 8 read l\n"),
+        (7, 78, 0, 8, FIRST_DIAGNOSIS, "error 8 read l\n"),
+        (7, 0, 1, 9, "", "error 9 write\n"),
+        (65_536, 5, 0, 8, "", "error 8 read l\n"),
+        (65_536, 6, 0, 8, FIRST_DIAGNOSIS, "error 8 read l\n"),
+        (65_536, 0, 1, 9, "", "error 9 write\n"),
+        (65_536, 0, 2, 9, FIRST_DIAGNOSIS, "error 9 write\n"),
     ];
-    for (failing_read, failing_write, code, out, err) in cases {
+    for (piece, failing_read, failing_write, code, out, err) in cases {
         let case = Case {
             words: &["correlate", "m", "t", "l", "1", "10"],
             files: &[("m", LINK), ("t", LINKED), ("l", RAISES)],
-            piece: 65_536,
+            piece,
             failing_read,
             failing_write,
         };
