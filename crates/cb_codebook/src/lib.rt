@@ -1,4 +1,5 @@
-//! What is written of a topology's codebook for a wanted distance: its certificate, or that two groups are too close for one.
+//! What is written of a topology's codebook for a wanted distance: its certificate, or that two groups are too close for one; and the codebook
+//! that a certificate states.
 //!
 //! `codebook_of(alloc, topology, wanted, steps)` goes the whole way: what each problem causes (cb_cache), the matrix (cb_matrix), the
 //! codebook or the first close pair (cb_reduce), and the canonical certificate (cb_span). It knows no text, no file and no status.
@@ -12,5 +13,7 @@
 mod codebook;
 mod columns;
 mod shortfall;
+mod stated;
 
 pub use codebook::{Codebook, codebook_of};
+pub use stated::stated_book;

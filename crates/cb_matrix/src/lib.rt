@@ -8,3 +8,4 @@ mod names;
 mod problems;
 
 pub use matrix::Matrix;
+pub use names::names_of;

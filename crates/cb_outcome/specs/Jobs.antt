@@ -38,6 +38,7 @@ is_built (Model one) = true
 is_built (Matrix one two) = true
 is_built (Codebook one two distance) = true
 is_built (Verify one two three) = true
+is_built (Decode one two three log window) = true
 is_built (Correlate one two log distance window) = true
 is_built request = false
 

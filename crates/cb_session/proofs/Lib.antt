@@ -1,5 +1,8 @@
+pub mod Alone
 pub mod Bases
 pub mod InUse
 pub mod Behind
 pub mod Telling
 pub mod Stepping
+pub mod ByOne
+pub mod Sessions

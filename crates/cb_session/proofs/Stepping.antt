@@ -31,12 +31,15 @@ use Rattle.cb_session.specs.declared.basis.Ready.{Ready}
 use Rattle.cb_session.specs.declared.told.Told.{Told}
 use Rattle.cb_session.specs.Acts.{Acts, GoesOn, IsWellNamed}
 use Rattle.cb_session.specs.Ready.{IsReady}
+use Rattle.cb_session.specs.Course.{wanted_state}
 use Rattle.cb_session.specs.Settled.{IsOverSome, IsSettled}
 use Rattle.cb_session.specs.State.{State, IsBookOf, KeepsBook, StandsForEntries}
-use Rattle.cb_session.specs.Steps.{EntryTells, EntryStands}
+use Rattle.cb_session.specs.Steps.{EntryTells, EntryStands, ClosesAtEnd}
 use Rattle.cb_session.specs.Told.{Tells, kept_of}
 use Rattle.cb_session.proofs.Bases.{ready_has_basis}
 use Rattle.cb_session.proofs.Behind.{records_said, records_stay, IsChangedBy, changed_by, body_gives}
+use Rattle.cb_session.specs.Sources.{StandsAlone}
+use Rattle.cb_session.proofs.Alone.{stands_alone}
 use Rattle.cb_session.proofs.Telling.{book_of, told_comes, keeps_behind, ready_stays}
 
 -- the instance that an edit makes has a name of the grammar, where all its names are
@@ -92,10 +95,6 @@ book_is : (network : Topology) (d : ℕ) (ready : Option Ready) → IfSome ready
 book_is network d None is = tt
 book_is network d (Some ready) is = let has = ready_has_basis network (wanted d) ready is in (has.0, has.1.book)
 
--- what the parts of a session show
-abbrev pub state_of : Topology → ℕ → Kept → Option Ready → State
-state_of network d windows ready = record { mode = wanted d; network = network; windows = windows; book = book_of ready }
-
 -- the windows close at the next record
 abbrev pub Closes : Kept → ℕ → List Closed → Type 0
 Closes windows at closing = (records : List Record) (r : Record) → r.at ≡ at → StandsFor windows records
@@ -112,7 +111,7 @@ module _ (d number : ℕ) (r : Record) (network new : Topology) (windows later :
     pub settled : IsSettled network d windows ready
 
   module _ (closing : List Closed) (told : Told) (changed : Bool) (acted : List Event) (goes : Goes closing told changed acted) where
-    pub record_tells : EntryTells (state_of network d windows ready) (said number r) (told.events ++ acted)
+    pub record_tells : EntryTells (wanted_state network d windows ready) (said number r) (told.events ++ acted)
     record_tells = λ opening before regular stands. record {
       closings = told.events;
       closing = told_comes opening d windows.length (records_of before) (r ∷ []) network stands.network ready stands.book.0 closing
@@ -146,7 +145,7 @@ module _ (d number : ℕ) (r : Record) (network new : Topology) (windows later :
       ready_is = ready_kept;
     }
 
-    pub record_stands : EntryStands (state_of network d windows ready) (state_of new d later kept) (said number r)
+    pub record_stands : EntryStands (wanted_state network d windows ready) (wanted_state new d later kept) (said number r)
     record_stands = λ opening before regular stands.
         let same : records_of before ++ r ∷ [] ≡ records_of (before ++ said number r ∷ []) = sym (records_said before number r) in
         let by : IsChangedBy opening regular (records_of before) network stands.network r new changed =
@@ -178,16 +177,12 @@ pub due_rise : (windows : Kept) (r : Record) (closing : List Closed) → IsOverS
 due_rise windows r closing over closes =
     all_rise (over.0 ++ r ∷ []) windows.length (length over.0) closing (closes over.0 r refl over.1)
 
--- the windows that close at the end
-abbrev pub ClosesAtEnd : Kept → List Closed → Type 0
-ClosesAtEnd windows closing = (records : List Record) → StandsFor windows records → AreClosing records windows.length (length records) closing
-
 pub end_rise : (windows : Kept) (closing : List Closed) → IsOverSome windows → ClosesAtEnd windows closing → All HasRisingNodes closing
 end_rise windows closing over closes = all_rise over.0 windows.length (length over.0) closing (closes over.0 over.1)
 
 -- what is told of them is what comes of the end
 pub end_tells : (network : Topology) (d : ℕ) (windows : Kept) (ready : Option Ready) (closing : List Closed) (told : Told) → ClosesAtEnd windows closing
-    → Tells network d ready closing told → (opening : Topology) (before : List Entry) → StandsForEntries (state_of network d windows ready) opening before
+    → Tells network d ready closing told → (opening : Topology) (before : List Entry) → StandsForEntries (wanted_state network d windows ready) opening before
     → EndGives opening (wanted d) windows.length (records_of before) told.events
 end_tells network d windows ready closing told closes tells opening before stands =
     told_comes opening d windows.length (records_of before) [] network stands.network ready stands.book.0 closing
@@ -198,7 +193,7 @@ end_tells network d windows ready closing told closes tells opening before stand
 no_book : (opening : Topology) (w : ℕ) → IsSome {T = Book} None ↔ HasBook opening w []
 no_book opening w = (λ e. absurd (cc), λ has. let within = has.within in absurd (omega arith))
 
-pub opened_stands : (network : Topology) (d : ℕ) (windows : Kept) → StandsFor windows [] → StandsForEntries (state_of network d windows None) network []
+pub opened_stands : (network : Topology) (d : ℕ) (windows : Kept) → StandsFor windows [] → StandsForEntries (wanted_state network d windows None) network []
 opened_stands network d windows stands = record { network = refl; windows = stands; book = (no_book network windows.length, tt) }
 
 pub opened_settled : (network : Topology) (d : ℕ) (windows : Kept) → IsWanted d → StandsFor windows [] → IsSettled network d windows None
@@ -229,3 +224,16 @@ pub if_line_stands : {E : Type 0} (line : Line) (entry : Entry) → ComesTo line
     → OnOk result (EntryStands old new entry) → OnOk result (LineStands line old new)
 if_line_stands line entry comes old new (Ok events) stands = line_stands line entry comes old new stands
 if_line_stands line entry comes old new (Err e) stands = tt
+
+-- and of each source, what other sources say leaves it
+abbrev pub LineAlone : Line → State → List Event → Type 0
+LineAlone line s events = (opening : Topology) (before : List Entry) (entry : Entry) → IsRegular opening.model → ComesTo line entry
+    → StandsForEntries s opening before → StandsAlone opening s.mode s.windows.length before entry events
+
+pub line_alone : (line : Line) (s : State) (events : List Event) → LineTells line s events → LineAlone line s events
+line_alone line s events tells = λ opening before entry regular comes stands.
+    stands_alone opening s.mode s.windows.length before regular entry events (tells opening before entry regular comes stands)
+
+pub if_line_alone : {E : Type 0} (line : Line) (s : State) (result : Result (List Event) E) → IfOk result (LineTells line s) → IfOk result (LineAlone line s)
+if_line_alone line s (Ok events) tells = line_alone line s events tells
+if_line_alone line s (Err e) tells = tt

@@ -5,6 +5,8 @@ use Rattle.cb_network.specs.Edits.{IsAfter}
 use Rattle.cb_network.specs.Laws.{HasGoodName}
 use Rattle.cb_network.specs.Topology.{Topology}
 use Rattle.cb_log.specs.declared.event.Event.{Event}
+use Rattle.cb_log.specs.declared.event.Event.TheVariants.{Refused}
+use Rattle.cb_log.specs.declared.event.RefusedWhy.TheVariants.{Fixed}
 use Rattle.cb_log.specs.declared.record.Body.{Body}
 use Rattle.cb_log.specs.declared.record.Body.TheVariants.{Change}
 use Rattle.cb_log.specs.declared.record.Record.{Record}
@@ -31,6 +33,11 @@ Acts network line body new changed events = (new ≡ network) × (changed ≡ fa
 abbrev pub ActsBehind : Topology → ℕ → Body → Topology → Bool → List Event → List Event → Type 0
 ActsBehind network line body new changed old events =
     (told : List Event) × Acts network line body new changed told × (events ≡ old ++ told)
+
+-- an edit is refused where the codebook is fixed, and of no other body anything is told
+abbrev pub RefusesEdit : ℕ → Body → List Event → Type 0
+RefusesEdit line (Change edit) events = events ≡ Refused line Fixed ∷ []
+RefusesEdit line body events = events ≡ []
 
 -- what is kept of the windows goes on by the record
 abbrev pub GoesOn : Kept → Kept → Record → Type 0

@@ -2,7 +2,9 @@ pub mod State
 pub mod Codes
 pub mod Taken
 pub mod Ready
+pub mod Course
 pub mod Settled
 pub mod Told
 pub mod Acts
 pub mod Steps
+pub mod Sources

@@ -1,5 +1,5 @@
 -- What windows are diagnosed by, as a session holds it.
-use Rattle.std.specs.Prelude.{◌≡◌, ◌≤◌, ◌+◌, ℕ, List, length, Bool, Some}
+use Rattle.std.specs.Prelude.{◌≡◌, ◌<◌, ◌≤◌, ◌+◌, ◌^◌, ℕ, List, length, Bool, Some}
 use Rattle.cb_model.specs.declared.node.GroupName.{GroupName}
 use Rattle.cb_coding.specs.declared.book.Book.{Book}
 use Rattle.cb_coding.specs.declared.book.Pair.{Pair}
@@ -22,7 +22,7 @@ pub record IsReady (network : Topology) (mode : Mode) (ready : Ready) : Type 0 w
   pub used : IsUsed mode (length ready.matrix.columns) (codes_of ready.matrix.groups) ready.book
   pub few_columns : length ready.matrix.columns ≤ symptom_limit
   pub few_groups : length ready.matrix.groups ≤ problem_limit + 1
-  pub few_kept : length ready.book.columns ≤ symptom_limit
+  pub few_kept : length ready.book.columns < 2 ^ 32
 
 -- it is ready for some topology
 abbrev pub IsSomewhereReady : Ready → Type 0

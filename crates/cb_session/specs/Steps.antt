@@ -1,10 +1,14 @@
 -- What an entry makes of a session, whatever the session stands for.
-use Rattle.std.specs.Prelude.{◌++◌, List, [], ◌∷◌}
+use Rattle.std.specs.Prelude.{◌++◌, List, [], ◌∷◌, length}
 use Rattle.cb_network.specs.Regular.{IsRegular}
 use Rattle.cb_network.specs.Topology.{Topology}
+use Rattle.cb_log.specs.declared.closed.Closed.{Closed}
 use Rattle.cb_log.specs.declared.event.Event.{Event}
+use Rattle.cb_log.specs.declared.record.Record.{Record}
+use Rattle.cb_log.specs.Closing.{AreClosing}
 use Rattle.cb_log.specs.Entries.{Entry, records_of}
-use Rattle.cb_log.specs.Events.{EntryGives}
+use Rattle.cb_log.specs.Events.{EntryGives, EndGives}
+use Rattle.cb_log.specs.Kept.{Kept, StandsFor}
 use Rattle.cb_session.specs.State.{State, StandsForEntries}
 
 -- these events come of the entry
@@ -16,3 +20,12 @@ EntryTells s entry events = (opening : Topology) (before : List Entry) → IsReg
 abbrev pub EntryStands : State → State → Entry → Type 0
 EntryStands old new entry = (opening : Topology) (before : List Entry) → IsRegular opening.model → StandsForEntries old opening before
     → StandsForEntries new opening (before ++ entry ∷ [])
+
+-- these windows close at the end, whatever records they are over
+abbrev pub ClosesAtEnd : Kept → List Closed → Type 0
+ClosesAtEnd windows closing = (records : List Record) → StandsFor windows records → AreClosing records windows.length (length records) closing
+
+-- these events come of the end
+abbrev pub TellsAtEnd : State → List Event → Type 0
+TellsAtEnd s events = (opening : Topology) (before : List Entry) → StandsForEntries s opening before
+    → EndGives opening s.mode s.windows.length (records_of before) events

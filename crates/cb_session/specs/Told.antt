@@ -4,14 +4,14 @@ use Rattle.std.specs.List.{AllZip}
 use Rattle.cb_network.specs.Topology.{Topology}
 use Rattle.cb_log.specs.declared.closed.Closed.{Closed}
 use Rattle.cb_log.specs.declared.event.Event.{Event}
-use Rattle.cb_log.specs.Basis.{wanted, Basis, IsDiagnosis, IsAnnounced}
+use Rattle.cb_log.specs.Basis.{Mode, wanted, Basis, IsDiagnosis, IsAnnounced}
 use Rattle.cb_session.specs.declared.basis.Ready.{Ready}
 use Rattle.cb_session.specs.declared.told.Told.{Told}
 use Rattle.cb_session.specs.Ready.{HasBasis, IsReady}
 
 -- by a codebook in use, the diagnoses alone
-pub record TellsInUse (network : Topology) (d : ℕ) (ready : Ready) (closing : List Closed) (events : List Event) : Type 0 where
-  pub basis : Basis network (wanted d)
+pub record TellsInUse (network : Topology) (mode : Mode) (ready : Ready) (closing : List Closed) (events : List Event) : Type 0 where
+  pub basis : Basis network mode
   pub has : HasBasis basis ready
   pub each : AllZip (IsDiagnosis basis) closing events
 
@@ -28,7 +28,7 @@ pub record TellsMade (network : Topology) (d : ℕ) (ready : Ready) (closing : L
 -- what is told of windows that close, by what is ready; where nothing is, by what is made ready for the topology
 abbrev pub Tells : Topology → ℕ → Option Ready → List Closed → Told → Type 0
 Tells network d ready [] told = (told.events ≡ []) × (told.made ≡ None)
-Tells network d (Some ready) (c ∷ closing) told = TellsInUse network d ready (c ∷ closing) told.events × (told.made ≡ None)
+Tells network d (Some ready) (c ∷ closing) told = TellsInUse network (wanted d) ready (c ∷ closing) told.events × (told.made ≡ None)
 Tells network d None (c ∷ closing) told =
     (made : Ready) × (told.made ≡ Some made) × IsReady network (wanted d) made × TellsMade network d made (c ∷ closing) told.events
 

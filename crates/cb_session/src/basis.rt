@@ -5,7 +5,7 @@ ghost use Rattle.cb_cert.specs.Format.{IsWanted};
 ghost use Rattle.cb_coding.specs.Answers.{radius as radius_of};
 ghost use Rattle.cb_coding.specs.Books.{IsInUse};
 ghost use Rattle.cb_finding.specs.Finding.{IsCalled};
-ghost use Rattle.cb_log.specs.Basis.{Mode, wanted as for_wanted, Basis, IsDiagnosis, IsAnnounced, book_made as book_made_by};
+ghost use Rattle.cb_log.specs.Basis.{Mode, wanted as for_wanted, fixed as by_fixed, Basis, IsDiagnosis, IsAnnounced, book_made as book_made_by};
 ghost use Rattle.cb_log.specs.declared.event.Event.{Event as EventOf};
 ghost use Rattle.cb_model.specs.NodeOrder.{node_cmp};
 ghost use Rattle.cb_model.specs.Order.{Rises};
@@ -45,6 +45,16 @@ impl Ready {
                 Err(none)
             }
         }
+    }
+
+    /// Of the topology of a cache, by a codebook that is given.
+    pub fn by(alloc: Global, cache: &Cache, book: Book) -> Result<Ready, AllocError>
+        requires { length book.columns < 2 ^ 32 }
+        ensures ready { IfOk result (IsReady (topology_of cache.now.graph) (by_fixed book)) }
+        ensures book { IfOk result (λ ready. ready.book ≡ book) }
+    {
+        let matrix = Matrix::of(alloc, cache)?;
+        Ok(Ready { matrix, book })
     }
 
     /// The events that tell of the codebook, before the first diagnosis by it.

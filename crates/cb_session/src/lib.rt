@@ -3,10 +3,13 @@
 
 mod act;
 mod basis;
+mod course;
 mod entry;
+mod fixed;
 mod line;
 mod session;
 mod told;
+mod wanted;
 
 pub use line::LogLine;
 pub use session::Session;

@@ -1,24 +1,30 @@
 //! A session.
-ghost use Rattle.std.specs.Prelude.{◌≡◌, ◌≤◌, ◌++◌, ℕ, List as Items, [], ◌∷◌, length, IfOk, OnOk, OnErr, None};
-ghost use Rattle.cb_alarm.specs.Lines.{ComesTo, log_line_limit};
+ghost use Rattle.std.specs.Prelude.{◌≡◌, ◌<◌, ◌≤◌, ◌++◌, ◌^◌, List as Items, [], ◌∷◌, length as length_of, IfOk, OnOk, OnErr};
+ghost use Rattle.std.specs.List.{All};
+ghost use Rattle.cb_alarm.specs.Lines.{ComesTo};
 ghost use Rattle.cb_cert.specs.Format.{IsWanted};
-ghost use Rattle.cb_log.specs.Basis.{wanted as for_wanted};
+ghost use Rattle.cb_log.specs.declared.closed.Closed.{Closed as ClosedOf};
+ghost use Rattle.cb_log.specs.Basis.{wanted as for_wanted, fixed as by_fixed};
 ghost use Rattle.cb_log.specs.Entries.{Entry, said, records_of};
 ghost use Rattle.cb_log.specs.Events.{EntryGives, EndGives};
 ghost use Rattle.cb_network.specs.Regular.{IsRegular};
 ghost use Rattle.cb_network.specs.Topology.{Topology};
 ghost use Rattle.cb_topo.specs.Numbered.{topology_of};
 ghost use Rattle.cb_session.specs.Acts.{IsWellNamed};
+ghost use Rattle.cb_session.specs.Sources.{StandsAlone, EndsAlone};
 ghost use Rattle.cb_session.specs.State.{State, StandsForEntries, line_of, IsFitting};
-ghost use Rattle.cb_session.specs.Steps.{EntryTells, EntryStands};
+ghost use Rattle.cb_session.specs.Steps.{EntryTells, EntryStands, ClosesAtEnd, TellsAtEnd};
 
-use crate::act::act;
 use crate::basis::Ready;
+use crate::course::Course;
 use crate::entry::{Taken, entry_of};
+use crate::fixed::go_on_fixed;
 use crate::line::LogLine;
-use crate::told::{keep, tell};
+use crate::told::{tell, told_in_use};
+use crate::wanted::go_on_wanted;
 use cb_cache::Cache;
-use cb_log::{Event, Record};
+use cb_coding::Book;
+use cb_log::{Closed, Event, Record};
 use cb_model::List;
 use cb_steps::Steps;
 use cb_window::Windows;
@@ -31,27 +37,23 @@ use std::sync::ledger::Ledger;
 pub struct Session {
     cache: Cache,
     windows: Windows,
-    wanted: u32,
-    // What windows are diagnosed by, where a codebook is in use.
-    ready: Option<Ready>,
+    course: Course,
 }
 
 impl Model for Session {
-    ghost use Rattle.std.specs.Prelude.{option_map};
-    ghost use Rattle.cb_log.specs.Basis.{wanted as for_wanted};
     ghost use Rattle.cb_topo.specs.Numbered.{topology_of};
     ghost use Rattle.cb_session.specs.Codes.{state_code};
+    ghost use Rattle.cb_session.specs.Course.{state_of};
+    ghost use Rattle.cb_session.specs.Settled.{Fits};
     ghost use Rattle.cb_session.specs.State.{State};
 
     ghost Value = { State };
 
     ghost coded = { state_code };
 
-    ghost view = { λ s. record { mode = for_wanted s.wanted; network = topology_of s.cache.graph; windows = s.windows; book = option_map (λ ready. ready.book) s.ready } };
+    ghost view = { λ s. state_of (topology_of s.cache.graph) s.windows s.course };
 
-    ghost use Rattle.cb_session.specs.Settled.{IsSettled};
-
-    ghost invariant = { λ s. IsSettled (topology_of s.cache.graph) s.wanted s.windows s.ready };
+    ghost invariant = { λ s. Fits (topology_of s.cache.graph) s.windows s.course };
 }
 
 impl Session {
@@ -72,8 +74,32 @@ impl Session {
         Ok(Session {
             cache,
             windows: Windows::new(alloc, length),
-            wanted,
-            ready: None,
+            course: Course::Wanted {
+                distance: wanted,
+                ready: None,
+            },
+        })
+    }
+
+    /// The same by one codebook, whose columns are places among those of the topology. It makes no codebook, and refuses each edit, since that
+    /// might make the given one wrong.
+    pub fn fixed(
+        alloc: Global,
+        cache: Cache,
+        book: Book,
+        length: u64,
+    ) -> Result<Session, AllocError>
+        requires columns { length_of book.columns < 2 ^ 32 }
+        requires length { 1 ≤ length }
+        ensures mode { IfOk result (λ s. s.mode ≡ by_fixed book) }
+        ensures length { IfOk result (λ s. s.windows.length ≡ length) }
+        ensures stands { IfOk result (λ s. StandsForEntries s (topology_of cache.graph) []) }
+    {
+        let ready = Ready::by(alloc, &cache, book)?;
+        Ok(Session {
+            cache,
+            windows: Windows::new(alloc, length),
+            course: Course::Fixed { ready },
         })
     }
 
@@ -90,6 +116,9 @@ impl Session {
         ensures gives { IfOk result (λ events. (opening : Topology) (before : Items Entry) (entry : Entry) → IsRegular opening.model
             → ComesTo (line_of line.entry) entry → StandsForEntries self.old opening before
             → EntryGives opening self.old.mode self.old.windows.length (records_of before) entry events) }
+        ensures alone { IfOk result (λ events. (opening : Topology) (before : Items Entry) (entry : Entry) → IsRegular opening.model
+            → ComesTo (line_of line.entry) entry → StandsForEntries self.old opening before
+            → StandsAlone opening self.old.mode self.old.windows.length before entry events) }
         ensures stands { OnOk result ((opening : Topology) (before : Items Entry) (entry : Entry) → IsRegular opening.model
             → ComesTo (line_of line.entry) entry → StandsForEntries self.old opening before
             → StandsForEntries self.new opening (before ++ entry ∷ [])) }
@@ -125,33 +154,49 @@ impl Session {
         ensures same { OnErr result (self.new ≡ self.old) }
         ensures steps { OnErr result (steps.new ≡ steps.old) }
     {
-        let closing = self.windows.due(alloc, next.at)?;
-        let told = tell(alloc, &self.cache, &self.ready, self.wanted, &closing);
-        drop(closing);
-        let mut told = told?;
-        let changed = act(
-            alloc,
-            &mut self.cache,
-            &mut self.windows,
-            number,
-            next,
-            &mut told.events,
-            steps,
-        )?;
-        keep(&mut self.ready, told.made, changed);
-        Ok(told.events)
+        match &mut self.course {
+            Course::Wanted { distance, ready } => go_on_wanted(
+                alloc,
+                &mut self.cache,
+                &mut self.windows,
+                *distance,
+                ready,
+                number,
+                next,
+                steps,
+            ),
+            Course::Fixed { ready } => {
+                go_on_fixed(alloc, &mut self.windows, ready, number, next)
+            }
+        }
     }
 
     /// What comes of the end of the log: the diagnoses of the windows that are open. A second call says the same.
     pub fn finish(&self, alloc: Global) -> Result<List<Event>, AllocError>
-        ensures { IfOk result (λ events. (opening : Topology) (before : Items Entry) → IsRegular opening.model
+        ensures gives { IfOk result (λ events. (opening : Topology) (before : Items Entry) → IsRegular opening.model
             → StandsForEntries self.now opening before
             → EndGives opening self.now.mode self.now.windows.length (records_of before) events) }
+        ensures alone { IfOk result (λ events. (opening : Topology) (before : Items Entry) → IsRegular opening.model
+            → StandsForEntries self.now opening before
+            → EndsAlone opening self.now.mode self.now.windows.length before events) }
     {
         let closing = self.windows.rest(alloc)?;
-        let ends = tell(alloc, &self.cache, &self.ready, self.wanted, &closing);
+        let events = self.told_of(alloc, &closing);
         drop(closing);
-        Ok(ends?.events)
+        events
+    }
+
+    // What is told of the windows that close at the end.
+    fn told_of(&self, alloc: Global, closing: &List<Closed>) -> Result<List<Event>, AllocError>
+        requires { ClosesAtEnd self.now.windows closing.now }
+        ensures { IfOk result (TellsAtEnd self.now) }
+    {
+        match &self.course {
+            Course::Wanted { distance, ready } => {
+                Ok(tell(alloc, &self.cache, ready, *distance, closing)?.events)
+            }
+            Course::Fixed { ready } => told_in_use(alloc, ready, closing),
+        }
     }
 
     /// The topology as it is, with its rows.

@@ -1,8 +1,8 @@
 //! What is told of windows that close.
-ghost use Rattle.std.specs.Prelude.{◌≡◌, ℕ, IfOk, IfSome};
+ghost use Rattle.std.specs.Prelude.{◌≡◌, IfOk, IfSome};
 ghost use Rattle.std.specs.List.{All};
 ghost use Rattle.cb_cert.specs.Format.{IsWanted};
-ghost use Rattle.cb_log.specs.Basis.{wanted as for_wanted};
+ghost use Rattle.cb_log.specs.Basis.{Mode, wanted as for_wanted};
 ghost use Rattle.cb_model.specs.NodeOrder.{node_cmp};
 ghost use Rattle.cb_model.specs.Order.{Rises};
 ghost use Rattle.cb_network.specs.Topology.{Topology};
@@ -58,16 +58,16 @@ pub(crate) fn tell(
     }
 }
 
-// The diagnoses, by what is ready.
-fn told_in_use(
+/// The diagnoses, by what is ready.
+pub(crate) fn told_in_use(
     alloc: Global,
     ready: &Ready,
     closing: &List<Closed>,
 ) -> Result<List<Event>, AllocError>
     requires ready { IsSomewhereReady ready.now }
     requires rise { All (λ c. Rises node_cmp c.nodes) closing.now }
-    ensures { IfOk result (λ events. (network : Topology) (d : ℕ) → IsReady network (for_wanted d) ready.now
-        → TellsInUse network d ready.now closing.now events) }
+    ensures { IfOk result (λ events. (network : Topology) (mode : Mode) → IsReady network mode ready.now
+        → TellsInUse network mode ready.now closing.now events) }
 {
     let mut events = List::new(alloc);
     diagnose(alloc, ready, closing, &mut events)?;

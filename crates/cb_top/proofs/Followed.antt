@@ -11,6 +11,11 @@ use Rattle.cb_model.proofs.Rising.{contains_head}
 use Rattle.cb_io.specs.Outside.{SinkTold, contents, left_of, TakesAll, ReadsEach, WritesAll, WritesFront}
 use Rattle.cb_io.proofs.Told.{ReadFailed-after, ReadsEach-nil, ReadsEach-next}
 use Rattle.cb_network.specs.Regular.{IsRegular}
+use Rattle.cb_network.specs.Topology.{Topology}
+use Rattle.cb_cert.specs.declared.certificate.Certificate.{Certificate}
+use Rattle.cb_cert.specs.Format.{IsCertificate}
+use Rattle.cb_claim.specs.Valid.{IsValid}
+use Rattle.cb_log.specs.Basis.{fixed}
 use Rattle.cb_request.specs.declared.request.Request.{Request}
 use Rattle.cb_request.specs.declared.request.Request.TheVariants.{Burst, Model, Matrix, Codebook, Verify, Decode, Correlate, Grow}
 use Rattle.cb_request.specs.Files.{Role, judged_of, logs_of, names_of}
@@ -22,7 +27,7 @@ use Rattle.cb_report.specs.Faults.{ending}
 use Rattle.cb_report.specs.FaultTexts.{line_text}
 use Rattle.cb_report.specs.Said.{TakesLine}
 use Rattle.cb_outcome.specs.Outcome.{Outcome, done, done_with}
-use Rattle.cb_outcome.specs.Judged.{File, Known, nothing, network, PassFrom}
+use Rattle.cb_outcome.specs.Judged.{File, Known, nothing, network, certified, PassFrom}
 use Rattle.cb_outcome.specs.Jobs.{is_built, JobGives}
 use Rattle.cb_outcome.specs.LogJobs.{Watch, IsWatch, WholeTells, FrontTells, LogTells, Follows, log_limit}
 use Rattle.cb_outcome.specs.Contents.{Left, with_texts, files_from, log_from}
@@ -39,7 +44,8 @@ use Rattle.cb_outcome.proofs.Outcomes.{texts_count, some_name}
 use Rattle.cb_top.specs.Ending.{names}
 use Rattle.cb_top.specs.Following.{IsDueUpto, IsDueOfAll, TellsLog, GoesWrong, FollowsLog}
 use Rattle.cb_top.proofs.Chain.{if_some, if_some2, take_whole, take_front, at_front, reads_all, reads_front}
-use Rattle.cb_top.proofs.Logged.{all_apart, prints_log}
+use Rattle.cb_top.proofs.Decoded.{given_keeps_apart, known_is_valid}
+use Rattle.cb_top.proofs.Logged.{AllApart, wanted_apart, fixed_apart, prints_log}
 use Rattle.cb_top.proofs.Made.{gives_job}
 
 -- ---- facts of any request
@@ -86,26 +92,36 @@ no_more (x ∷ xs) ys e = cc
 any_contains : (names : List (List ℕ)) (name : List ℕ) → list_any (λ other. bytes_eq other name) names ≡ true → Contains names name
 any_contains names name e = Contains-from_any {eq = λ q k. bytes_eq k q} (λ x y same. sym ((bytes_eq-Decides y x).0 same)) name names e
 
-not_decode : false ≡ true → ⊥
-not_decode e = cc
+-- what is known from the files of `decode` is valid
+book_is_valid : (left : Left) (one two three log : List ℕ) (w : ℕ) (t : Topology) (c : Certificate)
+    → PassFrom nothing (files_from left (Decode one two three log w)) (certified t c) → IsValid t c × IsCertificate c
+book_is_valid left one two three log w t c (first, says, (second, says', (third, says'', same))) =
+    known_is_valid second (contents left (one ∷ two ∷ []) three) third t c says''.means same
 
 -- what is printed of a whole log finds what it is to find
 finds_log : (left : Left) (request : Request) (name : List ℕ) (known : Known) (watch : Watch) (due : List ℕ) (out out' : SinkTold) → is_built request ≡ true
-    → IsInRange request → logs_of request ≡ name ∷ [] → IsWatch request known watch → IsRegular watch.from.model
-    → WholeTells watch (log_from left request name) due → WritesAll out out' due → FindsFor left request known out out'
-finds_log left (Burst one two three) name known watch due out out' built range e watches regular tells written = absurd (some_name name [] (sym e))
-finds_log left (Model one) name known watch due out out' built range e watches regular tells written = absurd (some_name name [] (sym e))
-finds_log left (Matrix one two) name known watch due out out' built range e watches regular tells written = absurd (some_name name [] (sym e))
-finds_log left (Codebook one two d) name known watch due out out' built range e watches regular tells written = absurd (some_name name [] (sym e))
-finds_log left (Verify one two three) name known watch due out out' built range e watches regular tells written = absurd (some_name name [] (sym e))
-finds_log left (Decode one two three log w) name known watch due out out' built range e watches regular tells written = absurd (not_decode built)
-finds_log left (Correlate one two log d w) name (network t) watch due out out' built range e watches regular tells written =
+    → IsInRange request → logs_of request ≡ name ∷ [] → PassFrom nothing (files_from left request) known
+    → IsWatch request known watch → IsRegular watch.from.model → WholeTells watch (log_from left request name) due → WritesAll out out' due → FindsFor left request known out out'
+finds_log left (Burst one two three) name known watch due out out' built range e passed watches regular tells written = absurd (some_name name [] (sym e))
+finds_log left (Model one) name known watch due out out' built range e passed watches regular tells written = absurd (some_name name [] (sym e))
+finds_log left (Matrix one two) name known watch due out out' built range e passed watches regular tells written = absurd (some_name name [] (sym e))
+finds_log left (Codebook one two d) name known watch due out out' built range e passed watches regular tells written = absurd (some_name name [] (sym e))
+finds_log left (Verify one two three) name known watch due out out' built range e passed watches regular tells written = absurd (some_name name [] (sym e))
+finds_log left (Decode one two three log w) name (certified t c) watch due out out' built range e passed watches regular tells written =
+    let request = Decode one two three log w in
+    let valid = book_is_valid left one two three log w t c passed in
+    let apart = subst (λ (x : Watch). AllApart x.from x.mode) (sym watches.is)
+    (fixed_apart t (fixed watches.book) watches.book refl (given_keeps_apart t c watches.book valid.0 valid.1 watches.states)) in
+    subst (λ (n : List ℕ). PrintsLog left request n (certified t c) out out') (one_log name log e)
+    (prints_log left request name (certified t c) watch due out out' watches regular apart tells written)
+finds_log left (Decode one two three log w) name known watch due out out' built range e passed watches regular tells written = absurd watches
+finds_log left (Correlate one two log d w) name (network t) watch due out out' built range e passed watches regular tells written =
     let request = Correlate one two log d w in
-    let apart = all_apart watch.mode d (ap (λ (x : Watch). x.mode) watches) range.0.0 in
+    let apart = wanted_apart watch.from watch.mode d (ap (λ (x : Watch). x.mode) watches) range.0.0 in
     subst (λ (n : List ℕ). PrintsLog left request n (network t) out out') (one_log name log e)
     (prints_log left request name (network t) watch due out out' watches regular apart tells written)
-finds_log left (Correlate one two log d w) name known watch due out out' built range e watches regular tells written = absurd watches
-finds_log left (Grow sites start) name known watch due out out' built range e watches regular tells written = absurd (some_name name [] (sym e))
+finds_log left (Correlate one two log d w) name known watch due out out' built range e passed watches regular tells written = absurd watches
+finds_log left (Grow sites start) name known watch due out out' built range e passed watches regular tells written = absurd (some_name name [] (sym e))
 
 module _ (request : Request) (built : is_built request ≡ true) (s : Seen) (end : Option Fault)
     (follows : FollowsLog request s.files s.files_after s.out s.out_after end) where
@@ -458,7 +474,7 @@ module _ (request : Request) (built : is_built request ≡ true) (s : Seen) (end
       let regular = watch_is_regular request follows.known follows.watch (pass_sound nothing (files_from left request) follows.known tt passed) follows.watches in (
         follows.known,
         passed,
-        finds_log left request follows.name follows.known follows.watch is.due s.out s.out_after built follows.range follows.log follows.watches regular
+        finds_log left request follows.name follows.known follows.watch is.due s.out s.out_after built follows.range follows.log passed follows.watches regular
             is.is_due.tells is.written,
       )) follows.passed (in_log _ tells)
   finds_by (Some (faults.LimitBytes other)) wrong tells = tt

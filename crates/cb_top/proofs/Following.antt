@@ -70,7 +70,7 @@ written_all (Some xs) (Some ys) (Some zs) written told text some one two all =
     omega (arith, p, q, r, a, b, c)
 
 -- a fact of what an option holds, where it holds something
-told_by : {X : Type 0} (o : Option X) (P : X → Type 0) → ((x : X) → o ≡ Some x → P x) → IfSome o P
+pub told_by : {X : Type 0} (o : Option X) (P : X → Type 0) → ((x : X) → o ≡ Some x → P x) → IfSome o P
 told_by None P f = tt
 told_by (Some x) P f = f x refl
 

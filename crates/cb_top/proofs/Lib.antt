@@ -12,3 +12,6 @@ pub mod Followed
 pub mod Clauses
 pub mod Certified
 pub mod Writing
+pub mod Given
+pub mod Opening
+pub mod Decoded

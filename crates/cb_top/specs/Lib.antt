@@ -6,3 +6,4 @@ pub mod Ending
 pub mod Ways
 pub mod Written
 pub mod Telling
+pub mod Given

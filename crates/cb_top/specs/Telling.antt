@@ -147,3 +147,11 @@ pub record Opens (watch : Watch) (session : State) (out out' : SinkTold) : Type 
   pub stands : StandsForEntries session watch.from []
   pub written : WritesAll out out' watch.opening
   pub faults : out.faults ≤ out'.faults
+
+-- A session stands at the beginning of a log, and this is what the watch opens with.
+pub record OpensBehind (watch : Watch) (opening : List ℕ) (session : State) : Type 0 where
+  pub regular : IsRegular watch.from.model
+  pub mode : session.mode ≡ watch.mode
+  pub window : session.windows.length ≡ watch.window
+  pub stands : StandsForEntries session watch.from []
+  pub opening_is : opening ≡ watch.opening

@@ -20,7 +20,7 @@ use std::alloc::Global;
 use std::sync::ledger::Ledger;
 
 /// A certificate file has at most so many bytes.
-const MOST_BYTES: usize = 32 << 20;
+pub const MOST_BYTES: usize = 32 << 20;
 
 /// A certificate that was checked, and what it shows.
 #[derive(Drop)]

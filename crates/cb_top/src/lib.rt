@@ -1,11 +1,13 @@
 //! The top call: from the words of the command line and the bytes of the files to the output.
 #![tactic(auto)]
 
+mod book_file;
 mod burst;
 mod certificate_file;
 mod codebook;
 mod conclude;
 mod correlate;
+mod decode;
 mod follow;
 mod judge;
 mod kind;
@@ -25,6 +27,8 @@ mod verify;
 pub use cb_report::Status;
 pub use top::run;
 
+#[cfg(test)]
+mod certificate_tests;
 #[cfg(test)]
 mod log_tests;
 #[cfg(test)]

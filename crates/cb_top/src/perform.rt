@@ -8,6 +8,7 @@ ghost use Rattle.cb_top.specs.Ways.{EndsRequest, wrong};
 use crate::burst::burst;
 use crate::codebook::codebook;
 use crate::correlate::{Correlation, correlate};
+use crate::decode::{DecodeFiles, decode};
 use crate::matrix::matrix;
 use crate::model::model;
 use crate::output::deliver;
@@ -68,7 +69,21 @@ pub fn perform<'w, F: Files, O: Sink, L: Ledger>(
             let asked = Correlation { distance, window };
             correlate(alloc, files, out, model, topology, log, asked, steps)
         }
-        Request::Decode { .. } => Err(Fault::NotBuilt),
+        Request::Decode {
+            model,
+            topology,
+            certificate,
+            log,
+            window,
+        } => {
+            let names = DecodeFiles {
+                model,
+                topology,
+                book: certificate,
+                log,
+            };
+            decode(alloc, files, out, names, window, steps)
+        }
         Request::Grow { .. } => Err(Fault::NotBuilt),
     }
 }

@@ -363,7 +363,7 @@ fn words_are_a_command_or_not(rt: HostRuntime) -> Result<(), Fail> {
         (&["codebook", "m", "t", "10000"], USAGE),
         (&["codebook", "m", "t", "01"], USAGE),
         (&["decode", "m", "t", "c", "l", "1000000000001"], USAGE),
-        (&["decode", "m", "t", "c", "l", "1000000000000"], NOT_BUILT),
+        (&["decode", "m", "t", "c", "l", "0"], USAGE),
         (&["correlate", "m", "t", "l", "10", "0"], USAGE),
         (&["grow", "257", "0"], USAGE),
         (&["grow", "256", "18446744073709551615"], NOT_BUILT),
@@ -680,112 +680,6 @@ fn a_matrix_is_printed(rt: HostRuntime) -> Result<(), Fail> {
             err: "",
         };
         check(&rt, rt.alloc(), &case, &wanted)?;
-    }
-    Ok(())
-}
-
-// The certificate of the linked network's codebook at a distance of 1, and that there is none at 2.
-const BOOK: &str =
-    "codebook certificate 1\nkind book\ndistance 1\nnodes 6\nnode Cut@L1\nnode Loss@L1\nnode Fail@a\nnode NoSignal@a\nnode Fail@b\nnode NoSignal@b\ncolumns 2\ncolumn 4\ncolumn 6\nspans 3\nspan 4\nentry 1 0\nentry 2 1\nentry 4 1\nentry 6 1\nspan 2\nentry 3 0\nentry 4 1\nspan 2\nentry 5 0\nentry 6 1\nend\n";
-
-const THIN: &str =
-    "codebook certificate 1\nkind thin\nwanted 2\ndistance 1\nnodes 2\nnode Fail@a\nnode NoSignal@a\nquiet\nspan 2\nentry 1 0\nentry 2 1\nend\n";
-
-#[test]
-fn a_codebook_is_certified(rt: HostRuntime) -> Result<(), Fail> {
-    // The topology, the distance, the status, the certificate, and the line of the fault.
-    let cases: [(&str, &str, u8, &str, &str); 3] = [
-        (LINKED, "1", 0, BOOK, ""),
-        (
-            LINKED,
-            "2",
-            6,
-            THIN,
-            "error 6 distance wanted 2 first quiet second Fail@a distance 1\n",
-        ),
-        (
-            "",
-            "3",
-            0,
-            "codebook certificate 1\nkind book\ndistance 3\nnodes 0\ncolumns 0\nspans 0\nend\n",
-            "",
-        ),
-    ];
-    for (topology, distance, code, out, err) in cases {
-        let case = Case {
-            words: &["codebook", "m", "t", distance],
-            files: &[("m", LINK), ("t", topology)],
-            piece: 7,
-            failing_read: 0,
-            failing_write: 0,
-        };
-        check(&rt, rt.alloc(), &case, &Wanted { code, out, err })?;
-    }
-    Ok(())
-}
-
-#[test]
-fn a_certificate_is_checked(rt: HostRuntime) -> Result<(), Fail> {
-    // The certificate, the status, the line of the output, and that of the fault.
-    let cases: [(&str, u8, &str, &str); 8] = [
-        (
-            BOOK,
-            0,
-            "accepted book distance 1 radius 0 groups 4 columns 2\n",
-            "",
-        ),
-        (
-            THIN,
-            0,
-            "accepted thin wanted 2 first quiet second Fail@a distance 1\n",
-            "",
-        ),
-        (
-            "codebook certificate 1\nkind book\ndistance 1\nnodes 6\nnode Cut@L1\nnode Loss@L1\nnode Fail@a\nnode NoSignal@a\nnode Fail@b\nnode NoSignal@b\ncolumns 2\ncolumn 4\ncolumn 6\nspans 3\nspan 3\nentry 1 0\nentry 2 1\nentry 4 1\nspan 2\nentry 3 0\nentry 4 1\nspan 2\nentry 5 0\nentry 6 1\nend\n",
-            5,
-            "",
-            "error 5 certificate not-closed entry 1 successor NoSignal@b\n",
-        ),
-        (
-            "codebook certificate 1\nkind book\ndistance 1\nnodes 6\nnode Cut@L1\nnode Loss@L1\nnode Fail@a\nnode NoSignal@a\nnode Fail@b\nnode NoSignal@b\ncolumns 2\ncolumn 4\ncolumn 6\nspans 3\nspan 4\nentry 1 0\nentry 2 1\nentry 4 1\nspan 2\nentry 3 0\nentry 4 1\nspan 2\nentry 5 0\nentry 6 1\nend\n",
-            5,
-            "",
-            "error 5 certificate bad-line line 19\n",
-        ),
-        (
-            "codebook certificate 1\nkind book\ndistance 1\nnodes 6\nnode Cut@L1\nnode Loss@L1\nnode Fail@a\nnode NoSignal@a\nnode Fail@b\nnode NoSignal@b\ncolumns 2\ncolumn 4\ncolumn 6\nspans 3\nspan 4\nentry 1 0\nentry 2 1\nentry 4 1\nentry 6 1\nspan 2\nentry 3 0\nentry 4 1\nspan 2\nentry 5 0\nentry 6 1\n",
-            5,
-            "",
-            "error 5 certificate truncated\n",
-        ),
-        (
-            "codebook certificate 1\nkind book\ndistance 1\nnodes 6\nnode Cut@L1\nnode Loss@L1\nnode Fail@a\nnode NoSignal@a\nnode Fail@b\nnode NoSignal@b\ncolumns 2\ncolumn 4\ncolumn 6\nspans 3\nspan 4\nentry 1 0\nentry 2 1\nentry 4 4\nentry 6 1\nspan 2\nentry 3 0\nentry 4 1\nspan 2\nentry 5 0\nentry 6 1\nend\n",
-            5,
-            "",
-            "error 5 certificate bad-parent entry 3\n",
-        ),
-        (
-            "codebook certificate 1\nkind book\ndistance 1\nnodes 6\nnode Cut@L1\nnode Loss@L1\nnode Fail@a\nnode NoSignal@a\nnode Fail@b\nnode NoSignal@b\ncolumns 2\ncolumn 2\ncolumn 4\nspans 3\nspan 4\nentry 1 0\nentry 2 1\nentry 4 1\nentry 6 1\nspan 2\nentry 3 0\nentry 4 1\nspan 2\nentry 5 0\nentry 6 1\nend\n",
-            5,
-            "",
-            "error 5 certificate too-close first quiet second Fail@b distance 0\n",
-        ),
-        (
-            "codebook certificate 1\nkind book\ndistance 2\nnodes 6\nnode Cut@L1\nnode Loss@L1\nnode Fail@a\nnode NoSignal@a\nnode Fail@b\nnode NoSignal@b\ncolumns 2\ncolumn 4\ncolumn 6\nspans 3\nspan 4\nentry 1 0\nentry 2 1\nentry 4 1\nentry 6 1\nspan 2\nentry 3 0\nentry 4 1\nspan 2\nentry 5 0\nentry 6 1\nend\n",
-            5,
-            "",
-            "error 5 certificate too-close first quiet second Fail@a distance 1\n",
-        ),
-    ];
-    for (certificate, code, out, err) in cases {
-        let case = Case {
-            words: &["verify", "m", "t", "c"],
-            files: &[("m", LINK), ("t", LINKED), ("c", certificate)],
-            piece: 7,
-            failing_read: 0,
-            failing_write: 0,
-        };
-        check(&rt, rt.alloc(), &case, &Wanted { code, out, err })?;
     }
     Ok(())
 }

@@ -6,7 +6,7 @@ use Rattle.cb_log.specs.Entries.{said, skipped, blank}
 use Rattle.cb_session.specs.declared.entry.Taken.{Taken}
 use Rattle.cb_session.specs.State.{line_of}
 use Rattle.cb_session.specs.Taken.{entry_of_taken}
-use Rattle.cb_session.proofs.Stepping.{aside_stands, line_tells, line_stands, if_line_tells, if_line_stands}
+use Rattle.cb_session.proofs.Stepping.{aside_stands, line_tells, line_stands, line_alone, if_line_tells, if_line_stands, if_line_alone}
 use Rattle.cb_session.proofs.session.Session.step.Goals as goal
 
 pub returns-in-Blank-clause-stands : goal.returns-in-Blank-clause-stands
@@ -46,3 +46,17 @@ returns-in-Said-clause-stands g c =
     let entry = said c.in-Said.number c.in-Said.record in
     let comes : ComesTo line entry = subst (λ (taken : Taken). ComesTo line (entry_of_taken taken)) c.in-Said.is c.in_ok-entry_of.ensures in
     if_line_stands line entry comes c.args.self.now c.go_on.new.self c.go_on.result c.go_on.ensures.stands
+
+pub returns-in-Blank-clause-alone : goal.returns-in-Blank-clause-alone
+returns-in-Blank-clause-alone g c =
+    let line = line_of c.args.line in
+    let comes : ComesTo line blank = subst (λ (taken : Taken). ComesTo line (entry_of_taken taken)) c.in-Blank.is c.in_ok-entry_of.ensures in
+    line_alone line c.args.self.now c.new.result (line_tells line blank comes c.args.self.now c.new.result (λ opening before regular stands. c.new.ensures))
+
+pub returns-in_ok-push-in-Skipped-clause-alone : goal.returns-in_ok-push-in-Skipped-clause-alone
+returns-in_ok-push-in-Skipped-clause-alone g c =
+    line_alone (line_of c.args.line) c.args.self.now c.push.new.self (returns-in_ok-push-in-Skipped-clause-gives g c)
+
+pub returns-in-Said-clause-alone : goal.returns-in-Said-clause-alone
+returns-in-Said-clause-alone g c =
+    if_line_alone (line_of c.args.line) c.args.self.now c.go_on.result (returns-in-Said-clause-gives g c)

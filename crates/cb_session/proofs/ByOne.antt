@@ -1,0 +1,89 @@
+-- A session that goes by one codebook goes on by one entry.
+use Rattle.std.proofs.Common.{◌≡◌, ◌++◌, ℕ, List, [], ◌∷◌, length, refl, sym, subst, append-nil}
+use Rattle.std.specs.List.{AllZip}
+use Rattle.cb_coding.specs.declared.book.Book.{Book}
+use Rattle.cb_network.specs.Topology.{Topology}
+use Rattle.cb_log.specs.declared.closed.Closed.{Closed}
+use Rattle.cb_log.specs.declared.event.Event.{Event}
+use Rattle.cb_log.specs.declared.record.Body.{Body}
+use Rattle.cb_log.specs.declared.record.Body.TheVariants.{Raise, Clear, Change, Tick}
+use Rattle.cb_log.specs.declared.record.Record.{Record}
+use Rattle.cb_log.specs.Basis.{fixed, Basis, IsDiagnosis}
+use Rattle.cb_log.specs.Closing.{AreClosing}
+use Rattle.cb_log.specs.Entries.{Entry, said, records_of}
+use Rattle.cb_log.specs.Events.{BodyGives, ClosingGives, Diagnoses}
+use Rattle.cb_log.specs.Kept.{Kept, StandsFor}
+use Rattle.cb_session.specs.declared.basis.Ready.{Ready}
+use Rattle.cb_session.specs.Acts.{GoesOn, RefusesEdit}
+use Rattle.cb_session.specs.Course.{fixed_state}
+use Rattle.cb_session.specs.State.{State}
+use Rattle.cb_session.specs.Steps.{EntryTells, EntryStands, ClosesAtEnd, TellsAtEnd}
+use Rattle.cb_session.specs.Told.{TellsInUse}
+use Rattle.cb_session.proofs.Behind.{records_said}
+use Rattle.cb_session.proofs.Stepping.{Closes}
+
+-- of no window there is no diagnosis
+none_told : (P : Closed → Event → Type 0) (events : List Event) → AllZip P [] events → events ≡ []
+none_told P [] each = refl
+none_told P (e ∷ events) each = absurd each
+
+-- a refusal is what comes of the body
+refusal_comes : (t : Topology) (book : Book) (records : List Record) (line : ℕ) (body : Body) (events : List Event) → RefusesEdit line body events
+    → BodyGives t (fixed book) records line body events
+refusal_comes t book records line (Raise source node) events told = told
+refusal_comes t book records line (Clear source node) events told = told
+refusal_comes t book records line (Change edit) events told = told
+refusal_comes t book records line Tick events told = told
+
+module _ (network : Topology) (ready : Ready) where
+  diagnosed : (opening : Topology) → network ≡ opening → (w : ℕ) (records : List Record) (closing : List Closed) (events : List Event)
+      → TellsInUse network (fixed ready.book) ready closing events → Diagnoses opening (fixed ready.book) w records closing events
+  diagnosed opening same w records [] events tells = none_told (IsDiagnosis tells.basis) events tells.each
+  diagnosed opening same w records (c ∷ closing) events tells = record {
+    network = network;
+    is_network = same;
+    basis = tells.basis;
+    opening = [];
+    is_opening = refl;
+    diagnoses = events;
+    each = tells.each;
+    events_are = refl;
+  }
+
+  -- what is told is what comes of the windows
+  closing_comes : (opening : Topology) → network ≡ opening → (w : ℕ) (records next : List Record) (closing : List Closed)
+      → AreClosing (records ++ next) w (length records) closing → (events : List Event) → TellsInUse network (fixed ready.book) ready closing events
+      → ClosingGives opening (fixed ready.book) w records next events
+  closing_comes opening same w records next closing closes events tells = record {
+    closing = closing;
+    closes = closes;
+    diagnoses = diagnosed opening same w records closing events tells;
+  }
+
+  -- at a record
+  pub fixed_tells : (number : ℕ) (r : Record) (windows : Kept) (closing : List Closed) → Closes windows r.at closing
+      → (events : List Event) → TellsInUse network (fixed ready.book) ready closing events
+      → (refusals : List Event) → RefusesEdit number r.body refusals → EntryTells (fixed_state network windows ready) (said number r) (events ++ refusals)
+  fixed_tells number r windows closing closes events tells refusals refuses = λ opening before regular stands. record {
+    closings = events;
+    closing = closing_comes opening stands.network windows.length (records_of before) (r ∷ []) closing (closes (records_of before) r refl stands.windows) events tells;
+    refusals = refusals;
+    body = refusal_comes opening ready.book (records_of before) number r.body refusals refuses;
+    events_are = refl;
+  }
+
+  pub fixed_stands : (number : ℕ) (r : Record) (windows later : Kept) → GoesOn windows later r
+      → EntryStands (fixed_state network windows ready) (fixed_state network later ready) (said number r)
+  fixed_stands number r windows later goes = λ opening before regular stands. record {
+    network = stands.network;
+    windows = subst (StandsFor later) (sym (records_said before number r)) (goes (records_of before) stands.windows);
+    book = refl;
+  }
+
+  -- at the end
+  pub fixed_ends : (windows : Kept) (closing : List Closed) → ClosesAtEnd windows closing → (events : List Event)
+      → TellsInUse network (fixed ready.book) ready closing events → TellsAtEnd (fixed_state network windows ready) events
+  fixed_ends windows closing closes events tells = λ opening before stands.
+      closing_comes opening stands.network windows.length (records_of before) [] closing
+      (subst (λ (rs : List Record). AreClosing rs windows.length (length (records_of before)) closing) (sym (append-nil (records_of before)))
+      (closes (records_of before) stands.windows)) events tells

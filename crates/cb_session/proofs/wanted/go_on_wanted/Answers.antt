@@ -1,0 +1,79 @@
+use Rattle.std.proofs.Common.{Option, List, sym, subst, ◌++◌}
+use Rattle.cb_log.specs.declared.event.Event.{Event}
+use Rattle.cb_log.specs.Entries.{said}
+use Rattle.cb_topo.specs.Numbered.{topology_of}
+use Rattle.cb_session.specs.declared.basis.Ready.{Ready}
+use Rattle.cb_session.specs.Course.{wanted_state}
+use Rattle.cb_session.specs.Settled.{IsSettled}
+use Rattle.cb_session.specs.State.{State}
+use Rattle.cb_session.specs.Steps.{EntryTells, EntryStands}
+use Rattle.cb_session.proofs.Stepping.{due_rise, Goes, settled_still, record_tells, record_stands}
+use Rattle.cb_session.proofs.wanted.go_on_wanted.Goals as goal
+
+pub tell-told-requires-clause-rise : goal.tell-told-requires-clause-rise
+tell-told-requires-clause-rise g c =
+    due_rise c.args.windows.now c.args.next.now c.in_ok-closing.closing c.requires.settled.over c.in_ok-closing.ensures
+
+pub returns-clause-settled : goal.returns-clause-settled
+returns-clause-settled g c =
+    let network = topology_of c.args.cache.now.graph in
+    let new = topology_of c.act.new.cache.graph in
+    let d = c.args.distance in
+    let windows = c.args.windows.now in
+    let later = c.act.new.windows in
+    let ready = c.args.ready.now in
+    let told = c.in_ok-told.told in
+    let acts = c.in_ok-changed.ensures.acts in
+    let goes : Goes d c.args.number c.args.next.now network new windows later ready c.in_ok-closing.closing told c.in_ok-changed.changed acts.0 = record {
+      closes = c.in_ok-closing.ensures;
+      tells = c.in_ok-told.ensures;
+      acts = acts.1;
+      on = c.in_ok-changed.ensures.goes_on;
+      same_length = c.in_ok-changed.ensures.length;
+      settled = c.requires.settled;
+    } in
+    subst (IsSettled new d later) (sym c.keep.ensures) (settled_still d c.args.number c.args.next.now network new windows later ready c.in_ok-closing.closing told c.in_ok-changed.changed acts.0 goes)
+
+pub returns-clause-gives : goal.returns-clause-gives
+returns-clause-gives g c =
+    let network = topology_of c.args.cache.now.graph in
+    let new = topology_of c.act.new.cache.graph in
+    let d = c.args.distance in
+    let windows = c.args.windows.now in
+    let later = c.act.new.windows in
+    let ready = c.args.ready.now in
+    let told = c.in_ok-told.told in
+    let acts = c.in_ok-changed.ensures.acts in
+    let goes : Goes d c.args.number c.args.next.now network new windows later ready c.in_ok-closing.closing told c.in_ok-changed.changed acts.0 = record {
+      closes = c.in_ok-closing.ensures;
+      tells = c.in_ok-told.ensures;
+      acts = acts.1;
+      on = c.in_ok-changed.ensures.goes_on;
+      same_length = c.in_ok-changed.ensures.length;
+      settled = c.requires.settled;
+    } in
+    let entry = said c.args.number c.args.next.now in
+    subst (λ (es : List Event). EntryTells (wanted_state network d windows ready) entry es) (sym acts.2)
+    (record_tells d c.args.number c.args.next.now network new windows later ready c.in_ok-closing.closing told c.in_ok-changed.changed acts.0 goes)
+
+pub returns-clause-stands : goal.returns-clause-stands
+returns-clause-stands g c =
+    let network = topology_of c.args.cache.now.graph in
+    let new = topology_of c.act.new.cache.graph in
+    let d = c.args.distance in
+    let windows = c.args.windows.now in
+    let later = c.act.new.windows in
+    let ready = c.args.ready.now in
+    let told = c.in_ok-told.told in
+    let acts = c.in_ok-changed.ensures.acts in
+    let goes : Goes d c.args.number c.args.next.now network new windows later ready c.in_ok-closing.closing told c.in_ok-changed.changed acts.0 = record {
+      closes = c.in_ok-closing.ensures;
+      tells = c.in_ok-told.ensures;
+      acts = acts.1;
+      on = c.in_ok-changed.ensures.goes_on;
+      same_length = c.in_ok-changed.ensures.length;
+      settled = c.requires.settled;
+    } in
+    let entry = said c.args.number c.args.next.now in
+    subst (λ (kept : Option Ready). EntryStands (wanted_state network d windows ready) (wanted_state new d later kept) entry) (sym c.keep.ensures)
+    (record_stands d c.args.number c.args.next.now network new windows later ready c.in_ok-closing.closing told c.in_ok-changed.changed acts.0 goes)

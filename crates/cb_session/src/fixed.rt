@@ -1,0 +1,73 @@
+//! A record in a log that is correlated by one codebook.
+ghost use Rattle.std.specs.Prelude.{◌≡◌, ◌++◌, List as Items, IfOk, OnOk, OnErr};
+ghost use Rattle.cb_log.specs.Basis.{fixed as by_fixed};
+ghost use Rattle.cb_log.specs.Entries.{said};
+ghost use Rattle.cb_log.specs.declared.event.Event.{Event as EventOf};
+ghost use Rattle.cb_network.specs.Topology.{Topology};
+ghost use Rattle.cb_session.specs.Acts.{GoesOn, RefusesEdit};
+ghost use Rattle.cb_session.specs.Course.{fixed_state};
+ghost use Rattle.cb_session.specs.Ready.{IsReady, IsSomewhereReady};
+ghost use Rattle.cb_session.specs.Settled.{IsOverSome};
+ghost use Rattle.cb_session.specs.Steps.{EntryTells, EntryStands};
+
+use crate::basis::Ready;
+use crate::told::told_in_use;
+use cb_log::{Body, Event, Record, RefusedWhy};
+use cb_model::List;
+use cb_window::Windows;
+use std::alloc::{AllocError, Global};
+
+/// What comes of the next record. An edit is refused, behind the windows that its record closes. Where memory is wanting, the windows are as
+/// before.
+pub(crate) fn go_on_fixed(
+    alloc: Global,
+    windows: &mut Windows,
+    ready: &Ready,
+    number: u64,
+    next: &Record,
+) -> Result<List<Event>, AllocError>
+    requires ready { IsSomewhereReady ready.now }
+    requires over { IsOverSome windows.old }
+    ensures gives { IfOk result (λ events. (network : Topology) → IsReady network (by_fixed ready.now.book) ready.now
+        → EntryTells (fixed_state network windows.old ready.now) (said number next.now) events) }
+    ensures stands { OnOk result ((network : Topology)
+        → EntryStands (fixed_state network windows.old ready.now) (fixed_state network windows.new ready.now) (said number next.now)) }
+    ensures over { IsOverSome windows.new }
+    ensures length { windows.new.length ≡ windows.old.length }
+    ensures same { OnErr result (windows.new ≡ windows.old) }
+{
+    let closing = windows.due(alloc, next.at)?;
+    let events = told_in_use(alloc, ready, &closing);
+    drop(closing);
+    let mut events = events?;
+    refuse_edit(alloc, windows, number, next, &mut events)?;
+    Ok(events)
+}
+
+// Raises or clears the node of a record, and lets its time go by; an edit is refused, which is put behind the events so far.
+fn refuse_edit(
+    alloc: Global,
+    windows: &mut Windows,
+    number: u64,
+    next: &Record,
+    events: &mut List<Event>,
+) -> Result<(), AllocError>
+    ensures refuses { OnOk result ((told : Items EventOf) × RefusesEdit number next.now.body told × (events.new ≡ events.old ++ told)) }
+    ensures goes_on { OnOk result (GoesOn windows.old windows.new next.now) }
+    ensures length { windows.new.length ≡ windows.old.length }
+    ensures same { OnErr result (windows.new ≡ windows.old) }
+{
+    match &next.body {
+        Body::Raise { from, node } => windows.raise(alloc, next.at, from, node)?,
+        Body::Clear { from, node } => windows.clear(next.at, from, node),
+        Body::Change { .. } => {
+            events.push(Event::Refused {
+                line: number,
+                why: RefusedWhy::Fixed,
+            })?;
+            windows.pass(next.at);
+        }
+        Body::Tick => windows.pass(next.at),
+    }
+    Ok(())
+}

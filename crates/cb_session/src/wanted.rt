@@ -1,0 +1,59 @@
+//! A record in a log that is correlated by codebooks for a distance.
+ghost use Rattle.std.specs.Prelude.{◌≡◌, IfOk, OnOk, OnErr};
+ghost use Rattle.cb_log.specs.Entries.{said};
+ghost use Rattle.cb_topo.specs.Numbered.{topology_of};
+ghost use Rattle.cb_session.specs.Acts.{IsWellNamed};
+ghost use Rattle.cb_session.specs.Course.{wanted_state};
+ghost use Rattle.cb_session.specs.Settled.{IsSettled};
+ghost use Rattle.cb_session.specs.Steps.{EntryTells, EntryStands};
+
+use crate::act::act;
+use crate::basis::Ready;
+use crate::told::{keep, tell};
+use cb_cache::Cache;
+use cb_log::{Event, Record};
+use cb_model::List;
+use cb_steps::Steps;
+use cb_window::Windows;
+use std::alloc::{AllocError, Global};
+use std::sync::ledger::Ledger;
+
+/// What comes of the next record. Its body acts behind the windows that it closes. Where memory is wanting, all is as before.
+pub(crate) fn go_on_wanted<L: Ledger>(
+    alloc: Global,
+    cache: &mut Cache,
+    windows: &mut Windows,
+    distance: u32,
+    ready: &mut Option<Ready>,
+    number: u64,
+    next: &Record,
+    steps: &mut Steps<L>,
+) -> Result<List<Event>, AllocError>
+    requires named { IsWellNamed next.now.body }
+    requires settled { IsSettled (topology_of cache.old.graph) distance windows.old ready.old }
+    ensures gives { IfOk result (EntryTells (wanted_state (topology_of cache.old.graph) distance windows.old ready.old) (said number next.now)) }
+    ensures stands { OnOk result (EntryStands (wanted_state (topology_of cache.old.graph) distance windows.old ready.old)
+        (wanted_state (topology_of cache.new.graph) distance windows.new ready.new) (said number next.now)) }
+    ensures settled { IsSettled (topology_of cache.new.graph) distance windows.new ready.new }
+    ensures length { windows.new.length ≡ windows.old.length }
+    ensures same_cache { OnErr result (cache.new ≡ cache.old) }
+    ensures same_windows { OnErr result (windows.new ≡ windows.old) }
+    ensures same_ready { OnErr result (ready.new ≡ ready.old) }
+    ensures steps { OnErr result (steps.new ≡ steps.old) }
+{
+    let closing = windows.due(alloc, next.at)?;
+    let told = tell(alloc, cache, ready, distance, &closing);
+    drop(closing);
+    let mut told = told?;
+    let changed = act(
+        alloc,
+        cache,
+        windows,
+        number,
+        next,
+        &mut told.events,
+        steps,
+    )?;
+    keep(ready, told.made, changed);
+    Ok(told.events)
+}

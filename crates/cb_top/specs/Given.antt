@@ -1,0 +1,61 @@
+-- A codebook that is given by a certificate.
+use Rattle.std.specs.Prelude.{◌≡◌, ◌⊎◌, ℕ, List, []}
+use Rattle.cb_coding.specs.declared.book.Book.{Book}
+use Rattle.cb_network.specs.Regular.{IsRegular}
+use Rattle.cb_network.specs.Topology.{Topology}
+use Rattle.cb_cert.specs.declared.certificate.Certificate.{Certificate}
+use Rattle.cb_cert.specs.declared.certificate.Certificate.TheVariants.{Book as BookClaim}
+use Rattle.cb_cert.specs.declared.certificate.Span.{Span}
+use Rattle.cb_cert.specs.Format.{IsCertificate}
+use Rattle.cb_claim.specs.Valid.{IsValid}
+use Rattle.cb_claim.specs.Verdicts.{Shows}
+use Rattle.cb_topo.specs.Numbered.{topology_of}
+use Rattle.cb_log.specs.Basis.{fixed}
+use Rattle.cb_session.specs.State.{State, StandsForEntries}
+use Rattle.cb_report.specs.declared.fault.Fault.{Fault}
+use Rattle.cb_report.specs.declared.fault.Fault.TheVariants as faults
+use Rattle.cb_outcome.specs.Judged.{Known, certified}
+use Rattle.cb_outcome.specs.LogJobs.{States}
+use Rattle.cb_outcome.specs.Texts.{IsBookKind}
+use Rattle.cb_top.specs.declared.book_file.GivenBook.{GivenBook}
+use Rattle.cb_top.specs.Kinds.{IsRejection}
+
+-- the certificate with these spans behind the nodes and the columns
+abbrev pub certificate_of : GivenBook → List Span → Certificate
+certificate_of given spans = BookClaim given.distance given.nodes given.columns spans
+
+-- it is the codebook of a certificate of the format, which is valid and shows this; its graph is of the topology
+pub record IsGivenBy (t : Topology) (c : Certificate) (given : GivenBook) : Type 0 where
+  pub spans : List Span
+  pub is : c ≡ certificate_of given spans
+  pub of_format : IsCertificate (certificate_of given spans)
+  pub valid : IsValid t (certificate_of given spans)
+  pub shows : Shows t (certificate_of given spans) given.accepted
+  pub graph : topology_of given.graph ≡ t
+
+-- of some certificate and some topology
+abbrev pub IsGivenBySome : GivenBook → Type 0
+IsGivenBySome given = (t : Topology) × (c : Certificate) × IsGivenBy t c given
+
+-- the same, by what is known
+abbrev pub IsGiven : Topology → GivenBook → Known → Type 0
+IsGiven t given known = (c : Certificate) × (known ≡ certified t c) × IsGivenBy t c given
+
+-- a valid certificate gives no codebook
+pub record IsOther (t : Topology) (c : Certificate) (fault : Fault) : Type 0 where
+  pub valid : IsValid t c
+  pub other : ¬ IsBookKind c
+  pub is : fault ≡ faults.NotBook
+
+-- the certificate isn't valid, or gives no codebook
+abbrev pub IsNoBook : Topology → Certificate → Fault → Type 0
+IsNoBook t c fault = IsRejection t c fault ⊎ IsOther t c fault
+
+-- a session at the beginning of a log over the topology, by the codebook that a certificate states
+pub record StandsFixed (t : Topology) (c : Certificate) (window : ℕ) (session : State) : Type 0 where
+  pub regular : IsRegular t.model
+  pub book : Book
+  pub states : States t c book
+  pub mode : session.mode ≡ fixed book
+  pub length : session.windows.length ≡ window
+  pub stands : StandsForEntries session t []
