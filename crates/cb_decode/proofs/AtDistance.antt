@@ -1,6 +1,6 @@
 -- The places of the nearest codes.
-use Rattle.std.proofs.Common.{◌≡◌, ℕ, ◌+◌, ◌<◌, ◌≤◌, List, [], ◌∷◌, ◌++◌, length, Bool, IsTrue, ◌==◌, ◌↔◌, below_more, sym, ap, ◌∙◌, arith}
-use Rattle.std.proofs.lemmas.Bool.{eqb-true, eq-eqb, ne_eqb}
+use Rattle.std.proofs.Common.{◌≡◌, ℕ, ◌+◌, ◌<◌, ◌≤◌, List, [], ◌∷◌, ◌++◌, length, Bool, IsTrue, ◌==◌, ◌↔◌, ◌-◌, below_more, sym, ap, ◌∙◌, inl, inr, arith}
+use Rattle.std.proofs.lemmas.Bool.{cases_lt, eqb-true, eq-eqb, ne_eqb}
 use Rattle.std.proofs.lemmas.List.Kept.{IsStrictlyIncreasing-filter}
 use Rattle.cb_coding.specs.declared.book.Answer.{Answer}
 use Rattle.cb_coding.specs.Distance.{all_columns}
@@ -54,6 +54,20 @@ module _ (columns : List ℕ) (codes : List (List Bool)) (word : List Bool) wher
           least = below_more _ _ (λ k lt. omega (arith, nearest.least k lt)) (omega arith);
           are = alone ∙ ap (λ gs. gs ++ n ∷ []) (sym none) ∙ one_more_passes (is_at least) n (eq-eqb (far n) least (sym same));
         }
+
+  -- further codes that are all farther
+  pub none_nearer : (n to distance : ℕ) (groups : List ℕ) → AreNearest n distance groups → n ≤ to
+      → ((i : ℕ) → n ≤ i → i < to → distance < far i) → AreNearest to distance groups
+  none_nearer n to distance groups nearest le farther = record {
+    attained = nearest.attained;
+    least = λ i lt. elim (cases_lt i n) [
+      | inl early ↦ nearest.least i early
+      | inr late ↦ omega (arith, farther i late lt)
+    ];
+    are =
+        nearest.are
+        ∙ sym (none_further (is_at distance) n (to - n) to (omega arith) (λ k low lt. ne_eqb (far k) distance (λ e. omega (arith, farther k low lt))));
+  }
 
   -- all of them are the answer
   pub nearest_is : (d n : ℕ) (answer : Answer) → n ≡ length codes → AreNearest n answer.distance answer.groups

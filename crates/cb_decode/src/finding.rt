@@ -3,12 +3,16 @@ ghost use Rattle.std.specs.Prelude.{◌≡◌, ◌<◌, ◌^◌, length, IfOk};
 ghost use Rattle.std.specs.List.{All};
 ghost use Rattle.cb_model.specs.Order.{Rises};
 ghost use Rattle.cb_model.specs.NodeOrder.{node_cmp};
-ghost use Rattle.cb_finding.specs.Finding.{IsFinding, is_among as is_among_of, word_of as word_of_raised, named_group as named_group_of, named_groups as named_groups_of};
+ghost use Rattle.cb_coding.specs.Groups.{codes_of};
+ghost use Rattle.cb_decode.specs.Decoder.{IsDecoder};
+ghost use Rattle.cb_decode.specs.Found.{IsPlaceOf, finding_by};
+ghost use Rattle.cb_finding.specs.Finding.{IsFinding, unknown_of, word_of as word_of_raised, named_group as named_group_of, named_groups as named_groups_of};
 
-use crate::decode::{nearest, radius};
+use crate::decode::{nearest, nearest_by, radius};
+use crate::decoder::Decoder;
 use cb_bits::Row;
 use cb_codes::Groups;
-use cb_coding::Book;
+use cb_coding::{Answer, Book};
 use cb_finding::Finding;
 use cb_model::{List, NamedGroup, NodeName};
 use std::alloc::{AllocError, Global};
@@ -29,23 +33,32 @@ pub fn find(
     ensures { IfOk result (IsFinding columns.now groups.now.groups book.now.columns book.now.distance raised.now) }
 {
     let word = word_of(alloc, columns, raised)?;
+    let unknown = unknown_among(columns, raised, &word);
     let answer = nearest(alloc, groups.codes(), book, &word)?;
-    Ok(Finding {
-        raised: raised.len() as u64,
-        unknown: (raised.len() - word.ones()) as u64,
-        distance: answer.distance,
-        radius: radius(book.distance),
-        sure: answer.sure,
-        groups: named_groups(alloc, groups, &answer.groups)?,
-    })
+    finding_of(alloc, groups, book, raised.len(), unknown, &answer)
 }
 
-// Whether the node is one of these, which are in order.
-fn is_among(nodes: &List<NodeName>, node: &NodeName) -> bool
-    requires { Rises node_cmp nodes.now }
-    ensures { result ≡ is_among_of nodes.now node.now }
+/// The same by the decoder of the book: who finds often makes it once.
+pub fn find_by(
+    alloc: Global,
+    columns: &List<NodeName>,
+    groups: &Groups,
+    book: &Book,
+    decoder: &Decoder,
+    raised: &List<NodeName>,
+) -> Result<Finding, AllocError>
+    requires columns { Rises node_cmp columns.now }
+    requires raised { Rises node_cmp raised.now }
+    requires some { 0 < length groups.now.groups }
+    requires few { length groups.now.groups < 2 ^ 32 }
+    requires narrow { length book.now.columns < 2 ^ 32 }
+    requires decoder { IsDecoder book.now.columns (codes_of groups.now.groups) decoder.now }
+    ensures { IfOk result (IsFinding columns.now groups.now.groups book.now.columns book.now.distance raised.now) }
 {
-    nodes.as_slice().binary_search(node).is_ok()
+    let word = word_of(alloc, columns, raised)?;
+    let unknown = unknown_among(columns, raised, &word);
+    let answer = nearest_by(alloc, groups.codes(), book, decoder, &word)?;
+    finding_of(alloc, groups, book, raised.len(), unknown, &answer)
 }
 
 // For each column, whether it is raised.
@@ -54,16 +67,56 @@ fn word_of(
     columns: &List<NodeName>,
     raised: &List<NodeName>,
 ) -> Result<Row, AllocError>
-    requires { Rises node_cmp raised.now }
+    requires { Rises node_cmp columns.now }
     ensures { IfOk result (λ word. word ≡ word_of_raised columns.now raised.now) }
 {
     let mut word = Row::zeroed(alloc, columns.len())?;
-    for k in 0..columns.len() {
-        if is_among(raised, columns.at(k)) {
+    for node in raised.as_slice() {
+        if let Some(k) = place_of(columns, node) {
             word.set(k);
         }
     }
     Ok(word)
+}
+
+// The place of a node among columns, which are in order.
+fn place_of(columns: &List<NodeName>, node: &NodeName) -> Option<usize>
+    requires { Rises node_cmp columns.now }
+    ensures { IsPlaceOf columns.now node.now result }
+{
+    columns.as_slice().binary_search(node).ok()
+}
+
+// How many of the raised nodes are no column.
+fn unknown_among(columns: &List<NodeName>, raised: &List<NodeName>, word: &Row) -> u64
+    requires columns { Rises node_cmp columns.now }
+    requires raised { Rises node_cmp raised.now }
+    requires word { word.now ≡ word_of_raised columns.now raised.now }
+    ensures { result ≡ unknown_of columns.now raised.now }
+{
+    (raised.len() - word.ones()) as u64
+}
+
+// The finding of an answer, for so many raised nodes of which so many are unknown.
+fn finding_of(
+    alloc: Global,
+    groups: &Groups,
+    book: &Book,
+    raised: usize,
+    unknown: u64,
+    answer: &Answer,
+) -> Result<Finding, AllocError>
+    requires { All (λ i. i < length groups.now.groups) answer.now.groups }
+    ensures { IfOk result (λ finding. finding ≡ finding_by groups.now.groups book.now.distance raised unknown answer.now) }
+{
+    Ok(Finding {
+        raised: raised as u64,
+        unknown,
+        distance: answer.distance,
+        radius: radius(book.distance),
+        sure: answer.sure,
+        groups: named_groups(alloc, groups, &answer.groups)?,
+    })
 }
 
 // The groups at these places, by their members.

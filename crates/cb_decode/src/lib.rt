@@ -2,11 +2,14 @@
 #![tactic(auto)]
 
 mod decode;
+mod decoder;
 mod finding;
+mod marked;
 
 pub use cb_coding::Answer;
-pub use decode::nearest;
-pub use finding::find;
+pub use decode::{nearest, nearest_by};
+pub use decoder::Decoder;
+pub use finding::{find, find_by};
 
 #[cfg(test)]
 mod tests;

@@ -85,22 +85,37 @@ fn three_groups(alloc: Global) -> Result<Groups, AllocError> {
 fn decodes_words(rt: HostRuntime) -> Result<(), Fail> {
     let alloc = rt.alloc();
     let codes = four_codes(alloc)?;
-    let cases: [(u32, &[u32], &str, &[u32], bool); 2] = [
-        (2, &[0, 2, 3], "10000", &[0, 1, 3], false),
-        (3, &[0, 1, 2, 3, 4], "10100", &[1], true),
+    // At which distance the codes are over which columns, a word, how far which groups are, and whether that is sure. The last
+    // three words share no column of the book with any code, are too short, and lie as far from the zero code as from another.
+    let cases: [(u32, &[u32], &str, u32, &[u32], bool); 5] = [
+        (2, &[0, 2, 3], "10000", 1, &[0, 1, 3], false),
+        (3, &[0, 1, 2, 3, 4], "10100", 1, &[1], true),
+        (1, &[0], "01111", 0, &[0, 2], true),
+        (3, &[0, 1, 2, 3, 4], "11", 1, &[1], true),
+        (2, &[1, 2, 4], "10100", 1, &[0, 1, 2], false),
     ];
-    for (distance, columns, word, groups, sure) in cases {
+    for (distance, columns, word, far, groups, sure) in cases {
         let book = Book {
             columns: List::of(Vec::from_slice(alloc, columns)?),
             distance,
         };
         assert!(rt; codes.len() == 4 && book.columns.len() <= 5);
-        let answer = nearest(alloc, &codes, &book, &code_of(alloc, 5, word)?)?;
-        assert_eq!(rt; answer.distance, 1, "of {word}");
-        assert_eq!(rt; answer.groups.as_slice(), groups, "for {word}");
-        assert_eq!(rt; answer.sure, sure, "of {word}");
+        let code = code_of(alloc, word.len(), word)?;
+        let answer = nearest(alloc, &codes, &book, &code)?;
+        assert!(rt; is_answer(&answer, far, groups, sure), "of {word}");
+        let decoder = Decoder::of(alloc, &codes, &book)?;
+        let answer = nearest_by(alloc, &codes, &book, &decoder, &code)?;
+        assert!(rt;
+            is_answer(&answer, far, groups, sure),
+            "by the decoder, of {word}"
+        );
     }
     Ok(())
+}
+
+// Whether an answer has these parts.
+fn is_answer(answer: &Answer, distance: u32, groups: &[u32], sure: bool) -> bool {
+    answer.distance == distance && answer.groups.as_slice() == groups && answer.sure == sure
 }
 
 // Four codes of five columns.

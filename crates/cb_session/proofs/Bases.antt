@@ -17,6 +17,7 @@ use Rattle.cb_coding.specs.Books.{IsBook, IsInUse}
 use Rattle.cb_coding.specs.Distance.{all_columns}
 use Rattle.cb_coding.specs.Groups.{IsGroup, codes_of, group_of, zeros}
 use Rattle.cb_coding.specs.Pairs.{Good, IsFirstClose}
+use Rattle.cb_decode.specs.Decoder.{IsDecoder}
 use Rattle.cb_finding.specs.Matrix.{IsMatrix}
 use Rattle.cb_log.specs.declared.closed.Closed.{Closed}
 use Rattle.cb_log.specs.declared.event.Event.{Event}
@@ -35,17 +36,19 @@ ready_has_basis network mode ready is = (
 )
 
 -- a book has no more columns than there are
-book_is_narrow : (width : ℕ) (codes : List (List Bool)) (book : Book) → IsBook width codes book → length book.columns ≤ width
+pub book_is_narrow : (width : ℕ) (codes : List (List Bool)) (book : Book) → IsBook width codes book → length book.columns ≤ width
 book_is_narrow width codes book is = length-le_from_below width book.columns (sorted_from_strictly_increasing book.columns is.rise) is.within
 
 -- the matrix of a topology with the codebook in use for a wanted distance is ready
 pub is_ready : (network : Topology) (d : ℕ) (ready : Ready) → IsMatrix network ready.matrix.columns ready.matrix.groups
     → length ready.matrix.columns ≤ symptom_limit → length ready.matrix.groups ≤ problem_limit + 1
-    → IsInUse (length ready.matrix.columns) (codes_of ready.matrix.groups) d ready.book → IsReady network (wanted d) ready
-is_ready network d ready matrix few_columns few_groups used =
+    → IsInUse (length ready.matrix.columns) (codes_of ready.matrix.groups) d ready.book
+    → IsDecoder ready.book.columns (codes_of ready.matrix.groups) ready.decoder → IsReady network (wanted d) ready
+is_ready network d ready matrix few_columns few_groups used decoder =
     let narrow = book_is_narrow (length ready.matrix.columns) (codes_of ready.matrix.groups) ready.book used.is_book in record {
       matrix = matrix;
       used = used;
+      decoder = decoder;
       few_columns = few_columns;
       few_groups = few_groups;
       few_kept = omega (arith, narrow, few_columns);

@@ -7,6 +7,7 @@ use Rattle.cb_coding.specs.declared.group.Group.{Group}
 use Rattle.cb_coding.specs.Books.{IsBook}
 use Rattle.cb_coding.specs.Groups.{codes_of}
 use Rattle.cb_coding.specs.Pairs.{IsLeast}
+use Rattle.cb_decode.specs.Decoder.{IsDecoder}
 use Rattle.cb_finding.specs.Finding.{IsCalled}
 use Rattle.cb_finding.specs.Matrix.{IsMatrix}
 use Rattle.cb_log.specs.declared.event.Event.{Event}
@@ -16,10 +17,11 @@ use Rattle.cb_network.specs.Sound.{problem_limit, symptom_limit}
 use Rattle.cb_network.specs.Topology.{Topology}
 use Rattle.cb_session.specs.declared.basis.Ready.{Ready}
 
--- the matrix of the topology, and the codebook in use for it, within their limits
+-- the matrix of the topology, and the codebook in use for it with its decoder, within their limits
 pub record IsReady (network : Topology) (mode : Mode) (ready : Ready) : Type 0 where
   pub matrix : IsMatrix network ready.matrix.columns ready.matrix.groups
   pub used : IsUsed mode (length ready.matrix.columns) (codes_of ready.matrix.groups) ready.book
+  pub decoder : IsDecoder ready.book.columns (codes_of ready.matrix.groups) ready.decoder
   pub few_columns : length ready.matrix.columns ≤ symptom_limit
   pub few_groups : length ready.matrix.groups ≤ problem_limit + 1
   pub few_kept : length ready.book.columns < 2 ^ 32

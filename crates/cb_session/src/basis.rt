@@ -4,6 +4,7 @@ ghost use Rattle.std.specs.List.{All, AllZip};
 ghost use Rattle.cb_cert.specs.Format.{IsWanted};
 ghost use Rattle.cb_coding.specs.Answers.{radius as radius_of};
 ghost use Rattle.cb_coding.specs.Books.{IsInUse};
+ghost use Rattle.cb_decode.specs.Decoder.{IsDecoder};
 ghost use Rattle.cb_finding.specs.Finding.{IsCalled};
 ghost use Rattle.cb_log.specs.Basis.{Mode, wanted as for_wanted, fixed as by_fixed, Basis, IsDiagnosis, IsAnnounced, book_made as book_made_by};
 ghost use Rattle.cb_log.specs.declared.event.Event.{Event as EventOf};
@@ -16,18 +17,19 @@ ghost use Rattle.cb_topo.specs.Numbered.{topology_of};
 use cb_cache::Cache;
 use cb_codes::{Codes, Groups};
 use cb_coding::{Book, Pair};
-use cb_decode::find;
+use cb_decode::{Decoder, find_by};
 use cb_log::{Closed, Event};
 use cb_matrix::Matrix;
 use cb_model::{GroupName, List, Name};
 use cb_reduce::{Refused, first_close, least, reduce};
 use std::alloc::{AllocError, Global};
 
-/// What windows are diagnosed by: the matrix of a topology, and the codebook in use for it.
+/// What windows are diagnosed by: the matrix of a topology, the codebook in use for it, and its decoder.
 #[derive(Drop)]
 pub(crate) struct Ready {
     matrix: Matrix,
     book: Book,
+    decoder: Decoder,
 }
 
 impl Ready {
@@ -38,8 +40,12 @@ impl Ready {
         ensures { IfOk result (IsReady (topology_of cache.now.graph) (for_wanted wanted)) }
     {
         let matrix = Matrix::of(alloc, cache)?;
-        match book_in_use(alloc, matrix.codes(), wanted) {
-            Ok(book) => Ok(Ready { matrix, book }),
+        match book_and_decoder(alloc, matrix.codes(), wanted) {
+            Ok((book, decoder)) => Ok(Ready {
+                matrix,
+                book,
+                decoder,
+            }),
             Err(none) => {
                 drop(matrix);
                 Err(none)
@@ -54,7 +60,12 @@ impl Ready {
         ensures book { IfOk result (λ ready. ready.book ≡ book) }
     {
         let matrix = Matrix::of(alloc, cache)?;
-        Ok(Ready { matrix, book })
+        let decoder = Decoder::of(alloc, matrix.codes(), &book)?;
+        Ok(Ready {
+            matrix,
+            book,
+            decoder,
+        })
     }
 
     /// The events that tell of the codebook, before the first diagnosis by it.
@@ -92,11 +103,12 @@ impl Ready {
         ensures { IfOk result (λ event. (network : Topology) (mode : Mode) (basis : Basis network mode) → HasBasis basis self.now
             → IsDiagnosis basis closed.now event) }
     {
-        let finding = find(
+        let finding = find_by(
             alloc,
             self.matrix.columns(),
             self.matrix.coded_groups(),
             &self.book,
+            &self.decoder,
             &closed.nodes,
         )?;
         Ok(Event::Diagnosis {
@@ -125,6 +137,28 @@ pub(crate) fn diagnose(
         events.push(ready.diagnosis(alloc, closing.at(k))?)?;
     }
     Ok(())
+}
+
+// The codebook in use for a wanted distance, and its decoder.
+fn book_and_decoder(
+    alloc: Global,
+    codes: &Codes,
+    wanted: u32,
+) -> Result<(Book, Decoder), AllocError>
+    requires some { 0 < length codes.now.rows }
+    requires places_fit { length codes.now.rows ≤ 2 ^ 16 }
+    requires columns_fit { codes.now.width ≤ 2 ^ 16 }
+    ensures book { IfOk result (λ made. IsInUse codes.now.width codes.now.rows wanted made.0) }
+    ensures decoder { IfOk result (λ made. IsDecoder made.0.columns codes.now.rows made.1) }
+{
+    let book = book_in_use(alloc, codes, wanted)?;
+    match Decoder::of(alloc, codes, &book) {
+        Ok(decoder) => Ok((book, decoder)),
+        Err(none) => {
+            drop(book);
+            Err(none)
+        }
+    }
 }
 
 // The codebook in use for a wanted distance: at that distance, or at the least one where two codes are closer.
