@@ -11,13 +11,15 @@ use Rattle.cb_session.proofs.session.Session.go_on.Goals as goal
 
 pub go_on_fixed-requires-clause-ready : goal.go_on_fixed-requires-clause-ready
 go_on_fixed-requires-clause-ready g c =
-    let (network, parts) = (topology_of c.self.inside.cache.graph, c.self.inside) in
+    let network = topology_of c.self.inside.cache.graph in
+    let parts = c.self.inside in
     let fits = fixed_fits network parts.windows parts.course c.args.self.now c.self.view_is c.self.invariant c.in-Fixed.ready c.in-Fixed.is in
     (network, fixed c.in-Fixed.ready.book, fits.ready_is)
 
 pub returns-in-Fixed-clause-gives : goal.returns-in-Fixed-clause-gives
 returns-in-Fixed-clause-gives g c =
-    let (network, parts) = (topology_of c.self.inside.cache.graph, c.self.inside) in
+    let network = topology_of c.self.inside.cache.graph in
+    let parts = c.self.inside in
     let fits = fixed_fits network parts.windows parts.course c.args.self.now c.self.view_is c.self.invariant c.in-Fixed.ready c.in-Fixed.is in
     let view = fixed_view network parts.windows parts.course c.args.self.now c.self.view_is c.self.invariant c.in-Fixed.ready c.in-Fixed.is in
     if_ok_more c.go_on_fixed.result _ _
@@ -25,7 +27,8 @@ returns-in-Fixed-clause-gives g c =
 
 pub returns-in-Fixed-clause-stands : goal.returns-in-Fixed-clause-stands
 returns-in-Fixed-clause-stands g c =
-    let (network, parts) = (topology_of c.self.inside.cache.graph, c.self.inside) in
+    let network = topology_of c.self.inside.cache.graph in
+    let parts = c.self.inside in
     let view = fixed_view network parts.windows parts.course c.args.self.now c.self.view_is c.self.invariant c.in-Fixed.ready c.in-Fixed.is in
     on_ok_more c.go_on_fixed.result _ _
     (λ stands. subst (λ (s : State). EntryStands s (fixed_state network c.go_on_fixed.new.windows c.in-Fixed.ready) (said c.args.number c.args.next.now)) view
