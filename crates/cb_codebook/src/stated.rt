@@ -1,11 +1,12 @@
 //! The codebook that a certificate states.
 ghost use Rattle.std.specs.Prelude.{◌≡◌, ◌<◌, ◌^◌, length, IfOk, Some, slice_get};
 ghost use Rattle.std.specs.List.{Contains};
+ghost use Rattle.cb_claim.specs.Reading.{ArePlaces};
 ghost use Rattle.cb_claim.specs.Valid.{AreColumnNumbers};
 ghost use Rattle.cb_model.specs.NodeOrder.{node_cmp};
 ghost use Rattle.cb_model.specs.Order.{Rises};
 ghost use Rattle.cb_topo.specs.Numbered.{topology_of};
-ghost use Rattle.cb_codebook.specs.Columns.{ArePlacesFor};
+ghost use Rattle.cb_codebook.specs.Columns.{ArePlacesFor, AreAmong};
 
 use cb_coding::Book;
 use cb_matrix::names_of;
@@ -26,16 +27,34 @@ pub fn stated_book(
     ensures places { IfOk result (λ book. ArePlacesFor (topology_of topology.now) nodes.now numbers.now book.columns) }
     ensures distance { IfOk result (λ book. book.distance ≡ distance) }
 {
-    let columns = names_of(alloc, topology, &topology.columns(alloc)?)?;
-    let mut places = List::new(alloc);
-    for k in 0..numbers.len() {
-        let node = nodes.at(*numbers.at(k) as usize - 1);
-        places.push(place_of(&columns, node))?;
-    }
+    // The topology is sound, so that its columns are few.
+    let _room = topology.node_room();
+    let ids = topology.columns(alloc)?;
+    let all = names_of(alloc, topology, &ids)?;
     Ok(Book {
-        columns: places,
+        columns: places_of(alloc, &all, nodes, numbers)?,
         distance,
     })
+}
+
+// The places among all columns of those with these numbers.
+fn places_of(
+    alloc: Global,
+    all: &List<NodeName>,
+    nodes: &List<NodeName>,
+    numbers: &List<u32>,
+) -> Result<List<u32>, AllocError>
+    requires rise { Rises node_cmp all.now }
+    requires few { length all.now < 2 ^ 32 }
+    requires among { AreAmong all.now nodes.now numbers.now }
+    ensures { IfOk result (ArePlaces nodes.now all.now numbers.now) }
+{
+    let mut places = List::new(alloc);
+    for k in 0..numbers.len() {
+        let number = *numbers.at(k) as usize;
+        places.push(place_of(all, nodes.at(number - 1)))?;
+    }
+    Ok(places)
 }
 
 // The place of a column among all.
