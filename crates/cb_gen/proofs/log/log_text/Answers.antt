@@ -1,5 +1,4 @@
-use Rattle.std.proofs.Common.{◌≡◌, ◌++◌, [], List, ℕ, ap, sym, ◌∙◌}
-use Rattle.cb_gen.specs.Log.{rounds, lines_text}
+use Rattle.cb_gen.specs.Log.{rounds}
 use Rattle.cb_gen.proofs.Going.{whole}
 use Rattle.cb_gen.proofs.log.log_text.Goals as goal
 

@@ -1,4 +1,4 @@
-use Rattle.std.proofs.Common.{◌≡◌, ℕ, ◌*◌, ◌/◌, ◌%◌, ◌^◌, ap}
+use Rattle.std.proofs.Common.{ℕ, ◌*◌, ◌/◌, ◌%◌, ◌^◌, ap}
 use Rattle.std.proofs.Math.Nat.{mod-add-mod}
 use Rattle.cb_gen.specs.Draws.{next_state, drawn}
 use Rattle.cb_gen.proofs.draws.Draws.below.Goals as goal

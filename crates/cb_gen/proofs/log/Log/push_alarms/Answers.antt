@@ -1,4 +1,4 @@
-use Rattle.std.proofs.Common.{◌+◌, ◌<◌, ◌≡◌, arith, replicate, [], ◌∷◌}
+use Rattle.std.proofs.Common.{arith, replicate, [], ◌∷◌}
 use Rattle.cb_gen.specs.Log.{Alarm}
 use Rattle.cb_gen.proofs.Going.{alike, left_more}
 use Rattle.cb_gen.proofs.log.Log.push_alarms.Goals as goal

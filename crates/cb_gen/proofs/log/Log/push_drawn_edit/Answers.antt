@@ -1,4 +1,3 @@
-use Rattle.std.proofs.Common.{List}
 use Rattle.cb_gen.proofs.Going.{on_ok_more, edit_goes}
 use Rattle.cb_gen.proofs.log.Log.push_drawn_edit.Goals as goal
 

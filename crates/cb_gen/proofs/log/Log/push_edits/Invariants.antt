@@ -1,4 +1,4 @@
-use Rattle.std.proofs.Common.{◌≡◌, ◌+◌, ℕ, replicate}
+use Rattle.std.proofs.Common.{◌≡◌, ◌+◌, replicate}
 use Rattle.cb_gen.specs.Log.{Edit}
 use Rattle.cb_gen.proofs.Going.{IsLeft}
 use Rattle.cb_gen.proofs.log.Log.push_edits.Given as goal

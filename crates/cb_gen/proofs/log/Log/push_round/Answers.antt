@@ -1,6 +1,5 @@
 use Rattle.std.proofs.Common.{◌+◌}
 use Rattle.cb_gen.proofs.Going.{on_ok_more, tick_goes, round_goes}
-use Rattle.cb_gen.specs.declared.log.Log.{Log}
 use Rattle.cb_gen.proofs.log.Log.push_round.Goals as goal
 
 pub returns-clause-lines : goal.returns-clause-lines

@@ -1,4 +1,4 @@
-use Rattle.std.proofs.Common.{◌+◌, ◌*◌, ◌<◌, ◌≡◌, arith}
+use Rattle.std.proofs.Common.{arith}
 use Rattle.cb_gen.specs.Log.{round, rounds}
 use Rattle.cb_gen.proofs.Going.{rounds_repeat, left_more, left_none}
 use Rattle.cb_gen.proofs.log.Log.push_rounds.Goals as goal
