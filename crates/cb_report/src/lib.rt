@@ -14,6 +14,7 @@ mod pair;
 mod parts;
 mod piece;
 mod status;
+mod summary;
 
 pub use accepted::accepted_text;
 pub use events::{event_text, events_text};
@@ -22,6 +23,7 @@ pub use fault_line::say_fault;
 pub use finding::burst_text;
 pub use matrix::matrix_text;
 pub use status::Status;
+pub use summary::{Summary, grow_text};
 
 #[cfg(test)]
 mod tests;

@@ -1,5 +1,5 @@
-//! The lines of a finding, as an operator reads them.
-use crate::{burst_text, event_text, events_text};
+//! The lines of findings, events and sums, as an operator reads them.
+use crate::{Summary, burst_text, event_text, events_text, grow_text};
 use cb_finding::Finding;
 use cb_log::{Event, RefusedWhy, SkipKind, SkipWhy};
 use cb_model::{GroupName, List, Name, NamedGroup, NodeName};
@@ -113,5 +113,32 @@ fn each_event_has_its_lines(rt: HostRuntime) -> Result<(), Fail> {
     assert_eq!(rt; text.as_slice(), EVENT_LINES.as_bytes());
     let first = event_text(alloc, &events.as_slice()[0])?;
     assert_eq!(rt; first.as_slice(), b"skipped 1 long\n".as_slice());
+    Ok(())
+}
+
+const SUMMARY_LINES: &str =
+    "grow sites 4 start 7\ninstances 19 nodes 46 problems 19 symptoms 18 groups 18\nrecords 3020 skipped 0 refused 508\ndiagnoses 228 sure 44 unknown 256 thin 20 books 20\n";
+
+#[test]
+fn a_summary_has_four_lines(rt: HostRuntime) -> Result<(), Fail> {
+    let summary = Summary {
+        sites: 4,
+        start: 7,
+        instances: 19,
+        nodes: 46,
+        problems: 19,
+        symptoms: 18,
+        groups: 18,
+        records: 3020,
+        skipped: 0,
+        refused: 508,
+        diagnoses: 228,
+        sure: 44,
+        unknown: 256,
+        thin: 20,
+        books: 20,
+    };
+    let text = grow_text(rt.alloc(), &summary)?;
+    assert_eq!(rt; text.as_slice(), SUMMARY_LINES.as_bytes());
     Ok(())
 }
