@@ -12,3 +12,4 @@ pub mod Tried
 pub mod Sharers
 pub mod Masked
 pub mod Differences
+pub mod Rows
