@@ -5,7 +5,7 @@ ghost use Rattle.cb_bits.specs.Bits.{IsNextOne, HasNoneFrom};
 ghost use Rattle.cb_matrix.specs.Codes.{IsOnce, IsBelow, ArePlaces, AreIndexed, IsCodeOf, bits};
 
 use cb_bits::Row;
-use cb_lanes::{distance, next_in_a_not_b};
+use cb_lanes::next_in_a_not_b;
 use cb_model::List;
 use cb_nodes::NodeId;
 use std::alloc::{AllocError, Global};
@@ -59,11 +59,25 @@ pub fn code_of(
     requires none { none.now ≡ replicate (length reached.now) 0 }
     ensures { IfOk result (IsCodeOf columns.now.nodes (bits reached.now)) }
 {
-    if (distance(reached, none) as usize) < columns.nodes.len() {
+    if has_fewer(reached, columns.nodes.len()) {
         code_by_nodes(alloc, columns, reached, none)
     } else {
         code_by_columns(alloc, &columns.nodes, reached)
     }
+}
+
+// Whether the row has fewer nodes than that. They are counted no further, and words without any aren't counted at all.
+fn has_fewer(reached: &[u64], limit: usize) -> bool {
+    let mut count: usize = 0;
+    for word in reached {
+        if *word != 0 {
+            count = count.saturating_add(word.count_ones() as usize);
+            if limit <= count {
+                return false;
+            }
+        }
+    }
+    true
 }
 
 // The same, by what the row has.
