@@ -27,6 +27,15 @@ further_by v w (suc k) m n e =
 further : (v w : List Bool) (m n : ℕ) → m ≤ n → distance (all_columns m) v w ≤ distance (all_columns n) v w
 further v w m n le = further_by v w (n - m) m n (omega arith)
 
+-- codes that differ at a column differ as often before any column behind it
+pub often_before : (v w : List Bool) (c n before : ℕ) → c < before → differ (bit v c) (bit w c) ≡ true → distance (all_columns c) v w + 1 ≡ n
+    → n ≤ distance (all_columns before) v w
+often_before v w c n before lt is nth =
+    let more = distance_more c v w in
+    let here = adds_one (differ (bit v c) (bit w c)) is in
+    let rest = further v w (c + 1) before (omega arith) in
+    omega arith
+
 -- the columns of a code that were looked at, counted by how far it is from no code
 pub one_more_looked : (code : List Bool) (from column looked : ℕ) → from ≤ column → bit code column ≡ true → looked ≤ distance (all_columns from) [] code
     → looked + 1 ≤ distance (all_columns (column + 1)) [] code
