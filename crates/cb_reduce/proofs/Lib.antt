@@ -13,4 +13,3 @@ pub mod Sharers
 pub mod Looked
 pub mod Masked
 pub mod Differences
-pub mod Rows

@@ -5,7 +5,6 @@ ghost use Rattle.cb_coding.specs.Pairs.{IsPair, Good, IsFirstClose};
 ghost use Rattle.cb_reduce.specs.Pairs.{StartsWithZero};
 ghost use Rattle.cb_reduce.specs.Close.{AreNumbered, FarBefore, IsCloseAfter};
 
-use crate::apart::distance_below;
 use crate::sharing::{close_sharing, is_quicker, starts_with_zero};
 use cb_codes::Codes;
 use cb_coding::Pair;
@@ -61,7 +60,7 @@ pub(crate) fn close_later(codes: &Codes, first: usize, wanted: usize) -> Option<
     ensures none { IfNone result ((j : ℕ) → IsPair codes.now.rows first j → wanted ≤ apart (all_columns codes.now.width) codes.now.rows first j) }
 {
     for second in first + 1..codes.len() {
-        if let Some(distance) = distance_below(codes, first, second, wanted) {
+        if let Some(distance) = codes.distance_below(first, second, wanted) {
             return Some(Pair {
                 first: first as u32,
                 second: second as u32,

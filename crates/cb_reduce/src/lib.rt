@@ -1,7 +1,6 @@
 //! Codes told apart: the closest pair, and codebooks, the columns that suffice to keep codes apart.
 #![tactic(auto)]
 
-mod apart;
 mod close;
 mod codebook;
 mod differing;

@@ -4,8 +4,8 @@ ghost use Rattle.cb_coding.specs.Distance.{bit as bit_of, differ as differ_of, d
 ghost use Rattle.cb_reduce.specs.Places.{kept_of};
 ghost use Rattle.cb_reduce.specs.Measure.{AreMasked};
 
-use crate::apart::distance_under;
 use cb_bits::Row;
+use cb_lanes::distance_under;
 use cb_model::List;
 use std::alloc::{AllocError, Global};
 

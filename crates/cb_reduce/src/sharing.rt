@@ -8,7 +8,6 @@ ghost use Rattle.cb_reduce.specs.Pairs.{StartsWithZero};
 ghost use Rattle.cb_reduce.specs.Close.{AreNumbered, FarBefore, IsCloseAfter};
 ghost use Rattle.cb_reduce.specs.Sharers.{IsTold, IsBehind, Covers, Improves};
 
-use crate::apart::distance_below;
 use crate::close::close_later;
 use cb_codes::Codes;
 use cb_coding::Pair;
@@ -118,7 +117,7 @@ fn closer_of(
     if second <= first || is_behind(second, best) {
         return best;
     }
-    match distance_below(codes, first, second, wanted) {
+    match codes.distance_below(first, second, wanted) {
         None => best,
         Some(distance) => Some(Pair {
             first: first as u32,
