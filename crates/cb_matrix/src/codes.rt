@@ -1,5 +1,5 @@
 //! Codes over numbers of nodes.
-ghost use Rattle.std.specs.Prelude.{◌≡◌, ◌<◌, ◌≤◌, ◌*◌, length, replicate, IfOk, IfSome, IfNone};
+ghost use Rattle.std.specs.Prelude.{◌≡◌, ◌<◌, ◌≤◌, ◌+◌, ◌*◌, length, replicate, IfOk, IfSome, IfNone};
 ghost use Rattle.cb_lanes.specs.Words.{bit_of, word_limit};
 ghost use Rattle.cb_bits.specs.Bits.{IsNextOne, HasNoneFrom};
 ghost use Rattle.cb_matrix.specs.Codes.{IsOnce, IsBelow, ArePlaces, AreIndexed, IsCodeOf, bits};
@@ -66,18 +66,30 @@ pub fn code_of(
     }
 }
 
-// Whether the row has fewer nodes than that. They are counted no further, and words without any aren't counted at all.
+// Whether the row has fewer nodes than that, but for those of its last words, fewer than four. They are counted no further.
 fn has_fewer(reached: &[u64], limit: usize) -> bool {
     let mut count: usize = 0;
-    for word in reached {
-        if *word != 0 {
-            count = count.saturating_add(word.count_ones() as usize);
-            if limit <= count {
-                return false;
-            }
+    for four in 0..reached.len() / 4 {
+        count = count.saturating_add(ones_of_four(reached, 4 * four));
+        if limit <= count {
+            return false;
         }
     }
     true
+}
+
+// How many nodes four words have, from a place on. Most have none.
+fn ones_of_four(words: &[u64], at: usize) -> usize
+    requires { at + 4 ≤ length words.now }
+{
+    if words[at] | words[at + 1] | words[at + 2] | words[at + 3] == 0 {
+        return 0;
+    }
+    let mut count: usize = 0;
+    for place in at..at + 4 {
+        count = count.saturating_add(words[place].count_ones() as usize);
+    }
+    count
 }
 
 // The same, by what the row has.
