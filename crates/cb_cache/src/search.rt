@@ -41,6 +41,7 @@ pub fn search<L: Ledger, G: Edges>(
     scratch.found.set(node);
     spread(
         graph,
+        node,
         slots,
         pool,
         &mut scratch.found,
@@ -57,9 +58,10 @@ fn wipe(words: &mut Vec<u64>)
     words.fill(0);
 }
 
-// Meets all that the nodes of `found` lead to, where nothing is done yet.
+// Meets all that the nodes of `found` lead to, where nothing is done yet. They are looked for from the first one on.
 fn spread<L: Ledger, G: Edges>(
     graph: &mut G,
+    first: usize,
     slots: &[Option<Slot>],
     pool: &RowPool,
     found: &mut Row,
@@ -81,7 +83,7 @@ fn spread<L: Ledger, G: Edges>(
     ensures cost { steps.new ≤ steps.old + ones done.new }
 {
     // The start of the word in which a node was last found: the next one is looked for from there on.
-    let mut last = 0;
+    let mut last = first / 64 * 64;
     while let Some(node) = next_left(found, done, last) {
         done.set(node);
         visit(graph, node, slots, pool, found, joined, steps);

@@ -83,11 +83,12 @@ fn take_member(
         named[place].members.push(member)?;
         return Ok(());
     }
-    let mut members = List::new(alloc);
+    // Most groups have one member.
+    let mut members = Vec::with_capacity(alloc, 1)?;
     members.push(member)?;
     named.push(NamedGroup {
         quiet: place == 0,
-        members,
+        members: List::of(members),
     })?;
     Ok(())
 }

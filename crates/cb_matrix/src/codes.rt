@@ -1,11 +1,11 @@
 //! Codes over numbers of nodes.
-ghost use Rattle.std.specs.Prelude.{◌≡◌, ◌<◌, ◌≤◌, ◌*◌, length, replicate, IfOk, IfSome, IfNone};
+ghost use Rattle.std.specs.Prelude.{◌≡◌, ◌<◌, ◌≤◌, ◌+◌, ◌*◌, length, replicate, IfOk, IfSome, IfNone};
 ghost use Rattle.cb_lanes.specs.Words.{bit_of, word_limit};
 ghost use Rattle.cb_bits.specs.Bits.{IsNextOne, HasNoneFrom};
 ghost use Rattle.cb_matrix.specs.Codes.{IsOnce, IsBelow, ArePlaces, AreIndexed, IsCodeOf, bits};
 
 use cb_bits::Row;
-use cb_lanes::{distance, next_in_a_not_b};
+use cb_lanes::next_in_a_not_b;
 use cb_model::List;
 use cb_nodes::NodeId;
 use std::alloc::{AllocError, Global};
@@ -59,11 +59,37 @@ pub fn code_of(
     requires none { none.now ≡ replicate (length reached.now) 0 }
     ensures { IfOk result (IsCodeOf columns.now.nodes (bits reached.now)) }
 {
-    if (distance(reached, none) as usize) < columns.nodes.len() {
+    if has_fewer(reached, columns.nodes.len()) {
         code_by_nodes(alloc, columns, reached, none)
     } else {
         code_by_columns(alloc, &columns.nodes, reached)
     }
+}
+
+// Whether the row has fewer nodes than that, but for those of its last words, fewer than four. They are counted no further.
+fn has_fewer(reached: &[u64], limit: usize) -> bool {
+    let mut count: usize = 0;
+    for four in 0..reached.len() / 4 {
+        count = count.saturating_add(ones_of_four(reached, 4 * four));
+        if limit <= count {
+            return false;
+        }
+    }
+    true
+}
+
+// How many nodes four words have, from a place on. Most have none.
+fn ones_of_four(words: &[u64], at: usize) -> usize
+    requires { at + 4 ≤ length words.now }
+{
+    if words[at] | words[at + 1] | words[at + 2] | words[at + 3] == 0 {
+        return 0;
+    }
+    let mut count: usize = 0;
+    for place in at..at + 4 {
+        count = count.saturating_add(words[place].count_ones() as usize);
+    }
+    count
 }
 
 // The same, by what the row has.

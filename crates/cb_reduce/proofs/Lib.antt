@@ -10,5 +10,6 @@ pub mod Counting
 pub mod Reducing
 pub mod Tried
 pub mod Sharers
+pub mod Looked
 pub mod Masked
 pub mod Differences

@@ -45,7 +45,7 @@ fn close_after(codes: &Codes, quiet: bool, first: usize, wanted: usize) -> Optio
     ensures some { IfSome result (IsCloseAfter codes.now wanted first) }
     ensures none { IfNone result ((j : ℕ) → IsPair codes.now.rows first j → wanted ≤ apart (all_columns codes.now.width) codes.now.rows first j) }
 {
-    if quiet && first > 0 && is_quicker(codes, first) {
+    if quiet && first > 0 && is_quicker(codes, first, wanted) {
         close_sharing(codes, first, wanted)
     } else {
         close_later(codes, first, wanted)

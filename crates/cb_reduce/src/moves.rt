@@ -7,7 +7,7 @@ ghost use Rattle.cb_reduce.specs.Places.{kept_of};
 ghost use Rattle.cb_reduce.specs.declared.moves.Waiter.{Waiter as W};
 ghost use Rattle.cb_reduce.specs.Moves.{IsSafe, SomeAreClose, IsHeld, Grows, ArePairs, AreSafe, Decides};
 
-use crate::place::{Place, place_of};
+use crate::place::{Place, differ_often, place_of};
 use cb_bits::Row;
 use cb_codes::Codes;
 use cb_model::List;
@@ -67,7 +67,8 @@ fn are_close(codes: &Codes, pairs: &List<Waiter>, kept: &Row, column: usize, dis
     false
 }
 
-// Whether a pair is too close with the columns before one and the kept ones.
+// Whether a pair is too close with the columns before one and the kept ones. The kept ones aren't looked at where the others
+// suffice.
 fn is_close(codes: &Codes, pair: Waiter, kept: &Row, column: usize, distance: u32) -> bool
     requires have_width { HaveWidth (length kept.now) codes.now.rows }
     requires narrow { length kept.now ≤ 2 ^ 16 }
@@ -78,6 +79,9 @@ fn is_close(codes: &Codes, pair: Waiter, kept: &Row, column: usize, distance: u3
 {
     let a = codes.row(pair.first as usize);
     let b = codes.row(pair.second as usize);
+    if differ_often(a, b, column, distance) {
+        return false;
+    }
     matches!(place_of(a, b, kept, column, distance), Place::Close)
 }
 

@@ -20,17 +20,21 @@ pub fn starts_with_zero(codes: &Codes) -> bool
     codes.len() > 0 && codes.row(0).ones() == 0
 }
 
-/// Whether the codes that share a column with this one are told by so few places that it is quicker to go through these
-/// than through all codes.
-pub fn is_quicker(codes: &Codes, place: usize) -> bool
+/// Whether the codes that share a column with this one, one of its first so many, are told by so few places that it is quicker to
+/// go through these than through all codes.
+pub fn is_quicker(codes: &Codes, place: usize, most: usize) -> bool
     requires { place < length codes.now.rows }
 {
     let code = codes.row(place);
     // A length fits its type, and so does the place behind a column.
     let _width = code.len();
     let mut looks: usize = 0;
+    let mut columns = 0;
     let mut from = 0;
     while let Some(column) = code.next_one(from) {
+        if most <= columns {
+            return true;
+        }
         let Some(places) = codes.holders(column) else {
             return false;
         };
@@ -39,11 +43,13 @@ pub fn is_quicker(codes: &Codes, place: usize) -> bool
             return false;
         }
         from = column + 1;
+        columns += 1;
     }
     true
 }
 
-/// The first code after one that is closer to it than wanted, behind a zero code from which all are as far as wanted.
+/// The first code after one that is closer to it than wanted, behind a zero code from which all are as far as wanted. Codes that
+/// have none of its first columns, so many as are wanted, needn't be looked at either.
 pub fn close_sharing(codes: &Codes, first: usize, wanted: usize) -> Option<Pair>
     requires numbered { AreNumbered codes.now }
     requires within { first < length codes.now.rows }
@@ -54,16 +60,22 @@ pub fn close_sharing(codes: &Codes, first: usize, wanted: usize) -> Option<Pair>
     ensures none { IfNone result ((j : ℕ) → IsPair codes.now.rows first j → wanted ≤ apart (all_columns codes.now.width) codes.now.rows first j) }
 {
     let code = codes.row(first);
-    // A length fits its type, and so does the place behind a column.
+    // A length fits its type, and so does the place behind a column. All codes have one width.
     let _width = code.len();
+    let _wide = codes.width();
     let mut best = None;
+    let mut looked = 0;
     let mut from = 0;
     while let Some(column) = code.next_one(from) {
+        if wanted <= looked {
+            return best;
+        }
         let Some(places) = codes.holders(column) else {
             return close_later(codes, first, wanted);
         };
         best = closer_among(codes, first, places, wanted, best);
         from = column + 1;
+        looked += 1;
     }
     best
 }

@@ -49,7 +49,7 @@ fn wait_for(
     ensures held { OnOk result ((i : ℕ) → i < second → MustWait quiet codes.now.rows i second
         → IsHeld codes.now.rows (kept_of kept.now) distance waiting.new.items (length kept.now) i second) }
 {
-    if quiet && is_quicker(codes, second) {
+    if quiet && is_quicker(codes, second, codes.width()) {
         wait_with_sharing(codes, second, kept, distance, waiting)
     } else {
         wait_with_earlier(codes, second, second, kept, distance, waiting)

@@ -1,7 +1,8 @@
 //! The lines of a matrix.
-ghost use Rattle.std.specs.Prelude.{◌≡◌, ◌++◌, IfOk, OnOk};
+ghost use Rattle.std.specs.Prelude.{◌≡◌, ◌++◌, length, replicate, IfOk, OnOk};
+ghost use Rattle.std.specs.List.{flat_map};
 ghost use Rattle.cb_codes.specs.Groups.{group_with};
-ghost use Rattle.cb_report.specs.MatrixText.{code_text, coded_line, column_line, columns_text, digit as digit_of, groups_text, least_line, matrix_text as text_of_matrix, quiet_word as word_of_quiet};
+ghost use Rattle.cb_report.specs.MatrixText.{code_text, coded_line, column_line, columns_text, digit, groups_text, least_line, matrix_text as text_of_matrix, quiet_word as word_of_quiet};
 
 use crate::piece::{push_count, push_node};
 use cb_bits::Row;
@@ -19,7 +20,8 @@ pub fn matrix_text(
 ) -> Result<Vec<u8>, AllocError>
     ensures { IfOk result (λ text. text.items ≡ text_of_matrix columns.now groups.now.groups least) }
 {
-    let mut out = Vec::new(alloc);
+    // Most of it are the digits of the codes.
+    let mut out = Vec::with_capacity(alloc, groups.len().saturating_mul(columns.len()))?;
     push_columns(&mut out, columns)?;
     push_groups(&mut out, groups)?;
     push_least(&mut out, least)?;
@@ -72,24 +74,30 @@ fn push_group(out: &mut Vec<u8>, code: &Row, group: &NamedGroup) -> Result<(), A
     out.extend_from_slice(b"\n")
 }
 
-// Adds a code.
+// Adds a code: a zero for each column, in whose place a one comes where the code has the column.
 fn push_code(out: &mut Vec<u8>, code: &Row) -> Result<(), AllocError>
     ensures { OnOk result (out.new.items ≡ out.old.items ++ code_text code.now) }
 {
     if code.len() == 0 {
         return out.extend_from_slice(b"-");
     }
-    for column in 0..code.len() {
-        out.extend_from_slice(digit(code.get(column)))?;
-    }
+    let start = out.len();
+    out.reserve(code.len())?;
+    out.resize(start + code.len(), b'0')?;
+    mark_ones(&mut out[start..], code);
     Ok(())
 }
 
-// Whether a code has a column.
-fn digit(bit: bool) -> &'static [u8]
-    ensures { result.now ≡ digit_of bit }
+// Makes the zero of each column that the code has a one. At first all are zeros, the digit of byte 48.
+fn mark_ones(digits: &mut [u8], code: &Row)
+    requires { digits.old ≡ replicate (length code.now) 48 }
+    ensures { digits.new ≡ flat_map digit code.now }
 {
-    if bit { b"1" } else { b"0" }
+    let mut from = 0;
+    while let Some(column) = code.next_one(from) {
+        digits[column] = b'1';
+        from = column + 1;
+    }
 }
 
 // What follows the code of a group.
