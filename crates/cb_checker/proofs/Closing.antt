@@ -1,16 +1,17 @@
 -- Whether all successors are listed, by numbers and by names.
-use Rattle.std.proofs.Common.{◌≡◌, ◌≢◌, ◌↔◌, inl, inr, ℕ, ◌+◌, ◌<◌, ◌≤◌, ◌&&◌, not, List, [], Bool, true, false, length, replicate, map, refl, sym, ap, subst, ◌∙◌, Option, None, Some, arith}
-use Rattle.std.specs.Prelude.{Result, Ok, Err, IfOk, slice_get, slice_index_or}
+use Rattle.std.proofs.Common.{◌≡◌, ◌≢◌, ◌⊎◌, ◌↔◌, inl, inr, ℕ, ◌+◌, ◌<◌, ◌≤◌, ◌&&◌, not, List, [], Bool, true, false, length, replicate, map, refl, sym, ap, subst, ◌∙◌, Option, None, Some, IfNone, arith}
+use Rattle.std.specs.Prelude.{Result, Ok, Err, IfOk, slice_get, slice_set, slice_index_or}
 use Rattle.std.specs.List.{All}
+use Rattle.std.specs.Option.{is_some}
 use Rattle.std.specs.declared.cmp.Ordering.TheVariants.{Less, Equal, Greater}
 use Rattle.std.specs.Ordering.{ordering_reverse}
-use Rattle.std.proofs.lemmas.Bool.{false≢true, cases_lt, cases_order}
-use Rattle.std.proofs.lemmas.List.{get_or_past, length-replicate}
+use Rattle.std.proofs.lemmas.Bool.{false≢true, cases_eq, cases_lt, cases_order}
+use Rattle.std.proofs.lemmas.List.{get_or_past, get_or-set_same, get_or-set_other, length-set, length-replicate}
 use Rattle.std.proofs.lemmas.Option.{same_Some, slice_get_within}
 use Rattle.cb_model.specs.declared.node.NodeName.{NodeName}
 use Rattle.cb_model.specs.NodeOrder.{node_cmp}
 use Rattle.cb_model.proofs.Rising.{node_cmp_total, node_cmp_exact, node_strict}
-use Rattle.cb_bits.specs.Bits.{without}
+use Rattle.cb_bits.specs.Bits.{without, HasNoneFrom}
 use Rattle.cb_bits.proofs.NextOnes.{without_at}
 use Rattle.cb_network.specs.Causes.{Edge}
 use Rattle.cb_network.specs.Nodes.{IsNodeOf}
@@ -26,10 +27,10 @@ use Rattle.cb_topo.specs.Numbered.{Numbered, topology_of, IsNodeNamed}
 use Rattle.cb_graph.specs.Edges.{EdgeAt, number}
 use Rattle.cb_graph.proofs.Chains.{named_once}
 use Rattle.cb_checker.specs.Known.{IsKnown}
-use Rattle.cb_checker.specs.Listed.{ArePlaced, IsAmong, AreMarked}
+use Rattle.cb_checker.specs.Listed.{ArePlaced, IsAmong, AreListed, AreMarked}
 use Rattle.cb_checker.specs.declared.marks.Marks.{Marks}
-use Rattle.cb_reach.proofs.Marks.{nothing}
-use Rattle.cb_checker.specs.Missing.{IsLeastOf, IsLeastIfAny, IsMissing, IsOutside, IsLesser}
+use Rattle.cb_reach.proofs.Marks.{nothing, same_rows}
+use Rattle.cb_checker.specs.Missing.{AreClosed, AreClosedTo, HasSuccessorsTo, IsLeastOf, IsLeastIfAny, IsMissing, IsOutside, IsLesser}
 use Rattle.cb_checker.specs.Spans.{asked}
 use Rattle.cb_checker.proofs.Joined.{fails_here, place_fails, place_passes}
 use Rattle.cb_checker.proofs.Placing.{listed_by, placed_by, one_placed, placed_there}
@@ -63,10 +64,6 @@ not_below least name other not_less not_less' less =
       | Equal ↦ λ is. not_less (subst (λ x. node_cmp x name ≡ Less) (sym (node_cmp_exact least other is)) less)
       | Greater ↦ λ is. not_less' (node_cmp_total.antisymm other least ∙ ap ordering_reverse is)
     ] refl
-
--- of the first placed nodes all successors are listed
-abbrev pub AreClosedTo : Numbered → List NodeId → List Bool → ℕ → Type 0
-AreClosedTo n placed listed to = (place : ℕ) (id : NodeId) → place < to → slice_get placed place ≡ Some id → (k : ℕ) → ¬ IsMissing n id.0 listed k
 
 module _ (n : Numbered) (ids : List NodeId) (c : Certificate) (known : IsKnown n ids c) (before : ℕ) (root : Option NodeName) (span : Span)
     (placed : List NodeId) (are : ArePlaced ids span (length span.entries) placed) (listed : List Bool)
@@ -273,3 +270,65 @@ forgot_marked n old new are none listed found = record {
     λ among. absurd (let at = subst (λ ids. slice_get ids among.0 ≡ Some (number k)) none among.1 in cc),
   );
 }
+
+-- successors that were added
+
+pub added_more : (m n : Numbered) (placed : List NodeId) (to : ℕ) (id : NodeId) (row more : List Bool) → m ≡ n → HasSuccessorsTo n placed to row
+    → slice_get placed to ≡ Some id → ((k : ℕ) → Has more k ↔ (Has row k ⊎ EdgeAt m id.0 k)) → HasSuccessorsTo n placed (to + 1) more
+added_more m n placed to id row more same old at added = λ place other low there k edge. elim (cases_lt place to) [
+  | inl less ↦ (added k).1 (inl (old place other less there k edge))
+  | inr high ↦
+      let last : place ≡ to = omega arith in
+      let one : other ≡ id = same_Some other id (sym there ∙ (ap (slice_get placed) last ∙ at)) in
+      let led = subst (λ (x : NodeId). EdgeAt n x.0 k) one edge in
+      (added k).1 (inr (subst (λ (i : Numbered). EdgeAt i id.0 k) (sym same) led))
+]
+
+-- where the row has all successors, and nothing but what is listed, all of them are listed
+pub closed_by : (n : Numbered) (placed : List NodeId) (listed found : List Bool) → length found ≡ length listed → HasSuccessorsTo n placed (length placed) found
+    → HasNoneFrom (without found listed) 0 → AreClosed n placed listed
+closed_by n placed listed found same has none = λ place id low at k missing.
+    inside_at found listed same k (none k (omega arith)) (has place id low at k missing.0, missing.1)
+
+-- what holds where nothing is found
+pub none_found : {X A : Type 0} (found : Option X) → IfNone found A → is_some found ≡ false → A
+none_found None a is = a
+none_found (Some x) a is = absurd (false≢true (sym is))
+
+-- marks that are forgotten one by one
+
+-- the row has only nodes that are placed from here on
+pub record IsLeftFrom (placed : List NodeId) (wide from : ℕ) (row : List Bool) : Type 0 where
+  pub width : length row ≡ wide
+  pub left : (k : ℕ) → Has row k → (place : ℕ) × (from ≤ place) × (slice_get placed place ≡ Some (number k))
+
+pub all_left : (placed : List NodeId) (row : List Bool) → AreListed row placed → IsLeftFrom placed (length row) 0 row
+all_left placed row listed = record { width = refl; left = λ k has. (let among = (listed k).0 has in (among.0, omega arith, among.1)) }
+
+pub less_left : (placed : List NodeId) (wide from : ℕ) (row : List Bool) (id : NodeId) → IsLeftFrom placed wide from row → slice_get placed from ≡ Some id → id.0 < wide
+    → IsLeftFrom placed wide (from + 1) (slice_set row id.0 false)
+less_left placed wide from row id old at low = record {
+  width = length-set row id.0 false ∙ old.width;
+  left = λ k has. elim (cases_eq k id.0) [
+    | inl same ↦
+        let within : id.0 < length row = (let e = old.width in omega arith) in
+        let off = get_or-set_same row id.0 false false within in
+        absurd (false≢true (sym off ∙ subst (Has (slice_set row id.0 false)) same has))
+    | inr other ↦
+        let had = old.left k (sym (get_or-set_other row id.0 k false false other) ∙ has) in
+        elim (cases_eq had.0 from) [
+          | inl here ↦
+              let one : number k ≡ id = same_Some (number k) id (sym had.2 ∙ (ap (slice_get placed) here ∙ at)) in
+              absurd (other (ap (λ (x : NodeId). x.0) one))
+          | inr later ↦ (had.0, (let least = had.1 in omega (arith, later)), had.2)
+        ]
+  ];
+}
+
+pub none_left : (placed : List NodeId) (wide from : ℕ) (row : List Bool) → length placed ≤ from → IsLeftFrom placed wide from row → row ≡ replicate wide false
+none_left placed wide from row end old =
+    same_rows row (replicate wide false) (old.width ∙ sym (length-replicate wide false))
+    (λ k has.
+    let had = old.left k has in
+    absurd (let within = slice_get_within placed had.0 (number k) had.2 in let least = had.1 in omega arith))
+    (λ k has. absurd (nothing wide k has))

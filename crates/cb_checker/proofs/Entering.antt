@@ -1,10 +1,10 @@
 -- An entry behind the first one, by numbers and by names.
-use Rattle.std.proofs.Common.{◌≡◌, ◌⊎◌, inl, inr, ℕ, ◌+◌, ◌-◌, ◌<◌, ◌≤◌, List, [], ◌∷◌, ◌++◌, Bool, true, false, length, get_or, refl, sym, ap, subst, ◌∙◌, Option, Some, arith}
+use Rattle.std.proofs.Common.{◌≡◌, ◌⊎◌, inl, inr, ℕ, ◌+◌, ◌-◌, ◌<◌, ◌≤◌, List, [], ◌∷◌, ◌++◌, true, length, get_or, refl, sym, ap, subst, ◌∙◌, Option, Some, arith}
 use Rattle.std.specs.Prelude.{Err, slice_get, slice_set}
 use Rattle.std.specs.List.{All}
 use Rattle.std.proofs.lemmas.Option.{same_Some, slice_get_within, slice_get_read}
-use Rattle.std.proofs.lemmas.Bool.{cases_eq, cases_lt}
-use Rattle.std.proofs.lemmas.List.{length-append, length-set, get_or-set_other}
+use Rattle.std.proofs.lemmas.Bool.{cases_lt}
+use Rattle.std.proofs.lemmas.List.{length-append, length-set}
 use Rattle.cb_model.proofs.Numbers.{slice_get-push_before, slice_get-push_last}
 use Rattle.cb_coding.proofs.Pushed.{pushed_cases}
 use Rattle.cb_reach.proofs.Marks.{has_set, set_cases}
@@ -29,6 +29,7 @@ use Rattle.cb_checker.specs.Listed.{IsPlaced, ArePlaced, AreMarked}
 use Rattle.cb_checker.specs.Spans.{asked}
 use Rattle.cb_checker.proofs.Joined.{fails_here, pass_three, pass_one, pass_two}
 use Rattle.cb_checker.proofs.Naming.{stands, has_id, one_id}
+use Rattle.cb_checker.proofs.Coding.{still}
 use Rattle.cb_checker.proofs.Placing.{listed_by, placed_by, one_placed, placed_there}
 
 module _ (n : Numbered) (ids : List NodeId) (c : Certificate) (known : IsKnown n ids c) (before : ℕ) (root : Option NodeName) (span : Span)
@@ -191,9 +192,3 @@ marked_more n old new id are low placed listed spare = record {
         ]),
   );
 }
-  where
-    still : (row : List Bool) (m k : ℕ) → m < length row → Has row k → Has (slice_set row m true) k
-    still row m k within has = elim (cases_eq k m) [
-      | inl same ↦ subst (Has (slice_set row m true)) (sym same) (has_set row m within)
-      | inr other ↦ get_or-set_other row m k true false other ∙ has
-    ]

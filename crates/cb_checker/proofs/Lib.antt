@@ -11,3 +11,5 @@ pub mod Reading
 pub mod Booking
 pub mod Siding
 pub mod Thinning
+pub mod Tabled
+pub mod Coding

@@ -69,9 +69,8 @@ module _ (n : Numbered) (ids : List NodeId) (c : Certificate) (known : IsKnown n
   pub code_read : (span : Span) (listed code : List Bool) → IsListing ids span listed → IsCodeOf columns listed code → IsCodeRead (nodes_of c) names span code
   code_read span listed code lists coded = zip_each (λ column bit. IsTrue bit ↔ Lists (nodes_of c) span column) names code (coded.width ∙ width_same) (λ i column bit at_column at_bit.
       let id = zip_left (IsNodeNamed n) columns names named i column at_column in
-      let low = slice_get_within columns i id.0 id.1 in
       let is = listed_names n ids c known 0 None span lists.placed lists.are listed lists.each column id.0.0 id.2 in
-      let same : bit ≡ slice_index_or listed id.0.0 false = sym (get_or_from_slice_get code i bit false at_bit) ∙ coded.each i id.0 low id.1 in
+      let same : bit ≡ slice_index_or listed id.0.0 false = sym (get_or_from_slice_get code i bit false at_bit) ∙ coded.each i id.0 id.1 in
       ((λ yes. is.0 (sym same ∙ yes)), (λ l. same ∙ is.1 l)))
 
   -- the places of columns by their names

@@ -1,9 +1,9 @@
 -- The spans of a book, one after another.
-use Rattle.std.proofs.Common.{◌≡◌, inl, inr, ℕ, zero, suc, ◌+◌, ◌<◌, ◌≤◌, List, [], ◌∷◌, ◌++◌, Bool, false, length, take, min, replicate, refl, sym, ap, subst, ◌∙◌, Some, arith}
-use Rattle.std.specs.Prelude.{Ok, Err, slice_get, slice_set, slice_index_or}
+use Rattle.std.proofs.Common.{◌≡◌, inl, inr, ℕ, zero, suc, ◌+◌, ◌<◌, ◌≤◌, List, [], ◌∷◌, ◌++◌, length, take, min, refl, sym, ap, subst, ◌∙◌, Some, arith}
+use Rattle.std.specs.Prelude.{Ok, Err, slice_get}
 use Rattle.std.specs.List.{All, AllZip, flat_map}
-use Rattle.std.proofs.lemmas.Bool.{cases_eq, cases_lt}
-use Rattle.std.proofs.lemmas.List.{length-append, length-set, length-replicate, get_or-set_other, get_or-set_same}
+use Rattle.std.proofs.lemmas.Bool.{cases_lt}
+use Rattle.std.proofs.lemmas.List.{length-append}
 use Rattle.std.proofs.lemmas.List.Sums.{sum_by-cons}
 use Rattle.std.proofs.lemmas.Option.{same_Some, slice_get_within}
 use Rattle.cb_model.specs.declared.node.NodeName.{NodeName}
@@ -19,41 +19,10 @@ use Rattle.cb_claim.proofs.Stages.{passed_go_on}
 use Rattle.cb_nodes.specs.declared.id.NodeId.{NodeId}
 use Rattle.cb_topo.specs.Numbered.{Numbered, topology_of, IsNodeNamed, AreNamed}
 use Rattle.cb_checker.specs.Known.{IsKnown}
-use Rattle.cb_checker.specs.Codes.{IsCodeTo}
 use Rattle.cb_checker.specs.Books.{IsReadOff, AreReadTo}
 use Rattle.cb_checker.specs.Spans.{asked, JudgesSpan}
 use Rattle.cb_checker.proofs.Joined.{fails_here, flat_fails, flat_passes, pass_one, pass_two}
 use Rattle.cb_checker.proofs.Naming.{zip_right, zip_left}
-
--- codes
-
-pub none_coded : (columns : List NodeId) (listed : List Bool) → IsCodeTo columns listed 0 (replicate (length columns) false)
-none_coded columns listed = record {
-  width = length-replicate (length columns) false;
-  each = λ place id low at. absurd (omega arith);
-}
-
-pub coded_more : (columns : List NodeId) (listed code : List Bool) (to : ℕ) (id : NodeId) → IsCodeTo columns listed to code → slice_get columns to ≡ Some id
-    → IsCodeTo columns listed (to + 1) (slice_set code to (slice_index_or listed id.0 false))
-coded_more columns listed code to id old at = record {
-  width = length-set code to (slice_index_or listed id.0 false) ∙ old.width;
-  each = λ place other low there. elim (cases_eq place to) [
-    | inl same ↦
-        let wide = old.width in
-        let within = slice_get_within columns to id at in
-        let one : id ≡ other = same_Some id other (sym at ∙ subst (λ k. slice_get columns k ≡ Some other) same there) in
-        let set : slice_index_or (slice_set code to (slice_index_or listed id.0 false)) to false ≡ slice_index_or listed id.0 false =
-        get_or-set_same code to (slice_index_or listed id.0 false) false (omega arith)
-        in
-        subst (λ (x : NodeId). slice_index_or (slice_set code to (slice_index_or listed id.0 false)) place false ≡ slice_index_or listed x.0 false) one
-        (subst (λ k. slice_index_or (slice_set code to (slice_index_or listed id.0 false)) k false ≡ slice_index_or listed id.0 false) (sym same) set)
-    | inr differ ↦
-        get_or-set_other code to place (slice_index_or listed id.0 false) false differ ∙ old.each place other (elim (cases_lt place to) [
-          | inl lt ↦ lt
-          | inr le ↦ absurd (differ (omega arith))
-        ]) there
-  ];
-}
 
 -- how many entries stand before a span
 

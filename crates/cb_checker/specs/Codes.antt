@@ -6,11 +6,7 @@ use Rattle.cb_nodes.specs.declared.id.NodeId.{NodeId}
 abbrev pub IsBelow : ℕ → List NodeId → Type 0
 IsBelow room ids = (i : ℕ) (id : NodeId) → slice_get ids i ≡ Some id → id.0 < room
 
--- for the first columns, whether the row has them
-pub record IsCodeTo (columns : List NodeId) (listed : List Bool) (to : ℕ) (code : List Bool) : Type 0 where
-  pub width : length code ≡ length columns
-  pub each : (place : ℕ) (id : NodeId) → place < to → slice_get columns place ≡ Some id → slice_index_or code place false ≡ slice_index_or listed id.0 false
-
 -- for each column, whether the row has it
-abbrev pub IsCodeOf : List NodeId → List Bool → List Bool → Type 0
-IsCodeOf columns listed code = IsCodeTo columns listed (length columns) code
+pub record IsCodeOf (columns : List NodeId) (listed code : List Bool) : Type 0 where
+  pub width : length code ≡ length columns
+  pub each : (place : ℕ) (id : NodeId) → slice_get columns place ≡ Some id → slice_index_or code place false ≡ slice_index_or listed id.0 false

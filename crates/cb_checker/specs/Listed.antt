@@ -1,5 +1,5 @@
 -- The nodes that the entries of a span list, by numbers.
-use Rattle.std.specs.Prelude.{◌≡◌, ◌↔◌, ℕ, List, length, Some, slice_get}
+use Rattle.std.specs.Prelude.{◌≡◌, ◌↔◌, ℕ, List, Bool, length, Some, slice_get}
 use Rattle.cb_cert.specs.declared.certificate.Entry.{Entry}
 use Rattle.cb_cert.specs.declared.certificate.Span.{Span}
 use Rattle.cb_nodes.specs.declared.id.NodeId.{NodeId}
@@ -24,8 +24,12 @@ pub record ArePlaced (ids : List NodeId) (span : Span) (to : ℕ) (placed : List
 abbrev pub IsAmong : List NodeId → ℕ → Type 0
 IsAmong placed k = (place : ℕ) × (slice_get placed place ≡ Some (number k))
 
+-- the row has exactly the placed nodes
+abbrev pub AreListed : List Bool → List NodeId → Type 0
+AreListed listed placed = (k : ℕ) → Has listed k ↔ IsAmong placed k
+
 -- the rows have a place for each number, and exactly the placed nodes are listed
 pub record AreMarked (n : Numbered) (marks : Marks) : Type 0 where
   pub room : length marks.listed ≡ length n.nodes
   pub spare : length marks.found ≡ length n.nodes
-  pub each : (k : ℕ) → Has marks.listed k ↔ IsAmong marks.placed.items k
+  pub each : AreListed marks.listed marks.placed.items

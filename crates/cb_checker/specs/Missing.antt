@@ -1,11 +1,20 @@
--- Successors that aren't listed.
-use Rattle.std.specs.Prelude.{◌≡◌, ◌≢◌, ◌⊎◌, ℕ, List, Bool, Option, None, Some}
+-- Successors, and those that aren't listed.
+use Rattle.std.specs.Prelude.{◌≡◌, ◌≢◌, ◌<◌, ◌↔◌, ◌⊎◌, ℕ, List, Bool, Option, None, Some, length, slice_get}
 use Rattle.std.specs.declared.cmp.Ordering.TheVariants.{Less}
 use Rattle.cb_model.specs.declared.node.NodeName.{NodeName}
 use Rattle.cb_model.specs.NodeOrder.{node_cmp}
+use Rattle.cb_nodes.specs.declared.id.NodeId.{NodeId}
 use Rattle.cb_reach.specs.Rows.{Has}
 use Rattle.cb_topo.specs.Numbered.{Numbered, IsNodeNamed}
 use Rattle.cb_graph.specs.Edges.{EdgeAt, number}
+
+-- the row has exactly the successors of this node
+abbrev pub AreSuccessors : Numbered → List Bool → NodeId → Type 0
+AreSuccessors n found from = (k : ℕ) → Has found k ↔ EdgeAt n from.0 k
+
+-- the row has all successors of the first placed nodes
+abbrev pub HasSuccessorsTo : Numbered → List NodeId → ℕ → List Bool → Type 0
+HasSuccessorsTo n placed to found = (place : ℕ) (id : NodeId) → place < to → slice_get placed place ≡ Some id → (k : ℕ) → EdgeAt n id.0 k → Has found k
 
 -- of the nodes whose numbers are so, none has a name that stands before this one, which one of them has
 pub record IsLeastOf (n : Numbered) (P : ℕ → Type 0) (name : NodeName) : Type 0 where
@@ -32,6 +41,13 @@ IsMissing n from listed k = EdgeAt n from k × (¬ Has listed k)
 
 abbrev pub IsLeastMissing : Numbered → ℕ → List Bool → Option NodeName → Type 0
 IsLeastMissing n from listed least = IsLeastIfAny n (IsMissing n from listed) least
+
+-- of the first placed nodes all successors are listed
+abbrev pub AreClosedTo : Numbered → List NodeId → List Bool → ℕ → Type 0
+AreClosedTo n placed listed to = (place : ℕ) (id : NodeId) → place < to → slice_get placed place ≡ Some id → (k : ℕ) → ¬ IsMissing n id.0 listed k
+
+abbrev pub AreClosed : Numbered → List NodeId → List Bool → Type 0
+AreClosed n placed listed = AreClosedTo n placed listed (length placed)
 
 -- the lesser of two names, or the second where there is no first
 abbrev pub IsLesser : Option NodeName → NodeName → NodeName → Type 0

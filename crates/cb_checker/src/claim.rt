@@ -5,6 +5,7 @@ ghost use Rattle.cb_finding.specs.Finding.{IsCalled};
 ghost use Rattle.cb_checker.specs.Places.{AreThere};
 ghost use Rattle.cb_checker.specs.Claims.{HaveMembers, IsTooClose, JudgesBook};
 
+use crate::all_columns::AllColumns;
 use crate::places::places_of;
 use cb_claim::{Accepted, Rejected};
 use cb_coding::{Group, Pair, Problem};
@@ -16,7 +17,7 @@ use std::alloc::{AllocError, Global};
 /// Whether over the columns of these numbers the groups of the problems are so far apart; else the first two that are closer.
 pub fn judge_book(
     alloc: Global,
-    columns: &List<NodeId>,
+    columns: &AllColumns,
     ids: &[NodeId],
     numbers: &[u32],
     problems: &List<Problem>,

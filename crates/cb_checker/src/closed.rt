@@ -1,11 +1,11 @@
 //! Whether a span lists all successors.
-ghost use Rattle.std.specs.Prelude.{◌≡◌, ◌<◌, ◌+◌, ◌^◌, ℕ, length, IfOk};
+ghost use Rattle.std.specs.Prelude.{◌≡◌, ◌<◌, ◌+◌, ◌^◌, ℕ, length, IfOk, IsTrue};
 ghost use Rattle.cb_reach.specs.Rows.{Has};
 ghost use Rattle.cb_topo.specs.Numbered.{IsLiveNode};
 ghost use Rattle.cb_graph.specs.Edges.{number};
 ghost use Rattle.cb_checker.specs.Known.{AreLive};
 ghost use Rattle.cb_checker.specs.Listed.{AreMarked};
-ghost use Rattle.cb_checker.specs.Missing.{IsLeastMissing, IsLeastOutside, IsLesser};
+ghost use Rattle.cb_checker.specs.Missing.{AreClosed, HasSuccessorsTo, IsLeastMissing, IsLeastOutside, IsLesser};
 ghost use Rattle.cb_checker.specs.Spans.{JudgesClosed};
 
 use crate::marks::Marks;
@@ -14,13 +14,65 @@ use cb_claim::Rejected;
 use cb_graph::Graph;
 use cb_model::NodeName;
 use cb_nodes::NodeId;
+use cb_reach::Edges;
 use cb_steps::Steps;
 use cb_topo::Topology;
 use std::alloc::{AllocError, Global};
 use std::sync::ledger::Ledger;
 
-/// Checks that the successors of each listed node are listed.
+/// Checks that the successors of each listed node are listed: of all at once, and node by node only where some aren't.
 pub fn check_closed<L: Ledger>(
+    alloc: Global,
+    graph: &mut Graph,
+    before: u32,
+    marks: &mut Marks,
+    steps: &mut Steps<L>,
+) -> Result<(), Rejected>
+    requires live { AreLive graph.old marks.old.placed.items }
+    requires few { before + length marks.old.placed.items < 4294967296 }
+    requires marked { AreMarked graph.old marks.old }
+    ensures same { graph.new ≡ graph.old }
+    ensures judges { JudgesClosed graph.old marks.old.placed.items before result }
+    ensures placed { marks.new.placed ≡ marks.old.placed }
+    ensures listed { marks.new.listed ≡ marks.old.listed }
+    ensures spare { length marks.new.found ≡ length marks.old.found }
+{
+    if are_closed(graph, marks, steps) {
+        return Ok(());
+    }
+    check_each(alloc, graph, before, marks, steps)
+}
+
+// Whether the successors of all listed nodes are listed.
+fn are_closed<L: Ledger>(graph: &mut Graph, marks: &mut Marks, steps: &mut Steps<L>) -> bool
+    requires live { AreLive graph.old marks.old.placed.items }
+    requires marked { AreMarked graph.old marks.old }
+    ensures same { graph.new ≡ graph.old }
+    ensures closed { IsTrue result → AreClosed graph.old marks.old.placed.items marks.old.listed }
+    ensures placed { marks.new.placed ≡ marks.old.placed }
+    ensures listed { marks.new.listed ≡ marks.old.listed }
+    ensures spare { length marks.new.found ≡ length marks.old.found }
+{
+    marks.found.wipe();
+    add_all(graph, &marks.placed, &mut marks.found, steps);
+    marks.found.next_not_in(&marks.listed, 0).is_none()
+}
+
+// Adds the successors of all these nodes to the row.
+fn add_all<L: Ledger>(graph: &mut Graph, placed: &[NodeId], found: &mut Row, steps: &mut Steps<L>)
+    requires live { AreLive graph.old placed.now }
+    requires found { length found.old ≡ length graph.old.nodes }
+    ensures same { graph.new ≡ graph.old }
+    ensures length { length found.new ≡ length found.old }
+    ensures each { HasSuccessorsTo graph.old placed.now (length placed.now) found.new }
+{
+    for place in 0..placed.len() {
+        graph.add_successors(placed[place].0 as usize, found, steps);
+    }
+}
+
+// The same, node by node, with the first that has a successor which isn't listed.
+fn check_each<L: Ledger>(
     alloc: Global,
     graph: &mut Graph,
     before: u32,

@@ -1,32 +1,23 @@
 //! Codes, read off spans.
-ghost use Rattle.std.specs.Prelude.{◌≡◌, ◌<◌, length, IfOk, slice_set};
-ghost use Rattle.cb_checker.specs.Codes.{IsBelow, IsCodeOf};
+ghost use Rattle.std.specs.Prelude.{IfOk};
+ghost use Rattle.cb_checker.specs.Codes.{IsCodeOf};
+ghost use Rattle.cb_checker.specs.Listed.{AreListed};
 
+use crate::all_columns::AllColumns;
+use crate::marks::Marks;
 use cb_bits::Row;
-use cb_model::List;
-use cb_nodes::NodeId;
 use std::alloc::{AllocError, Global};
 
-/// For each column, whether the row has it.
-pub fn code_of(alloc: Global, columns: &List<NodeId>, listed: &Row) -> Result<Row, AllocError>
-    requires { IsBelow (length listed.now) columns.now }
-    ensures { IfOk result (IsCodeOf columns.now listed.now) }
+/// For each column, whether it is listed. Only what is listed is looked at.
+pub fn code_of(alloc: Global, columns: &AllColumns, marks: &Marks) -> Result<Row, AllocError>
+    requires { AreListed marks.now.listed marks.now.placed.items }
+    ensures { IfOk result (IsCodeOf columns.now marks.now.listed) }
 {
     let mut code = Row::zeroed(alloc, columns.len())?;
-    for place in 0..columns.len() {
-        make(&mut code, place, listed.get(columns.at(place).0 as usize));
+    for place in 0..marks.placed.len() {
+        if let Some(column) = columns.place(marks.placed[place]) {
+            code.set(column as usize);
+        }
     }
     Ok(code)
-}
-
-// Makes the value at a place this one.
-fn make(row: &mut Row, place: usize, value: bool)
-    requires { place < length row.old }
-    ensures { row.new ≡ slice_set row.old place value }
-{
-    if value {
-        row.set(place);
-    } else {
-        row.clear(place);
-    }
 }

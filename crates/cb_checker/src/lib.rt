@@ -7,6 +7,7 @@
 //! Read `src/checked.rt` first, then `src/book.rt`, `src/span.rt` and `src/entries.rt`. All but the contract of `check` may be changed freely.
 #![tactic(auto)]
 
+mod all_columns;
 mod book;
 mod checked;
 mod claim;

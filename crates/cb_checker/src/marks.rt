@@ -1,6 +1,6 @@
 //! The nodes that a span lists.
 ghost use Rattle.std.specs.Prelude.{◌≡◌, ◌<◌, [], ◌∷◌, ◌++◌, length, replicate, true, false, IfOk, OnOk, slice_set};
-ghost use Rattle.cb_checker.specs.Listed.{AreMarked};
+ghost use Rattle.cb_checker.specs.Listed.{AreListed, AreMarked};
 
 use cb_bits::Row;
 use cb_nodes::NodeId;
@@ -28,14 +28,17 @@ impl Marks {
         })
     }
 
-    /// Lists no node any more.
+    /// Lists no node any more. Only the places of those that were listed are wiped.
     pub fn forget(&mut self)
+        requires { AreListed self.old.listed self.old.placed.items }
         ensures placed { self.new.placed.items ≡ [] }
         ensures listed { self.new.listed ≡ replicate (length self.old.listed) false }
         ensures found { self.new.found ≡ self.old.found }
     {
+        for place in 0..self.placed.len() {
+            self.listed.clear(self.placed[place].0 as usize);
+        }
         self.placed.clear();
-        self.listed.wipe();
     }
 
     /// Lists a node.

@@ -11,6 +11,7 @@ ghost use Rattle.cb_checker.specs.Codes.{IsBelow};
 ghost use Rattle.cb_checker.specs.Spans.{JudgesSpan};
 ghost use Rattle.cb_checker.specs.Pairs.{IsRead, IsSideRead, JudgesSide, JudgesSides};
 
+use crate::all_columns::AllColumns;
 use crate::codes::code_of;
 use crate::marks::Marks;
 use crate::span::check_span;
@@ -18,7 +19,6 @@ use cb_bits::Row;
 use cb_cert::{Side, Span};
 use cb_claim::Rejected;
 use cb_graph::Graph;
-use cb_model::List;
 use cb_nodes::NodeId;
 use cb_steps::Steps;
 use std::alloc::Global;
@@ -36,7 +36,7 @@ pub fn read_sides<L: Ledger>(
     alloc: Global,
     graph: &mut Graph,
     ids: &[NodeId],
-    columns: &List<NodeId>,
+    columns: &AllColumns,
     first: &Side,
     second: &Span,
     steps: &mut Steps<L>,
@@ -76,7 +76,7 @@ fn read_side<L: Ledger>(
     alloc: Global,
     graph: &mut Graph,
     ids: &[NodeId],
-    columns: &List<NodeId>,
+    columns: &AllColumns,
     side: &Side,
     marks: &mut Marks,
     steps: &mut Steps<L>,
@@ -112,7 +112,7 @@ fn read_span<L: Ledger>(
     alloc: Global,
     graph: &mut Graph,
     ids: &[NodeId],
-    columns: &List<NodeId>,
+    columns: &AllColumns,
     span: &Span,
     before: u32,
     marks: &mut Marks,
@@ -128,7 +128,7 @@ fn read_span<L: Ledger>(
     ensures marked { OnOk result (AreMarked graph.old marks.new) }
 {
     check_span(alloc, graph, ids, None, span, before, marks, steps)?;
-    let Ok(code) = code_of(alloc, columns, &marks.listed) else {
+    let Ok(code) = code_of(alloc, columns, marks) else {
         return Err(Rejected::NoMemory);
     };
     Ok(code)

@@ -2,6 +2,7 @@
 ghost use Rattle.std.specs.Prelude.{IfOk};
 ghost use Rattle.cb_checker.specs.Verdicts.{AreSidesOf};
 
+use crate::all_columns::AllColumns;
 use cb_model::List;
 use cb_nodes::NodeId;
 use cb_topo::Topology;
@@ -11,7 +12,7 @@ use std::alloc::{AllocError, Global};
 #[derive(Drop)]
 pub struct Sides {
     pub problems: List<NodeId>,
-    pub columns: List<NodeId>,
+    pub columns: AllColumns,
 }
 
 /// Those of this topology.
@@ -19,8 +20,9 @@ pub fn sides_of(alloc: Global, topology: &Topology) -> Result<Sides, AllocError>
     ensures { IfOk result (AreSidesOf topology.now) }
 {
     // The topology is sound, so that they are few.
-    let _room = topology.node_room();
+    let room = topology.node_room();
     let problems = topology.problems(alloc)?;
-    let columns = topology.columns(alloc)?;
+    let nodes = topology.columns(alloc)?;
+    let columns = AllColumns::of(alloc, nodes, room)?;
     Ok(Sides { problems, columns })
 }

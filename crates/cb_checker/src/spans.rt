@@ -5,12 +5,13 @@ ghost use Rattle.cb_claim.specs.Verdicts.{entries_of};
 ghost use Rattle.cb_topo.specs.Numbered.{IsLiveNode};
 ghost use Rattle.cb_checker.specs.Known.{AreLive, ended};
 ghost use Rattle.cb_checker.specs.Codes.{IsBelow};
+ghost use Rattle.cb_checker.specs.Listed.{AreListed};
 ghost use Rattle.cb_checker.specs.Books.{IsCodedBy, AreReadTo, JudgesSpans, JudgesCount};
 
+use crate::all_columns::AllColumns;
 use crate::codes::code_of;
 use crate::marks::Marks;
 use crate::span::check_span;
-use cb_bits::Row;
 use cb_cert::Span;
 use cb_claim::Rejected;
 use cb_coding::Problem;
@@ -28,7 +29,7 @@ pub fn check_spans<L: Ledger>(
     graph: &mut Graph,
     ids: &[NodeId],
     problems: &List<NodeId>,
-    columns: &List<NodeId>,
+    columns: &AllColumns,
     spans: &List<Span>,
     steps: &mut Steps<L>,
 ) -> Result<List<Problem>, Rejected>
@@ -58,14 +59,7 @@ pub fn check_spans<L: Ledger>(
             &mut marks,
             steps,
         )?;
-        let Ok(()) = add_problem(
-            alloc,
-            graph.topology(),
-            columns,
-            root,
-            &marks.listed,
-            &mut coded,
-        ) else {
+        let Ok(()) = add_problem(alloc, graph.topology(), columns, root, &marks, &mut coded) else {
             return Err(Rejected::NoMemory);
         };
         before += span.entries.len() as u32;
@@ -77,17 +71,17 @@ pub fn check_spans<L: Ledger>(
 fn add_problem(
     alloc: Global,
     topology: &Topology,
-    columns: &List<NodeId>,
+    columns: &AllColumns,
     node: NodeId,
-    listed: &Row,
+    marks: &Marks,
     coded: &mut List<Problem>,
 ) -> Result<(), AllocError>
     requires node { IsLiveNode topology.now node }
-    requires columns { IsBelow (length listed.now) columns.now }
-    ensures { OnOk result ((p : Coded) × IsCodedBy topology.now columns.now node listed.now p × (coded.new ≡ coded.old ++ p ∷ [])) }
+    requires listed { AreListed marks.now.listed marks.now.placed.items }
+    ensures { OnOk result ((p : Coded) × IsCodedBy topology.now columns.now node marks.now.listed p × (coded.new ≡ coded.old ++ p ∷ [])) }
 {
     let name = topology.copy_name(alloc, node)?;
-    let code = code_of(alloc, columns, listed)?;
+    let code = code_of(alloc, columns, marks)?;
     coded.push(Problem { name, code })
 }
 

@@ -1,14 +1,26 @@
-use Rattle.std.proofs.Common.{◌≡◌, length, subst, arith}
-use Rattle.cb_checker.specs.Codes.{IsCodeTo}
-use Rattle.cb_checker.proofs.Spanning.{coded_more}
+use Rattle.std.proofs.Common.{◌<◌, ◌≤◌, length, refl, arith}
+use Rattle.std.proofs.lemmas.Option.{slice_get_read}
+use Rattle.cb_checker.proofs.Coding.{column_coded, no_column_coded, all_coded}
 use Rattle.cb_checker.proofs.codes.code_of.Goals as goal
+use Rattle.cb_checker.proofs.codes.code_of.Goals.{in-Some, in_default}
 
 pub loop-place-preserved : goal.loop-place-preserved
 loop-place-preserved c =
-    rw (c.make.ensures, c.get.ensures)
-    (coded_more c.args.columns.now c.args.listed.now c.loop-place.code c.loop-place.place c.at.result.now c.loop-place.invariant c.at.ensures)
+    let columns = c.args.columns.now in
+    let placed = c.args.marks.now.placed.items in
+    let place = c.loop-place.place in
+    let id = c.index.result.now in
+    let code = c.loop-place.code in
+    let low : place < length placed = omega (arith, c.loop-place-test.true) in
+    let at = slice_get_read placed (length placed) place id refl low c.index.ensures in
+    elim c.match-place.branch [
+      | in-Some w ↦
+          rw (w.code-is, w.set.ensures) (column_coded columns placed place code id c.loop-place.invariant at w.in-Some.column w.in-Some.ensures.found w.in-Some.ensures.alone)
+      | in_default w ↦ rw w.code-is (no_column_coded columns placed place code id c.loop-place.invariant at w.in_default.ensures.none)
+    ]
 
 pub returns : goal.returns
 returns c =
-    let end : c.loop-place.place ≡ length c.args.columns.now = omega arith in
-    subst (λ k. IsCodeTo c.args.columns.now c.args.listed.now k c.loop-place.code) end c.loop-place.invariant
+    let placed = c.args.marks.now.placed.items in
+    let end : length placed ≤ c.loop-place.place = omega (arith, c.loop-place-test.false) in
+    all_coded c.args.columns.now placed c.loop-place.place c.args.marks.now.listed c.loop-place.code end c.requires c.loop-place.invariant

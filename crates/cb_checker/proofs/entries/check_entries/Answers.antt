@@ -1,9 +1,10 @@
-use Rattle.std.proofs.Common.{◌≡◌, ◌-◌, ◌+◌, ◌++◌, [], ◌∷◌, true, length, sym, ap, subst, ◌∙◌, arith}
+use Rattle.std.proofs.Common.{◌≡◌, ◌-◌, ◌+◌, ◌++◌, [], ◌∷◌, true, IfSome, length, sym, ap, subst, ◌∙◌, arith}
 use Rattle.std.specs.Prelude.{Ok, Err, slice_set}
 use Rattle.std.specs.List.{flat_map, range_with_len}
 use Rattle.cb_claim.specs.Checks.{Judges, entry_checks}
 use Rattle.cb_topo.specs.Numbered.{Numbered, topology_of}
 use Rattle.cb_checker.specs.Listed.{ArePlaced}
+use Rattle.cb_checker.specs.Missing.{AreSuccessors}
 use Rattle.cb_checker.specs.Spans.{asked, JudgesPart}
 use Rattle.cb_checker.proofs.Joined.{exit, range_fails, range_passes}
 use Rattle.cb_checker.proofs.Naming.{live_below}
@@ -43,6 +44,8 @@ loop-place-preserved g c =
       marked = marked_more n marks c.add.new.self node c.loop-place.invariant.marked (live_below n node live) placed
           (c.in-Ok.ensures.listed ∙ ap (λ row. slice_set row node.0 true) c.in_ok-node.ensures.listed)
           (ap length c.in-Ok.ensures.found ∙ (c.in_ok-node.ensures.spare ∙ c.loop-place.invariant.marked.spare));
+      asked = subst (λ row. IfSome c.check_entry.new.asked (AreSuccessors n row)) (sym c.in-Ok.ensures.found)
+          (subst (λ (m : Numbered). IfSome c.check_entry.new.asked (AreSuccessors m c.check_entry.new.marks.found)) same c.in_ok-node.ensures.asked);
       passed = entries_more n ids c.args.before span place c.loop-place.invariant.passed
           (subst (λ (m : Numbered). JudgesPart m ids c.args.before span (λ a. entry_checks a place) (Ok tt)) same c.in_ok-node.ensures.judges);
     }

@@ -12,11 +12,11 @@ unwrap-requires c =
     let there = c.requires.there in
     let is = found_some (IsIdAt c.args.ids.now c.args.number) c.id_at.result c.unwrap-id.result c.unwrap-id.ensures c.id_at.ensures.found in
     let same = one_id c.args.ids.now c.args.number there.0 c.unwrap-id.result there.1 is in
-    some_from c.position.result c.position.ensures.none (subst (λ (x : NodeId). IsAmong c.args.all.now x.0) same there.2)
+    some_from c.place.result c.place.ensures.none (subst (λ (x : NodeId). IsAmong c.args.all.now x.0) same there.2)
 
 pub returns : goal.returns
 returns c = (
   c.unwrap-id.result,
   found_some (IsIdAt c.args.ids.now c.args.number) c.id_at.result c.unwrap-id.result c.unwrap-id.ensures c.id_at.ensures.found,
-  found_some (λ place. slice_get c.args.all.now place ≡ Some c.unwrap-id.result) c.position.result c.unwrap.result c.unwrap.ensures c.position.ensures.found,
+  found_some (λ place. slice_get c.args.all.now place ≡ Some c.unwrap-id.result) c.place.result c.unwrap.result c.unwrap.ensures c.place.ensures.found,
 )

@@ -5,10 +5,10 @@ use Rattle.cb_checker.specs.Places.{IsPlaceOf}
 use Rattle.cb_checker.proofs.Naming.{zipped_more, zip_each}
 use Rattle.cb_checker.proofs.places.places_of.Goals as goal
 
-pub place_of-requires-clause-there : goal.place_of-requires-clause-there
-place_of-requires-clause-there c =
+pub place_of-requires : goal.place_of-requires
+place_of-requires c =
     let numbers = c.args.numbers.now in
-    c.requires.there c.loop-place.place (slice_index_or numbers c.loop-place.place 0) (slice_get-get_or numbers c.loop-place.place 0 c.loop-place-test.true)
+    record { there = c.requires.there c.loop-place.place (slice_index_or numbers c.loop-place.place 0) (slice_get-get_or numbers c.loop-place.place 0 c.loop-place-test.true) }
 
 pub loop-place-preserved : goal.loop-place-preserved
 loop-place-preserved c =

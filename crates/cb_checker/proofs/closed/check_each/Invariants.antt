@@ -1,6 +1,6 @@
 use Rattle.std.proofs.Common.{◌≡◌, length}
-use Rattle.cb_checker.proofs.Closing.{AreClosedTo}
-use Rattle.cb_checker.proofs.closed.check_closed.Given as goal
+use Rattle.cb_checker.specs.Missing.{AreClosedTo}
+use Rattle.cb_checker.proofs.closed.check_each.Given as goal
 
 abbrev pub invariant-loop-place : goal.invariant-loop-place
 invariant-loop-place g l = record {

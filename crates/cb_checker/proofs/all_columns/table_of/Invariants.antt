@@ -1,0 +1,5 @@
+use Rattle.cb_checker.proofs.Tabled.{IsTableTo}
+use Rattle.cb_checker.proofs.all_columns.table_of.Given as goal
+
+abbrev pub invariant-loop-place : goal.invariant-loop-place
+invariant-loop-place l = IsTableTo l.room l.columns l.place l.places.items

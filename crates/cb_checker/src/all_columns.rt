@@ -1,0 +1,82 @@
+//! All columns of a topology, and the place of each.
+ghost use Rattle.std.specs.Prelude.{◌≡◌, ◌<◌, ◌^◌, ℕ, length, IfOk, IfSome, IfNone, Some, slice_get};
+ghost use Rattle.cb_checker.specs.Codes.{IsBelow};
+ghost use Rattle.cb_checker.specs.Listed.{IsAmong};
+ghost use Rattle.cb_checker.specs.Places.{IsOnce, IsTable};
+
+use cb_model::List;
+use cb_nodes::NodeId;
+use std::alloc::{AllocError, Global};
+use std::marker::Model;
+
+/// The numbers of all columns in order. Contracts see the list of them, and nothing of how a place is found.
+#[derive(Drop)]
+pub struct AllColumns {
+    nodes: List<NodeId>,
+    // For the number of each node, its place among the columns.
+    places: Vec<Option<u32>>,
+}
+
+impl Model for AllColumns {
+    ghost use Rattle.std.specs.Prelude.{List as Items};
+    ghost use Rattle.cb_nodes.specs.declared.id.NodeId.{NodeId as Id};
+    ghost use Rattle.cb_checker.specs.Places.{IsTable};
+
+    ghost Value = { Items Id };
+
+    ghost view = { λ c. c.nodes };
+
+    ghost invariant = { λ c. IsTable c.nodes c.places.items };
+}
+
+impl AllColumns {
+    /// The columns of these numbers. All numbers of nodes are below the room.
+    pub fn of(alloc: Global, nodes: List<NodeId>, room: usize) -> Result<AllColumns, AllocError>
+        requires once { IsOnce nodes }
+        requires below { IsBelow room nodes }
+        requires few { length nodes < 2 ^ 32 }
+        ensures { IfOk result (λ columns. columns ≡ nodes) }
+    {
+        let places = table_of(alloc, &nodes, room)?;
+        Ok(AllColumns { nodes, places })
+    }
+
+    /// How many columns there are.
+    pub fn len(&self) -> usize
+        ensures { result ≡ length self.now }
+    {
+        self.nodes.len()
+    }
+
+    /// The one place of a node among the columns, if it is one.
+    pub fn place(&self, id: NodeId) -> Option<u32>
+        ensures found { IfSome result (λ place. slice_get self.now place ≡ Some id) }
+        ensures alone { IfSome result (λ place. (other : ℕ) → slice_get self.now other ≡ Some id → other ≡ place) }
+        ensures none { IfNone result (¬ IsAmong self.now id.0) }
+    {
+        let node = id.0 as usize;
+        if node < self.places.len() {
+            self.places[node]
+        } else {
+            None
+        }
+    }
+}
+
+// For the number of each node, its place among the columns.
+fn table_of(
+    alloc: Global,
+    columns: &List<NodeId>,
+    room: usize,
+) -> Result<Vec<Option<u32>>, AllocError>
+    requires once { IsOnce columns.now }
+    requires below { IsBelow room columns.now }
+    requires few { length columns.now < 2 ^ 32 }
+    ensures { IfOk result (λ places. IsTable columns.now places.items) }
+{
+    let mut places = vec![in alloc; None; room]?;
+    for place in 0..columns.len() {
+        places[columns.at(place).0 as usize] = Some(place as u32);
+    }
+    Ok(places)
+}
