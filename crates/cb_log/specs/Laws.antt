@@ -1,5 +1,6 @@
 -- What holds of logs, whatever the program does.
 use Rattle.std.specs.Prelude.{◌≡◌, ◌↔◌, ◌⊎◌, ◌<◌, ◌≤◌, ℕ, IsTrue, Result, max, ◌++◌, List, [], ◌∷◌, length}
+use Rattle.std.specs.List.{Contains}
 use Rattle.cb_model.specs.declared.node.NodeName.{NodeName}
 use Rattle.cb_coding.specs.Answers.{from_word}
 use Rattle.cb_coding.specs.Groups.{codes_of}
@@ -22,7 +23,7 @@ use Rattle.cb_log.specs.Network.{then_edits, IsNow, IsAcceptedAt}
 use Rattle.cb_log.specs.Passing.{Passes, Raises, Clears, AreDue, AreOpen}
 use Rattle.cb_log.specs.Records.{IsByNone}
 use Rattle.cb_log.specs.Sources.{quieted, diagnoses_of, SourceAlone}
-use Rattle.cb_log.specs.Whole.{OneForEach, KeepsApart}
+use Rattle.cb_log.specs.Whole.{OneForEach, is_thin, TellsThin, KeepsApart}
 use Rattle.cb_log.specs.Windows.{Window, AreWindows}
 
 -- a source has one list of windows
@@ -84,6 +85,13 @@ abbrev pub EachWindowIsDiagnosed : Type 0
 EachWindowIsDiagnosed = (t : Topology) (mode : Mode) (w : ℕ) (entries : List Entry) (events ends : List Event)
     → EntriesGive t mode w [] entries events → EndGives t mode w (records_of entries) ends
     → OneForEach t mode w (records_of entries) (events ++ ends)
+
+-- each event of a log that says that two groups are too close names two that are, with their distance, by the topology of that moment; none
+-- comes where all groups are as far apart as wanted, nor where 1 is wanted
+abbrev pub ThinsAreClose : Type 0
+ThinsAreClose = (t : Topology) (mode : Mode) (w : ℕ) (entries : List Entry) (events ends : List Event)
+    → EntriesGive t mode w [] entries events → EndGives t mode w (records_of entries) ends
+    → (event : Event) → Contains (events ++ ends) event → IsTrue (is_thin event) → TellsThin t mode w (records_of entries) event
 
 -- over the codebook for a wanted distance the groups are as far apart as it says
 abbrev pub WantedKeepsApart : Type 0

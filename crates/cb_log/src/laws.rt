@@ -2,7 +2,7 @@
 ghost use Rattle.cb_log.specs.Laws.{WindowsAreOne, WindowsExist, ClosingIsOne, ClosingStays};
 ghost use Rattle.cb_log.specs.Laws.{FreshStands, PassingStands, RaisingStands, ClearingStands, DueAreClosing, OpenAreClosing};
 ghost use Rattle.cb_log.specs.Laws.{EventsAreOne, EventsGoOn, TopologyGoesOn, BookInUseSteps};
-ghost use Rattle.cb_log.specs.Laws.{EachWindowIsDiagnosed, WantedKeepsApart, CauseIsNamedAlone};
+ghost use Rattle.cb_log.specs.Laws.{EachWindowIsDiagnosed, ThinsAreClose, WantedKeepsApart, CauseIsNamedAlone};
 ghost use Rattle.cb_log.specs.Laws.{SourcesAreIndependent, SourceStandsAlone};
 
 /// Over given records a source has one list of windows.
@@ -63,6 +63,12 @@ pub fn events_are_one()
 /// A log has one diagnosis for each window, in the order in which the windows close.
 pub fn each_window_is_diagnosed()
     ensures { EachWindowIsDiagnosed }
+{}
+
+/// Each thin event of a log names two groups that are closer than wanted, with their distance; at a wanted distance of 1
+/// none comes.
+pub fn thins_are_close()
+    ensures { ThinsAreClose }
 {}
 
 /// The codebook for a wanted distance keeps the groups as far apart as it says.

@@ -10,8 +10,9 @@
 //! enough to keep of the records so far, and the laws `fresh_stands` to `open_are_closing` are its steps.
 //!
 //! The main laws: a log has at most one list of events, with one diagnosis for each window; within the radius the true
-//! group alone is named; and a source's diagnoses don't depend on what other sources say. Not promised: that each log has
-//! a list of events, and that a thin event tells the truth (its definition says it, no law does).
+//! group alone is named; each thin event names two groups that are closer than wanted, with their distance, and none comes
+//! at a wanted distance of 1; and a source's diagnoses don't depend on what other sources say. Not promised: that each log
+//! has a list of events.
 //!
 //! Read `Records`, `Windows`, `Closing`, `Kept`, `Events` first. `Basis` says which codebook is in use and `Events` when one
 //! is made, so another way to choose the codebook changes these two, and the laws on events.
