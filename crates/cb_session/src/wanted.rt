@@ -45,15 +45,7 @@ pub(crate) fn go_on_wanted<L: Ledger>(
     let told = tell(alloc, cache, ready, distance, &closing);
     drop(closing);
     let mut told = told?;
-    let changed = act(
-        alloc,
-        cache,
-        windows,
-        number,
-        next,
-        &mut told.events,
-        steps,
-    )?;
+    let changed = act(alloc, cache, windows, number, next, &mut told.events, steps)?;
     keep(ready, told.made, changed);
     Ok(told.events)
 }

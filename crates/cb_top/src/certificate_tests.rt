@@ -12,6 +12,9 @@ const BOOK: &str =
 const THIN: &str =
     "codebook certificate 1\nkind thin\nwanted 2\ndistance 1\nnodes 2\nnode Fail@a\nnode NoSignal@a\nquiet\nspan 2\nentry 1 0\nentry 2 1\nend\n";
 
+const EMPTY_BOOK: &str =
+    "codebook certificate 1\nkind book\ndistance 3\nnodes 0\ncolumns 0\nspans 0\nend\n";
+
 const ACCEPTED: &str = "accepted book distance 1 radius 0 groups 4 columns 2\n";
 
 #[test]
@@ -26,13 +29,7 @@ fn a_codebook_is_certified(rt: HostRuntime) -> Result<(), Fail> {
             THIN,
             "error 6 distance wanted 2 first quiet second Fail@a distance 1\n",
         ),
-        (
-            "",
-            "3",
-            0,
-            "codebook certificate 1\nkind book\ndistance 3\nnodes 0\ncolumns 0\nspans 0\nend\n",
-            "",
-        ),
+        ("", "3", 0, EMPTY_BOOK, ""),
     ];
     for (topology, distance, code, out, err) in cases {
         let case = Case {
@@ -60,10 +57,11 @@ fn changed(
     Ok(text)
 }
 
-// Checks the certificate with its parts changed.
+// Checks the certificate with its parts changed, for a topology.
 fn is_checked(
     rt: &impl Abort,
     alloc: Global,
+    topology: &str,
     certificate: &str,
     parts: &[(&str, &str)],
     wanted: &Wanted<'_>,
@@ -71,7 +69,7 @@ fn is_checked(
     let text = changed(alloc, certificate, parts)?;
     let case = Case {
         words: &["verify", "m", "t", "c"],
-        files: &[("m", LINK), ("t", LINKED), ("c", text.as_str())],
+        files: &[("m", LINK), ("t", topology), ("c", text.as_str())],
         piece: 64,
         failing_read: 0,
         failing_write: 0,
@@ -82,19 +80,21 @@ fn is_checked(
 #[test]
 fn a_valid_certificate_is_accepted(rt: HostRuntime) -> Result<(), Fail> {
     let thin = "accepted thin wanted 2 first quiet second Fail@a distance 1\n";
-    // The certificate, what is changed of it, and what it shows.
-    let cases: [(&str, &[(&str, &str)], &str); 3] = [
-        (BOOK, &[], ACCEPTED),
-        (BOOK, &[("end\n", "end")], ACCEPTED),
-        (THIN, &[], thin),
+    let empty = "accepted book distance 3 radius 1 groups 1 columns 0\n";
+    // The topology, the certificate, what is changed of it, and what it shows.
+    let cases: [(&str, &str, &[(&str, &str)], &str); 4] = [
+        (LINKED, BOOK, &[], ACCEPTED),
+        (LINKED, BOOK, &[("end\n", "end")], ACCEPTED),
+        (LINKED, THIN, &[], thin),
+        ("", EMPTY_BOOK, &[], empty),
     ];
-    for (certificate, parts, out) in cases {
+    for (topology, certificate, parts, out) in cases {
         let wanted = Wanted {
             code: 0,
             out,
             err: "",
         };
-        is_checked(&rt, rt.alloc(), certificate, parts, &wanted)?;
+        is_checked(&rt, rt.alloc(), topology, certificate, parts, &wanted)?;
     }
     Ok(())
 }
@@ -150,7 +150,7 @@ fn a_changed_certificate_is_refused(rt: HostRuntime) -> Result<(), Fail> {
             out: "",
             err: err.as_str(),
         };
-        is_checked(&rt, rt.alloc(), certificate, parts, &wanted)?;
+        is_checked(&rt, rt.alloc(), LINKED, certificate, parts, &wanted)?;
     }
     Ok(())
 }
@@ -161,25 +161,43 @@ const LOG: &str =
 
 #[test]
 fn a_log_is_followed_by_a_certificate(rt: HostRuntime) -> Result<(), Fail> {
-    // The certificate, the write that fails, the status, the output, and the line of the fault.
-    let cases: [(&str, u64, u8, &str, &str); 4] = [
+    // The certificate, the read and the write that fail, the status, the output, and the line of the fault.
+    let cases: [(&str, u64, u64, u8, &str, &str); 6] = [
         (
             BOOK,
+            0,
             0,
             0,
             "accepted book distance 1 radius 0 groups 4 columns 2\nrefused 1 fixed\ndiagnosis c1 2 2 raised 2 unknown 0 distance 0 radius 0 sure groups 1\n  group Cut@L1\n",
             "",
         ),
-        (THIN, 0, 5, "", "error 5 certificate not-book\n"),
-        ("codebook certificate 1\n", 0, 5, "", "error 5 certificate truncated\n"),
-        (BOOK, 1, 9, "", "error 9 write\n"),
+        (THIN, 0, 0, 5, "", "error 5 certificate not-book\n"),
+        (
+            "codebook certificate 1\n",
+            0,
+            0,
+            5,
+            "",
+            "error 5 certificate truncated\n",
+        ),
+        (BOOK, 0, 1, 9, "", "error 9 write\n"),
+        // The first read of the log, and the one at its end.
+        (BOOK, 7, 0, 8, ACCEPTED, "error 8 read l\n"),
+        (
+            BOOK,
+            8,
+            0,
+            8,
+            "accepted book distance 1 radius 0 groups 4 columns 2\nrefused 1 fixed\n",
+            "error 8 read l\n",
+        ),
     ];
-    for (certificate, failing_write, code, out, err) in cases {
+    for (certificate, failing_read, failing_write, code, out, err) in cases {
         let case = Case {
             words: &["decode", "m", "t", "c", "l", "10"],
             files: &[("m", LINK), ("t", LINKED), ("c", certificate), ("l", LOG)],
-            piece: 64,
-            failing_read: 0,
+            piece: 65_536,
+            failing_read,
             failing_write,
         };
         check(&rt, rt.alloc(), &case, &Wanted { code, out, err })?;

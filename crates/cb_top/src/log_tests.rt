@@ -28,7 +28,7 @@ struct Followed {
     out: &'static str,
 }
 
-const LOGS: [Followed; 10] = [
+const LOGS: [Followed; 12] = [
     // An edit that is refused, and the instance made before it counts as a column.
     Followed {
         model: LINK,
@@ -64,6 +64,24 @@ const LOGS: [Followed; 10] = [
         window: "10",
         log: "{\"at\":1,\"from\":\"c1\",\"raise\":\"NoSignal@a\"}\n{\"at\":1,\"from\":\"c2\",\"raise\":\"NoSignal@b\"}\n{\"at\":2,\"from\":\"c2\",\"raise\":\"NoSignal@a\"}\n{\"at\":12,\"tick\":true}\n",
         out: "book columns 2 of 3 distance 1 radius 0 groups 4\ndiagnosis c1 1 12 raised 1 unknown 0 distance 0 radius 0 sure groups 1\n  group Fail@a\ndiagnosis c2 1 12 raised 2 unknown 0 distance 0 radius 0 sure groups 1\n  group Cut@L1\n",
+    },
+    // What the second source says made ticks: the first one's diagnosis stays.
+    Followed {
+        model: LINK,
+        topology: LINKED,
+        distance: "1",
+        window: "10",
+        log: "{\"at\":1,\"from\":\"c1\",\"raise\":\"NoSignal@a\"}\n{\"at\":1,\"tick\":true}\n{\"at\":2,\"tick\":true}\n{\"at\":12,\"tick\":true}\n",
+        out: "book columns 2 of 3 distance 1 radius 0 groups 4\ndiagnosis c1 1 12 raised 1 unknown 0 distance 0 radius 0 sure groups 1\n  group Fail@a\n",
+    },
+    // A record as other programs write it, with more members, and its line ended by CR and LF.
+    Followed {
+        model: LINK,
+        topology: LINKED,
+        distance: "1",
+        window: "10",
+        log: "{\"severity\":\"major\",\"at\":1700000000,\"from\":\"nms-1\",\"raise\":\"NoSignal@a\",\"text\":\"port down\"}\r\n",
+        out: "book columns 2 of 3 distance 1 radius 0 groups 4\ndiagnosis nms-1 1700000000 1700000000 raised 1 unknown 0 distance 0 radius 0 sure groups 1\n  group Fail@a\n",
     },
     // Times that fall, and the greatest.
     Followed {
