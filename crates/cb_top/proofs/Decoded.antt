@@ -1,10 +1,11 @@
 -- A codebook that a valid certificate states keeps the groups of its topology apart.
-use Rattle.std.proofs.Common.{◌≡◌, ◌<◌, ℕ, List, sym, subst}
+use Rattle.std.proofs.Common.{◌≡◌, ◌∙◌, ◌^◌, ◌+◌, ◌<◌, ℕ, List, [], length, Result, Ok, Err, IfOk, sym, subst, arith}
 use Rattle.cb_model.specs.declared.node.NodeName.{NodeName}
 use Rattle.cb_coding.specs.declared.book.Book.{Book}
 use Rattle.cb_coding.specs.declared.group.Group.{Group}
 use Rattle.cb_coding.specs.Groups.{codes_of}
 use Rattle.cb_coding.specs.Pairs.{Good}
+use Rattle.cb_network.specs.Regular.{IsRegular}
 use Rattle.cb_network.specs.Topology.{Topology}
 use Rattle.cb_network.proofs.One.{columns_are_one}
 use Rattle.cb_finding.proofs.One.{matrix_is_one}
@@ -12,15 +13,21 @@ use Rattle.cb_cert.specs.declared.certificate.Certificate.{Certificate}
 use Rattle.cb_cert.specs.declared.certificate.Certificate.TheVariants.{Book as BookClaim, Thin as ThinClaim}
 use Rattle.cb_cert.specs.Format.{IsCertificate}
 use Rattle.cb_claim.specs.Reading.{ArePlaces}
-use Rattle.cb_claim.specs.Valid.{IsValid}
+use Rattle.cb_claim.specs.Valid.{AreColumnNumbers, IsValid}
 use Rattle.cb_claim.proofs.Firsts.{places_found_once}
 use Rattle.cb_claim.proofs.Formats.{format_is_checkable}
 use Rattle.cb_claim.proofs.Matrices.{spans_make_matrix}
+use Rattle.cb_claim.proofs.Passing.{zip_lengths}
+use Rattle.cb_topo.specs.Numbered.{topology_of}
+use Rattle.cb_codebook.specs.Columns.{ArePlacesFor}
+use Rattle.cb_session.specs.State.{State, StandsForEntries}
 use Rattle.cb_log.specs.Basis.{fixed, Basis}
 use Rattle.cb_log.specs.Whole.{KeepsApart}
 use Rattle.cb_request.specs.Files.{Role}
 use Rattle.cb_outcome.specs.Judged.{Known, nothing, parsed, network, raised, certified, Means}
 use Rattle.cb_outcome.specs.LogJobs.{States}
+use Rattle.cb_top.specs.declared.book_file.GivenBook.{GivenBook}
+use Rattle.cb_top.specs.Given.{certificate_of, IsGivenBy, StandsFixed}
 
 pub given_keeps_apart : (t : Topology) (c : Certificate) (book : Book) → IsValid t c → IsCertificate c → States t c book
     → (basis : Basis t (fixed book)) → KeepsApart basis
@@ -54,3 +61,41 @@ known_is_valid (network u) text next t c (d, is, kind, next_is) e =
     let same : u ≡ t = cc in
     let one : d ≡ c = cc in
     (subst (λ (x : Topology). IsValid x c) same (subst (IsValid u) one is.valid), subst IsCertificate one is.spelled.is)
+
+-- a session by the book that the given certificate states
+pub all_stand : {E : Type 0} (given : GivenBook) (window : ℕ) (network : Topology) (book : Book) (result : Result State E) → IfOk result (λ s. s.mode ≡ fixed book)
+    → IfOk result (λ s. s.windows.length ≡ window) → IfOk result (λ s. StandsForEntries s network []) → IsRegular network.model
+    → network ≡ topology_of given.graph → ArePlacesFor network given.nodes given.columns book.columns → book.distance ≡ given.distance
+    → IfOk result (λ s. (t : Topology) (c : Certificate) → IsGivenBy t c given → StandsFixed t c window s)
+all_stand given window network book (Err e) mode length stands regular graph places distance = tt
+all_stand given window network book (Ok s) mode length stands regular graph places distance = λ t c is.
+    let same : network ≡ t = graph ∙ is.graph in
+    let apart = is.valid.apart in
+    let all = subst (λ (u : Topology). ArePlacesFor u given.nodes given.columns book.columns) same places in
+    let states : States t (certificate_of given is.spans) book = record {
+      columns = apart.columns;
+      columns_are = apart.made.columns_are;
+      places = all apart.columns apart.made.columns_are;
+      distance_is = distance;
+    } in
+    record {
+      regular = subst (λ (u : Topology). IsRegular u.model) same regular;
+      book = book;
+      states = subst (λ (x : Certificate). States t x book) (sym is.is) states;
+      mode = mode;
+      length = length;
+      stands = subst (λ (u : Topology). StandsForEntries s u []) same stands;
+    }
+
+-- the columns of a given certificate are columns of its topology, and not too many
+pub given_columns : (t : Topology) (c : Certificate) (given : GivenBook) → IsGivenBy t c given → AreColumnNumbers t given.nodes given.columns
+given_columns t c given is = is.valid.columns_are
+
+pub given_is_narrow : (t : Topology) (c : Certificate) (given : GivenBook) (network : Topology) (places : List ℕ) → IsGivenBy t c given → network ≡ t
+    → ArePlacesFor network given.nodes given.columns places → length places < 2 ^ 32
+given_is_narrow t c given network places is same all =
+    let apart = is.valid.apart in
+    let places_are = subst (λ (u : Topology). ArePlacesFor u given.nodes given.columns places) same all apart.columns apart.made.columns_are in
+    let as_many = zip_lengths _ given.columns places places_are in
+    let few = (format_is_checkable (certificate_of given is.spans) is.of_format).1 in
+    omega (arith, as_many, few)
