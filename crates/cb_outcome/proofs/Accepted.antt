@@ -28,14 +28,17 @@ pub record IsAcceptable (t : Topology) (text : List ℕ) : Type 0 where
   pub valid : IsValidText t text certificate
   pub short : IsShortFor Role.certificate text
 
+pub text_is_valid : (t : Topology) (c : Certificate) → IsCertificate c → IsValid t c → IsValidText t (text_of c) c
+text_is_valid t c of_format valid = record { spelled = text_spells c of_format; valid = valid }
+
+pub text_fits : (c : Certificate) → IsCertificate c → IsShortFor Role.certificate (text_of c)
+text_fits c of_format =
+    record { bytes = text_is_short c of_format; lines = λ limited. spelled_is_short (text_of c) c (text_spells c of_format) }
+
 acceptable : (t : Topology) (c : Certificate) (text : List ℕ) → IsCertificate c → IsValid t c → text ≡ text_of c → IsAcceptable t text
 acceptable t c text of_format valid same =
-    let spelled = text_spells c of_format in
-    subst (IsAcceptable t) (sym same) (record {
-      certificate = c;
-      valid = record { spelled = spelled; valid = valid };
-      short = record { bytes = text_is_short c of_format; lines = λ limited. spelled_is_short (text_of c) c spelled };
-    })
+    subst (IsAcceptable t) (sym same)
+    (record { certificate = c; valid = text_is_valid t c of_format valid; short = text_fits c of_format })
 
 -- what is written of a codebook, if anything is
 pub codebook_spells : (t : Topology) (distance whole : ℕ) (outcome : Outcome) → CodebookGives t distance whole outcome

@@ -344,7 +344,7 @@ module _ (s : Seen) where
   quiet asked status (usage e same end) = keeps_quiet asked status s end.written
   quiet asked status (unbuilt request e built same end) = keeps_quiet asked status s end.written
   quiet asked status (made request e built bytes fault makes end) =
-      by_these QuietOf asked (Some request) status (ending fault) e end.status_is (fit request built s bytes fault makes end.written).quiet
+      by_these QuietOf asked (Some request) status (ending fault) e end.status_is (fit request built s bytes fault makes end.written end.says).quiet
   quiet asked status (unwritten request e built bytes fault makes end) =
       by_these QuietOf asked (Some request) status statuses.WriteFault e end.status_is tt
   quiet asked status (wanting request e built fault want end) = keeps_quiet asked status s end.written
@@ -372,7 +372,7 @@ module _ (s : Seen) where
   line asked status (unbuilt request e built same end) = record { fault = Some faults.NotBuilt; status_is = end.status_is; says = end.says; names = tt }
   line asked status (made request e built bytes fault makes end) =
       by_these LineOf asked (Some request) status status e refl
-      (record { fault = fault; status_is = end.status_is; says = end.says; names = (fit request built s bytes fault makes end.written).plain.names })
+      (record { fault = fault; status_is = end.status_is; says = end.says; names = (fit request built s bytes fault makes end.written end.says).plain.names })
   line asked status (unwritten request e built bytes fault makes end) =
       record { fault = Some faults.WriteFault; status_is = end.status_is; says = end.says; names = tt }
   line asked status (wanting request e built fault want end) =
@@ -398,7 +398,7 @@ module _ (s : Seen) where
       by_these MayEnd asked (Some request) status statuses.NotBuilt e end.status_is (subst (λ (b : Bool). RequestEnds b request statuses.NotBuilt) (sym built) refl)
   ends asked status (made request e built bytes fault makes end) =
       by_these MayEnd asked (Some request) status (ending fault) e end.status_is
-      (may_end request built (ending fault) (fit request built s bytes fault makes end.written).plain.ends)
+      (may_end request built (ending fault) (fit request built s bytes fault makes end.written end.says).plain.ends)
   ends asked status (unwritten request e built bytes fault makes end) =
       by_these MayEnd asked (Some request) status statuses.WriteFault e end.status_is (may_end request built statuses.WriteFault tt)
   ends asked status (wanting request e built fault want end) =
@@ -434,7 +434,7 @@ module _ (s : Seen) where
   fault asked status (usage e same end) = by_these FaultOf asked None status statuses.Usage e end.status_is tt
   fault asked status (unbuilt request e built same end) = by_these FaultOf asked (Some request) status statuses.NotBuilt e end.status_is tt
   fault asked status (made request e built bytes why makes end) =
-      by_these FaultOf asked (Some request) status (ending why) e end.status_is (fit request built s bytes why makes end.written).plain.blames
+      by_these FaultOf asked (Some request) status (ending why) e end.status_is (fit request built s bytes why makes end.written end.says).plain.blames
   fault asked status (unwritten request e built bytes why makes end) =
       by_these FaultOf asked (Some request) status statuses.WriteFault e end.status_is (record {
         failed = end.failed;
@@ -469,13 +469,13 @@ module _ (s : Seen) where
       by_these FaultOf asked (Some request) status (ending end) e is (follow.fault request built s end follows says)
 
   abbrev FindsOf : Option Request → Status → Type 0
-  FindsOf asked status = Finds asked status s.files s.out s.out_after
+  FindsOf asked status = Finds asked status s
 
-  pub finds : (asked : Option Request) (status : Status) → Story asked status s → Finds asked status s.files s.out s.out_after
+  pub finds : (asked : Option Request) (status : Status) → Story asked status s → Finds asked status s
   finds asked status (usage e same end) = by_these FindsOf asked None status statuses.Usage e end.status_is tt
   finds asked status (unbuilt request e built same end) = by_these FindsOf asked (Some request) status statuses.NotBuilt e end.status_is tt
   finds asked status (made request e built bytes fault makes end) =
-      by_these FindsOf asked (Some request) status (ending fault) e end.status_is (fit request built s bytes fault makes end.written).plain.finds
+      by_these FindsOf asked (Some request) status (ending fault) e end.status_is (fit request built s bytes fault makes end.written end.says).plain.finds
   finds asked status (unwritten request e built bytes fault makes end) =
       by_these FindsOf asked (Some request) status statuses.WriteFault e end.status_is tt
   finds asked status (wanting request e built why want end) = by_these FindsOf asked (Some request) status statuses.Memory e (end.status_is ∙ want.is) tt

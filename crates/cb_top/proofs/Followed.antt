@@ -452,7 +452,7 @@ module _ (request : Request) (built : is_built request ≡ true) (s : Seen) (end
   fault_by (Some faults.Memory) wrong tells says = tt
   fault_by (Some fault) wrong tells says = absurd wrong
 
-  finds_by : (e : Option Fault) → Wrong e → TellsIt e → Finds (Some request) (ending e) s.files s.out s.out_after
+  finds_by : (e : Option Fault) → Wrong e → TellsIt e → Finds (Some request) (ending e) s
   finds_by None wrong tells =
       if_some2 s.files.left _ _ _ (λ left passed is.
       let regular = watch_is_regular request follows.known follows.watch (pass_sound nothing (files_from left request) follows.known tt passed) follows.watches in (
@@ -490,5 +490,5 @@ module _ (request : Request) (built : is_built request ≡ true) (s : Seen) (end
   pub fault : TakesLine s.err s.err_after (line_text end) → Blames (Some request) (ending end) s
   fault says = fault_by end follows.ends.wrong follows.ends.tells says
 
-  pub finds : Finds (Some request) (ending end) s.files s.out s.out_after
+  pub finds : Finds (Some request) (ending end) s
   finds = finds_by end follows.ends.wrong follows.ends.tells

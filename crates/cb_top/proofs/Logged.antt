@@ -1,5 +1,6 @@
 -- What is printed of a whole log names the causes.
 use Rattle.std.proofs.Common.{◌≡◌, ◌<◌, ℕ, List, sym, subst}
+use Rattle.std.specs.List.{Contains}
 use Rattle.cb_io.specs.Outside.{SinkTold, WritesAll}
 use Rattle.cb_network.specs.Regular.{IsRegular}
 use Rattle.cb_network.specs.Topology.{Topology}
@@ -11,6 +12,7 @@ use Rattle.cb_log.specs.Whole.{OneForEach, KeepsApart}
 use Rattle.cb_log.proofs.Alone.{wanted_keeps_apart, named_alone}
 use Rattle.cb_log.proofs.OneForEach.{one_for_each}
 use Rattle.cb_log.proofs.QuietExists.{quieter}
+use Rattle.cb_log.proofs.ThinEvents.{thins_are_close}
 use Rattle.cb_request.specs.declared.request.Request.{Request}
 use Rattle.cb_outcome.specs.Judged.{Known}
 use Rattle.cb_outcome.specs.Contents.{Left, log_from}
@@ -38,6 +40,9 @@ prints_log left request name known watch due out out' watches regular apart (eve
     lists = λ c event e.
         lists_nearest e.basis.columns e.basis.groups e.basis.book.columns e.basis.book.distance c.nodes e.is.finding e.is.found
         (λ i lt near. named_alone e.network watch.mode e.basis c event e.is i (apart e.network e.basis) lt near);
+    thin = λ event has thin.
+        thins_are_close watch.from watch.mode watch.window gives.entries gives.body gives.ends gives.body_is gives.ends_are event
+        (subst (λ (es : List Event). Contains es event) gives.events_are has) thin;
     alone = λ source. subst (λ (es : List Event). SourceAlone watch.from watch.mode watch.window source gives.entries es) (sym gives.events_are)
         (quieter watch.from watch.mode watch.window source gives.entries gives.body gives.ends regular gives.body_is gives.ends_are);
   },

@@ -3,6 +3,7 @@ use Rattle.std.proofs.Common.{◌≡◌, ◌≢◌, ◌⊎◌, ◌∙◌, ℕ, L
 use Rattle.std.specs.Prelude.{Option, None, Some}
 use Rattle.std.specs.List.{Contains}
 use Rattle.cb_io.specs.Outside.{WritesAll}
+use Rattle.cb_model.specs.declared.node.GroupName.{GroupName}
 use Rattle.cb_check.specs.declared.fault.TypeFault.TheVariants as types
 use Rattle.cb_network.specs.Topology.{Topology}
 use Rattle.cb_syntax.specs.declared.fault.SyntaxFault.TheVariants as syntax
@@ -19,25 +20,27 @@ use Rattle.cb_report.specs.declared.fault.Fault.TheVariants as faults
 use Rattle.cb_report.specs.declared.status.Status.{Status}
 use Rattle.cb_report.specs.declared.status.Status.TheVariants as statuses
 use Rattle.cb_report.specs.Faults.{status_of, ending}
+use Rattle.cb_report.specs.FaultTexts.{line_text}
+use Rattle.cb_report.specs.Said.{TakesLine}
 use Rattle.cb_outcome.specs.Judged.{Known, nothing, parsed, network, File, IsCertificateFault, HasFault, Refuses}
 use Rattle.cb_outcome.specs.Seen.{Seen}
-use Rattle.cb_outcome.specs.Ends.{HasRole, MayEndIfBuilt}
+use Rattle.cb_outcome.specs.Ends.{HasRole, IsCodebook, MayEndIfBuilt}
 use Rattle.cb_outcome.specs.Clauses.{KeepsQuiet, NamesFileWord, Blames}
-use Rattle.cb_outcome.specs.Finds.{FindsCause, Finds}
+use Rattle.cb_outcome.specs.Finds.{FindsCause, RefusesAsked, Finds}
 use Rattle.cb_outcome.specs.Outcome.{Outcome}
 use Rattle.cb_outcome.specs.Jobs.{is_built}
 use Rattle.cb_outcome.specs.Reading.{Told}
 use Rattle.cb_outcome.proofs.Outcomes.{JobEnds, well, close, crowded, long, job_ends, some_name}
 use Rattle.cb_top.specs.Ending.{Makes}
 use Rattle.cb_top.proofs.Chain.{if_some}
-use Rattle.cb_top.proofs.Finding.{finds_for}
+use Rattle.cb_top.proofs.Finding.{finds_for, refuses_for}
 
 -- what is said of the end of a run with this fault, if there is one
 pub record IsPlain (request : Request) (fault : Option Fault) (s : Seen) : Type 0 where
   pub names : NamesFileWord (Some request) fault
   pub ends : MayEndIfBuilt request (ending fault)
   pub blames : Blames (Some request) (ending fault) s
-  pub finds : Finds (Some request) (ending fault) s.files s.out s.out_after
+  pub finds : Finds (Some request) (ending fault) s
 
 -- ---- a certificate
 
@@ -77,7 +80,7 @@ module _ (request : Request) (s : Seen) where
     names = names;
     ends = subst (MayEndIfBuilt request) (sym e) role;
     blames = subst (λ (status : Status). Blames (Some request) status s) (sym e) tt;
-    finds = subst (λ (status : Status). Finds (Some request) status s.files s.out s.out_after) (sym e) tt;
+    finds = subst (λ (status : Status). Finds (Some request) status s) (sym e) tt;
   }
 
   certificate_plain : (t : Topology) (text : List ℕ) (fault : Fault) → IsCertificateFault t text fault
@@ -133,17 +136,24 @@ pub record IsFit (request : Request) (fault : Option Fault) (s : Seen) : Type 0 
   pub quiet : KeepsQuiet (Some request) (ending fault) s.files s.files_after s.out s.out_after
 
 module _ (request : Request) (built : is_built request ≡ true) (s : Seen) (bytes : List ℕ) (fault : Option Fault)
-    (makes : Makes request s.files s.files_after bytes fault) (written : WritesAll s.out s.out_after bytes) where
+    (makes : Makes request s.files s.files_after bytes fault) (written : WritesAll s.out s.out_after bytes)
+    (says : TakesLine s.err s.err_after (line_text fault)) where
   abbrev job_outcome : Outcome
   job_outcome = record { out = bytes; fault = fault; whole = 0 }
 
   with_fault : (other : Option Fault) → fault ≡ other → IsFit request other s → IsFit request fault s
   with_fault other e is = subst (λ (f : Option Fault). IsFit request f s) (sym e) is
 
-  -- what the output finds, where there is one
+  -- what the output finds, where nothing is wrong
   found : (fault ≡ Some faults.LimitEntries → ⊥) → Told s.files (FindsCause (Some request) s.out s.out_after)
   found room = if_some s.files.left _ _ (λ left said.
       (makes.known, said, finds_for left request makes.known job_outcome s.out s.out_after makes.alone room (makes.gives left 0) written)) makes.said
+
+  -- what is refused, where groups are too close
+  refused : IsCodebook request → (wanted : ℕ) (first second : GroupName) (far : ℕ) → fault ≡ Some (faults.Distance wanted first second far)
+      → Told s.files (RefusesAsked (Some request) s)
+  refused codebook wanted first second far is = if_some s.files.left _ _ (λ left said.
+      (makes.known, said, refuses_for left request makes.known s job_outcome codebook written says wanted first second far is (makes.gives left 0))) makes.said
 
   fit_by : JobEnds request 0 job_outcome → IsFit request fault s
   fit_by (well none whole) = with_fault None none (record {
@@ -156,7 +166,7 @@ module _ (request : Request) (built : is_built request ≡ true) (s : Seen) (byt
     quiet = tt;
   })
   fit_by (close codebook wanted first second far is) = with_fault (Some (faults.Distance wanted first second far)) is (record {
-    plain = record { names = tt; ends = codebook; blames = tt; finds = found (λ full. let clash = sym is ∙ full in cc) };
+    plain = record { names = tt; ends = codebook; blames = tt; finds = refused codebook wanted first second far is };
     quiet = tt;
   })
   fit_by (crowded some is empty) = with_fault (Some faults.LimitEntries) is (record {

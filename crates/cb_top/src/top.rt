@@ -52,9 +52,10 @@ pub fn run<F: Files, O: Sink, E: Sink, L: Ledger>(
 
     // The headline: what `burst` prints at 0 are exactly the groups nearest to what is raised, by codes from what causes what; and
     // where no more symptoms of one group are lost or spurious than the radius says, that group alone, and it is sure. What
-    // `codebook` prints at 0 and at 6 is a valid certificate, and of each window of a log that `correlate` follows to 0 the same as of
-    // `burst` is said, over the codebook in use.
-    ensures finds { Finds (asked words.now) result (F.tells files.old) (O.tells out.old) (O.tells out.new) }
+    // `codebook` prints at 0 and at 6 is a valid certificate, and at 6 its line names two groups that are closer than wanted, with their
+    // distance. Of each window of a log that `correlate` follows to 0 the same as of `burst` is said, over the codebook in use, and
+    // each thin line names two groups that are closer than wanted, too. No distance of 1 is refused so.
+    ensures finds { Finds (asked words.now) result (seen F.tells O.tells E.tells files.old files.new out.old out.new err.old err.new) }
     // No command counts a step but those that search.
     ensures steps { Counts (asked words.now) steps.old steps.new }
 {
