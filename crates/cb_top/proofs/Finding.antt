@@ -6,7 +6,6 @@ use Rattle.cb_coding.specs.declared.group.Group.{Group}
 use Rattle.cb_coding.specs.Distance.{all_columns}
 use Rattle.cb_coding.specs.Groups.{codes_of}
 use Rattle.cb_model.specs.declared.node.GroupName.{GroupName}
-use Rattle.cb_model.specs.declared.node.GroupName.TheVariants.{Least}
 use Rattle.cb_model.specs.declared.node.NodeName.{NodeName}
 use Rattle.cb_io.specs.Outside.{SinkTold, WritesAll}
 use Rattle.cb_finding.specs.declared.finding.Finding.{Finding}
