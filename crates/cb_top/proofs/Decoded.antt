@@ -1,5 +1,5 @@
 -- A codebook that a valid certificate states keeps the groups of its topology apart.
-use Rattle.std.proofs.Common.{◌≡◌, ◌∙◌, ◌^◌, ◌+◌, ◌<◌, ℕ, List, [], length, Result, Ok, Err, IfOk, sym, subst, arith}
+use Rattle.std.proofs.Common.{◌≡◌, ◌∙◌, ◌^◌, ◌<◌, ℕ, List, [], length, Result, Ok, Err, IfOk, sym, subst, arith}
 use Rattle.cb_model.specs.declared.node.NodeName.{NodeName}
 use Rattle.cb_coding.specs.declared.book.Book.{Book}
 use Rattle.cb_coding.specs.declared.group.Group.{Group}
@@ -63,13 +63,13 @@ known_is_valid (network u) text next t c (d, is, kind, next_is) e =
     (subst (λ (x : Topology). IsValid x c) same (subst (IsValid u) one is.valid), subst IsCertificate one is.spelled.is)
 
 -- a session by the book that the given certificate states
-pub all_stand : {E : Type 0} (given : GivenBook) (window : ℕ) (network : Topology) (book : Book) (result : Result State E) → IfOk result (λ s. s.mode ≡ fixed book)
-    → IfOk result (λ s. s.windows.length ≡ window) → IfOk result (λ s. StandsForEntries s network []) → IsRegular network.model
-    → network ≡ topology_of given.graph → ArePlacesFor network given.nodes given.columns book.columns → book.distance ≡ given.distance
+pub all_stand : {E : Type 0} (given : GivenBook) (window : ℕ) (around : Topology) (book : Book) (result : Result State E) → IfOk result (λ s. s.mode ≡ fixed book)
+    → IfOk result (λ s. s.windows.length ≡ window) → IfOk result (λ s. StandsForEntries s around []) → IsRegular around.model
+    → around ≡ topology_of given.graph → ArePlacesFor around given.nodes given.columns book.columns → book.distance ≡ given.distance
     → IfOk result (λ s. (t : Topology) (c : Certificate) → IsGivenBy t c given → StandsFixed t c window s)
-all_stand given window network book (Err e) mode length stands regular graph places distance = tt
-all_stand given window network book (Ok s) mode length stands regular graph places distance = λ t c is.
-    let same : network ≡ t = graph ∙ is.graph in
+all_stand given window around book (Err e) mode length stands regular graph places distance = tt
+all_stand given window around book (Ok s) mode length stands regular graph places distance = λ t c is.
+    let same : around ≡ t = graph ∙ is.graph in
     let apart = is.valid.apart in
     let all = subst (λ (u : Topology). ArePlacesFor u given.nodes given.columns book.columns) same places in
     let states : States t (certificate_of given is.spans) book = record {
@@ -91,9 +91,9 @@ all_stand given window network book (Ok s) mode length stands regular graph plac
 pub given_columns : (t : Topology) (c : Certificate) (given : GivenBook) → IsGivenBy t c given → AreColumnNumbers t given.nodes given.columns
 given_columns t c given is = is.valid.columns_are
 
-pub given_is_narrow : (t : Topology) (c : Certificate) (given : GivenBook) (network : Topology) (places : List ℕ) → IsGivenBy t c given → network ≡ t
-    → ArePlacesFor network given.nodes given.columns places → length places < 2 ^ 32
-given_is_narrow t c given network places is same all =
+pub given_is_narrow : (t : Topology) (c : Certificate) (given : GivenBook) (around : Topology) (places : List ℕ) → IsGivenBy t c given → around ≡ t
+    → ArePlacesFor around given.nodes given.columns places → length places < 2 ^ 32
+given_is_narrow t c given around places is same all =
     let apart = is.valid.apart in
     let places_are = subst (λ (u : Topology). ArePlacesFor u given.nodes given.columns places) same all apart.columns apart.made.columns_are in
     let as_many = zip_lengths _ given.columns places places_are in

@@ -50,7 +50,7 @@ prints_log left request name known watch due out out' watches regular apart (eve
         (one_for_each watch.from watch.mode watch.window gives.entries gives.body gives.ends gives.body_is gives.ends_are);
     lists = λ c event e.
         lists_nearest e.basis.columns e.basis.groups e.basis.book.columns e.basis.book.distance c.nodes e.is.finding e.is.found
-        (λ i lt near. named_alone e.network watch.mode e.basis c event e.is i 
+        (λ i lt near. named_alone e.network watch.mode e.basis c event e.is i
         (apart (take e.place (records_of gives.entries)) e.network e.is_network e.basis) lt near);
     thin = λ event has thin.
         thins_are_close watch.from watch.mode watch.window gives.entries gives.body gives.ends gives.body_is gives.ends_are event

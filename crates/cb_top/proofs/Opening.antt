@@ -1,6 +1,6 @@
 -- What is left where the line that a log opens with isn't written.
-use Rattle.std.proofs.Common.{◌≡◌, ◌∙◌, ◌+◌, ℕ, List, [], ◌++◌, length, refl, sym, ap, inl, arith, append-nil}
-use Rattle.std.specs.Prelude.{Some}
+use Rattle.std.proofs.Common.{◌≡◌, ◌∙◌, ℕ, List, [], length, refl, sym, ap, inl, arith, append-nil, Result, Ok, Err, is_err, true}
+use Rattle.std.specs.Prelude.{Some, OnErr}
 use Rattle.std.proofs.lemmas.List.{length-append}
 use Rattle.cb_io.specs.Outside.{FilesTold, SinkTold, left_of, WritesFront, WriteFailed}
 use Rattle.cb_report.specs.declared.fault.Fault.TheVariants as faults
@@ -29,3 +29,8 @@ cannot_open watch name files out out' front failed = record {
         omega (arith, parts, sum, whole);
   });
 }
+
+-- what holds where a call fails holds where it is said to have failed
+pub where_failed : {V E : Type 0} (result : Result V E) (P : Type 0) → OnErr result P → is_err result ≡ true → P
+where_failed (Ok x) P failed said = absurd (cc)
+where_failed (Err e) P failed said = failed

@@ -45,11 +45,7 @@ fn a_codebook_is_certified(rt: HostRuntime) -> Result<(), Fail> {
 }
 
 // The certificate with its parts changed.
-fn changed(
-    alloc: Global,
-    certificate: &str,
-    parts: &[(&str, &str)],
-) -> Result<String, AllocError> {
+fn changed(alloc: Global, certificate: &str, parts: &[(&str, &str)]) -> Result<String, AllocError> {
     let mut text = String::from_str(alloc, certificate)?;
     for (part, with) in parts {
         text = text.replace(alloc, *part, with)?;
@@ -105,27 +101,56 @@ fn a_changed_certificate_is_refused(rt: HostRuntime) -> Result<(), Fail> {
     let cases: [(&str, &[(&str, &str)], &str); 19] = [
         (BOOK, &[("end\n", "")], "truncated"),
         (BOOK, &[("end\n", "end\nx\n")], "extra line 27"),
-        (BOOK, &[("entry 4 1\nentry 6 1\n", "entry 4 1\n")], "bad-line line 19"),
-        (BOOK, &[("node Cut@L1\nnode Loss@L1\n", "node Loss@L1\nnode Cut@L1\n")], "bad-node place 2"),
+        (
+            BOOK,
+            &[("entry 4 1\nentry 6 1\n", "entry 4 1\n")],
+            "bad-line line 19",
+        ),
+        (
+            BOOK,
+            &[("node Cut@L1\nnode Loss@L1\n", "node Loss@L1\nnode Cut@L1\n")],
+            "bad-node place 2",
+        ),
         (BOOK, &[("column 4\n", "column 1\n")], "bad-column place 1"),
         (BOOK, &[("column 6\n", "column 4\n")], "bad-column place 2"),
         (
             BOOK,
-            &[("spans 3", "spans 2"), ("span 2\nentry 5 0\nentry 6 1\n", "")],
+            &[
+                ("spans 3", "spans 2"),
+                ("span 2\nentry 5 0\nentry 6 1\n", ""),
+            ],
             "no-span problem Fail@b",
         ),
         (
             BOOK,
-            &[("spans 3", "spans 4"), ("end\n", "span 1\nentry 2 0\nend\n")],
+            &[
+                ("spans 3", "spans 4"),
+                ("end\n", "span 1\nentry 2 0\nend\n"),
+            ],
             "extra-span place 4",
         ),
         (BOOK, &[("entry 1 0", "entry 2 0")], "bad-root entry 1"),
-        (BOOK, &[("entry 4 1\nentry 6", "entry 4 4\nentry 6")], "bad-parent entry 3"),
-        (BOOK, &[("entry 4 1\nentry 6", "entry 3 1\nentry 6")], "no-edge entry 3"),
-        (BOOK, &[("entry 4 1\nentry 6", "entry 2 1\nentry 6")], "repeated entry 3"),
         (
             BOOK,
-            &[("span 4\n", "span 3\n"), ("entry 4 1\nentry 6 1\n", "entry 4 1\n")],
+            &[("entry 4 1\nentry 6", "entry 4 4\nentry 6")],
+            "bad-parent entry 3",
+        ),
+        (
+            BOOK,
+            &[("entry 4 1\nentry 6", "entry 3 1\nentry 6")],
+            "no-edge entry 3",
+        ),
+        (
+            BOOK,
+            &[("entry 4 1\nentry 6", "entry 2 1\nentry 6")],
+            "repeated entry 3",
+        ),
+        (
+            BOOK,
+            &[
+                ("span 4\n", "span 3\n"),
+                ("entry 4 1\nentry 6 1\n", "entry 4 1\n"),
+            ],
             "not-closed entry 1 successor NoSignal@b",
         ),
         (

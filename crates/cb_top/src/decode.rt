@@ -12,14 +12,14 @@ ghost use Rattle.cb_top.specs.Given.{IsGivenBy, IsGivenBySome, StandsFixed};
 ghost use Rattle.cb_top.specs.Telling.{OpensBehind};
 ghost use Rattle.cb_top.specs.Ways.{EndsBuilt, wrong};
 
-use crate::book_file::{BookFile, GivenBook};
+use crate::book_file::{BookFile, GivenBook, ShownBook};
 use crate::follow::follow;
 use crate::kind::read_as;
 use crate::network::read_network;
 use cb_cache::Cache;
 use cb_codebook::stated_book;
 use cb_io::{Files, Sink, write_all};
-use cb_report::{Fault, accepted_text};
+use cb_report::Fault;
 use cb_request::FileName;
 use cb_session::Session;
 use cb_steps::Steps;
@@ -45,7 +45,7 @@ pub fn decode<'w, F: Files, O: Sink, L: Ledger>(
     steps: &mut Steps<L>,
 ) -> Result<(), Fault<'w>>
     requires { IsInRange (Decode names.model names.topology names.book names.log window) }
-    ensures { EndsBuilt (Decode names.model names.topology names.book names.log window) (F.tells files.old) (F.tells files.new)
+    ensures { EndsBuilt (Decode names.entry.model names.entry.topology names.entry.book names.entry.log window) (F.tells files.old) (F.tells files.new)
         (O.tells out.old) (O.tells out.new) (wrong result) }
 {
     let topology = read_network(alloc, files, names.model, names.topology)?;
@@ -53,10 +53,9 @@ pub fn decode<'w, F: Files, O: Sink, L: Ledger>(
         topology,
         steps: &mut *steps,
     };
-    let given = read_as(alloc, files, names.book, kind)?;
-    let accepted = accepted_text(alloc, &given.accepted)?;
-    let mut session = fixed(alloc, given, window, steps)?;
-    let end = follow_behind(alloc, files, out, &accepted, names.log, &mut session, steps);
+    let ShownBook { book, line } = read_as(alloc, files, names.book, kind)?;
+    let mut session = fixed(alloc, book, window, steps)?;
+    let end = follow_behind(alloc, files, out, &line, names.log, &mut session, steps);
     drop(session);
     end
 }

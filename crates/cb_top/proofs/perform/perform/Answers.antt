@@ -2,10 +2,6 @@ use Rattle.std.proofs.Common.{refl}
 use Rattle.std.proofs.KnownBytes.{Appends-nil}
 use Rattle.cb_top.proofs.perform.perform.Goals as goal
 
-pub returns-in-Decode-clause-ends : goal.returns-in-Decode-clause-ends
-returns-in-Decode-clause-ends g c =
-    rw c.in-Decode.is (record { same = refl; written = Appends-nil (g.O.Sink.tells c.args.out.now).taken; end_is = refl })
-
 pub returns-in-Grow-clause-ends : goal.returns-in-Grow-clause-ends
 returns-in-Grow-clause-ends g c =
     rw c.in-Grow.is (record { same = refl; written = Appends-nil (g.O.Sink.tells c.args.out.now).taken; end_is = refl })

@@ -1,5 +1,5 @@
 use Rattle.cb_topo.specs.Numbered.{topology_of}
-use Rattle.cb_top.proofs.Given.{book_long, book_bad, book_refused, book_says}
+use Rattle.cb_top.proofs.Given.{book_long, book_bad, book_rejected, book_said, book_stopped}
 use Rattle.cb_top.proofs.Chain.{err_is}
 use Rattle.cb_top.proofs.book_file.BookFileFileKind.judge.Goals as goal
 
@@ -7,8 +7,8 @@ pub returns-in-Some-clause-stops : goal.returns-in-Some-clause-stops
 returns-in-Some-clause-stops g c =
     book_long c.args.name c.args.text.now c.requires (topology_of c.args.self.topology) c.in-Some.line c.in-Some.ensures.long
 
-pub checked-requires : goal.checked-requires
-checked-requires g c = c.in_ok-certificate.ensures.certificate.is
+pub checked_book-requires : goal.checked_book-requires
+checked_book-requires g c = c.in_ok-certificate.ensures.certificate.is
 
 pub returns-in_err-certificate-clause-stops : goal.returns-in_err-certificate-clause-stops
 returns-in_err-certificate-clause-stops g c =
@@ -16,13 +16,17 @@ returns-in_err-certificate-clause-stops g c =
     (book_bad c.args.name c.args.text.now c.requires (topology_of c.args.self.topology) c.in_default.ensures.short c.in_err-certificate.field-0.0
     c.in_err-certificate.ensures.fault)
 
-pub returns-in_err-accepted-clause-stops : goal.returns-in_err-accepted-clause-stops
-returns-in_err-accepted-clause-stops g c =
-    rw (err_is _ _ c.from_residual-in_err-accepted.ensures.1)
-    (book_refused c.args.name c.args.text.now c.requires (topology_of c.args.self.topology) c.in_default.ensures.short
-    c.in_ok-certificate.certificate c.in_ok-certificate.ensures.certificate c.in_err-accepted.field-0.0 c.in_err-accepted.ensures.rejected)
+pub returns-in-Ok-clause-says : goal.returns-in-Ok-clause-says
+returns-in-Ok-clause-says g c =
+    book_said c.args.name c.args.text.now c.requires (topology_of c.args.self.topology) c.in_default.ensures.short c.in_ok-certificate.certificate
+    c.in_ok-certificate.ensures.certificate c.in-Ok.shown c.in-Ok.ensures.shown c.book_of.result c.book_of.ensures.book
 
-pub returns-clause-says : goal.returns-clause-says
-returns-clause-says g c =
-    book_says c.args.name c.args.text.now c.requires (topology_of c.args.self.topology) c.in_default.ensures.short
-    c.in_ok-certificate.certificate c.in_ok-certificate.ensures.certificate c.in_ok-accepted.accepted c.in_ok-accepted.ensures.accepted
+pub returns-in-Ok-clause-stops : goal.returns-in-Ok-clause-stops
+returns-in-Ok-clause-stops g c =
+    book_stopped c.args.name c.args.text.now c.requires (topology_of c.args.self.topology) c.in_default.ensures.short c.in_ok-certificate.certificate
+    c.in_ok-certificate.ensures.certificate c.in-Ok.shown c.in-Ok.ensures.shown c.book_of.result c.book_of.ensures.other
+
+pub returns-in-Err-clause-stops : goal.returns-in-Err-clause-stops
+returns-in-Err-clause-stops g c =
+    book_rejected c.args.name c.args.text.now c.requires (topology_of c.args.self.topology) c.in_default.ensures.short c.in_ok-certificate.certificate
+    c.in_ok-certificate.ensures.certificate c.in-Err.fault c.in-Err.ensures.rejected
