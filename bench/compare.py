@@ -314,6 +314,7 @@ def words_of(rng):
             ["verify", "m", "t", "c"],
             ["verify", "m", "t", "c"],
             ["correlate", "m", "t", "l", str(rng.choice((1, 1, 2, 3, 9999))), str(rng.choice((1, 5, 10, 10**12)))],
+            ["decode", "m", "t", "c", "l", str(rng.choice((1, 5, 10, 10**12)))],
             ["correlate", "m", "t", "l", str(rng.choice((1, 2))), str(rng.choice((3, 10)))],
             ["burst", "m", "t", "s"],
             ["burst", "m", "t", "s"],
