@@ -2,3 +2,5 @@ pub mod Before
 pub mod Found
 pub mod Grouped
 pub mod Far
+pub mod Setting
+pub mod Behind

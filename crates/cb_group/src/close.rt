@@ -1,11 +1,18 @@
 //! The first two groups that are close to each other over some columns.
-ghost use Rattle.std.specs.Prelude.{◌≡◌, ◌<◌, ◌^◌, length, IfOk, IfSome, IfNone, SomeIff, slice_set};
-ghost use Rattle.cb_coding.specs.Distance.{bit as bit_of, distance as distance_of, HaveWidth, all_columns};
+//!
+//! A code that has none of so many columns of another is at least so far from it. So a code is compared with those alone that have one of so
+//! many of its columns as the distance wants, where few codes have these; and with all behind it where it has no so many.
+ghost use Rattle.std.specs.Prelude.{◌≡◌, ◌<◌, ◌≤◌, ◌^◌, ◌↔◌, ℕ, length, IfOk, IfSome, IfNone, IsTrue};
+ghost use Rattle.std.specs.List.{All, Contains};
+ghost use Rattle.cb_coding.specs.Distance.{all_columns};
 ghost use Rattle.cb_coding.specs.Groups.{codes_of};
 ghost use Rattle.cb_coding.specs.Pairs.{Good, IsFirstClose};
-ghost use Rattle.cb_group.specs.Close.{IsOver, AreOver, IsCloseWith, AreAllFar, IsFirstCloseIfAny};
+ghost use Rattle.cb_codes.specs.Codes.{Coded};
+ghost use Rattle.cb_codes.specs.Holders.{holders_of};
+ghost use Rattle.cb_group.specs.Close.{far, IsFirstCloseIfAny, IsCloseWith, AreAllFar, IsFirstBehind, IsCloseOrEnd};
 
-use cb_bits::Row;
+use crate::chosen::chosen;
+use cb_codes::Codes;
 use cb_coding::{Group, Pair};
 use cb_model::List;
 use std::alloc::{AllocError, Global};
@@ -21,95 +28,146 @@ pub fn first_close(
     ensures { IfOk result (IsFirstCloseIfAny columns.now (codes_of groups.now) distance) }
 {
     let codes = chosen(alloc, groups, columns)?;
-    Ok(first_pair(&codes, columns.len(), distance))
-}
-
-// The codes of the groups, over these columns alone.
-fn chosen(alloc: Global, groups: &List<Group>, columns: &[u32]) -> Result<List<Row>, AllocError>
-    ensures { IfOk result (AreOver columns.now (codes_of groups.now)) }
-{
-    let mut codes = List::new(alloc);
-    for place in 0..groups.len() {
-        let code = over(alloc, &groups.at(place).code, columns)?;
-        codes.push(code)?;
-    }
-    Ok(codes)
-}
-
-// The code over these columns alone.
-fn over(alloc: Global, code: &Row, columns: &[u32]) -> Result<Row, AllocError>
-    ensures { IfOk result (IsOver columns.now code.now) }
-{
-    let mut row = Row::zeroed(alloc, columns.len())?;
-    for place in 0..columns.len() {
-        make(&mut row, place, has(code, columns[place] as usize));
-    }
-    Ok(row)
-}
-
-// Makes the value at a place this one.
-fn make(row: &mut Row, place: usize, value: bool)
-    requires { place < length row.old }
-    ensures { row.new ≡ slice_set row.old place value }
-{
-    if value {
-        row.set(place);
-    } else {
-        row.clear(place);
-    }
-}
-
-// Whether the code has the column. Past its end it has none.
-fn has(code: &Row, column: usize) -> bool
-    ensures { result ≡ bit_of code.now column }
-{
-    column < code.len() && code.get(column)
+    Ok(first_pair(&codes, distance))
 }
 
 // The first two codes that are less than the distance apart.
-fn first_pair(codes: &List<Row>, width: usize, distance: u32) -> Option<Pair>
-    requires width { HaveWidth width codes.now }
-    requires few { length codes.now < 2 ^ 32 }
-    ensures found { IfSome result (IsFirstClose (all_columns width) codes.now distance) }
-    ensures none { IfNone result (Good codes.now (all_columns width) distance) }
+fn first_pair(codes: &Codes, distance: u32) -> Option<Pair>
+    requires few { length codes.now.rows < 2 ^ 32 }
+    ensures found { IfSome result (IsFirstClose (all_columns codes.now.width) codes.now.rows distance) }
+    ensures none { IfNone result (Good codes.now.rows (all_columns codes.now.width) distance) }
 {
     for first in 0..codes.len() {
-        if let Some(pair) = close_to(codes, width, first, distance) {
+        let second = first_behind(codes, first, distance);
+        if let Some(pair) = pair_of(codes, first, second, distance) {
             return Some(pair);
         }
     }
     None
 }
 
-// The first code behind this one that is less than the distance from it.
-fn close_to(codes: &List<Row>, width: usize, first: usize, distance: u32) -> Option<Pair>
-    requires width { HaveWidth width codes.now }
-    requires few { length codes.now < 2 ^ 32 }
-    requires first { first < length codes.now }
-    ensures found { IfSome result (IsCloseWith width codes.now first distance) }
-    ensures none { IfNone result (AreAllFar width codes.now first distance (length codes.now)) }
+// The two codes and how far they are apart, where there is a second and it is less than the distance from the first.
+fn pair_of(codes: &Codes, first: usize, second: usize, distance: u32) -> Option<Pair>
+    requires few { length codes.now.rows < 2 ^ 32 }
+    requires first { first < length codes.now.rows }
+    requires second { IsFirstBehind codes.now first distance second }
+    ensures found { IfSome result (IsCloseWith codes.now first distance) }
+    ensures none { IfNone result (AreAllFar codes.now first distance (length codes.now.rows)) }
 {
-    for second in first + 1..codes.len() {
-        if let Some(far) = distance_below(codes.at(first), codes.at(second), width, distance) {
-            return Some(Pair {
-                first: first as u32,
-                second: second as u32,
-                distance: far,
-            });
-        }
+    if codes.len() <= second {
+        return None;
     }
-    None
-}
-
-// How far two codes are apart, where that is less than the limit.
-fn distance_below(a: &Row, b: &Row, width: usize, limit: u32) -> Option<u32>
-    requires a { length a.now ≡ width }
-    requires b { length b.now ≡ width }
-    ensures { let distance = distance_of (all_columns width) a.now b.now in
-        SomeIff result (distance < limit) distance }
-{
-    match a.distance_below(b, limit as usize) {
-        Some(distance) => Some(distance as u32),
+    match codes.distance_below(first, second, distance as usize) {
+        Some(apart) => Some(Pair {
+            first: first as u32,
+            second: second as u32,
+            distance: apart as u32,
+        }),
         None => None,
     }
+}
+
+// The place of the first code behind this one that is less than the distance from it, or the end. A code that has none of the columns that
+// were looked at is as far from this one as they are many.
+fn first_behind(codes: &Codes, first: usize, distance: u32) -> usize
+    requires { first < length codes.now.rows }
+    ensures { IsFirstBehind codes.now first distance result }
+{
+    let code = codes.row(first);
+    // A length fits its type, and so does the place behind a column. All codes have one width.
+    let _width = code.len();
+    let _wide = codes.width();
+    let mut end = codes.len();
+    let mut looked = 0;
+    let mut from = 0;
+    while looked < distance {
+        let Some(column) = code.next_one(from) else {
+            return close_behind(codes, first, distance);
+        };
+        if let Some(places) = few_holders(codes, column, distance) {
+            end = close_among(codes, first, distance, places, end);
+            looked += 1;
+        }
+        from = column + 1;
+    }
+    end
+}
+
+// The codes that have a column, where all such lists of so many columns together are no longer than that of all codes.
+fn few_holders(codes: &Codes, column: usize, columns: u32) -> Option<&List<u32>>
+    requires { 0 < columns }
+    ensures { IfSome result (λ places. places.now ≡ holders_of codes.now.rows column) }
+{
+    match codes.holders(column) {
+        Some(places) => {
+            if places.len() <= codes.len() / columns as usize {
+                Some(places)
+            } else {
+                None
+            }
+        }
+        None => None,
+    }
+}
+
+// The first code before the end that stands at one of these places, behind this one, and is less than the distance from it; or the end.
+fn close_among(
+    codes: &Codes,
+    first: usize,
+    distance: u32,
+    places: &List<u32>,
+    mut end: usize,
+) -> usize
+    requires first { first < length codes.now.rows }
+    requires places { All (λ place. place < length codes.now.rows) places.now }
+    requires end { IsCloseOrEnd codes.now first distance end }
+    ensures end { IsCloseOrEnd codes.now first distance result }
+    ensures before { result ≤ end }
+    ensures far { (j : ℕ) → Contains places.now j → first < j → j < result → distance ≤ far codes.now first j }
+{
+    for place in places.as_slice() {
+        end = nearer_end(codes, first, distance, *place as usize, end);
+    }
+    end
+}
+
+// The second, where it stands behind the first and before the end and is less than the distance from it; else the end.
+fn nearer_end(codes: &Codes, first: usize, distance: u32, second: usize, end: usize) -> usize
+    requires first { first < length codes.now.rows }
+    requires second { second < length codes.now.rows }
+    requires end { IsCloseOrEnd codes.now first distance end }
+    ensures end { IsCloseOrEnd codes.now first distance result }
+    ensures before { result ≤ end }
+    ensures far { first < second → second < result → distance ≤ far codes.now first second }
+{
+    if first < second && second < end && are_close(codes, first, second, distance) {
+        second
+    } else {
+        end
+    }
+}
+
+// The first code behind this one that is less than the distance from it, or the end.
+fn close_behind(codes: &Codes, first: usize, distance: u32) -> usize
+    requires { first < length codes.now.rows }
+    ensures { IsFirstBehind codes.now first distance result }
+{
+    let end = codes.len();
+    for second in first + 1..end {
+        if are_close(codes, first, second, distance) {
+            return second;
+        }
+    }
+    end
+}
+
+// Whether two codes are less than the distance apart.
+fn are_close(codes: &Codes, first: usize, second: usize, distance: u32) -> bool
+    requires first { first < length codes.now.rows }
+    requires second { second < length codes.now.rows }
+    ensures { IsTrue result ↔ (far codes.now first second < distance) }
+{
+    codes
+        .distance_below(first, second, distance as usize)
+        .is_some()
 }

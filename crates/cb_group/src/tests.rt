@@ -4,9 +4,9 @@ ghost use Rattle.cb_model.specs.NodeOrder.{node_cmp};
 ghost use Rattle.cb_coding.specs.declared.group.Problem.{Problem as Problem_};
 ghost use Rattle.cb_coding.specs.Groups.{AreProblems};
 
-use crate::groups;
+use crate::{first_close, groups};
 use cb_bits::Row;
-use cb_coding::{Problem, codes};
+use cb_coding::{Group, Pair, Problem, codes};
 use cb_model::{List, NodeName};
 use std::alloc::{AllocError, Global};
 use std::cmp::Ordering;
@@ -86,4 +86,68 @@ fn code_of(alloc: Global, width: usize, text: &str) -> Result<Row, AllocError>
         }
     }
     Ok(code)
+}
+
+// Codes, columns, a distance, and the first two codes that are closer with how far they are.
+type Case<'a> = (&'a [&'a str], &'a [u32], u32, Option<(u32, u32, u32)>);
+
+#[test]
+fn finds_the_first_close_pair(rt: HostRuntime) -> Result<(), Fail> {
+    let all: &[u32] = &[0, 1, 2, 3, 4, 5];
+    let worked: &[&str] = &["00000", "11100", "00111", "11011"];
+    let cases: [Case; 9] = [
+        (worked, all, 3, None),
+        (worked, all, 4, Some((0, 1, 3))),
+        (worked, &[4, 0, 9, 0], 3, Some((0, 1, 2))),
+        (
+            &["000000", "110000", "001100", "111000"],
+            all,
+            2,
+            Some((1, 3, 1)),
+        ),
+        (
+            &["000000", "111000", "000111", "101100"],
+            all,
+            3,
+            Some((1, 3, 2)),
+        ),
+        (
+            &["111000", "000111", "000100", "000010"],
+            all,
+            3,
+            Some((1, 2, 2)),
+        ),
+        (
+            &["11110", "11101", "11011", "10111"],
+            all,
+            3,
+            Some((0, 1, 2)),
+        ),
+        (&["11110", "00001", "11101", "10"], all, 4, Some((0, 2, 2))),
+        (&["1", "1"], &[], 0, None),
+    ];
+    for (texts, columns, distance, want) in cases {
+        let groups = groups_of(rt.alloc(), texts)?;
+        assert!(rt; groups.len() <= 4);
+        let found = first_close(rt.alloc(), &groups, columns, distance)?;
+        let want = want.map(|(first, second, distance)| Pair {
+            first,
+            second,
+            distance,
+        });
+        assert_eq!(rt; found, want);
+    }
+    Ok(())
+}
+
+// Groups with these codes and no members.
+fn groups_of(alloc: Global, texts: &[&str]) -> Result<List<Group>, AllocError> {
+    let mut groups = List::new(alloc);
+    for text in texts {
+        groups.push(Group {
+            code: code_of(alloc, text.len(), text)?,
+            members: List::new(alloc),
+        })?;
+    }
+    Ok(groups)
 }
