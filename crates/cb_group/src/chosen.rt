@@ -1,7 +1,6 @@
 //! Codes over some columns alone.
 ghost use Rattle.std.specs.Prelude.{◌≡◌, ◌<◌, ◌≤◌, [], length, replicate, IfOk};
 ghost use Rattle.std.specs.List.{All};
-ghost use Rattle.cb_codes.specs.Codes.{Coded};
 ghost use Rattle.cb_coding.specs.Groups.{codes_of};
 ghost use Rattle.cb_group.specs.Chosen.{IsOver, AreChosen, ArePlaces, Sets};
 

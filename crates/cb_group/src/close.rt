@@ -7,7 +7,6 @@ ghost use Rattle.std.specs.List.{All, Contains};
 ghost use Rattle.cb_coding.specs.Distance.{all_columns};
 ghost use Rattle.cb_coding.specs.Groups.{codes_of};
 ghost use Rattle.cb_coding.specs.Pairs.{Good, IsFirstClose};
-ghost use Rattle.cb_codes.specs.Codes.{Coded};
 ghost use Rattle.cb_codes.specs.Holders.{holders_of};
 ghost use Rattle.cb_group.specs.Close.{far, IsFirstCloseIfAny, IsCloseWith, AreAllFar, IsFirstBehind, IsCloseOrEnd};
 
