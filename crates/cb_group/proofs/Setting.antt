@@ -168,8 +168,8 @@ module _ (columns : List ℕ) (code : List Bool) where
               )
         ]
 
-    pub place_put : (list new : List ℕ) → column_at below < length lists → list ≡ slice_index_or lists (column_at below) list → new ≡ list ++ below ∷ []
-        → ArePlacesBelow columns (below + 1) (slice_set lists (column_at below) new)
+    pub place_put : (list new : List ℕ) → column_at below < length lists → list ≡ slice_index_or lists (column_at below) list
+        → new ≡ list ++ below ∷ [] → ArePlacesBelow columns (below + 1) (slice_set lists (column_at below) new)
     place_put list new within at is_more = subst (λ ps. ArePlacesBelow columns (below + 1) (slice_set lists (column_at below) ps)) (sym is_more)
         (subst (λ ps. ArePlacesBelow columns (below + 1) (slice_set lists (column_at below) (ps ++ below ∷ [])))
         (sym (at ∙ get_or_default lists (column_at below) list [] within)) (put within))

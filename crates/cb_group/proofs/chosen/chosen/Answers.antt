@@ -16,8 +16,10 @@ loop-group-preserved c =
     let there : slice_get items i ≡ Some group = slice_get-get_or items i group (omega arith) ∙ ap Some (sym c.group-item.is) in
     let at : slice_get groups i ≡ Some group = subst (λ gs. slice_get gs i ≡ Some group) c.as_slice-group-items.ensures there in
     let code = map_there (λ (g : Group). g.code) groups i group at in
-    let old = c.loop-group.invariant in (
+    let old = c.loop-group.invariant in
+    let within = slice_get_within (codes_of groups) i group.code code in
+    let is = sym (get_or_from_slice_get (codes_of groups) i group.code group.code code) in (
       c.in_ok-push.ensures.width ∙ old.0,
-      rw c.in_ok-push.ensures.pushed (all_zip_more (IsOver c.args.columns.now) (codes_of groups) c.loop-group.codes.rows i group.code c.in_ok-over.field-0
-          (slice_get_within (codes_of groups) i group.code code) (sym (get_or_from_slice_get (codes_of groups) i group.code group.code code)) old.1 c.in_ok-over.ensures),
+      rw c.in_ok-push.ensures.pushed (all_zip_more (IsOver c.args.columns.now) (codes_of groups) c.loop-group.codes.rows i group.code
+          c.in_ok-over.field-0 within is old.1 c.in_ok-over.ensures),
     )

@@ -1,4 +1,4 @@
-use Rattle.std.proofs.Common.{[], subst, ◌∙◌, arith}
+use Rattle.std.proofs.Common.{◌≡◌, length, [], subst, ◌∙◌, arith}
 use Rattle.std.proofs.lemmas.List.{length-set}
 use Rattle.cb_group.specs.Chosen.{ArePlacesBelow}
 use Rattle.cb_group.proofs.Setting.{column_at, place_passed, place_put}
@@ -17,7 +17,8 @@ loop-place-preserved c =
           let low = w.if-column-width.true in
           rw w.places-is (
             length-set lists (column_at columns [] place) w.push.new.self ∙ long,
-            place_put columns [] lists place old.1 w.index_mut.result.now w.push.new.self (omega arith) w.index_mut.ensures.value w.in_ok-push.ensures.ok,
+            place_put columns [] lists place old.1 w.index_mut.result.now w.push.new.self (omega arith)
+                w.index_mut.ensures.value w.in_ok-push.ensures.ok,
           )
       | else-column-width w ↦
           let past = w.if-column-width.false in
@@ -28,7 +29,8 @@ pub returns : goal.returns
 returns c =
     let columns = c.args.columns.now in
     let is = c.loop-place.invariant in
+    let all : c.loop-place.place ≡ length columns = let end = c.loop-place-test.false in let on = c.loop-place.auto.place-end in omega arith in
     record {
       all = is.0;
-      each = subst (λ n. ArePlacesBelow columns n c.loop-place.places.items) (let end = c.loop-place-test.false in let on = c.loop-place.auto.place-end in omega arith) is.1;
+      each = subst (λ n. ArePlacesBelow columns n c.loop-place.places.items) all is.1;
     }

@@ -29,7 +29,8 @@ loop-looked-preserved c =
             within = omega arith;
             end = among.end;
             rest = column_looked codes first c.args.distance c.loop-looked.from column c.loop-looked.looked c.loop-looked.end next.on old.rest
-                places w.close_among-end.result has w.in-Some-few_holders.ensures among.before (within_all codes first c.args.distance _ among.end) among.far;
+                places w.close_among-end.result has w.in-Some-few_holders.ensures among.before
+                (within_all codes first c.args.distance _ among.end) among.far;
           })
       | in_default-few_holders w ↦
           rw (w.end-is, w.looked-is) (record {
@@ -42,7 +43,9 @@ loop-looked-preserved c =
 pub returns : goal.returns
 returns c =
     let codes = c.args.codes.now in
-    let long = all_at (λ (v : List Bool). length v ≡ codes.width) codes.rows c.args.first c.row-code.result.now c.row-code.ensures c.width-wide.ensures.all in
+    let long = all_at (λ (v : List Bool). length v ≡ codes.width) codes.rows c.args.first c.row-code.result.now
+    c.row-code.ensures c.width-wide.ensures.all
+    in
     let kept = c.loop-looked.invariant in
     record {
       is = kept.end;
