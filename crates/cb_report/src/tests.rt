@@ -142,3 +142,35 @@ fn a_summary_has_four_lines(rt: HostRuntime) -> Result<(), Fail> {
     assert_eq!(rt; text.as_slice(), SUMMARY_LINES.as_bytes());
     Ok(())
 }
+
+// Counts a record, each of the events, and one diagnosis more, which isn't sure.
+fn count_all(alloc: Global, summary: &mut Summary, events: &List<Event>) -> Result<(), AllocError> {
+    summary.count_record()?;
+    for event in events.as_slice() {
+        summary.count(event)?;
+    }
+    let mut finding = quiet_finding(alloc)?;
+    finding.sure = false;
+    finding.unknown = 3;
+    summary.count(&Event::Diagnosis {
+        from: Name::of(alloc, b"probe")?,
+        opened: 70,
+        closed: 90,
+        finding,
+    })
+}
+
+const COUNTED_LINES: &str =
+    "grow sites 4 start 7\ninstances 0 nodes 0 problems 0 symptoms 0 groups 0\nrecords 1 skipped 2 refused 2\ndiagnoses 2 sure 1 unknown 3 thin 1 books 1\n";
+
+#[test]
+fn a_summary_counts_events(rt: HostRuntime) -> Result<(), Fail> {
+    let alloc = rt.alloc();
+    let mut events = List::new(alloc);
+    add_events(alloc, &mut events)?;
+    let mut summary = Summary::new(4, 7);
+    count_all(alloc, &mut summary, &events)?;
+    let text = grow_text(alloc, &summary)?;
+    assert_eq!(rt; text.as_slice(), COUNTED_LINES.as_bytes());
+    Ok(())
+}
