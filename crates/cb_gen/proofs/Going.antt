@@ -3,8 +3,8 @@ use Rattle.std.proofs.Common.{◌≡◌, ℕ, zero, suc, ◌+◌, ◌-◌, ◌<�
 use Rattle.std.specs.Prelude.{if◌then◌else◌}
 use Rattle.std.proofs.lemmas.List.{append-nil}
 use Rattle.std.specs.declared.result.Result.TheVariants.{Ok, Err}
-use Rattle.cb_gen.specs.Draws.{state_after, draw, next_state, drawn}
-use Rattle.cb_gen.specs.Log.{Entry, Edit, Alarm, Tick, edit_line, alarm_line, tick_line, lines_text, round, rounds}
+use Rattle.cb_gen.specs.Draws.{state_after}
+use Rattle.cb_gen.specs.Log.{Entry, Edit, Alarm, Tick, drawn_edit_line, drawn_alarm_line, tick_line, lines_text, round, rounds}
 use Rattle.cb_gen.specs.Writing.{GoesOn}
 use Rattle.cb_gen.specs.declared.log.Log.{Log}
 
@@ -12,6 +12,10 @@ use Rattle.cb_gen.specs.declared.log.Log.{Log}
 pub on_ok_more : {T E : Type 0} (r : Result T E) (P Q : Type 0) → (P → Q) → OnOk r P → OnOk r Q
 on_ok_more (Ok x) P Q f h = f h
 on_ok_more (Err x) P Q f h = tt
+
+pub on_ok_all : {T E : Type 0} (r : Result T E) (P Q R S : Type 0) → (P → Q → R → S) → OnOk r P → OnOk r Q → OnOk r R → OnOk r S
+on_ok_all (Ok x) P Q R S f p q r = f p q r
+on_ok_all (Err x) P Q R S f p q r = tt
 
 -- what was added where a call is done
 pub on_ok_items : {T E : Type 0} (r : Result T E) (new more same : List ℕ) → new ≡ (if is_ok r then more else same) → OnOk r (new ≡ more)
@@ -23,13 +27,13 @@ written : (old new line rest : List ℕ) → new ≡ old ++ line → old ++ (lin
 written old new line rest is = sym (append_assoc old line rest) ∙ ap (λ xs. xs ++ rest) (sym is)
 
 -- the lines of entries begin with that of the first
-edit_first : (sites at x : ℕ) (later : List Entry) → lines_text sites at x (Edit ∷ later)
-    ≡ edit_line (at + 1) (draw 1 x 8) (draw 2 x sites) ++ lines_text sites (at + 1) (state_after 2 x) later
+edit_first : (sites at x : ℕ) (later : List Entry)
+    → lines_text sites at x (Edit ∷ later) ≡ drawn_edit_line sites at x ++ lines_text sites (at + 1) (state_after 2 x) later
 unfolding lines_text
 edit_first sites at x later = refl
 
-alarm_first : (sites at x : ℕ) (later : List Entry) → lines_text sites at x (Alarm ∷ later)
-    ≡ alarm_line (at + 1) (draw 1 x 4) (draw 2 x 6) (draw 3 x sites) ++ lines_text sites (at + 1) (state_after 3 x) later
+alarm_first : (sites at x : ℕ) (later : List Entry)
+    → lines_text sites at x (Alarm ∷ later) ≡ drawn_alarm_line sites at x ++ lines_text sites (at + 1) (state_after 3 x) later
 unfolding lines_text
 alarm_first sites at x later = refl
 
@@ -37,40 +41,30 @@ tick_first : (sites at x : ℕ) (later : List Entry) → lines_text sites at x (
 unfolding lines_text
 tick_first sites at x later = refl
 
--- an edit that was drawn and written
-pub edit_goes : (sites at x y z kind site : ℕ) (old new : List ℕ) → kind ≡ drawn (next_state x) 8 → y ≡ next_state x
-    → site ≡ drawn (next_state y) sites → z ≡ next_state y → new ≡ old ++ edit_line (at + 1) kind site
-    → (later : List Entry) → old ++ lines_text sites at x (Edit ∷ later) ≡ new ++ lines_text sites (at + 1) z later
-edit_goes sites at x y z kind site old new kind_is y_is site_is z_is is later =
-    let site_drawn : site ≡ draw 2 x sites = site_is ∙ ap (λ (s : ℕ). drawn (next_state s) sites) y_is in
-    let state : z ≡ state_after 2 x = z_is ∙ ap (λ (s : ℕ). next_state s) y_is in
-    ap (λ xs. old ++ xs) (edit_first sites at x later)
-    ∙ (ap (λ (s : ℕ). old ++ (edit_line (at + 1) (draw 1 x 8) (draw 2 x sites) ++ lines_text sites (at + 1) s later)) (sym state)
-    ∙ written old new (edit_line (at + 1) (draw 1 x 8) (draw 2 x sites)) (lines_text sites (at + 1) z later)
-    (is ∙ (ap (λ (k : ℕ). old ++ edit_line (at + 1) k site) kind_is ∙ ap (λ (s : ℕ). old ++ edit_line (at + 1) (draw 1 x 8) s) site_drawn)))
+-- an entry whose line was written, with the time and the state behind it
+module _ (sites : ℕ) (before after : Log) where
+  one_goes : (entry : Entry) (line : List ℕ) (at x : ℕ)
+      → ((later : List Entry) → lines_text sites before.at before.draws.state (entry ∷ later) ≡ line ++ lines_text sites at x later)
+      → after.text.items ≡ before.text.items ++ line → after.at ≡ at → after.draws.state ≡ x → GoesOn sites before after (entry ∷ [])
+  one_goes entry line at x first is time state later =
+      ap (λ (xs : List ℕ). before.text.items ++ xs) (first later)
+      ∙ (written before.text.items after.text.items line (lines_text sites at x later) is
+      ∙ (ap (λ (t : ℕ). after.text.items ++ lines_text sites t x later) (sym time)
+      ∙ ap (λ (s : ℕ). after.text.items ++ lines_text sites after.at s later) (sym state)))
 
--- an alarm that was drawn and written
-pub alarm_goes : (sites at x y z u source kind site : ℕ) (old new : List ℕ) → source ≡ drawn (next_state x) 4 → y ≡ next_state x
-    → kind ≡ drawn (next_state y) 6 → z ≡ next_state y → site ≡ drawn (next_state z) sites → u ≡ next_state z
-    → new ≡ old ++ alarm_line (at + 1) source kind site
-    → (later : List Entry) → old ++ lines_text sites at x (Alarm ∷ later) ≡ new ++ lines_text sites (at + 1) u later
-alarm_goes sites at x y z u source kind site old new source_is y_is kind_is z_is site_is u_is is later =
-    let second : z ≡ state_after 2 x = z_is ∙ ap (λ (s : ℕ). next_state s) y_is in
-    let kind_drawn : kind ≡ draw 2 x 6 = kind_is ∙ ap (λ (s : ℕ). drawn (next_state s) 6) y_is in
-    let site_drawn : site ≡ draw 3 x sites = site_is ∙ ap (λ (s : ℕ). drawn (next_state s) sites) second in
-    let state : u ≡ state_after 3 x = u_is ∙ ap (λ (s : ℕ). next_state s) second in
-    ap (λ xs. old ++ xs) (alarm_first sites at x later)
-    ∙ (ap (λ (s : ℕ). old ++ (alarm_line (at + 1) (draw 1 x 4) (draw 2 x 6) (draw 3 x sites) ++ lines_text sites (at + 1) s later)) (sym state)
-    ∙ written old new (alarm_line (at + 1) (draw 1 x 4) (draw 2 x 6) (draw 3 x sites)) (lines_text sites (at + 1) u later)
-    (is ∙ (ap (λ (k : ℕ). old ++ alarm_line (at + 1) k kind site) source_is
-    ∙ (ap (λ (k : ℕ). old ++ alarm_line (at + 1) (draw 1 x 4) k site) kind_drawn
-    ∙ ap (λ (s : ℕ). old ++ alarm_line (at + 1) (draw 1 x 4) (draw 2 x 6) s) site_drawn))))
+  pub edit_goes : after.text.items ≡ before.text.items ++ drawn_edit_line sites before.at before.draws.state → after.at ≡ before.at + 1
+      → after.draws.state ≡ state_after 2 before.draws.state → GoesOn sites before after (Edit ∷ [])
+  edit_goes = one_goes Edit (drawn_edit_line sites before.at before.draws.state) (before.at + 1) (state_after 2 before.draws.state)
+      (edit_first sites before.at before.draws.state)
 
--- a tick that was written
-pub tick_goes : (sites at x : ℕ) (old new : List ℕ) → new ≡ old ++ tick_line (at + 40)
-    → (later : List Entry) → old ++ lines_text sites at x (Tick ∷ later) ≡ new ++ lines_text sites (at + 40) x later
-tick_goes sites at x old new is later =
-    ap (λ xs. old ++ xs) (tick_first sites at x later) ∙ written old new (tick_line (at + 40)) (lines_text sites (at + 40) x later) is
+  pub alarm_goes : after.text.items ≡ before.text.items ++ drawn_alarm_line sites before.at before.draws.state → after.at ≡ before.at + 1
+      → after.draws.state ≡ state_after 3 before.draws.state → GoesOn sites before after (Alarm ∷ [])
+  alarm_goes = one_goes Alarm (drawn_alarm_line sites before.at before.draws.state) (before.at + 1) (state_after 3 before.draws.state)
+      (alarm_first sites before.at before.draws.state)
+
+  pub tick_goes : after.text.items ≡ before.text.items ++ tick_line (before.at + 40) → after.at ≡ before.at + 40
+      → after.draws.state ≡ before.draws.state → GoesOn sites before after (Tick ∷ [])
+  tick_goes = one_goes Tick (tick_line (before.at + 40)) (before.at + 40) before.draws.state (tick_first sites before.at before.draws.state)
 
 -- one list of entries, and then another
 two_go : (sites : ℕ) (a b c : Log) (xs ys : List Entry) → GoesOn sites a b xs → GoesOn sites b c ys → GoesOn sites a c (xs ++ ys)
@@ -140,13 +134,14 @@ unfolding lines_text
 nothing sites at x = refl
 
 -- a log that was written whole
-pub whole : (number sites start : ℕ) (old : List ℕ) (after : Log) (entries : List Entry) → number ≡ sites → old ≡ []
-    → ((later : List Entry) → old ++ lines_text number 0 start (entries ++ later) ≡ after.text.items ++ lines_text number after.at after.draws.state later)
-    → after.text.items ≡ lines_text sites 0 start entries
-whole number sites start old after entries same empty goes =
+pub whole : (number sites start : ℕ) (before after : Log) (entries : List Entry) → number ≡ sites → before.text.items ≡ [] → before.at ≡ 0
+    → before.draws.state ≡ start → GoesOn number before after entries → after.text.items ≡ lines_text sites 0 start entries
+whole number sites start before after entries same empty early begins goes =
     sym (
     sym (ap (λ (n : ℕ). lines_text n 0 start entries) same)
     ∙ (ap (λ (es : List Entry). lines_text number 0 start es) (sym (append-nil entries))
-    ∙ (ap (λ (xs : List ℕ). xs ++ lines_text number 0 start (entries ++ [])) (sym empty)
-    ∙ (goes [] ∙ (ap (λ (xs : List ℕ). after.text.items ++ xs) (nothing number after.at after.draws.state) ∙ append-nil after.text.items))))
+    ∙ (ap (λ (s : ℕ). lines_text number 0 s (entries ++ [])) (sym begins)
+    ∙ (ap (λ (t : ℕ). lines_text number t before.draws.state (entries ++ [])) (sym early)
+    ∙ (ap (λ (xs : List ℕ). xs ++ lines_text number before.at before.draws.state (entries ++ [])) (sym empty)
+    ∙ (goes [] ∙ (ap (λ (xs : List ℕ). after.text.items ++ xs) (nothing number after.at after.draws.state) ∙ append-nil after.text.items))))))
     )

@@ -6,7 +6,7 @@ unfoldable pub next_state : ℕ → ℕ
 next_state x = (x * 6364136223846793005 + 1442695040888963407) % 2 ^ 64
 
 -- what is drawn below a number, by the state behind the draw
-unfoldable pub drawn : ℕ → ℕ → ℕ
+abbrev pub drawn : ℕ → ℕ → ℕ
 drawn x below = x / 2 ^ 33 % below
 
 -- the state behind so many draws

@@ -53,14 +53,19 @@ unfoldable pub rounds : ℕ → List Entry
 rounds zero = []
 rounds (suc n) = round ++ rounds n
 
+-- the line of an edit that is drawn behind a time and a state of the generator: its kind, and then its site
+abbrev pub drawn_edit_line : ℕ → ℕ → ℕ → List ℕ
+drawn_edit_line sites at x = edit_line (at + 1) (draw 1 x 8) (draw 2 x sites)
+
+-- the line of such an alarm: its source, its kind, and then its site
+abbrev pub drawn_alarm_line : ℕ → ℕ → ℕ → List ℕ
+drawn_alarm_line sites at x = alarm_line (at + 1) (draw 1 x 4) (draw 2 x 6) (draw 3 x sites)
+
 -- the lines from a time and a state of the generator on. Before an edit or an alarm the time rises by 1, before a tick by 40.
--- An edit draws its kind and then its site, an alarm its source, its kind and its site.
 unfoldable pub lines_text : ℕ → ℕ → ℕ → List Entry → List ℕ
 lines_text sites at x [] = []
-lines_text sites at x (Edit ∷ later) =
-    edit_line (at + 1) (draw 1 x 8) (draw 2 x sites) ++ lines_text sites (at + 1) (state_after 2 x) later
-lines_text sites at x (Alarm ∷ later) =
-    alarm_line (at + 1) (draw 1 x 4) (draw 2 x 6) (draw 3 x sites) ++ lines_text sites (at + 1) (state_after 3 x) later
+lines_text sites at x (Edit ∷ later) = drawn_edit_line sites at x ++ lines_text sites (at + 1) (state_after 2 x) later
+lines_text sites at x (Alarm ∷ later) = drawn_alarm_line sites at x ++ lines_text sites (at + 1) (state_after 3 x) later
 lines_text sites at x (Tick ∷ later) = tick_line (at + 40) ++ lines_text sites (at + 40) x later
 
 -- the log: 20 rounds from time 0 on

@@ -16,10 +16,17 @@ impl Draws {
         ensures value { result ≡ drawn (next_state self.old.state) below }
         ensures small { result < below }
     {
+        self.step();
+        (self.state >> 33) % below
+    }
+
+    // Goes on to the next state.
+    fn step(&mut self)
+        ensures { self.new.state ≡ next_state self.old.state }
+    {
         self.state = self
             .state
             .wrapping_mul(6_364_136_223_846_793_005)
             .wrapping_add(1_442_695_040_888_963_407);
-        (self.state >> 33) % below
     }
 }

@@ -1,6 +1,7 @@
 //! The log.
-ghost use Rattle.std.specs.Prelude.{◌≡◌, ◌+◌, ◌<◌, ◌≤◌, ◌^◌, [], ◌∷◌, IfOk, OnOk, replicate};
-ghost use Rattle.cb_gen.specs.Log.{Edit, Alarm, Tick, round as entries_of_round, rounds, log_text as text_of_log};
+ghost use Rattle.std.specs.Prelude.{◌≡◌, ◌+◌, ◌<◌, ◌≤◌, ◌^◌, ◌++◌, [], IfOk, OnOk, replicate};
+ghost use Rattle.cb_gen.specs.Draws.{state_after};
+ghost use Rattle.cb_gen.specs.Log.{Edit, Alarm, drawn_alarm_line, drawn_edit_line, tick_line, round as entries_of_round, rounds, log_text as text_of_log};
 ghost use Rattle.cb_gen.specs.Writing.{GoesOn};
 
 use crate::alarm::push_alarm;
@@ -23,16 +24,25 @@ pub fn log_text(alloc: Global, sites: u32, start: u64) -> Result<Vec<u8>, AllocE
     requires few { sites ≤ 256 }
     ensures { IfOk result (λ text. text.items ≡ text_of_log sites start) }
 {
-    let mut log = Log {
-        text: Vec::new(alloc),
-        at: 0,
-        draws: Draws { state: start },
-    };
+    let mut log = Log::new(alloc, start);
     log.push_rounds(20, u64::from(sites))?;
     Ok(log.text)
 }
 
 impl Log {
+    // A log of no lines, from a start of the generator on.
+    fn new(alloc: Global, start: u64) -> Log
+        ensures text { result.text.items ≡ [] }
+        ensures time { result.at ≡ 0 }
+        ensures state { result.draws.state ≡ start }
+    {
+        Log {
+            text: Vec::new(alloc),
+            at: 0,
+            draws: Draws { state: start },
+        }
+    }
+
     // Adds so many rounds.
     fn push_rounds(&mut self, count: u64, sites: u64) -> Result<(), AllocError>
         requires some { 0 < sites }
@@ -55,8 +65,7 @@ impl Log {
     {
         self.push_edits(50, sites)?;
         self.push_alarms(100, sites)?;
-        self.at += 40;
-        push_tick(&mut self.text, self.at)
+        self.push_next_tick()
     }
 
     // Adds so many edits.
@@ -87,12 +96,24 @@ impl Log {
         Ok(())
     }
 
+    // Adds a tick.
+    fn push_next_tick(&mut self) -> Result<(), AllocError>
+        requires early { self.now.at < 2 ^ 34 }
+        ensures text { OnOk result (self.new.text.items ≡ self.old.text.items ++ tick_line (self.old.at + 40)) }
+        ensures time { OnOk result (self.new.at ≡ self.old.at + 40) }
+        ensures state { OnOk result (self.new.draws.state ≡ self.old.draws.state) }
+    {
+        self.at += 40;
+        push_tick(&mut self.text, self.at)
+    }
+
     // Adds an edit that is drawn.
     fn push_drawn_edit(&mut self, sites: u64) -> Result<(), AllocError>
         requires some { 0 < sites }
         requires early { self.now.at < 2 ^ 34 }
-        ensures lines { OnOk result (GoesOn sites self.old self.new (Edit ∷ [])) }
+        ensures text { OnOk result (self.new.text.items ≡ self.old.text.items ++ drawn_edit_line sites self.old.at self.old.draws.state) }
         ensures time { OnOk result (self.new.at ≡ self.old.at + 1) }
+        ensures state { OnOk result (self.new.draws.state ≡ state_after 2 self.old.draws.state) }
     {
         self.at += 1;
         let kind = self.draws.below(8);
@@ -104,13 +125,14 @@ impl Log {
     fn push_drawn_alarm(&mut self, sites: u64) -> Result<(), AllocError>
         requires some { 0 < sites }
         requires early { self.now.at < 2 ^ 34 }
-        ensures lines { OnOk result (GoesOn sites self.old self.new (Alarm ∷ [])) }
+        ensures text { OnOk result (self.new.text.items ≡ self.old.text.items ++ drawn_alarm_line sites self.old.at self.old.draws.state) }
         ensures time { OnOk result (self.new.at ≡ self.old.at + 1) }
+        ensures state { OnOk result (self.new.draws.state ≡ state_after 3 self.old.draws.state) }
     {
         self.at += 1;
         let source = self.draws.below(4);
         let kind = self.draws.below(6);
-        let site = self.draws.below(sites);
-        push_alarm(&mut self.text, self.at, source, kind, site)
+        let about = self.draws.below(sites);
+        push_alarm(&mut self.text, self.at, source, kind, about)
     }
 }

@@ -1,12 +1,13 @@
 //! The model.
-ghost use Rattle.std.specs.Prelude.{◌≡◌, IfOk};
+ghost use Rattle.std.specs.Prelude.{◌≡◌, ◌≤◌, IfOk, length};
 ghost use Rattle.cb_gen.specs.Model.{model_text as text_of_model};
 
 use std::alloc::{AllocError, Global};
 
-/// The model of boxes, ports and lines.
+/// The model of boxes, ports and lines. It has at most 16 MiB, as whoever reads a model asks.
 pub fn model_text(alloc: Global) -> Result<Vec<u8>, AllocError>
-    ensures { IfOk result (λ text. text.items ≡ text_of_model) }
+    ensures text { IfOk result (λ text. text.items ≡ text_of_model) }
+    ensures small { IfOk result (λ text. length text.items ≤ 16777216) }
 {
     Vec::from_slice(alloc, MODEL.as_bytes())
 }

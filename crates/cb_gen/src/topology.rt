@@ -1,15 +1,17 @@
 //! The topology: sites in a ring.
 ghost use Rattle.std.specs.Prelude.{◌≡◌, ◌++◌, ◌<◌, ◌≤◌, IfOk, OnOk};
+ghost use Rattle.cb_text.specs.Lines.{HasShortLines};
 ghost use Rattle.cb_gen.specs.Topology.{create_line, created, link_line, linked, linked_with, of_sites, topology_text as text_of_topology};
 
 use crate::piece::push_number;
 use std::alloc::{AllocError, Global};
 
-/// The topology of so many sites.
+/// The topology of so many sites. No line is longer than a line of a topology may be.
 pub fn topology_text(alloc: Global, sites: u32) -> Result<Vec<u8>, AllocError>
     requires some { 1 ≤ sites }
     requires few { sites ≤ 256 }
-    ensures { IfOk result (λ text. text.items ≡ text_of_topology sites) }
+    ensures text { IfOk result (λ text. text.items ≡ text_of_topology sites) }
+    ensures short { IfOk result (λ text. HasShortLines text.items) }
 {
     let mut out = Vec::new(alloc);
     push_all_created(&mut out, u64::from(sites))?;

@@ -4,5 +4,5 @@ use Rattle.cb_gen.proofs.log.log_text.Goals as goal
 
 pub returns : goal.returns
 returns c =
-    whole c.from.result c.args.sites c.args.start c.new.result.items c.push_rounds.new.self (rounds 20) c.from.ensures c.new.ensures.items
-    c.in_ok-push_rounds.ensures
+    whole c.from.result c.args.sites c.args.start c.new-log.result c.push_rounds.new.self (rounds 20) c.from.ensures c.new-log.ensures.text c.new-log.ensures.time
+    c.new-log.ensures.state c.in_ok-push_rounds.ensures
