@@ -4,6 +4,7 @@ pub mod Once
 pub mod JobsOne
 pub mod LogFronts
 pub mod LogsOne
+pub mod GrownOne
 pub mod Outcomes
 pub mod Complete
 pub mod Accepted

@@ -219,7 +219,7 @@ IsSound (network t) = IsRegular t.model
 IsSound (raised t nodes) = IsRegular t.model
 IsSound (certified t c) = IsRegular t.model
 
-means_one : (role : Role) (known : Known) (text : List ℕ) → IsSound known → (a b : Known) → Means role known text a → Means role known text b → a ≡ b
+pub means_one : (role : Role) (known : Known) (text : List ℕ) → IsSound known → (a b : Known) → Means role known text a → Means role known text b → a ≡ b
 means_one Role.model nothing text sound a b (t, is, e) (u, is', h) = e ∙ (ap (λ (x : Tree). parsed x) (same_tree text t u is.spelled is'.spelled) ∙ sym h)
 means_one Role.topology (parsed tree) text (from, says) a b (t, is, e) (u, is', h) =
     e ∙ (ap (λ (x : Topology). network x) (one_topology from tree says text t u is is') ∙ sym h)
@@ -231,7 +231,7 @@ means_one Role.book (network t) text sound a b (c, is, kind, e) (d, is', kind', 
     e ∙ (ap (λ (x : Certificate). certified t x) (same_certificate text c d is.spelled is'.spelled) ∙ sym h)
 means_one role known text sound a b p q = absurd p
 
-fault_one : (role : Role) (known : Known) (text : List ℕ) → IsSound known → (f g : Fault) → HasFault role known text f → HasFault role known text g → f ≡ g
+pub fault_one : (role : Role) (known : Known) (text : List ℕ) → IsSound known → (f g : Fault) → HasFault role known text f → HasFault role known text g → f ≡ g
 fault_one Role.model nothing text sound f g a b = same_kind text f g (kind_of text f a) (kind_of text g b)
 fault_one Role.topology (parsed tree) text (from, says) f g a b =
     one_wrong_line from tree says text f g (line_of from tree says text f a) (line_of from tree says text g b)
@@ -240,7 +240,7 @@ fault_one Role.certificate (network t) text sound f g a b = one_claim t text f g
 fault_one Role.book (network t) text sound f g a b = one_book t text f g (wrong_book t text f a) (wrong_book t text g b)
 fault_one role known text sound f g a b = absurd a
 
-means_or_fault : (role : Role) (known : Known) (text : List ℕ) → IsSound known → (a : Known) (f : Fault) → Means role known text a → HasFault role known text f → ⊥
+pub means_or_fault : (role : Role) (known : Known) (text : List ℕ) → IsSound known → (a : Known) (f : Fault) → Means role known text a → HasFault role known text f → ⊥
 means_or_fault Role.model nothing text sound a f (t, is, e) h = kept_or_broken text f t (kind_of text f h) is
 means_or_fault Role.topology (parsed tree) text (from, says) a f (t, is, e) h = wrong_or_topology from tree says text f t (line_of from tree says text f h) is
 means_or_fault Role.symptoms (network t) text sound a f (xs, is, e) h = bad_or_nodes text f xs h is
@@ -248,7 +248,7 @@ means_or_fault Role.certificate (network t) text sound a f (c, is, e) h = claim_
 means_or_fault Role.book (network t) text sound a f (c, is, kind, e) h = book_or_valid t text f c (wrong_book t text f h) is kind
 means_or_fault role known text sound a f p h = p
 
-means_sound : (role : Role) (known : Known) (text : List ℕ) (next : Known) → IsSound known → Means role known text next → IsSound next
+pub means_sound : (role : Role) (known : Known) (text : List ℕ) (next : Known) → IsSound known → Means role known text next → IsSound next
 means_sound Role.model nothing text next sound (t, is, e) = subst IsSound (sym e) (text, is)
 means_sound Role.topology (parsed tree) text next (from, says) (t, is, e) = subst IsSound (sym e) (topology_regular from tree says text t is)
 means_sound Role.symptoms (network t) text next sound (xs, is, e) = subst IsSound (sym e) sound

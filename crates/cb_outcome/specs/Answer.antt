@@ -1,5 +1,5 @@
 -- The outcome of words and files, and what of its output is due at a point of the run.
-use Rattle.std.specs.Prelude.{◌≡◌, ℕ, min, List, [], ◌∷◌, take, Bool, true, false, Option, None, Some, IsSomeAnd}
+use Rattle.std.specs.Prelude.{◌≡◌, ℕ, min, List, [], ◌∷◌, take, Option, None, Some, IsSomeAnd}
 use Rattle.cb_request.specs.declared.request.Request.{Request}
 use Rattle.cb_request.specs.Files.{logs_of}
 use Rattle.cb_report.specs.declared.fault.Fault.TheVariants as faults
@@ -7,18 +7,17 @@ use Rattle.cb_outcome.specs.Outcome.{Outcome, refused}
 use Rattle.cb_outcome.specs.Judged.{Known, nothing, Gives, PassFrom}
 use Rattle.cb_outcome.specs.Contents.{Left, files_from, log_from}
 use Rattle.cb_outcome.specs.LogJobs.{Watch, IsWatch, FrontTells, log_limit}
-use Rattle.cb_outcome.specs.Jobs.{is_built, JobGives}
+use Rattle.cb_outcome.specs.Jobs.{JobGives}
 use Rattle.cb_outcome.specs.Point.{Point}
 
--- the outcome of a request: its files in order, and then its job; or that its command isn't built
-abbrev pub RequestAnswers : Bool → Request → Left → Outcome → Type 0
-RequestAnswers true request left outcome = Gives (JobGives left request) nothing 0 (files_from left request) outcome
-RequestAnswers false request left outcome = outcome ≡ refused faults.NotBuilt 0
+-- the outcome of a request: its files in order, and then its job
+abbrev pub RequestGives : Request → Left → Outcome → Type 0
+RequestGives request left outcome = Gives (JobGives left request) nothing 0 (files_from left request) outcome
 
 -- the outcome of what is asked for, if something is, by the bytes left of each name
 abbrev pub IsOutcome : Option Request → Left → Outcome → Type 0
 IsOutcome None left outcome = outcome ≡ refused faults.Usage 0
-IsOutcome (Some request) left outcome = RequestAnswers (is_built request) request left outcome
+IsOutcome (Some request) left outcome = RequestGives request left outcome
 
 -- the judged files of a request pass, and the lines of its log that ended within the first bytes tell this
 pub record IsToldUpto (left : Left) (request : Request) (taken : ℕ) (due : List ℕ) : Type 0 where
@@ -30,9 +29,9 @@ pub record IsToldUpto (left : Left) (request : Request) (taken : ℕ) (due : Lis
   pub follows : IsWatch request known watch
   pub tells : FrontTells watch (take (min taken log_limit) (log_from left request name)) due
 
--- Nothing is due at the start. Once so many bytes of the log of a command that is built were taken, it is the output of the lines that
--- ended within them; at the end, that of the outcome.
+-- Nothing is due at the start. Once so many bytes of the log were taken, it is the output of the lines that ended within them; at the
+-- end, that of the outcome.
 abbrev pub IsDue : Option Request → Left → Point → List ℕ → Type 0
 IsDue asked left Point.start due = due ≡ []
-IsDue asked left (Point.upto taken) due = IsSomeAnd asked (λ request. (is_built request ≡ true) × IsToldUpto left request taken due)
+IsDue asked left (Point.upto taken) due = IsSomeAnd asked (λ request. IsToldUpto left request taken due)
 IsDue asked left Point.end due = (outcome : Outcome) × IsOutcome asked left outcome × (due ≡ outcome.out)

@@ -1,5 +1,5 @@
 -- What comes of a request whose files have been judged.
-use Rattle.std.specs.Prelude.{◌≡◌, ◌⊎◌, ℕ, List, length, Bool, true, false, Option}
+use Rattle.std.specs.Prelude.{◌≡◌, ◌⊎◌, ℕ, List, length, Option}
 use Rattle.cb_model.specs.declared.node.GroupName.{GroupName}
 use Rattle.cb_model.specs.declared.node.GroupName.TheVariants.{Least}
 use Rattle.cb_model.specs.declared.node.NodeName.{NodeName}
@@ -25,22 +25,12 @@ use Rattle.cb_report.specs.CertificateTexts.{accepted_text}
 use Rattle.cb_report.specs.Lines.{burst_text}
 use Rattle.cb_report.specs.MatrixText.{matrix_text}
 use Rattle.cb_request.specs.declared.request.Request.{Request}
-use Rattle.cb_request.specs.declared.request.Request.TheVariants.{Burst, Model, Matrix, Codebook, Verify, Decode, Correlate}
+use Rattle.cb_request.specs.declared.request.Request.TheVariants.{Burst, Model, Matrix, Codebook, Verify, Decode, Correlate, Grow}
 use Rattle.cb_outcome.specs.Outcome.{Outcome, done, done_with, refused}
-use Rattle.cb_outcome.specs.Judged.{Known, parsed, network, raised, certified}
+use Rattle.cb_outcome.specs.Judged.{Known, nothing, parsed, network, raised, certified}
 use Rattle.cb_outcome.specs.Contents.{Left}
 use Rattle.cb_outcome.specs.LogJobs.{Follows}
-
--- the commands that are built
-abbrev pub is_built : Request → Bool
-is_built (Burst one two three) = true
-is_built (Model one) = true
-is_built (Matrix one two) = true
-is_built (Codebook one two distance) = true
-is_built (Verify one two three) = true
-is_built (Decode one two three log window) = true
-is_built (Correlate one two log distance window) = true
-is_built request = false
+use Rattle.cb_outcome.specs.Grown.{GrowGives}
 
 -- `burst`: what is found for the nodes
 abbrev pub BurstGives : Topology → List NodeName → ℕ → Outcome → Type 0
@@ -103,4 +93,5 @@ JobGives left (Verify one two three) (certified t c) whole outcome = VerifyGives
 JobGives left (Decode one two three log window) known whole outcome = Follows left (Decode one two three log window) log known whole outcome
 JobGives left (Correlate one two log distance window) known whole outcome =
     Follows left (Correlate one two log distance window) log known whole outcome
+JobGives left (Grow sites start) nothing whole outcome = GrowGives sites start whole outcome
 JobGives left request known whole outcome = ⊥

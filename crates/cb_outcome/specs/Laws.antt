@@ -1,5 +1,5 @@
 -- What holds of outcomes, whatever the program does.
-use Rattle.std.specs.Prelude.{◌≡◌, ◌≢◌, ◌⊎◌, ℕ, ◌++◌, List, [], ◌∷◌, length, Option, None, Some, true}
+use Rattle.std.specs.Prelude.{◌≡◌, ◌≢◌, ◌⊎◌, ℕ, ◌++◌, List, [], ◌∷◌, length, Option, None, Some}
 use Rattle.cb_io.specs.Outside.{contents}
 use Rattle.cb_network.specs.Regular.{IsRegular}
 use Rattle.cb_network.specs.Topology.{Topology}
@@ -13,7 +13,7 @@ use Rattle.cb_outcome.specs.Outcome.{Outcome}
 use Rattle.cb_outcome.specs.Judged.{Known, nothing, PassFrom}
 use Rattle.cb_outcome.specs.Jobs.{JobGives}
 use Rattle.cb_outcome.specs.Contents.{Left, files_from}
-use Rattle.cb_outcome.specs.Answer.{RequestAnswers, IsOutcome, IsToldUpto, IsDue}
+use Rattle.cb_outcome.specs.Answer.{RequestGives, IsOutcome, IsDue}
 use Rattle.cb_outcome.specs.Point.{Point}
 
 -- the asked and the bytes left of each name have one outcome
@@ -35,19 +35,10 @@ abbrev pub DueIsFront : Type 0
 DueIsFront = (asked : Option Request) (left : Left) (point : Point) (due : List ℕ) (outcome : Outcome)
     → IsOutcome asked left outcome → IsDue asked left point due → BeginsWith outcome.out due
 
--- the files of a request have one answer, whether its command is built yet or not
-abbrev pub AnswerIsOne : Type 0
-AnswerIsOne = (request : Request) (left : Left) (a b : Outcome) → RequestAnswers true request left a → RequestAnswers true request left b → a ≡ b
-
--- what a log tells at a point is a front of the answer's output, whether the command is built yet or not
-abbrev pub ToldIsFront : Type 0
-ToldIsFront = (request : Request) (left : Left) (taken : ℕ) (due : List ℕ) (outcome : Outcome)
-    → RequestAnswers true request left outcome → IsToldUpto left request taken due → BeginsWith outcome.out due
-
--- where all judged files pass, the answer is what the job gives, and no refusal
+-- where all judged files pass, the outcome is what the job gives, and no refusal
 abbrev pub PassedGoToJob : Type 0
 PassedGoToJob = (request : Request) (left : Left) (known : Known) (outcome : Outcome) → PassFrom nothing (files_from left request) known
-    → RequestAnswers true request left outcome → (whole : ℕ) × JobGives left request known whole outcome
+    → RequestGives request left outcome → (whole : ℕ) × JobGives left request known whole outcome
 
 -- an outcome without a fault has read each file word whole
 abbrev pub DoneReadsAll : Type 0

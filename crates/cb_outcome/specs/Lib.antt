@@ -3,6 +3,7 @@ pub mod Outcome
 pub mod Judged
 pub mod Contents
 pub mod LogJobs
+pub mod Grown
 pub mod Jobs
 pub mod Point
 pub mod Answer

@@ -1,15 +1,10 @@
 //! What holds of outcomes.
-ghost use Rattle.cb_outcome.specs.Laws.{OutcomeIsOne, AnswerIsOne, FrontIsFront, DueIsFront, ToldIsFront, PassedGoToJob, DoneReadsAll, WrittenIsAccepted};
+ghost use Rattle.cb_outcome.specs.Laws.{OutcomeIsOne, FrontIsFront, DueIsFront, PassedGoToJob, DoneReadsAll, WrittenIsAccepted};
 
 /// The words of the command line and the bytes of the files have one outcome: in how large pieces the files give their
 /// bytes makes no difference.
 pub fn outcome_is_one()
     ensures { OutcomeIsOne }
-{}
-
-/// The files of a request have one answer, whether its command is built yet or not.
-pub fn answer_is_one()
-    ensures { AnswerIsOne }
 {}
 
 /// The events of the first bytes of a log are its first events.
@@ -22,12 +17,7 @@ pub fn due_is_front()
     ensures { DueIsFront }
 {}
 
-/// What a log tells at a point is a front of the answer's output, whether the command is built yet or not.
-pub fn told_is_front()
-    ensures { ToldIsFront }
-{}
-
-/// Where all judged files pass, the answer is what the job gives.
+/// Where all judged files pass, the outcome is what the job gives.
 pub fn passed_go_to_job()
     ensures { PassedGoToJob }
 {}

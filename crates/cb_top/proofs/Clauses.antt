@@ -4,9 +4,10 @@ use Rattle.std.specs.Prelude.{Option, None, Some, map}
 use Rattle.std.specs.List.{Contains}
 use Rattle.std.proofs.lemmas.List.{length-append}
 use Rattle.std.proofs.lemmas.List.Elements.{Contains-append_right}
-use Rattle.cb_model.proofs.Rising.{contains_head}
+use Rattle.cb_model.proofs.Rising.{contains_head, nothing_in_empty}
 use Rattle.cb_io.specs.Outside.{SinkTold, WritesAll, WritesFront, WriteFailed}
 use Rattle.cb_request.specs.declared.request.Request.{Request}
+use Rattle.cb_request.specs.declared.request.Request.TheVariants.{Burst, Model, Matrix, Codebook, Verify, Decode, Correlate, Grow}
 use Rattle.cb_request.specs.Files.{Role, judged_of, logs_of, names_of, file_words}
 use Rattle.cb_report.specs.declared.fault.Fault.{Fault}
 use Rattle.cb_report.specs.declared.fault.Fault.TheVariants as faults
@@ -18,13 +19,13 @@ use Rattle.cb_report.specs.FaultTexts.{fault_text, line_text}
 use Rattle.cb_report.specs.Said.{TakesLine}
 use Rattle.cb_outcome.specs.Outcome.{Outcome, refused}
 use Rattle.cb_outcome.specs.Judged.{Known, nothing, Gives, PassFrom}
-use Rattle.cb_outcome.specs.Jobs.{is_built, JobGives}
+use Rattle.cb_outcome.specs.Jobs.{JobGives}
 use Rattle.cb_outcome.specs.Contents.{Left, with_texts, files_from}
-use Rattle.cb_outcome.specs.Answer.{RequestAnswers, IsOutcome}
+use Rattle.cb_outcome.specs.Answer.{IsOutcome}
 use Rattle.cb_outcome.specs.Point.{Point}
 use Rattle.cb_outcome.specs.Reading.{Told, ReadsTo}
 use Rattle.cb_outcome.specs.Seen.{Seen}
-use Rattle.cb_outcome.specs.Ends.{HasRole, MayEndIfBuilt, RequestEnds, MayEnd}
+use Rattle.cb_outcome.specs.Ends.{roles_of, HasRole, MayEnd}
 use Rattle.cb_outcome.specs.Clauses.{Answers, AnswersOutcome, WritesDue, ReadsJudged, HaveAllPassed, KeepsQuiet, NamesFileWord, SaysStatus, ReadsInOrder, Blames}
 use Rattle.cb_outcome.specs.Finds.{Finds}
 use Rattle.cb_outcome.proofs.Outcomes.{texts_count, names_count, some_name}
@@ -32,7 +33,7 @@ use Rattle.cb_top.specs.declared.output.Output.{Output}
 use Rattle.cb_top.specs.Kinds.{file_of, IsWant, FailsToRead}
 use Rattle.cb_top.specs.Ending.{names, Makes, WantsMemory, IsRefusedThere, StopsAt, Comes, IsDelivered, IsCutOff, Delivers}
 use Rattle.cb_top.specs.Following.{FollowsLog}
-use Rattle.cb_top.specs.Ways.{DoesNothing, EndsRequest, EndsAsked}
+use Rattle.cb_top.specs.Ways.{DoesNothing, EndsAsked}
 use Rattle.cb_top.proofs.Followed as follow
 use Rattle.cb_top.proofs.Chain.{if_some, if_some2, of_all, map_append, take_front, take_whole, reads_all, reads_none}
 use Rattle.cb_top.proofs.Made.{gives_job, gives_refused}
@@ -69,18 +70,17 @@ pub record Stopped (request : Request) (s : Seen) (fault : Fault) : Type 0 where
 
 pub data Story (asked : Option Request) (status : Status) (s : Seen) : Type 0 where
   usage : asked ≡ None → s.files_after ≡ s.files → Ended faults.Usage status s → Story asked status s
-  unbuilt : (request : Request) → asked ≡ Some request → is_built request ≡ false → s.files_after ≡ s.files → Ended faults.NotBuilt status s → Story asked status s
-  made : (request : Request) → asked ≡ Some request → is_built request ≡ true → (bytes : List ℕ) (fault : Option Fault)
+  made : (request : Request) → asked ≡ Some request → (bytes : List ℕ) (fault : Option Fault)
       → Makes request s.files s.files_after bytes fault → Wrote bytes fault status s → Story asked status s
-  unwritten : (request : Request) → asked ≡ Some request → is_built request ≡ true → (bytes : List ℕ) (fault : Option Fault)
+  unwritten : (request : Request) → asked ≡ Some request → (bytes : List ℕ) (fault : Option Fault)
       → Makes request s.files s.files_after bytes fault → Broke bytes status s → Story asked status s
-  wanting : (request : Request) → asked ≡ Some request → is_built request ≡ true → (fault : Fault) → WantsMemory request s.files s.files_after fault
+  wanting : (request : Request) → asked ≡ Some request → (fault : Fault) → WantsMemory request s.files s.files_after fault
       → Ended fault status s → Story asked status s
-  failed : (request : Request) → asked ≡ Some request → is_built request ≡ true → (fault : Fault) → (stopped : Stopped request s fault)
+  failed : (request : Request) → asked ≡ Some request → (fault : Fault) → (stopped : Stopped request s fault)
       → FailsToRead stopped.file.1 s.files s.files_after fault → Ended fault status s → Story asked status s
-  refusing : (request : Request) → asked ≡ Some request → is_built request ≡ true → (fault : Fault) → (stopped : Stopped request s fault)
+  refusing : (request : Request) → asked ≡ Some request → (fault : Fault) → (stopped : Stopped request s fault)
       → IsRefusedThere stopped.earlier stopped.file stopped.known s.files fault → Ended fault status s → Story asked status s
-  followed : (request : Request) → asked ≡ Some request → is_built request ≡ true → (end : Option Fault)
+  followed : (request : Request) → asked ≡ Some request → (end : Option Fault)
       → FollowsLog request s.files s.files_after s.out s.out_after end → status ≡ ending end → TakesLine s.err s.err_after (line_text end) → Story asked status s
 
 module _ (s : Seen) (status : Status) where
@@ -95,11 +95,11 @@ module _ (s : Seen) (status : Status) where
     read = at.read;
   }
 
-  why_stopped : (request : Request) → is_built request ≡ true → (fault : Fault) (at : StopsAt request s.files s.files_after fault)
+  why_stopped : (request : Request) → (fault : Fault) (at : StopsAt request s.files s.files_after fault)
       → FailsToRead at.file.1 s.files s.files_after fault ⊎ IsRefusedThere at.earlier at.file at.known s.files fault → Ended fault status s → Story (Some request) status s
   unfolding stopped_of
-  why_stopped request built fault at (inl fails) end = failed request refl built fault (stopped_of request fault at) fails end
-  why_stopped request built fault at (inr is) end = refusing request refl built fault (stopped_of request fault at) is end
+  why_stopped request fault at (inl fails) end = failed request refl fault (stopped_of request fault at) fails end
+  why_stopped request fault at (inr is) end = refusing request refl fault (stopped_of request fault at) is end
 
   module _ (end : Option Fault) (status_is : status ≡ ending end) (says : TakesLine s.err s.err_after (line_text end)) where
     wrote : (bytes : List ℕ) (fault : Option Fault) → IsDelivered bytes fault end s.out s.out_after → Wrote bytes fault status s
@@ -120,23 +120,18 @@ module _ (s : Seen) (status : Status) where
     did_nothing : (fault : Fault) → DoesNothing s.files s.files_after s.out s.out_after end fault → Ended fault status s
     did_nothing fault is = wrote [] (Some fault) (record { written = is.written; end_is = is.end_is })
 
-    made_story : (request : Request) → is_built request ≡ true → (made : Result Output Fault) → Comes request s.files s.files_after made
+    made_story : (request : Request) → (made : Result Output Fault) → Comes request s.files s.files_after made
         → Delivers made end s.out s.out_after → Story (Some request) status s
-    made_story request built (Ok output) comes (inl is) =
-        made request refl built output.bytes.items output.fault comes (wrote output.bytes.items output.fault is)
-    made_story request built (Ok output) comes (inr is) = unwritten request refl built output.bytes.items output.fault comes (broke output.bytes.items is)
-    made_story request built (Err fault) (inl want) is = wanting request refl built fault want (wrote [] (Some fault) is)
-    made_story request built (Err fault) (inr at) is = why_stopped request built fault at at.why (wrote [] (Some fault) is)
-
-    built_story : (request : Request) (built : Bool) → is_built request ≡ built → EndsRequest built request s.files s.files_after s.out s.out_after end
-        → Story (Some request) status s
-    built_story request true is (inl ends) = made_story request is ends.made ends.comes ends.delivers
-    built_story request true is (inr follows) = followed request refl is end follows status_is says
-    built_story request false is ends = unbuilt request refl is ends.same (did_nothing faults.NotBuilt ends)
+    made_story request (Ok output) comes (inl is) =
+        made request refl output.bytes.items output.fault comes (wrote output.bytes.items output.fault is)
+    made_story request (Ok output) comes (inr is) = unwritten request refl output.bytes.items output.fault comes (broke output.bytes.items is)
+    made_story request (Err fault) (inl want) is = wanting request refl fault want (wrote [] (Some fault) is)
+    made_story request (Err fault) (inr at) is = why_stopped request fault at at.why (wrote [] (Some fault) is)
 
     pub story : (asked : Option Request) → EndsAsked asked s.files s.files_after s.out s.out_after end → Story asked status s
     story None ends = usage refl ends.same (did_nothing faults.Usage ends)
-    story (Some request) ends = built_story request (is_built request) refl ends
+    story (Some request) (inl ends) = made_story request ends.made ends.comes ends.delivers
+    story (Some request) (inr follows) = followed request refl end follows status_is says
 
 -- ---- facts
 
@@ -171,26 +166,30 @@ not_nil : {X : Type 0} (front rest : List X) (x : X) → front ++ x ∷ rest ≡
 not_nil [] rest x e = cc
 not_nil (y ∷ ys) rest x e = cc
 
--- ---- a request whose command is built
+-- ---- a request
+
+-- the role of a file is one of the request's
+judged_role : (request : Request) (role : Role) → Contains (map (λ file. file.0) (judged_of request)) role → HasRole request role
+judged_role (Burst one two three) role c = c
+judged_role (Model one) role c = c
+judged_role (Matrix one two) role c = c
+judged_role (Codebook one two d) role c = c
+judged_role (Verify one two three) role c = c
+judged_role (Decode one two three log w) role c = c
+judged_role (Correlate one two log d w) role c = c
+judged_role (Grow sites start) role c = absurd (nothing_in_empty role c)
 
 -- the outcome of a request whose judged files were all read
 abbrev outcome_of : Request → List ℕ → Option Fault → Outcome
 outcome_of request bytes fault = record { out = bytes; fault = fault; whole = length (judged_of request) }
 
-module _ (request : Request) (built : is_built request ≡ true) where
-  as_built : (left : Left) (outcome : Outcome) → RequestAnswers true request left outcome → IsOutcome (Some request) left outcome
-  as_built left outcome is = subst (λ (b : Bool). RequestAnswers b request left outcome) (sym built) is
-
-  may_end : (status : Status) → MayEndIfBuilt request status → MayEnd (Some request) status
-  may_end status has = subst (λ (b : Bool). RequestEnds b request status) (sym built) has
-
+module _ (request : Request) where
   module _ (s : Seen) (bytes : List ℕ) (fault : Option Fault) (makes : Makes request s.files s.files_after bytes fault) where
     outcome_is : (left : Left) → PassFrom nothing (files_from left request) makes.known → IsOutcome (Some request) left (outcome_of request bytes fault)
     outcome_is left said =
-        as_built left (outcome_of request bytes fault)
-        (gives_job (JobGives left request) (files_from left request) nothing makes.known 0 (outcome_of request bytes fault) said
+        gives_job (JobGives left request) (files_from left request) nothing makes.known 0 (outcome_of request bytes fault) said
         (λ w e. let count = texts_count left [] (judged_of request) in
-        subst (λ (n : ℕ). JobGives left request makes.known w (record { out = bytes; fault = fault; whole = n })) (omega (arith, e, count)) (makes.gives left w)))
+        subst (λ (n : ℕ). JobGives left request makes.known w (record { out = bytes; fault = fault; whole = n })) (omega (arith, e, count)) (makes.gives left w))
 
     read_whole : ReadsTo (length (judged_of request)) (names_of request) s.files s.files_after
     read_whole =
@@ -234,8 +233,8 @@ module _ (request : Request) (built : is_built request ≡ true) where
     has_role =
         let roles : map (λ file. file.0) (judged_of request) ≡ map (λ file. file.0) at.earlier ++ at.file.0 ∷ map (λ file. file.0) at.later =
         ap (λ (fs : List (Role × List ℕ)). map (λ file. file.0) fs) at.files_are ∙ map_append (λ (file : Role × List ℕ). file.0) at.earlier (at.file ∷ at.later) in
-        subst (λ (rs : List Role). Contains rs at.file.0) (sym roles)
-        (Contains-append_right (map (λ file. file.0) at.earlier) (at.file.0 ∷ map (λ file. file.0) at.later) at.file.0 (contains_head at.file.0 (map (λ file. file.0) at.later)))
+        judged_role request at.file.0 (subst (λ (rs : List Role). Contains rs at.file.0) (sym roles)
+        (Contains-append_right (map (λ file. file.0) at.earlier) (at.file.0 ∷ map (λ file. file.0) at.later) at.file.0 (contains_head at.file.0 (map (λ file. file.0) at.later))))
 
     place_is : slice_get (names_of request) (length at.earlier) ≡ Some at.file.1
     place_is =
@@ -267,46 +266,36 @@ module _ (s : Seen) where
         line = end.says;
         read = reads_none s.files s.files_after [] same;
       }))
-  answer asked status (unbuilt request e built same end) =
-      by_these AnswerOf asked (Some request) status statuses.NotBuilt e end.status_is (of_all s.files.left _ (λ left. record {
-        outcome = refused faults.NotBuilt 0;
-        is = subst (λ (b : Bool). RequestAnswers b request left (refused faults.NotBuilt 0)) (sym built) refl;
-        status_is = refl;
-        output = end.written;
-        line = end.says;
-        read = reads_none s.files s.files_after (names_of request) same;
-      }))
-  answer asked status (made request e built bytes fault makes end) =
+  answer asked status (made request e bytes fault makes end) =
       by_these AnswerOf asked (Some request) status (ending fault) e end.status_is
       (on_answer (ending fault) (Told s.files (Answers (Some request) (ending fault) s)) (if_some s.files.left _ _ (λ left said. record {
         outcome = outcome_of request bytes fault;
-        is = outcome_is request built s bytes fault makes left said;
+        is = outcome_is request s bytes fault makes left said;
         status_is = refl;
         output = end.written;
         line = end.says;
-        read = read_whole request built s bytes fault makes;
+        read = read_whole request s bytes fault makes;
       }) makes.said))
-  answer asked status (unwritten request e built bytes fault makes end) =
+  answer asked status (unwritten request e bytes fault makes end) =
       by_these AnswerOf asked (Some request) status statuses.WriteFault e end.status_is tt
-  answer asked status (wanting request e built fault want end) =
+  answer asked status (wanting request e fault want end) =
       by_these AnswerOf asked (Some request) status statuses.Memory e (end.status_is ∙ want.is) tt
-  answer asked status (failed request e built fault at fails end) =
+  answer asked status (failed request e fault at fails end) =
       by_these AnswerOf asked (Some request) status statuses.ReadFault e (end.status_is ∙ ap status_of fails.is) tt
-  answer asked status (refusing request e built fault at is end) =
+  answer asked status (refusing request e fault at is end) =
       by_these AnswerOf asked (Some request) status (status_of fault) e end.status_is
       (on_answer (status_of fault) (Told s.files (Answers (Some request) (status_of fault) s)) (if_some2 s.files.left _ _ _ (λ left said text_is. record {
         outcome = refused fault (length at.earlier);
-        is = as_built request built left (refused fault (length at.earlier))
-            (subst (λ (fs : List (Role × List ℕ)). Gives (JobGives left request) nothing 0 (with_texts left [] fs) (refused fault (length at.earlier))) (sym at.files_are)
+        is = subst (λ (fs : List (Role × List ℕ)). Gives (JobGives left request) nothing 0 (with_texts left [] fs) (refused fault (length at.earlier))) (sym at.files_are)
             (subst (λ (n : ℕ). Gives (JobGives left request) nothing 0 (with_texts left [] (at.earlier ++ at.file ∷ at.later)) (refused fault n)) (omega arith)
-            (gives_refused (JobGives left request) left [] at.earlier at.file at.later nothing at.known 0 is.text fault said text_is is.refuses)));
+            (gives_refused (JobGives left request) left [] at.earlier at.file at.later nothing at.known 0 is.text fault said text_is is.refuses));
         status_is = refl;
         output = end.written;
         line = end.says;
         read = at.read;
       }) at.passed is.text_is))
-  answer asked status (followed request e built end follows is says) =
-      by_these AnswerOf asked (Some request) status (ending end) e is (follow.answer request built s end follows says)
+  answer asked status (followed request e end follows is says) =
+      by_these AnswerOf asked (Some request) status (ending end) e is (follow.answer request s end follows says)
 
   nothing_due : (asked : Option Request) → WritesAll s.out s.out_after [] → WritesDue asked s.files s.out s.out_after
   nothing_due asked quiet = of_all s.files.left _ (λ left. (Point.start, [], refl, front_none s.out s.out_after quiet))
@@ -316,42 +305,40 @@ module _ (s : Seen) where
 
   pub front : (asked : Option Request) (status : Status) → Story asked status s → WritesDue asked s.files s.out s.out_after
   front asked status (usage e same end) = nothing_due asked end.written
-  front asked status (unbuilt request e built same end) = nothing_due asked end.written
-  front asked status (made request e built bytes fault makes end) =
+  front asked status (made request e bytes fault makes end) =
       by_these FrontOf asked (Some request) status status e refl (if_some s.files.left _ _ (λ left said. (
         Point.end,
         bytes,
-        (outcome_of request bytes fault, outcome_is request built s bytes fault makes left said, refl),
+        (outcome_of request bytes fault, outcome_is request s bytes fault makes left said, refl),
         front_all s.out s.out_after bytes end.written,
       )) makes.said)
-  front asked status (unwritten request e built bytes fault makes end) =
+  front asked status (unwritten request e bytes fault makes end) =
       by_these FrontOf asked (Some request) status status e refl (if_some s.files.left _ _ (λ left said. (
         Point.end,
         bytes,
-        (outcome_of request bytes fault, outcome_is request built s bytes fault makes left said, refl),
+        (outcome_of request bytes fault, outcome_is request s bytes fault makes left said, refl),
         end.front,
       )) makes.said)
-  front asked status (wanting request e built fault want end) = nothing_due asked end.written
-  front asked status (failed request e built fault at fails end) = nothing_due asked end.written
-  front asked status (refusing request e built fault at is end) = nothing_due asked end.written
-  front asked status (followed request e built end follows is says) =
-      by_these FrontOf asked (Some request) status status e refl (follow.front request built s end follows)
+  front asked status (wanting request e fault want end) = nothing_due asked end.written
+  front asked status (failed request e fault at fails end) = nothing_due asked end.written
+  front asked status (refusing request e fault at is end) = nothing_due asked end.written
+  front asked status (followed request e end follows is says) =
+      by_these FrontOf asked (Some request) status status e refl (follow.front request s end follows)
 
   abbrev QuietOf : Option Request → Status → Type 0
   QuietOf asked status = KeepsQuiet asked status s.files s.files_after s.out s.out_after
 
   pub quiet : (asked : Option Request) (status : Status) → Story asked status s → KeepsQuiet asked status s.files s.files_after s.out s.out_after
   quiet asked status (usage e same end) = keeps_quiet asked status s end.written
-  quiet asked status (unbuilt request e built same end) = keeps_quiet asked status s end.written
-  quiet asked status (made request e built bytes fault makes end) =
-      by_these QuietOf asked (Some request) status (ending fault) e end.status_is (fit request built s bytes fault makes end.written end.says).quiet
-  quiet asked status (unwritten request e built bytes fault makes end) =
+  quiet asked status (made request e bytes fault makes end) =
+      by_these QuietOf asked (Some request) status (ending fault) e end.status_is (fit request s bytes fault makes end.written end.says).quiet
+  quiet asked status (unwritten request e bytes fault makes end) =
       by_these QuietOf asked (Some request) status statuses.WriteFault e end.status_is tt
-  quiet asked status (wanting request e built fault want end) = keeps_quiet asked status s end.written
-  quiet asked status (failed request e built fault at fails end) = keeps_quiet asked status s end.written
-  quiet asked status (refusing request e built fault at is end) = keeps_quiet asked status s end.written
-  quiet asked status (followed request e built end follows is says) =
-      by_these QuietOf asked (Some request) status (ending end) e is (follow.quiet request built s end follows)
+  quiet asked status (wanting request e fault want end) = keeps_quiet asked status s end.written
+  quiet asked status (failed request e fault at fails end) = keeps_quiet asked status s end.written
+  quiet asked status (refusing request e fault at is end) = keeps_quiet asked status s end.written
+  quiet asked status (followed request e end follows is says) =
+      by_these QuietOf asked (Some request) status (ending end) e is (follow.quiet request s end follows)
 
   abbrev LineOf : Option Request → Status → Type 0
   LineOf asked status = SaysStatus asked status s.err s.err_after
@@ -362,126 +349,120 @@ module _ (s : Seen) where
   want_names_none asked (faults.ReadFault name) want = let none : ⊥ = cc in absurd none
   want_names_none asked fault want = tt
 
-  plain_of : (request : Request) → is_built request ≡ true → (fault : Fault) (at : Stopped request s fault)
+  plain_of : (request : Request) → (fault : Fault) (at : Stopped request s fault)
       → IsRefusedThere at.earlier at.file at.known s.files fault → IsPlain request (Some fault) s
-  plain_of request built fault at is =
-      refused_plain request s at.known (file_of at.file.0 at.file.1 is.text) fault (has_role request built s fault at) (among request built s fault at) (some_file request built s fault at) is.refuses
+  plain_of request fault at is =
+      refused_plain request s at.known (file_of at.file.0 at.file.1 is.text) fault (has_role request s fault at) (among request s fault at) (some_file request s fault at) is.refuses
 
   pub line : (asked : Option Request) (status : Status) → Story asked status s → SaysStatus asked status s.err s.err_after
   line asked status (usage e same end) = record { fault = Some faults.Usage; status_is = end.status_is; says = end.says; names = tt }
-  line asked status (unbuilt request e built same end) = record { fault = Some faults.NotBuilt; status_is = end.status_is; says = end.says; names = tt }
-  line asked status (made request e built bytes fault makes end) =
+  line asked status (made request e bytes fault makes end) =
       by_these LineOf asked (Some request) status status e refl
-      (record { fault = fault; status_is = end.status_is; says = end.says; names = (fit request built s bytes fault makes end.written end.says).plain.names })
-  line asked status (unwritten request e built bytes fault makes end) =
+      (record { fault = fault; status_is = end.status_is; says = end.says; names = (fit request s bytes fault makes end.written end.says).plain.names })
+  line asked status (unwritten request e bytes fault makes end) =
       record { fault = Some faults.WriteFault; status_is = end.status_is; says = end.says; names = tt }
-  line asked status (wanting request e built fault want end) =
+  line asked status (wanting request e fault want end) =
       record { fault = Some fault; status_is = end.status_is; says = end.says; names = want_names_none asked fault want.is }
-  line asked status (failed request e built fault at fails end) =
+  line asked status (failed request e fault at fails end) =
       by_these LineOf asked (Some request) status status e refl
       (record {
         fault = Some fault;
         status_is = end.status_is;
         says = end.says;
-        names = subst (λ (f : Fault). NamesFileWord (Some request) (Some f)) (sym fails.is) (among request built s fault at);
+        names = subst (λ (f : Fault). NamesFileWord (Some request) (Some f)) (sym fails.is) (among request s fault at);
       })
-  line asked status (refusing request e built fault at is end) =
+  line asked status (refusing request e fault at is end) =
       by_these LineOf asked (Some request) status status e refl
-      (record { fault = Some fault; status_is = end.status_is; says = end.says; names = (plain_of request built fault at is).names })
-  line asked status (followed request e built end follows is says) =
+      (record { fault = Some fault; status_is = end.status_is; says = end.says; names = (plain_of request fault at is).names })
+  line asked status (followed request e end follows is says) =
       by_these LineOf asked (Some request) status status e refl
-      (record { fault = end; status_is = is; says = says; names = follow.names_word request built s end follows })
+      (record { fault = end; status_is = is; says = says; names = follow.names_word request s end follows })
 
   pub ends : (asked : Option Request) (status : Status) → Story asked status s → MayEnd asked status
   ends asked status (usage e same end) = by_these MayEnd asked None status statuses.Usage e end.status_is refl
-  ends asked status (unbuilt request e built same end) =
-      by_these MayEnd asked (Some request) status statuses.NotBuilt e end.status_is (subst (λ (b : Bool). RequestEnds b request statuses.NotBuilt) (sym built) refl)
-  ends asked status (made request e built bytes fault makes end) =
+  ends asked status (made request e bytes fault makes end) =
       by_these MayEnd asked (Some request) status (ending fault) e end.status_is
-      (may_end request built (ending fault) (fit request built s bytes fault makes end.written end.says).plain.ends)
-  ends asked status (unwritten request e built bytes fault makes end) =
-      by_these MayEnd asked (Some request) status statuses.WriteFault e end.status_is (may_end request built statuses.WriteFault tt)
-  ends asked status (wanting request e built fault want end) =
-      by_these MayEnd asked (Some request) status statuses.Memory e (end.status_is ∙ want.is) (may_end request built statuses.Memory tt)
-  ends asked status (failed request e built fault at fails end) =
+      ((fit request s bytes fault makes end.written end.says).plain.ends)
+  ends asked status (unwritten request e bytes fault makes end) =
+      by_these MayEnd asked (Some request) status statuses.WriteFault e end.status_is (tt)
+  ends asked status (wanting request e fault want end) =
+      by_these MayEnd asked (Some request) status statuses.Memory e (end.status_is ∙ want.is) (tt)
+  ends asked status (failed request e fault at fails end) =
       by_these MayEnd asked (Some request) status statuses.ReadFault e (end.status_is ∙ ap status_of fails.is)
-      (may_end request built statuses.ReadFault (some_file request built s fault at))
-  ends asked status (refusing request e built fault at is end) =
-      by_these MayEnd asked (Some request) status (status_of fault) e end.status_is (may_end request built (status_of fault) (plain_of request built fault at is).ends)
-  ends asked status (followed request e built end follows is says) =
-      by_these MayEnd asked (Some request) status (ending end) e is (follow.ends request built s end follows)
+      ((some_file request s fault at))
+  ends asked status (refusing request e fault at is end) =
+      by_these MayEnd asked (Some request) status (status_of fault) e end.status_is ((plain_of request fault at is).ends)
+  ends asked status (followed request e end follows is says) =
+      by_these MayEnd asked (Some request) status (ending end) e is (follow.ends request s end follows)
 
   abbrev OrderOf : Option Request → Status → Type 0
   OrderOf asked status = ReadsInOrder asked s.files s.files_after
 
   pub order : (asked : Option Request) (status : Status) → Story asked status s → ReadsInOrder asked s.files s.files_after
   order asked status (usage e same end) = (0, reads_none s.files s.files_after (file_words asked) same)
-  order asked status (unbuilt request e built same end) = (0, reads_none s.files s.files_after (file_words asked) same)
-  order asked status (made request e built bytes fault makes end) =
-      by_these OrderOf asked (Some request) status status e refl (length (judged_of request), read_whole request built s bytes fault makes)
-  order asked status (unwritten request e built bytes fault makes end) =
-      by_these OrderOf asked (Some request) status status e refl (length (judged_of request), read_whole request built s bytes fault makes)
-  order asked status (wanting request e built fault want end) = by_these OrderOf asked (Some request) status status e refl (want.whole, want.read)
-  order asked status (failed request e built fault at fails end) = by_these OrderOf asked (Some request) status status e refl (length at.earlier, at.read)
-  order asked status (refusing request e built fault at is end) = by_these OrderOf asked (Some request) status status e refl (length at.earlier, at.read)
-  order asked status (followed request e built end follows is says) =
-      by_these OrderOf asked (Some request) status status e refl (length (judged_of request), follow.order request built s end follows)
+  order asked status (made request e bytes fault makes end) =
+      by_these OrderOf asked (Some request) status status e refl (length (judged_of request), read_whole request s bytes fault makes)
+  order asked status (unwritten request e bytes fault makes end) =
+      by_these OrderOf asked (Some request) status status e refl (length (judged_of request), read_whole request s bytes fault makes)
+  order asked status (wanting request e fault want end) = by_these OrderOf asked (Some request) status status e refl (want.whole, want.read)
+  order asked status (failed request e fault at fails end) = by_these OrderOf asked (Some request) status status e refl (length at.earlier, at.read)
+  order asked status (refusing request e fault at is end) = by_these OrderOf asked (Some request) status status e refl (length at.earlier, at.read)
+  order asked status (followed request e end follows is says) =
+      by_these OrderOf asked (Some request) status status e refl (length (judged_of request), follow.order request s end follows)
 
   abbrev FaultOf : Option Request → Status → Type 0
   FaultOf asked status = Blames asked status s
 
   pub fault : (asked : Option Request) (status : Status) → Story asked status s → Blames asked status s
   fault asked status (usage e same end) = by_these FaultOf asked None status statuses.Usage e end.status_is tt
-  fault asked status (unbuilt request e built same end) = by_these FaultOf asked (Some request) status statuses.NotBuilt e end.status_is tt
-  fault asked status (made request e built bytes why makes end) =
-      by_these FaultOf asked (Some request) status (ending why) e end.status_is (fit request built s bytes why makes end.written end.says).plain.blames
-  fault asked status (unwritten request e built bytes why makes end) =
+  fault asked status (made request e bytes why makes end) =
+      by_these FaultOf asked (Some request) status (ending why) e end.status_is (fit request s bytes why makes end.written end.says).plain.blames
+  fault asked status (unwritten request e bytes why makes end) =
       by_these FaultOf asked (Some request) status statuses.WriteFault e end.status_is (record {
         failed = end.failed;
         says = end.says;
-        read = has_read request built s bytes why makes;
-        passed = has_passed request built s bytes why makes;
+        read = has_read request s bytes why makes;
+        passed = has_passed request s bytes why makes;
         due = if_some s.files.left _ _ (λ left said. (
           Point.end,
           tt,
-          (bytes, (outcome_of request bytes why, outcome_is request built s bytes why makes left said, refl), end.front),
+          (bytes, (outcome_of request bytes why, outcome_is request s bytes why makes left said, refl), end.front),
         )) makes.said;
         ahead = of_all s.files.left _ (λ left name is. absurd (some_name name [] (sym is ∙ makes.alone)));
       })
-  fault asked status (wanting request e built why want end) = by_these FaultOf asked (Some request) status statuses.Memory e (end.status_is ∙ want.is) tt
-  fault asked status (failed request e built why at fails end) =
+  fault asked status (wanting request e why want end) = by_these FaultOf asked (Some request) status statuses.Memory e (end.status_is ∙ want.is) tt
+  fault asked status (failed request e why at fails end) =
       by_these FaultOf asked (Some request) status statuses.ReadFault e (end.status_is ∙ ap status_of fails.is) (record {
         place = length at.earlier;
         name = at.file.1;
-        is = place_is request built s why at;
+        is = place_is request s why at;
         failed = fails.failed;
         read = at.read;
         says = subst (λ (f : Fault). TakesLine s.err s.err_after (fault_text f)) fails.is end.says;
-        passed = if_some s.files.left _ _ (λ left said. (at.known, said)) (passed_there request built s why at);
+        passed = if_some s.files.left _ _ (λ left said. (at.known, said)) (passed_there request s why at);
         written = record {
           judged = λ before. end.written;
-          log = λ behind. absurd (before_log request built s why at behind);
+          log = λ behind. absurd (before_log request s why at behind);
         };
       })
-  fault asked status (refusing request e built why at is end) =
-      by_these FaultOf asked (Some request) status (status_of why) e end.status_is (plain_of request built why at is).blames
-  fault asked status (followed request e built end follows is says) =
-      by_these FaultOf asked (Some request) status (ending end) e is (follow.fault request built s end follows says)
+  fault asked status (refusing request e why at is end) =
+      by_these FaultOf asked (Some request) status (status_of why) e end.status_is (plain_of request why at is).blames
+  fault asked status (followed request e end follows is says) =
+      by_these FaultOf asked (Some request) status (ending end) e is (follow.fault request s end follows says)
 
   abbrev FindsOf : Option Request → Status → Type 0
   FindsOf asked status = Finds asked status s
 
   pub finds : (asked : Option Request) (status : Status) → Story asked status s → Finds asked status s
   finds asked status (usage e same end) = by_these FindsOf asked None status statuses.Usage e end.status_is tt
-  finds asked status (unbuilt request e built same end) = by_these FindsOf asked (Some request) status statuses.NotBuilt e end.status_is tt
-  finds asked status (made request e built bytes fault makes end) =
-      by_these FindsOf asked (Some request) status (ending fault) e end.status_is (fit request built s bytes fault makes end.written end.says).plain.finds
-  finds asked status (unwritten request e built bytes fault makes end) =
+  finds asked status (made request e bytes fault makes end) =
+      by_these FindsOf asked (Some request) status (ending fault) e end.status_is (fit request s bytes fault makes end.written end.says).plain.finds
+  finds asked status (unwritten request e bytes fault makes end) =
       by_these FindsOf asked (Some request) status statuses.WriteFault e end.status_is tt
-  finds asked status (wanting request e built why want end) = by_these FindsOf asked (Some request) status statuses.Memory e (end.status_is ∙ want.is) tt
-  finds asked status (failed request e built why at fails end) =
+  finds asked status (wanting request e why want end) = by_these FindsOf asked (Some request) status statuses.Memory e (end.status_is ∙ want.is) tt
+  finds asked status (failed request e why at fails end) =
       by_these FindsOf asked (Some request) status statuses.ReadFault e (end.status_is ∙ ap status_of fails.is) tt
-  finds asked status (refusing request e built why at is end) =
-      by_these FindsOf asked (Some request) status (status_of why) e end.status_is (plain_of request built why at is).finds
-  finds asked status (followed request e built end follows is says) =
-      by_these FindsOf asked (Some request) status (ending end) e is (follow.finds request built s end follows)
+  finds asked status (refusing request e why at is end) =
+      by_these FindsOf asked (Some request) status (status_of why) e end.status_is (plain_of request why at is).finds
+  finds asked status (followed request e end follows is says) =
+      by_these FindsOf asked (Some request) status (ending end) e is (follow.finds request s end follows)

@@ -28,14 +28,14 @@ use Rattle.cb_report.specs.FaultTexts.{line_text}
 use Rattle.cb_report.specs.Said.{TakesLine}
 use Rattle.cb_outcome.specs.Outcome.{Outcome, done, done_with}
 use Rattle.cb_outcome.specs.Judged.{File, Known, nothing, network, certified, PassFrom}
-use Rattle.cb_outcome.specs.Jobs.{is_built, JobGives}
+use Rattle.cb_outcome.specs.Jobs.{JobGives}
 use Rattle.cb_outcome.specs.LogJobs.{Watch, IsWatch, WholeTells, FrontTells, LogTells, Follows, log_limit}
 use Rattle.cb_outcome.specs.Contents.{Left, with_texts, files_from, log_from}
-use Rattle.cb_outcome.specs.Answer.{RequestAnswers, IsOutcome, IsDue}
+use Rattle.cb_outcome.specs.Answer.{IsOutcome, IsDue}
 use Rattle.cb_outcome.specs.Point.{Point}
 use Rattle.cb_outcome.specs.Reading.{Told, ReadsTo}
 use Rattle.cb_outcome.specs.Seen.{Seen}
-use Rattle.cb_outcome.specs.Ends.{MayEndIfBuilt, RequestEnds, MayEnd}
+use Rattle.cb_outcome.specs.Ends.{RequestMayEnd, MayEnd}
 use Rattle.cb_outcome.specs.Clauses.{Answers, WritesDue, ReadsJudged, HaveAllPassed, HasComeToLog, KeepsQuiet, NamesFileWord, HasTaken, WritesAllDue, BlamesRead, WritesPastStart, IsNotFarAhead, ReadsNotFarAhead, BlamesWrite, Blames}
 use Rattle.cb_outcome.specs.Finds.{PrintsLog, FindsFor, Finds}
 use Rattle.cb_outcome.proofs.LogsOne.{watch_is_one, watch_is_regular}
@@ -99,31 +99,31 @@ book_is_valid left one two three log w t c (first, says, (second, says', (third,
     known_is_valid second (contents left (one ∷ two ∷ []) three) third t c says''.means same
 
 -- what is printed of a whole log finds what it is to find
-finds_log : (left : Left) (request : Request) (name : List ℕ) (known : Known) (watch : Watch) (due : List ℕ) (out out' : SinkTold) → is_built request ≡ true
+finds_log : (left : Left) (request : Request) (name : List ℕ) (known : Known) (watch : Watch) (due : List ℕ) (out out' : SinkTold)
     → IsInRange request → logs_of request ≡ name ∷ [] → PassFrom nothing (files_from left request) known
     → IsWatch request known watch → IsRegular watch.from.model → WholeTells watch (log_from left request name) due → WritesAll out out' due → FindsFor left request known out out'
-finds_log left (Burst one two three) name known watch due out out' built range e passed watches regular tells written = absurd (some_name name [] (sym e))
-finds_log left (Model one) name known watch due out out' built range e passed watches regular tells written = absurd (some_name name [] (sym e))
-finds_log left (Matrix one two) name known watch due out out' built range e passed watches regular tells written = absurd (some_name name [] (sym e))
-finds_log left (Codebook one two d) name known watch due out out' built range e passed watches regular tells written = absurd (some_name name [] (sym e))
-finds_log left (Verify one two three) name known watch due out out' built range e passed watches regular tells written = absurd (some_name name [] (sym e))
-finds_log left (Decode one two three log w) name (certified t c) watch due out out' built range e passed watches regular tells written =
+finds_log left (Burst one two three) name known watch due out out' range e passed watches regular tells written = absurd (some_name name [] (sym e))
+finds_log left (Model one) name known watch due out out' range e passed watches regular tells written = absurd (some_name name [] (sym e))
+finds_log left (Matrix one two) name known watch due out out' range e passed watches regular tells written = absurd (some_name name [] (sym e))
+finds_log left (Codebook one two d) name known watch due out out' range e passed watches regular tells written = absurd (some_name name [] (sym e))
+finds_log left (Verify one two three) name known watch due out out' range e passed watches regular tells written = absurd (some_name name [] (sym e))
+finds_log left (Decode one two three log w) name (certified t c) watch due out out' range e passed watches regular tells written =
     let request = Decode one two three log w in
     let valid = book_is_valid left one two three log w t c passed in
     let apart = subst (λ (x : Watch). AllApart x.from x.mode) (sym watches.is)
     (fixed_apart t (fixed watches.book) watches.book refl (given_keeps_apart t c watches.book valid.0 valid.1 watches.states)) in
     subst (λ (n : List ℕ). PrintsLog left request n (certified t c) out out') (one_log name log e)
     (prints_log left request name (certified t c) watch due out out' watches regular apart tells written)
-finds_log left (Decode one two three log w) name known watch due out out' built range e passed watches regular tells written = absurd watches
-finds_log left (Correlate one two log d w) name (network t) watch due out out' built range e passed watches regular tells written =
+finds_log left (Decode one two three log w) name known watch due out out' range e passed watches regular tells written = absurd watches
+finds_log left (Correlate one two log d w) name (network t) watch due out out' range e passed watches regular tells written =
     let request = Correlate one two log d w in
     let apart = wanted_apart watch.from watch.mode d (ap (λ (x : Watch). x.mode) watches) range.0.0 in
     subst (λ (n : List ℕ). PrintsLog left request n (network t) out out') (one_log name log e)
     (prints_log left request name (network t) watch due out out' watches regular apart tells written)
-finds_log left (Correlate one two log d w) name known watch due out out' built range e passed watches regular tells written = absurd watches
-finds_log left (Grow sites start) name known watch due out out' built range e passed watches regular tells written = absurd (some_name name [] (sym e))
+finds_log left (Correlate one two log d w) name known watch due out out' range e passed watches regular tells written = absurd watches
+finds_log left (Grow sites start) name known watch due out out' range e passed watches regular tells written = absurd (some_name name [] (sym e))
 
-module _ (request : Request) (built : is_built request ≡ true) (s : Seen) (end : Option Fault)
+module _ (request : Request) (s : Seen) (end : Option Fault)
     (follows : FollowsLog request s.files s.files_after s.out s.out_after end) where
   -- ---- how far files were read
 
@@ -163,24 +163,20 @@ module _ (request : Request) (built : is_built request ≡ true) (s : Seen) (end
 
   module _ (left : Left) (passed : PassFrom nothing (files_from left request) follows.known) where
     due_upto : (taken : ℕ) (due : List ℕ) → IsDueUpto follows.watch (log_from left request follows.name) taken due → IsDue (Some request) left (Point.upto taken) due
-    due_upto taken due is_due = (
-      built,
-      record {
-        known = follows.known;
-        pass = passed;
-        name = follows.name;
-        log = follows.log;
-        watch = follows.watch;
-        follows = follows.watches;
-        tells = is_due;
-      },
-    )
+    due_upto taken due is_due = record {
+      known = follows.known;
+      pass = passed;
+      name = follows.name;
+      log = follows.log;
+      watch = follows.watch;
+      follows = follows.watches;
+      tells = is_due;
+    }
 
     answers_as : (outcome : Outcome) → LogTells follows.watch follows.name (log_from left request follows.name) (length (judged_of request)) outcome
         → IsOutcome (Some request) left outcome
     answers_as outcome tells =
-        subst (λ (b : Bool). RequestAnswers b request left outcome) (sym built)
-        (gives_job (JobGives left request) (files_from left request) nothing follows.known 0 outcome passed
+        gives_job (JobGives left request) (files_from left request) nothing follows.known 0 outcome passed
         (λ w e.
         let count = texts_count left [] (judged_of request) in
         let whole : length (judged_of request) ≡ w = omega (arith, e, count) in
@@ -188,7 +184,7 @@ module _ (request : Request) (built : is_built request ≡ true) (s : Seen) (end
           follows.watch,
           follows.watches,
           subst (λ (n : ℕ). LogTells follows.watch follows.name (log_from left request follows.name) n outcome) whole tells,
-        )))
+        ))
 
     whole_outcome : (due : List ℕ) → IsDueOfAll follows.watch (log_from left request follows.name) due
         → IsOutcome (Some request) left (done due (suc (length (judged_of request))))
@@ -312,7 +308,7 @@ module _ (request : Request) (built : is_built request ≡ true) (s : Seen) (end
       no_more_names [] e = let none : ⊥ = some_name follows.name [] (sym e) in (none, none)
       no_more_names (x ∷ xs) e = let none : ⊥ = some_name x (xs ++ follows.name ∷ []) (sym e) in (none, none)
 
-  ends_by : (e : Option Fault) → Wrong e → MayEndIfBuilt request (ending e)
+  ends_by : (e : Option Fault) → Wrong e → RequestMayEnd request (ending e)
   ends_by None wrong = tt
   ends_by (Some (faults.LimitBytes other)) wrong = some_file
   ends_by (Some (faults.ReadFault other)) wrong = some_file
@@ -422,7 +418,7 @@ module _ (request : Request) (built : is_built request ≡ true) (s : Seen) (end
   -- what is due by the clause is due by the watch
   due_here : (left : Left) → PassFrom nothing (files_from left request) follows.known → (upto : ℕ) (due : List ℕ) → IsDue (Some request) left (Point.upto upto) due
       → IsDueUpto follows.watch (log_from left request follows.name) upto due
-  due_here left passed upto due (is, told) =
+  due_here left passed upto due told =
       let sound = pass_sound nothing (files_from left request) told.known tt told.pass in
       let known : told.known ≡ follows.known = pass_is_one nothing (files_from left request) told.known follows.known tt told.pass passed in
       let watch : told.watch ≡ follows.watch =
@@ -474,7 +470,7 @@ module _ (request : Request) (built : is_built request ≡ true) (s : Seen) (end
       let regular = watch_is_regular request follows.known follows.watch (pass_sound nothing (files_from left request) follows.known tt passed) follows.watches in (
         follows.known,
         passed,
-        finds_log left request follows.name follows.known follows.watch is.due s.out s.out_after built follows.range follows.log passed follows.watches regular
+        finds_log left request follows.name follows.known follows.watch is.due s.out s.out_after follows.range follows.log passed follows.watches regular
             is.is_due.tells is.written,
       )) follows.passed (in_log _ tells)
   finds_by (Some (faults.LimitBytes other)) wrong tells = tt
@@ -498,7 +494,7 @@ module _ (request : Request) (built : is_built request ≡ true) (s : Seen) (end
   names_word = names_by end follows.ends.wrong
 
   pub ends : MayEnd (Some request) (ending end)
-  ends = subst (λ (b : Bool). RequestEnds b request (ending end)) (sym built) (ends_by end follows.ends.wrong)
+  ends = ends_by end follows.ends.wrong
 
   pub order : ReadsTo (length (judged_of request)) (names_of request) s.files s.files_after
   order = read_judged

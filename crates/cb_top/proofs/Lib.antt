@@ -15,3 +15,5 @@ pub mod Writing
 pub mod Given
 pub mod Opening
 pub mod Decoded
+pub mod Summing
+pub mod Growing

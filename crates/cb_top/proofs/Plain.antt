@@ -24,13 +24,12 @@ use Rattle.cb_report.specs.FaultTexts.{line_text}
 use Rattle.cb_report.specs.Said.{TakesLine}
 use Rattle.cb_outcome.specs.Judged.{Known, nothing, parsed, network, File, IsCertificateFault, HasFault, Refuses}
 use Rattle.cb_outcome.specs.Seen.{Seen}
-use Rattle.cb_outcome.specs.Ends.{HasRole, IsCodebook, MayEndIfBuilt}
+use Rattle.cb_outcome.specs.Ends.{HasRole, IsCodebook, RequestMayEnd}
 use Rattle.cb_outcome.specs.Clauses.{KeepsQuiet, NamesFileWord, Blames}
 use Rattle.cb_outcome.specs.Finds.{FindsCause, RefusesAsked, Finds}
 use Rattle.cb_outcome.specs.Outcome.{Outcome}
-use Rattle.cb_outcome.specs.Jobs.{is_built}
 use Rattle.cb_outcome.specs.Reading.{Told}
-use Rattle.cb_outcome.proofs.Outcomes.{JobEnds, well, close, crowded, long, job_ends, some_name}
+use Rattle.cb_outcome.proofs.Outcomes.{JobEnds, well, close, crowded, long, faulty, job_ends, some_name}
 use Rattle.cb_top.specs.Ending.{Makes}
 use Rattle.cb_top.proofs.Chain.{if_some}
 use Rattle.cb_top.proofs.Finding.{finds_for, refuses_for}
@@ -38,7 +37,7 @@ use Rattle.cb_top.proofs.Finding.{finds_for, refuses_for}
 -- what is said of the end of a run with this fault, if there is one
 pub record IsPlain (request : Request) (fault : Option Fault) (s : Seen) : Type 0 where
   pub names : NamesFileWord (Some request) fault
-  pub ends : MayEndIfBuilt request (ending fault)
+  pub ends : RequestMayEnd request (ending fault)
   pub blames : Blames (Some request) (ending fault) s
   pub finds : Finds (Some request) (ending fault) s
 
@@ -78,7 +77,7 @@ module _ (request : Request) (s : Seen) where
       → HasRole request Role.certificate ⊎ HasRole request Role.book → IsPlain request (Some fault) s
   by_certificate fault e names role = record {
     names = names;
-    ends = subst (MayEndIfBuilt request) (sym e) role;
+    ends = subst (RequestMayEnd request) (sym e) role;
     blames = subst (λ (status : Status). Blames (Some request) status s) (sym e) tt;
     finds = subst (λ (status : Status). Finds (Some request) status s) (sym e) tt;
   }
@@ -126,7 +125,7 @@ module _ (request : Request) (s : Seen) where
       subst (λ (f : Fault). IsPlain request (Some f) s) (sym past.is) (record { names = name; ends = some; blames = tt; finds = tt })
   refused_plain known file fault role name some (inr (inl past)) =
       subst (λ (f : Fault). IsPlain request (Some f) s) (sym past.is) (record { names = name; ends = some; blames = tt; finds = tt })
-  refused_plain known file fault role name some (inr (inr faulty)) = fault_plain file.role known file.text fault role faulty.has
+  refused_plain known file fault role name some (inr (inr has)) = fault_plain file.role known file.text fault role has.has
 
 -- ---- a job that is done
 
@@ -135,7 +134,7 @@ pub record IsFit (request : Request) (fault : Option Fault) (s : Seen) : Type 0 
   pub plain : IsPlain request fault s
   pub quiet : KeepsQuiet (Some request) (ending fault) s.files s.files_after s.out s.out_after
 
-module _ (request : Request) (built : is_built request ≡ true) (s : Seen) (bytes : List ℕ) (fault : Option Fault)
+module _ (request : Request) (s : Seen) (bytes : List ℕ) (fault : Option Fault)
     (makes : Makes request s.files s.files_after bytes fault) (written : WritesAll s.out s.out_after bytes)
     (says : TakesLine s.err s.err_after (line_text fault)) where
   abbrev job_outcome : Outcome
@@ -154,6 +153,15 @@ module _ (request : Request) (built : is_built request ≡ true) (s : Seen) (byt
       → Told s.files (RefusesAsked (Some request) s)
   refused codebook wanted first second far is = if_some s.files.left _ _ (λ left said.
       (makes.known, said, refuses_for left request makes.known s job_outcome codebook written says wanted first second far is (makes.gives left 0))) makes.said
+
+  quiet_at : (status : Status) → WritesAll s.out s.out_after [] → KeepsQuiet (Some request) status s.files s.files_after s.out s.out_after
+  quiet_at statuses.Done q = tt
+  quiet_at statuses.Distance q = tt
+  quiet_at statuses.WriteFault q = tt
+  quiet_at statuses.Limit q = inl q
+  quiet_at statuses.ReadFault q = inl q
+  quiet_at statuses.Memory q = inl q
+  quiet_at status q = q
 
   fit_by : JobEnds request 0 job_outcome → IsFit request fault s
   fit_by (well none whole) = with_fault None none (record {
@@ -174,6 +182,10 @@ module _ (request : Request) (built : is_built request ≡ true) (s : Seen) (byt
     quiet = inl (subst (λ (l : List ℕ). WritesAll s.out s.out_after l) empty written);
   })
   fit_by (long name is e) = absurd (some_name name [] (sym is ∙ makes.alone))
+  fit_by (faulty role known text why has wrong is empty) = with_fault (Some why) is (record {
+    plain = fault_plain request s role known text why has wrong;
+    quiet = quiet_at (status_of why) (subst (λ (l : List ℕ). WritesAll s.out s.out_after l) empty written);
+  })
 
   pub fit : IsFit request fault s
   fit = fit_by (job_ends [] request makes.known 0 job_outcome (makes.gives [] 0))

@@ -62,7 +62,7 @@ abbrev pub StopsWithin : List (Role × List ℕ) → FilesTold → FilesTold →
 StopsWithin files old new fault = (request : Request) (later : List (Role × List ℕ)) → judged_of request ≡ files ++ later
     → WantsMemory request old new fault ⊎ StopsAt request old new fault
 
--- what comes of a request whose command is built
+-- what comes of a request
 abbrev pub Comes : Request → FilesTold → FilesTold → Result Output Fault → Type 0
 Comes request old new (Ok output) = Makes request old new output.bytes.items output.fault
 Comes request old new (Err fault) = WantsMemory request old new fault ⊎ StopsAt request old new fault

@@ -7,3 +7,4 @@ pub mod Ways
 pub mod Written
 pub mod Telling
 pub mod Given
+pub mod Summing

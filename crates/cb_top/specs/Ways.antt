@@ -1,10 +1,9 @@
 -- How a run ends: the files are told before and after it, the output too, and `end` is what is wrong, if something is.
-use Rattle.std.specs.Prelude.{◌≡◌, ◌⊎◌, [], Bool, true, false, Option, None, Some, Result, Ok, Err}
+use Rattle.std.specs.Prelude.{◌≡◌, ◌⊎◌, [], Option, None, Some, Result, Ok, Err}
 use Rattle.cb_io.specs.Outside.{FilesTold, SinkTold, WritesAll}
 use Rattle.cb_request.specs.declared.request.Request.{Request}
 use Rattle.cb_report.specs.declared.fault.Fault.{Fault}
 use Rattle.cb_report.specs.declared.fault.Fault.TheVariants as faults
-use Rattle.cb_outcome.specs.Jobs.{is_built}
 use Rattle.cb_top.specs.declared.output.Output.{Output}
 use Rattle.cb_top.specs.Ending.{Comes, Delivers}
 use Rattle.cb_top.specs.Following.{FollowsLog}
@@ -26,15 +25,11 @@ pub record EndsMade (request : Request) (old new : FilesTold) (out out' : SinkTo
   pub comes : Comes request old new made
   pub delivers : Delivers made end out out'
 
--- how a command ends that is built: its output was made before it was written, or it followed a log
-abbrev pub EndsBuilt : Request → FilesTold → FilesTold → SinkTold → SinkTold → Option Fault → Type 0
-EndsBuilt request old new out out' end = EndsMade request old new out out' end ⊎ FollowsLog request old new out out' end
-
-abbrev pub EndsRequest : Bool → Request → FilesTold → FilesTold → SinkTold → SinkTold → Option Fault → Type 0
-EndsRequest true request old new out out' end = EndsBuilt request old new out out' end
-EndsRequest false request old new out out' end = DoesNothing old new out out' end faults.NotBuilt
+-- how a run of a request ends: its output was made before it was written, or it followed a log
+abbrev pub EndsRequest : Request → FilesTold → FilesTold → SinkTold → SinkTold → Option Fault → Type 0
+EndsRequest request old new out out' end = EndsMade request old new out out' end ⊎ FollowsLog request old new out out' end
 
 -- how a run of what is asked for ends
 abbrev pub EndsAsked : Option Request → FilesTold → FilesTold → SinkTold → SinkTold → Option Fault → Type 0
 EndsAsked None old new out out' end = DoesNothing old new out out' end faults.Usage
-EndsAsked (Some request) old new out out' end = EndsRequest (is_built request) request old new out out' end
+EndsAsked (Some request) old new out out' end = EndsRequest request old new out out' end

@@ -8,12 +8,12 @@ ghost use Rattle.cb_request.specs.Files.{Role};
 ghost use Rattle.cb_outcome.specs.Judged.{network};
 ghost use Rattle.cb_outcome.specs.Texts.{IsBookKind};
 ghost use Rattle.cb_top.specs.Kinds.{IsWant, IsRejection};
-ghost use Rattle.cb_top.specs.Given.{IsShown, IsShownBy, IsKnownBook};
+ghost use Rattle.cb_claim.specs.Valid.{IsValid};
+ghost use Rattle.cb_top.specs.Given.{IsLineOf, IsShown, IsShownBy, IsKnownBook};
 
-use crate::certificate_file::MOST_BYTES;
+use crate::certificate_file::{MOST_BYTES, checked};
 use crate::kind::FileKind;
 use cb_cert::{Certificate, read};
-use cb_checker::check;
 use cb_graph::Graph;
 use cb_model::{List, NodeName};
 use cb_report::{Fault, accepted_text};
@@ -100,10 +100,31 @@ fn checked_book<'w, L: Ledger>(
     ensures rejected { IfErr result (λ fault. IsWant fault ⊎ IsRejection (topology_of topology) certificate.now fault) }
 {
     let mut graph = Graph::new(alloc, topology)?;
-    let accepted = check(alloc, &mut graph, certificate, steps)?;
+    match line_over(alloc, &mut graph, certificate, steps) {
+        Ok(line) => Ok(Shown { graph, line }),
+        Err(fault) => {
+            drop(graph);
+            Err(fault)
+        }
+    }
+}
+
+// The line that says what the certificate shows of the graph's topology.
+fn line_over<'w, L: Ledger>(
+    alloc: Global,
+    graph: &mut Graph,
+    certificate: &Certificate,
+    steps: &mut Steps<L>,
+) -> Result<Vec<u8>, Fault<'w>>
+    requires { IsCertificate certificate.now }
+    ensures same { graph.new ≡ graph.old }
+    ensures shown { IfOk result (λ line. IsValid (topology_of graph.old) certificate.now × IsLineOf (topology_of graph.old) certificate.now line.items) }
+    ensures rejected { IfErr result (λ fault. IsWant fault ⊎ IsRejection (topology_of graph.old) certificate.now fault) }
+{
+    let accepted = checked(alloc, graph, certificate, steps)?;
     let line = accepted_text(alloc, &accepted);
     drop(accepted);
-    Ok(Shown { graph, line: line? })
+    Ok(line?)
 }
 
 // The codebook of a certificate that shows something, if it is a book.

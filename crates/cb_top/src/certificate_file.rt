@@ -59,7 +59,7 @@ impl<'s, L: Ledger> FileKind for CertificateFile<'s, L> {
             return Err(Fault::LimitLine { name, line });
         }
         let certificate = read(alloc, text)?;
-        let accepted = checked(alloc, self.topology, &certificate, self.steps)?;
+        let accepted = checked_alone(alloc, self.topology, &certificate, self.steps)?;
         Ok(Verified {
             certificate,
             accepted,
@@ -68,7 +68,7 @@ impl<'s, L: Ledger> FileKind for CertificateFile<'s, L> {
 }
 
 // What the certificate shows of the topology, or why it isn't valid.
-fn checked<'w, L: Ledger>(
+fn checked_alone<'w, L: Ledger>(
     alloc: Global,
     topology: Topology,
     certificate: &Certificate,
@@ -79,5 +79,22 @@ fn checked<'w, L: Ledger>(
     ensures rejected { IfErr result (λ fault. IsWant fault ⊎ IsRejection (topology_of topology) certificate.now fault) }
 {
     let mut graph = Graph::new(alloc, topology)?;
-    Ok(check(alloc, &mut graph, certificate, steps)?)
+    let shown = checked(alloc, &mut graph, certificate, steps);
+    drop(graph);
+    shown
+}
+
+/// The same, of the graph's topology.
+pub fn checked<'w, L: Ledger>(
+    alloc: Global,
+    graph: &mut Graph,
+    certificate: &Certificate,
+    steps: &mut Steps<L>,
+) -> Result<Accepted, Fault<'w>>
+    requires { IsCertificate certificate.now }
+    ensures same { graph.new ≡ graph.old }
+    ensures accepted { IfOk result (IsAccepted (topology_of graph.old) certificate.now) }
+    ensures rejected { IfErr result (λ fault. IsWant fault ⊎ IsRejection (topology_of graph.old) certificate.now fault) }
+{
+    Ok(check(alloc, graph, certificate, steps)?)
 }

@@ -7,7 +7,7 @@ ghost use Rattle.cb_request.specs.declared.request.Request.TheVariants.{Correlat
 ghost use Rattle.cb_request.specs.Ranges.{IsInRange};
 ghost use Rattle.cb_session.specs.State.{StandsForEntries};
 ghost use Rattle.cb_topo.specs.Numbered.{topology_of};
-ghost use Rattle.cb_top.specs.Ways.{EndsBuilt, wrong};
+ghost use Rattle.cb_top.specs.Ways.{EndsRequest, wrong};
 
 use crate::follow::follow;
 use crate::network::read_network;
@@ -41,7 +41,7 @@ pub fn correlate<'w, F: Files, O: Sink, L: Ledger>(
     steps: &mut Steps<L>,
 ) -> Result<(), Fault<'w>>
     requires { IsInRange (Correlate model topology log asked.distance asked.window) }
-    ensures { EndsBuilt (Correlate model.entry topology.entry log.entry asked.distance asked.window) (F.tells files.old) (F.tells files.new)
+    ensures { EndsRequest (Correlate model.entry topology.entry log.entry asked.distance asked.window) (F.tells files.old) (F.tells files.new)
         (O.tells out.old) (O.tells out.new) (wrong result) }
 {
     let topology = read_network(alloc, files, model, topology)?;
@@ -51,8 +51,8 @@ pub fn correlate<'w, F: Files, O: Sink, L: Ledger>(
     end
 }
 
-// A session at the beginning of a log, over the topology.
-fn opened<L: Ledger>(
+/// A session at the beginning of a log, over the topology.
+pub fn opened<L: Ledger>(
     alloc: Global,
     topology: Topology,
     asked: Correlation,

@@ -10,7 +10,7 @@ ghost use Rattle.cb_topo.specs.Numbered.{topology_of};
 ghost use Rattle.cb_top.specs.Following.{EndsLog};
 ghost use Rattle.cb_top.specs.Given.{IsGivenBy, IsGivenBySome, StandsFixed};
 ghost use Rattle.cb_top.specs.Telling.{OpensBehind};
-ghost use Rattle.cb_top.specs.Ways.{EndsBuilt, wrong};
+ghost use Rattle.cb_top.specs.Ways.{EndsRequest, wrong};
 
 use crate::book_file::{BookFile, GivenBook, ShownBook};
 use crate::follow::follow;
@@ -45,7 +45,7 @@ pub fn decode<'w, F: Files, O: Sink, L: Ledger>(
     steps: &mut Steps<L>,
 ) -> Result<(), Fault<'w>>
     requires { IsInRange (Decode names.model names.topology names.book names.log window) }
-    ensures { EndsBuilt (Decode names.entry.model names.entry.topology names.entry.book names.entry.log window) (F.tells files.old) (F.tells files.new)
+    ensures { EndsRequest (Decode names.entry.model names.entry.topology names.entry.book names.entry.log window) (F.tells files.old) (F.tells files.new)
         (O.tells out.old) (O.tells out.new) (wrong result) }
 {
     let topology = read_network(alloc, files, names.model, names.topology)?;

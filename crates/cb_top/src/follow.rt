@@ -20,7 +20,7 @@ use std::alloc::{AllocError, Global};
 use std::sync::ledger::Ledger;
 
 /// A line of a log has at most so many bytes, without its LF.
-const MOST_LINE: usize = 65_536;
+pub const MOST_LINE: usize = 65_536;
 
 /// A log has at most so many bytes.
 const MOST_LOG: u64 = 1 << 40;

@@ -306,3 +306,37 @@ fn a_log_that_was_read_as_the_model_is_empty(rt: HostRuntime) -> Result<(), Fail
     check(&rt, rt.alloc(), &case, &wanted)?;
     Ok(())
 }
+
+#[test]
+fn a_log_that_is_made_up_is_summed_up(rt: HostRuntime) -> Result<(), Fail> {
+    let cases: [(&str, &str, u64, u8, &str, &str); 3] = [
+        (
+            "4",
+            "7",
+            0,
+            0,
+            "grow sites 4 start 7\ninstances 19 nodes 46 problems 19 symptoms 18 groups 18\nrecords 3020 skipped 0 refused 508\ndiagnoses 228 sure 44 unknown 256 thin 20 books 20\n",
+            "",
+        ),
+        (
+            "1",
+            "0",
+            0,
+            0,
+            "grow sites 1 start 0\ninstances 5 nodes 12 problems 5 symptoms 4 groups 5\nrecords 3020 skipped 0 refused 515\ndiagnoses 229 sure 130 unknown 150 thin 20 books 20\n",
+            "",
+        ),
+        ("1", "0", 1, 9, "", "error 9 write\n"),
+    ];
+    for (sites, start, failing_write, code, out, err) in cases {
+        let case = Case {
+            words: &["grow", sites, start],
+            files: &[],
+            piece: 0,
+            failing_read: 0,
+            failing_write,
+        };
+        check(&rt, rt.alloc(), &case, &Wanted { code, out, err })?;
+    }
+    Ok(())
+}

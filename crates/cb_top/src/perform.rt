@@ -1,7 +1,6 @@
 //! What is asked for, command by command.
-ghost use Rattle.std.specs.Prelude.{◌≡◌, Some, true};
+ghost use Rattle.std.specs.Prelude.{Some};
 ghost use Rattle.cb_request.specs.Ranges.{IsInRange};
-ghost use Rattle.cb_outcome.specs.Jobs.{is_built};
 ghost use Rattle.cb_outcome.specs.Steps.{Counts};
 ghost use Rattle.cb_top.specs.Ways.{EndsRequest, wrong};
 
@@ -9,6 +8,7 @@ use crate::burst::burst;
 use crate::codebook::codebook;
 use crate::correlate::{Correlation, correlate};
 use crate::decode::{DecodeFiles, decode};
+use crate::grow::grow;
 use crate::matrix::matrix;
 use crate::model::model;
 use crate::output::deliver;
@@ -29,8 +29,7 @@ pub fn perform<'w, F: Files, O: Sink, L: Ledger>(
     steps: &mut Steps<L>,
 ) -> Result<(), Fault<'w>>
     requires range { IsInRange request }
-    ensures ends { EndsRequest (is_built request.entry) request.entry (F.tells files.old) (F.tells files.new) (O.tells out.old) (O.tells out.new) (wrong result) }
-    ensures unread { (¬ (is_built request.entry ≡ true)) → files.new ≡ files.old }
+    ensures ends { EndsRequest request.entry (F.tells files.old) (F.tells files.new) (O.tells out.old) (O.tells out.new) (wrong result) }
     ensures steps { Counts (Some request.entry) steps.old steps.new }
 {
     match request {
@@ -84,6 +83,6 @@ pub fn perform<'w, F: Files, O: Sink, L: Ledger>(
             };
             decode(alloc, files, out, names, window, steps)
         }
-        Request::Grow { .. } => Err(Fault::NotBuilt),
+        Request::Grow { sites, start } => deliver(grow(alloc, sites, start, steps), out),
     }
 }

@@ -352,8 +352,7 @@ fn each_call_fails_in_turn(rt: HostRuntime) -> Result<(), Fail> {
 #[test]
 fn words_are_a_command_or_not(rt: HostRuntime) -> Result<(), Fail> {
     const USAGE: (u8, &str) = (2, "error 2 usage\n");
-    const NOT_BUILT: (u8, &str) = (11, "error 11 not-built\n");
-    let cases: [(&[&str], (u8, &str)); 13] = [
+    let cases: [(&[&str], (u8, &str)); 14] = [
         (&[], USAGE),
         (&["burst", "m", "t"], USAGE),
         (&["Burst", "m", "t", "s"], USAGE),
@@ -366,7 +365,8 @@ fn words_are_a_command_or_not(rt: HostRuntime) -> Result<(), Fail> {
         (&["decode", "m", "t", "c", "l", "0"], USAGE),
         (&["correlate", "m", "t", "l", "10", "0"], USAGE),
         (&["grow", "257", "0"], USAGE),
-        (&["grow", "256", "18446744073709551615"], NOT_BUILT),
+        (&["grow", "0", "7"], USAGE),
+        (&["grow", "4", "18446744073709551616"], USAGE),
     ];
     for (words, (code, err)) in cases {
         let case = Case {

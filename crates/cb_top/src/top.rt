@@ -1,8 +1,8 @@
 //! The top call.
-ghost use Rattle.std.specs.Prelude.{◌≡◌};
+ghost use Rattle.std.specs.Prelude.{◌≡◌, IsNone};
 ghost use Rattle.cb_request.specs.Commands.{asked};
 ghost use Rattle.cb_outcome.specs.Clauses.{AnswersOutcome, WritesDue, KeepsQuiet, SaysStatus, ReadsInOrder, Blames, IsComplete};
-ghost use Rattle.cb_outcome.specs.Ends.{MayEnd, IsBuilt};
+ghost use Rattle.cb_outcome.specs.Ends.{MayEnd};
 ghost use Rattle.cb_outcome.specs.Finds.{Finds};
 ghost use Rattle.cb_outcome.specs.Seen.{seen};
 ghost use Rattle.cb_outcome.specs.Steps.{Counts};
@@ -36,11 +36,10 @@ pub fn run<F: Files, O: Sink, E: Sink, L: Ledger>(
     // The line is that of a fault of this status, which names no file but a file word; at 0 there is none.
     ensures line { SaysStatus (asked words.now) result (E.tells err.old) (E.tells err.new) }
 
-    // Which words end how, whatever the files tell: 2 comes exactly where they are none of the table, 11 exactly where they are
-    // those of a command that isn't built, 4 for commands with a topology alone.
+    // Which words end how, whatever the files tell: 2 comes exactly where they are none of the table, 4 for commands with a topology alone.
     ensures ends { MayEnd (asked words.now) result }
-    // Nothing is read but for a command that is built.
-    ensures unread { (¬ IsBuilt (asked words.now)) → files.new ≡ files.old }
+    // Nothing is read where they are none.
+    ensures unread { IsNone (asked words.now) → files.new ≡ files.old }
 
     // What was read: files in the order of the words, each whole before the next, and no other.
     ensures order { ReadsInOrder (asked words.now) (F.tells files.old) (F.tells files.new) }
@@ -72,7 +71,7 @@ fn answer<'w, F: Files, O: Sink, L: Ledger>(
     steps: &mut Steps<L>,
 ) -> Result<(), Fault<'w>>
     ensures ends { EndsAsked (asked words.now) (F.tells files.old) (F.tells files.new) (O.tells out.old) (O.tells out.new) (wrong result) }
-    ensures unread { (¬ IsBuilt (asked words.now)) → files.new ≡ files.old }
+    ensures unread { IsNone (asked words.now) → files.new ≡ files.old }
     ensures steps { Counts (asked words.now) steps.old steps.new }
 {
     match Request::of(words) {

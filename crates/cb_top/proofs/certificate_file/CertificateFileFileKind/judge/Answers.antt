@@ -7,8 +7,8 @@ pub returns-in-Some-clause-stops : goal.returns-in-Some-clause-stops
 returns-in-Some-clause-stops g c =
     certificate_long c.args.name c.args.text.now c.requires (topology_of c.args.self.topology) c.in-Some.line c.in-Some.ensures.long
 
-pub checked-requires : goal.checked-requires
-checked-requires g c = c.in_ok-certificate.ensures.certificate.is
+pub checked_alone-requires : goal.checked_alone-requires
+checked_alone-requires g c = c.in_ok-certificate.ensures.certificate.is
 
 pub returns-in_err-certificate-clause-stops : goal.returns-in_err-certificate-clause-stops
 returns-in_err-certificate-clause-stops g c =

@@ -1,0 +1,28 @@
+use Rattle.std.proofs.Common.{◌≡◌, ℕ, List, ap, refl, inl}
+use Rattle.cb_io.proofs.Told.{ReadsEach-nil}
+use Rattle.cb_outcome.specs.Judged.{nothing}
+use Rattle.cb_outcome.specs.Outcome.{done}
+use Rattle.cb_topo.specs.Numbered.{topology_of}
+use Rattle.cb_top.proofs.Chain.{of_all}
+use Rattle.cb_top.proofs.Growing.{refused_comes}
+use Rattle.cb_top.proofs.grow.grow.Goals as goal
+
+pub returns-in_ok-summary_of-in-Ok : goal.returns-in_ok-summary_of-in-Ok
+returns-in_ok-summary_of-in-Ok g c =
+    let (summary, sums, is) = c.in_ok-summary_of-in-Ok.ensures in
+    λ files. record {
+      known = nothing;
+      said = of_all files.left _ (λ left. refl);
+      gives = λ left whole. inl (record {
+        from = topology_of c.in-Ok.topology;
+        made_up = c.in-Ok.ensures.network;
+        summary = summary;
+        sums_up = sums;
+        gives = ap (λ (bytes : List ℕ). done bytes whole) is;
+      });
+      read = ReadsEach-nil files;
+      alone = refl;
+    }
+
+pub returns-in-Err : goal.returns-in-Err
+returns-in-Err g c = refused_comes c.args.sites c.args.start c.in-Err.fault c.refused.result c.refused.ensures c.in-Err.ensures.fault
