@@ -1,5 +1,5 @@
 #!/usr/bin/env python3
-"""Draws the pictures of the documents, as SVG: docs/pictures/make.py writes rooms.svg and radius.svg beside itself."""
+"""Draws the pictures of the documents, as SVG: docs/pictures/make.py writes rooms.svg, log.svg and radius.svg beside itself."""
 import pathlib
 
 HERE = pathlib.Path(__file__).resolve().parent
@@ -11,6 +11,7 @@ ROOMS = {
     "topology": "#dff2e1",
     "causes": "#f7e3d4",
     "codes": "#ecdff5",
+    "log": "#f9e0e7",
 }
 BLUE, ORANGE, EMPTY = "#2b6cb0", "#d9730d", "#f4f4f4"
 
@@ -93,6 +94,48 @@ def rooms():
     picture("rooms.svg", 946, 772, title, sum(steps, []) + arrows + notes)
 
 
+def log():
+    """The way of one line of a log through the rooms, and back for the next one."""
+    x, width, step = 60, 560, 78
+    boxes = [
+        ("base", "a line of the log, with its number", "cb_io"),
+        ("log", "a record, or why the line is skipped", "cb_alarm"),
+        ("log", "the windows that are due now", "cb_window"),
+        ("codes", "a codebook, where none is in use", "cb_cache  cb_matrix  cb_reduce"),
+        ("codes", "for each of these windows the groups that are nearest", "cb_decode"),
+        ("topology", "an edit changes the topology, what causes what, and the rows", "cb_topo  cb_graph  cb_cache"),
+        ("log", "an alarm joins the window of its source, or leaves it", "cb_window"),
+        ("program", "the events, as lines, on standard output", "cb_report  cb_io"),
+    ]
+    tops = [20 + step * i for i in range(len(boxes))]
+    steps = [box(x, top, room, title, crates, width) for top, (room, title, crates) in zip(tops, boxes)]
+    middle, last = x + width // 2, tops[-1] + 26
+    arrows = [arrow((middle, top + 52), (middle, below)) for top, below in zip(tops, tops[1:])]
+    arrows.append(arrow((x, last), (24, last), (24, tops[0] + 26), (x, tops[0] + 26)))
+    beside = x + width + 24
+    notes = [
+        rectangle(beside, tops[2], 262, 276, "#ffffff", dash="5 4"),
+        *(text(beside + 131, tops[2] + 30 + 22 * i, words, 13, PALE) for i, words in enumerate((
+            "cb_session: one call of step.",
+            "",
+            "Diagnoses come before the edit of",
+            "the same line, by the topology",
+            "before it.",
+            "",
+            "A codebook stays until an edit is",
+            "accepted. Where two groups are",
+            "closer than wanted, that is told.",
+            "",
+            "Where memory is wanting, the",
+            "session is as it was before the line.",
+        ))),
+        text(beside + 131, tops[-1] + 16, "All is written before the next", 13, PALE),
+        text(beside + 131, tops[-1] + 34, "line is asked for.", 13, PALE),
+    ]
+    title = "The way of a line of a log through the rooms, to the lines of its events, and back for the next line"
+    picture("log.svg", beside + 282, tops[-1] + 72, title, sum(steps, []) + arrows + notes)
+
+
 COLUMNS = ["NoPicture@camera", "NoPing@camera", "NoStream@camera", "NoAgent@desk", "NoLogin@desk", "NoPing@desk", "NoPing@switch"]
 CODES = {"quiet": "0000000", "Failed@camera": "1110000", "Crashed@desk": "0001110", "Dead@switch": "1111111"}
 RAISED = "1010000"
@@ -139,4 +182,5 @@ def radius():
 
 if __name__ == "__main__":
     rooms()
+    log()
     radius()
