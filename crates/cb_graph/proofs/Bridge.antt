@@ -10,7 +10,7 @@ use Rattle.cb_model.specs.declared.node.NodeName.{NodeName}
 use Rattle.cb_model.specs.declared.rule.Rule.{Rule}
 use Rattle.cb_model.specs.declared.tables.EventRow.{EventRow}
 use Rattle.cb_model.specs.declared.tables.Tables.{Tables}
-use Rattle.cb_model.specs.Classes.{ancestor, parent_in_row, HasEvent, HasRule, NamesEvent}
+use Rattle.cb_model.specs.Classes.{IsA, ancestor, parent_in_row, HasEvent, HasRule, NamesEvent}
 use Rattle.cb_model.specs.Views.{AreRulesOf, IsRuleAt, rule_of}
 use Rattle.cb_model.specs.WellTyped.{IsClass, WellTyped}
 use Rattle.cb_model.proofs.Climb.{stops}
@@ -33,7 +33,7 @@ use Rattle.cb_graph.proofs.Listing.{set_gains}
 use Rattle.cb_graph.proofs.Walking.{one_name, leads_are_leads}
 
 -- pairs at one place
-right_of : {X Y : Type 0} (R : X → Y → Type 0) (xs : List X) (ys : List Y) (y : Y) → AllZip R xs ys → Contains ys y → (x : X) × Contains xs x × R x y
+pub right_of : {X Y : Type 0} (R : X → Y → Type 0) (xs : List X) (ys : List Y) (y : Y) → AllZip R xs ys → Contains ys y → (x : X) × Contains xs x × R x y
 right_of R [] [] y zip has = absurd (nothing_in_empty y has)
 right_of R [] (b ∷ bs) y zip has = absurd zip
 right_of R (a ∷ rest) [] y zip has = absurd zip
@@ -42,7 +42,7 @@ right_of R (a ∷ rest) (b ∷ bs) y zip has = elim (contains_cases b bs y has) 
   | inr later ↦ let f = right_of R rest bs y zip.1 later in (f.0, contains_tail a rest f.0 f.1, f.2)
 ]
 
-left_of : {X Y : Type 0} (R : X → Y → Type 0) (xs : List X) (ys : List Y) (x : X) → AllZip R xs ys → Contains xs x → (y : Y) × Contains ys y × R x y
+pub left_of : {X Y : Type 0} (R : X → Y → Type 0) (xs : List X) (ys : List Y) (x : X) → AllZip R xs ys → Contains xs x → (y : Y) × Contains ys y × R x y
 left_of R [] [] x zip has = absurd (nothing_in_empty x has)
 left_of R [] (b ∷ bs) x zip has = absurd zip
 left_of R (a ∷ rest) [] x zip has = absurd zip
@@ -52,29 +52,33 @@ left_of R (a ∷ rest) (b ∷ bs) x zip has = elim (contains_cases a rest x has)
 ]
 
 -- an instance has one class
-one_class : (t : Topology) (name : List ℕ) (c d : ClassId) → IsOf t name c → IsOf t name d → c ≡ d
+pub one_class : (t : Topology) (name : List ℕ) (c d : ClassId) → IsOf t name c → IsOf t name d → c ≡ d
 one_class t name c d a b = let e : Some c ≡ Some d = sym a ∙ b in cc
 
--- what has an event is a class of the tables
-class_within : (t : Tables) → WellTyped t → (c : ClassId) (e : EventId) → HasEvent t c e → IsClass t c
-class_within t typed c e has = elim (cases_lt c.0 (length t.classes)) [
+-- a class with an ancestor in the tables is in them
+pub class_of_heir : (t : Tables) (c b : ClassId) → IsA t c b → IsClass t b → IsClass t c
+class_of_heir t c b is_a within = elim (cases_lt c.0 (length t.classes)) [
   | inl lt ↦ lt
-  | inr le ↦ up has.from_c.0 le has.from_c.1
+  | inr le ↦ up is_a.0 le is_a.1
 ]
   where
-    of_row : IsClass t has.row.class
-    of_row = subst (λ (row : EventRow). IsClass t row.class) (get_or_from_slice_get t.events e.0 has.row has.row has.is)
-        (typed.places.events e.0 has.row (slice_get_within t.events e.0 has.row has.is))
-
-    up : (m : ℕ) → length t.classes ≤ c.0 → ancestor t c m ≡ Some has.row.class → IsClass t c
-    up zero le is = let same : has.row.class ≡ c = cc in subst (IsClass t) same of_row
+    up : (m : ℕ) → length t.classes ≤ c.0 → ancestor t c m ≡ Some b → IsClass t c
+    up zero le is = let same : b ≡ c = cc in subst (IsClass t) same within
     up (suc m) le is =
         let none : ancestor t c 1 ≡ None = ap parent_in_row (slice_get_past t.classes c.0 le) in
         let above = stops t c 1 (suc m) (omega arith) none in
         absurd (cc)
 
+-- what has an event is a class of the tables
+pub class_within : (t : Tables) → WellTyped t → (c : ClassId) (e : EventId) → HasEvent t c e → IsClass t c
+class_within t typed c e has = class_of_heir t c has.row.class has.from_c of_row
+  where
+    of_row : IsClass t has.row.class
+    of_row = subst (λ (row : EventRow). IsClass t row.class) (get_or_from_slice_get t.events e.0 has.row has.row has.is)
+        (typed.places.events e.0 has.row (slice_get_within t.events e.0 has.row has.is))
+
 -- a class has one event of a name
-one_event : (t : Tables) → WellTyped t → (c : ClassId) (name : List ℕ) (e f : EventId) → NamesEvent t c name e → NamesEvent t c name f → e ≡ f
+pub one_event : (t : Tables) → WellTyped t → (c : ClassId) (name : List ℕ) (e f : EventId) → NamesEvent t c name e → NamesEvent t c name f → e ≡ f
 one_event t typed c name e f a b =
     event_told t typed c e f a.0 b.0 (ap name_in_row a.0.is ∙ (a.1 ∙ (sym b.1 ∙ sym (ap name_in_row b.0.is))))
 
@@ -102,7 +106,7 @@ module _ (n : Numbered) (whole : IsWhole n) where
   abbrev tables : Tables
   tables = n.net.topology.model
 
-  one_at : (id : NodeId) (x y : Node) → IsNode n.nodes id x → IsNode n.nodes id y → x ≡ y
+  pub one_at : (id : NodeId) (x y : Node) → IsNode n.nodes id x → IsNode n.nodes id y → x ≡ y
   one_at id x y a b = let e : Some x ≡ Some y = sym a ∙ b in cc
 
   -- a node has one number
@@ -127,7 +131,7 @@ module _ (n : Numbered) (whole : IsWhole n) where
       )
 
   -- the event of a node, at its name
-  event_at : (id : NodeId) (node : Node) (name : NodeName) → IsNode n.nodes id node → IsNamed n.net node.instance name.instance → event_name tables node.event ≡ name.event
+  pub event_at : (id : NodeId) (node : Node) (name : NodeName) → IsNode n.nodes id node → IsNamed n.net node.instance name.instance → event_name tables node.event ≡ name.event
       → IsEventAt (topology_of n) name node.event
   event_at id node name is named event =
       let had = whole.had id node is in

@@ -4,4 +4,8 @@ pub mod Listing
 pub mod Walking
 pub mod Bridge
 pub mod Places
+pub mod Coming
+pub mod Named
+pub mod Touching
+pub mod Resolved
 pub mod TypedPipes

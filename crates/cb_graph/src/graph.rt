@@ -1,13 +1,19 @@
 //! The graph of a topology.
 ghost use Rattle.std.specs.Prelude.{◌≡◌, ◌≤◌, ◌+◌, ◌↔◌, ℕ, length, OnOk, OnErr, IfOk, IfErr};
+ghost use Rattle.cb_network.specs.Topology.{Topology as Instances};
+ghost use Rattle.cb_network.specs.Edits.{IsAccepted};
 ghost use Rattle.cb_network.specs.Laws.{HasGoodName};
-ghost use Rattle.cb_topo.specs.Numbered.{IsLiveNode};
+ghost use Rattle.cb_change.specs.Laws.{IsStep};
+ghost use Rattle.cb_topo.specs.Numbered.{IsLiveNode, topology_of};
 ghost use Rattle.cb_topo.specs.Applied.{Applies, Prevents};
 ghost use Rattle.cb_reach.specs.Rows.{Has};
 ghost use Rattle.cb_graph.specs.Edges.{EdgeAt};
+ghost use Rattle.cb_graph.specs.Touched.{IsTouchedNumber};
 
 use crate::instances::InstanceSet;
+use crate::moves::Moves;
 use crate::rules::add_edges;
+use crate::touched::add_touched;
 use cb_bits::Row;
 use cb_network::Edit;
 use cb_nodes::NodeId;
@@ -94,6 +100,23 @@ impl Graph {
         steps.tick();
         out.wipe();
         add_edges(&self.topology, node, &mut self.here, &mut self.spare, out);
+    }
+
+    /// Makes `out` exactly the nodes that the edit touches: those that stay, and of which a rule's path meets a link that comes
+    /// or goes. The successors of all others that stay are the same afterwards, and so is all that is caused by a node that
+    /// causes none of these. It is asked before the edit is made, of one that is accepted; it takes no memory and counts no
+    /// step.
+    pub fn touched(&mut self, edit: &Edit, out: &mut Row)
+        requires accepted { IsAccepted (topology_of self.old) edit.now }
+        requires out { length self.old.nodes ≤ length out.old }
+        ensures same { self.new ≡ self.old }
+        ensures length { length out.new ≡ length out.old }
+        ensures exactly { (new : Instances) → IsStep (topology_of self.old) edit.now new → (k : ℕ) → Has out.new k ↔ IsTouchedNumber self.old new k }
+    {
+        out.wipe(); // Whatever it had is no matter.
+        if let Some(moves) = Moves::of(&self.topology, edit) {
+            add_touched(&self.topology, moves, &mut self.here, &mut self.spare, out);
+        }
     }
 }
 

@@ -1,5 +1,5 @@
-//! Edits of each kind through a graph, and the successors of a leak in each pipe before and after.
-ghost use Rattle.std.specs.Prelude.{◌≡◌, ◌<◌, IsTrue};
+//! Edits of each kind through a graph, the successors of a leak in each pipe before and after, and the leaks that edits touch.
+ghost use Rattle.std.specs.Prelude.{◌≡◌, ◌<◌, ◌≤◌, length, IsTrue};
 ghost use Rattle.cb_network.specs.Laws.{HasGoodName};
 
 use crate::Graph;
@@ -153,10 +153,10 @@ fn make_all(
     Ok(())
 }
 
-// Whether the row has the nodes `Dry` of these pipes, and no other.
-fn are_dry(topology: &Topology, row: &Row, pipes: &[&[u8]]) -> bool {
+// Whether the row has the nodes of the event at these pipes, and no other.
+fn has_just(topology: &Topology, row: &Row, event: &[u8], pipes: &[&[u8]]) -> bool {
     row.ones() == pipes.len()
-        && pipes.iter().all(|pipe| match topology.node_named(b"Dry", pipe) {
+        && pipes.iter().all(|pipe| match topology.node_named(event, pipe) {
             Some(node) => (node.0 as usize) < row.len() && row.get(node.0 as usize),
             None => false,
         })
@@ -176,7 +176,67 @@ fn follow_leaks<L: Ledger>(
             Some(leak) => graph.successors(leak, &mut row, steps),
             None => row.wipe(),
         }
-        assert!(rt; are_dry(graph.topology(), &row, dry), "{pipe:?}");
+        assert!(rt; has_just(graph.topology(), &row, b"Dry", dry), "{pipe:?}");
+    }
+    Ok(())
+}
+
+// An edit, and the pipes whose leaks it touches.
+type Touch = (Words, &'static [&'static [u8]]);
+
+const TOUCHES: [Touch; 11] = [
+    (Words::Create(b"a", b"Pipe"), &[]),
+    (Words::Create(b"b", b"Pipe"), &[]),
+    (Words::Create(b"c", b"Pipe"), &[]),
+    (Words::Link(b"a", b"next", b"b"), &[b"a"]),
+    // The link is at the second place of a path from a.
+    (Words::Link(b"b", b"next", b"c"), &[b"a", b"b"]),
+    (Words::Mute(b"Dry", b"b"), &[]),
+    (Words::Unmute(b"Dry", b"b"), &[]),
+    // Named from the other side.
+    (Words::Unlink(b"c", b"back", b"b"), &[b"a", b"b"]),
+    (Words::Link(b"c", b"back", b"b"), &[b"a", b"b"]),
+    (Words::Unlink(b"a", b"next", b"b"), &[b"a"]),
+    (Words::Delete(b"c"), &[b"b"]),
+];
+
+// Makes the row what the edit touches, where it is accepted.
+fn ask(graph: &mut Graph, edit: &Edit, row: &mut Row) -> bool
+    requires { length graph.old.nodes ≤ length row.old }
+{
+    match graph.topology().allows(edit) {
+        Ok(()) => {
+            graph.touched(edit, row);
+            true
+        }
+        Err(_) => false,
+    }
+}
+
+// Whether the edit of these words is accepted, and touches just the leaks in these pipes.
+fn touches_just(
+    alloc: Global,
+    graph: &mut Graph,
+    words: Words,
+    pipes: &[&[u8]],
+) -> Result<bool, AllocError> {
+    let edit = edit_of(alloc, words)?;
+    let mut row = Row::zeroed(alloc, graph.topology().node_room())?;
+    let accepted = ask(graph, &edit, &mut row);
+    Ok(accepted && has_just(graph.topology(), &row, b"Leak", pipes))
+}
+
+// Asks in turn what each edit touches, and makes it.
+fn touch_all(
+    rt: &impl Abort,
+    alloc: Global,
+    graph: &mut Graph,
+    table: &[Touch],
+) -> Result<(), AllocError> {
+    for (words, pipes) in table {
+        let right = touches_just(alloc, graph, *words, pipes)?;
+        let fault = fault_of(alloc, graph, *words)?;
+        assert!(rt; right && fault.is_none(), "{words:?}");
     }
     Ok(())
 }
@@ -209,6 +269,15 @@ fn successors_under_edits(rt: HostRuntime) -> Result<(), AllocError> {
     let alloc = rt.alloc();
     let mut graph = empty_graph(alloc)?;
     let done = work_through::<Brand>(&rt, alloc, Blank::new(1), &mut graph);
+    drop(graph);
+    done
+}
+
+#[test]
+fn touched_before_edits(rt: HostRuntime) -> Result<(), AllocError> {
+    let alloc = rt.alloc();
+    let mut graph = empty_graph(alloc)?;
+    let done = touch_all(&rt, alloc, &mut graph, &TOUCHES);
     drop(graph);
     done
 }

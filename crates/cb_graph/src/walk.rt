@@ -11,8 +11,8 @@ use cb_instances::InstanceId;
 use cb_model::RelId;
 use cb_topo::Topology;
 
-// Adds the listed instances to the set.
-fn add_all(list: &[InstanceId], out: &mut InstanceSet)
+/// Adds the listed instances to the set.
+pub fn add_all(list: &[InstanceId], out: &mut InstanceSet)
     requires { (id : Id) → Contains list.now id → id.0 < length out.old }
     ensures length { length out.new ≡ length out.old }
     ensures each { Gains out.old out.new list.now IsNumber }
@@ -22,8 +22,8 @@ fn add_all(list: &[InstanceId], out: &mut InstanceSet)
     }
 }
 
-// Adds what the relation leads to from the listed instances.
-fn add_links(topology: &Topology, list: &[InstanceId], rel: RelId, out: &mut InstanceSet)
+/// Adds what the relation leads to from the listed instances.
+pub fn add_links(topology: &Topology, list: &[InstanceId], rel: RelId, out: &mut InstanceSet)
     requires live { AllLive topology.now.net list.now }
     requires out { HasPlaces topology.now.net out.old }
     ensures length { length out.new ≡ length out.old }

@@ -1,0 +1,98 @@
+-- Nodes that an edit touches, by numbers, told before it is made.
+use Rattle.std.specs.Prelude.{◌≡◌, ◌≢◌, ◌⊎◌, ◌↔◌, ℕ, List, [], ◌∷◌, Bool}
+use Rattle.cb_model.specs.declared.id.ClassId.{ClassId}
+use Rattle.cb_model.specs.declared.id.EventId.{EventId}
+use Rattle.cb_model.specs.declared.id.RelId.{RelId}
+use Rattle.cb_model.specs.declared.node.NodeName.{NodeName}
+use Rattle.cb_model.specs.declared.rule.Rule.{Rule}
+use Rattle.cb_model.specs.Classes.{HasRule}
+use Rattle.cb_model.specs.Views.{rule_of}
+use Rattle.cb_network.specs.declared.edit.Edit.{Edit}
+use Rattle.cb_network.specs.declared.edit.Edit.TheVariants.{Delete, Link, Unlink}
+use Rattle.cb_network.specs.Topology.{Topology, IsOf, IsLive as IsLiveName}
+use Rattle.cb_network.specs.Edits.{NamesPair, HasRelationAt}
+use Rattle.cb_change.specs.Touched.{IsTouched}
+use Rattle.cb_instances.specs.declared.id.InstanceId.{InstanceId}
+use Rattle.cb_instances.specs.Net.{Net, IsNamed, IsLive, LinkAt, name_at}
+use Rattle.cb_reach.specs.Rows.{Has}
+use Rattle.cb_topo.specs.Numbered.{Numbered, topology_of, IsNodeNamed}
+use Rattle.cb_graph.specs.declared.moves.Moves.{Moves}
+use Rattle.cb_graph.specs.declared.moves.Moves.TheVariants.{Pair, AllOf}
+use Rattle.cb_graph.specs.Edges.{number}
+use Rattle.cb_graph.specs.Walks.{IsEventNumber, instance}
+
+-- the node of this number is touched by the edit that makes the new topology
+abbrev pub IsTouchedNumber : Numbered → Topology → ℕ → Type 0
+IsTouchedNumber old new k = (name : NodeName) × IsNodeNamed old (number k) name × IsTouched (topology_of old) new name
+
+-- the instances are live, and the first one's class has the relation, or at least it can't be otherwise
+pub record AreThere (t : Topology) (a rel b : List ℕ) : Type 0 where
+  pub live : ¬ ¬ (IsLiveName t a × IsLiveName t b)
+  pub has : ¬ ¬ HasRelationAt t a rel
+
+-- these are the instances of these names, and the relation of this name with its inverse
+pub record ArePair (n : Net) (a rel b : List ℕ) (from : InstanceId) (r : RelId) (to : InstanceId) (s : RelId) : Type 0 where
+  pub from_is : IsNamed n from a
+  pub to_is : IsNamed n to b
+  pub names : NamesPair n.topology a rel r s
+
+-- these are the links between instances of these names
+abbrev pub ArePairOf : Net → List ℕ → List ℕ → List ℕ → Moves → Type 0
+ArePairOf n a rel b (Pair from r to s) = ArePair n a rel b from r to s
+ArePairOf n a rel b (AllOf id) = ⊥
+
+-- these are all links of the instance of this name
+abbrev pub AreAllOf : Net → List ℕ → Moves → Type 0
+AreAllOf n name (Pair from r to s) = ⊥
+AreAllOf n name (AllOf id) = IsNamed n id name
+
+-- these are the links that the edit moves
+abbrev pub AreMovedBy : Net → Edit → Moves → Type 0
+AreMovedBy n (Link a rel b) moves = ArePairOf n a rel b moves
+AreMovedBy n (Unlink a rel b) moves = ArePairOf n a rel b moves
+AreMovedBy n (Delete name) moves = AreAllOf n name moves
+AreMovedBy n edit moves = ⊥
+
+-- the instances at their ends are live
+abbrev pub HaveEnds : Net → Moves → Type 0
+HaveEnds n (Pair from r to s) = IsLive n from × IsLive n to
+HaveEnds n (AllOf id) = IsLive n id
+
+-- one of the links leads from the instance by the relation, to one that stays if the instance goes
+abbrev pub StartsAt : Net → Moves → RelId → InstanceId → Type 0
+StartsAt n (Pair from r to s) q i = ((q ≡ r) × (i ≡ from)) ⊎ ((q ≡ s) × (i ≡ to))
+StartsAt n (AllOf id) q i = LinkAt n i q id
+
+-- links by the first of these relations lead from the instance to where one of those that move starts, by the next
+abbrev pub ComesAt : Net → Moves → InstanceId → List RelId → Type 0
+ComesAt n moves i [] = ⊥
+ComesAt n moves i (r ∷ rest) = StartsAt n moves r i ⊎ ((j : InstanceId) × LinkAt n i r j × ComesAt n moves j rest)
+
+-- the row has exactly the instances from which the path comes to a link that moves
+abbrev pub IsWhereComes : Net → Moves → List RelId → List Bool → Type 0
+IsWhereComes n moves path row = (k : ℕ) → Has row k ↔ ComesAt n moves (instance k) path
+
+-- the instance is there still when the links have moved
+abbrev pub Remains : Moves → InstanceId → Type 0
+Remains (Pair from r to s) i = Unit {0}
+Remains (AllOf id) i = i ≢ id
+
+-- the instance is of this class, and stays
+pub record RemainsOf (n : Net) (moves : Moves) (class : ClassId) (i : InstanceId) : Type 0 where
+  pub of_class : IsOf n.topology (name_at n i) class
+  pub remains : Remains moves i
+
+-- this is the number of the event at the instance, which is of the class and stays
+pub record IsCauseNumber (n : Numbered) (moves : Moves) (class : ClassId) (cause : EventId) (i : InstanceId) (k : ℕ) : Type 0 where
+  pub remains : RemainsOf n.net moves class i
+  pub is : IsEventNumber n cause i k
+
+-- the rule's path comes to a link that moves, from an instance of the class, and this is the number of its cause there
+pub record TouchesBy (n : Numbered) (moves : Moves) (class : ClassId) (rule : Rule) (k : ℕ) : Type 0 where
+  pub at : InstanceId
+  pub comes : ComesAt n.net moves at rule.path
+  pub is : IsCauseNumber n moves class rule.cause at k
+
+-- a rule of the class does so
+abbrev pub TouchesIn : Numbered → Moves → ClassId → ℕ → Type 0
+TouchesIn n moves class k = (rule : ℕ) × (has : HasRule (topology_of n).model class rule) × TouchesBy n moves class (rule_of has.row) k

@@ -1,0 +1,187 @@
+//! The nodes that an edit touches: walks back along the paths of rules, from the links that the edit moves.
+ghost use Rattle.std.specs.Prelude.{◌≡◌, ◌<◌, ◌≤◌, ◌↔◌, ◌⊎◌, ℕ, length, IsTrue};
+ghost use Rattle.std.specs.List.{All};
+ghost use Rattle.cb_model.specs.WellTyped.{IsClass, IsRelation};
+ghost use Rattle.cb_network.specs.declared.edit.Edit.{Edit as AnyEdit};
+ghost use Rattle.cb_network.specs.Topology.{Topology as Instances};
+ghost use Rattle.cb_change.specs.Laws.{IsStep};
+ghost use Rattle.cb_instances.specs.Net.{IsLive};
+ghost use Rattle.cb_reach.specs.Rows.{Has};
+ghost use Rattle.cb_topo.specs.Numbered.{topology_of};
+ghost use Rattle.cb_graph.specs.Instances.{Gains};
+ghost use Rattle.cb_graph.specs.Walks.{HasPlaces, AllLive, instance};
+ghost use Rattle.cb_graph.specs.Touched.{IsTouchedNumber, AreMovedBy, HaveEnds, StartsAt, IsWhereComes, RemainsOf, IsCauseNumber, TouchesBy, TouchesIn};
+
+use crate::instances::InstanceSet;
+use crate::moves::{Moves, back_of};
+use crate::rules::add_event;
+use crate::walk::{add_all, add_links};
+use cb_bits::Row;
+use cb_instances::InstanceId;
+use cb_model::{ClassId, EventId, List, RelId, Rule};
+use cb_topo::Topology;
+
+// Adds the instance, where its link by one relation is looked for by the other and the two are one.
+fn add_start(start: InstanceId, by: RelId, rel: RelId, out: &mut InstanceSet)
+    requires { start.0 < length out.old }
+    ensures length { length out.new ≡ length out.old }
+    ensures each { (k : ℕ) → Has out.new k ↔ (Has out.old k ⊎ ((rel ≡ by) × (instance k ≡ start))) }
+{
+    if rel == by {
+        out.add(start);
+    }
+}
+
+// Adds the instances from which one of the links leads by the relation. Of an instance that goes those at the other end
+// are enough, since a path comes to it by a link that goes, too.
+fn add_starts(topology: &Topology, moves: Moves, rel: RelId, out: &mut InstanceSet)
+    requires moves { HaveEnds topology.now.net moves }
+    requires rel { IsRelation (topology_of topology.now).model rel }
+    requires out { HasPlaces topology.now.net out.old }
+    ensures length { length out.new ≡ length out.old }
+    ensures each { (k : ℕ) → Has out.new k ↔ (Has out.old k ⊎ StartsAt topology.now.net moves rel (instance k)) }
+{
+    match moves {
+        Moves::Pair {
+            from,
+            rel: there,
+            to,
+            back,
+        } => {
+            add_start(from, there, rel, out);
+            add_start(to, back, rel, out);
+        }
+        Moves::AllOf { id } => {
+            let back = back_of(topology, rel);
+            add_all(topology.links(id, back), out);
+        }
+    }
+}
+
+// Makes `here` the set of the instances from which the path comes to one of the links.
+fn come_to(
+    topology: &Topology,
+    moves: Moves,
+    path: &List<RelId>,
+    here: &mut InstanceSet,
+    spare: &mut InstanceSet,
+)
+    requires moves { HaveEnds topology.now.net moves }
+    requires path { All (IsRelation (topology_of topology.now).model) path.now }
+    requires here { HasPlaces topology.now.net here.old }
+    requires spare { HasPlaces topology.now.net spare.old }
+    ensures here { HasPlaces topology.now.net here.new }
+    ensures spare { HasPlaces topology.now.net spare.new }
+    ensures exactly { IsWhereComes topology.now.net moves path.now here.new }
+{
+    here.clear();
+    for place in (0..path.len()).rev() {
+        let rel = *path.at(place);
+        let back = back_of(topology, rel);
+        spare.clear();
+        add_links(topology, here.members(), back, spare);
+        add_starts(topology, moves, rel, spare);
+        std::mem::swap(here, spare);
+    }
+}
+
+// Whether the instance is of the class, and stays.
+fn remains_of(topology: &Topology, moves: Moves, class: ClassId, id: InstanceId) -> bool
+    requires { IsLive topology.now.net id }
+    ensures { IsTrue result ↔ RemainsOf topology.now.net moves class id }
+{
+    topology.class_of(id) == class && moves.leaves(id)
+}
+
+// Adds the nodes of the cause at those of the listed instances that are of the class, and stay.
+fn add_causes(
+    topology: &Topology,
+    moves: Moves,
+    list: &[InstanceId],
+    class: ClassId,
+    cause: EventId,
+    out: &mut Row,
+)
+    requires live { AllLive topology.now.net list.now }
+    requires out { length topology.now.nodes ≤ length out.old }
+    ensures length { length out.new ≡ length out.old }
+    ensures each { Gains out.old out.new list.now (IsCauseNumber topology.now moves class cause) }
+{
+    for id in list {
+        if remains_of(topology, moves, class, *id) {
+            add_event(topology, *id, cause, out);
+        }
+    }
+}
+
+// Adds what is touched by one rule of the class.
+fn add_rule(
+    topology: &Topology,
+    moves: Moves,
+    class: ClassId,
+    rule: &Rule,
+    here: &mut InstanceSet,
+    spare: &mut InstanceSet,
+    out: &mut Row,
+)
+    requires moves { HaveEnds topology.now.net moves }
+    requires path { All (IsRelation (topology_of topology.now).model) rule.now.path }
+    requires here { HasPlaces topology.now.net here.old }
+    requires spare { HasPlaces topology.now.net spare.old }
+    requires out { length topology.now.nodes ≤ length out.old }
+    ensures here { HasPlaces topology.now.net here.new }
+    ensures spare { HasPlaces topology.now.net spare.new }
+    ensures length { length out.new ≡ length out.old }
+    ensures each { (k : ℕ) → Has out.new k ↔ (Has out.old k ⊎ TouchesBy topology.now moves class rule.now k) }
+{
+    come_to(topology, moves, &rule.path, here, spare);
+    add_causes(topology, moves, here.members(), class, rule.cause, out);
+}
+
+// Adds what is touched by the rules of the class.
+fn add_class(
+    topology: &Topology,
+    moves: Moves,
+    class: ClassId,
+    here: &mut InstanceSet,
+    spare: &mut InstanceSet,
+    out: &mut Row,
+)
+    requires moves { HaveEnds topology.now.net moves }
+    requires class { IsClass (topology_of topology.now).model class }
+    requires here { HasPlaces topology.now.net here.old }
+    requires spare { HasPlaces topology.now.net spare.old }
+    requires out { length topology.now.nodes ≤ length out.old }
+    ensures here { HasPlaces topology.now.net here.new }
+    ensures spare { HasPlaces topology.now.net spare.new }
+    ensures length { length out.new ≡ length out.old }
+    ensures each { (k : ℕ) → Has out.new k ↔ (Has out.old k ⊎ TouchesIn topology.now moves class k) }
+{
+    let rules = topology.model().rules_of(class).as_slice();
+    for rule in rules {
+        add_rule(topology, moves, class, rule, here, spare, out);
+    }
+}
+
+/// Adds the nodes that an edit touches which moves these links. The edit isn't made yet.
+pub fn add_touched(
+    topology: &Topology,
+    moves: Moves,
+    here: &mut InstanceSet,
+    spare: &mut InstanceSet,
+    out: &mut Row,
+)
+    requires moves { HaveEnds topology.now.net moves }
+    requires here { HasPlaces topology.now.net here.old }
+    requires spare { HasPlaces topology.now.net spare.old }
+    requires out { length topology.now.nodes ≤ length out.old }
+    ensures here { HasPlaces topology.now.net here.new }
+    ensures spare { HasPlaces topology.now.net spare.new }
+    ensures length { length out.new ≡ length out.old }
+    ensures exactly { (edit : AnyEdit) (new : Instances) → AreMovedBy topology.now.net edit moves → IsStep (topology_of topology.now) edit new
+        → (k : ℕ) → Has out.new k ↔ (Has out.old k ⊎ IsTouchedNumber topology.now new k) }
+{
+    for class in 0..topology.model().tables().classes.len() {
+        add_class(topology, moves, ClassId(class as u16), here, spare, out);
+    }
+}
