@@ -14,7 +14,7 @@ pub fn reserve_rows(words: &mut Vec<u64>, width: usize, rows: usize) -> Result<(
     let Some(size) = width.checked_mul(rows) else {
         return Err(AllocError);
     };
-    words.reserve_exact(size.saturating_sub(words.len()))
+    words.reserve(size.saturating_sub(words.len()))
 }
 
 /// The words of a row.

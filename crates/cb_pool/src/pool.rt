@@ -1,5 +1,5 @@
 //! The block and its slots.
-ghost use Rattle.std.specs.Prelude.{◌≡◌, ◌≢◌, ◌<◌, ◌≤◌, ◌+◌, ◌^◌, [], length, replicate, OnOk, OnErr};
+ghost use Rattle.std.specs.Prelude.{◌≡◌, ◌≢◌, ◌<◌, ◌≤◌, ◌+◌, ◌^◌, [], length, replicate, OnOk, OnErr, IfOk};
 ghost use Rattle.std.specs.Borrow.{sem, Lends, Array, u64 as word};
 ghost use Rattle.cb_pool.specs.Pool.{HasRow, IsTaken, SameRows, SameOthers, WiderRows, row_of, taken_count, with_row};
 ghost use Rattle.cb_pool.specs.contracts.pool.RowPool.{the_row};
@@ -61,19 +61,15 @@ impl RowPool {
         self.slots.spare()
     }
 
-    /// Makes room, so that this many rows can be taken without memory.
+    /// Makes room, so that this many rows can be taken without memory. More slots than 32 bits can number are want of memory.
     pub fn reserve(&mut self, rows: usize) -> Result<(), AllocError>
-        requires { rows + taken_count self.old < 2 ^ 32 }
         ensures width { self.new.width ≡ self.old.width }
         ensures rows { SameRows self.old self.new }
+        ensures same { record self.new { spare = self.old.spare } ≡ self.old }
         ensures spare { OnOk result (rows ≤ self.new.spare) }
         ensures err { OnErr result (self.new ≡ self.old) }
     {
-        let spare = self.slots.spare();
-        if rows <= spare {
-            return Ok(());
-        }
-        let room = self.slots.room + (rows - spare);
+        let room = self.slots.room_for(rows)?;
         reserve_rows(&mut self.words, self.width, room)?;
         self.slots.reserve(room)
     }
@@ -93,6 +89,32 @@ impl RowPool {
         Ok(())
     }
 
+    /// A copy under the same slots whose rows are longer, by zeros, with room so that this many further rows can be taken without memory.
+    /// More slots than 32 bits can number are want of memory.
+    pub fn wider(&self, alloc: Global, width: usize, rows: usize) -> Result<RowPool, AllocError>
+        requires { self.now.width ≤ width }
+        ensures width { IfOk result (λ copy. copy.width ≡ width) }
+        ensures rows { IfOk result (λ copy. WiderRows self.now copy) }
+        ensures spare { IfOk result (λ copy. rows ≤ copy.spare) }
+    {
+        let room = self.slots.room_for(rows)?;
+        let slots = self.slots.copy(alloc, room)?;
+        let words = widened(
+            alloc,
+            &self.words,
+            self.width,
+            width,
+            slots.taken.len(),
+            room,
+        )?;
+        Ok(RowPool {
+            alloc,
+            width,
+            words,
+            slots,
+        })
+    }
+
     /// Takes a free slot, whose row is then zero. It takes no memory.
     pub fn take(&mut self) -> Slot
         requires { 0 < self.old.spare }
@@ -100,6 +122,7 @@ impl RowPool {
         ensures free { ¬ IsTaken self.old result }
         ensures zero { HasRow self.new result (replicate self.old.width 0) }
         ensures others { SameOthers self.old self.new result }
+        ensures count { taken_count self.new ≡ taken_count self.old + 1 }
         ensures spare { self.old.spare ≡ self.new.spare + 1 }
     {
         if self.slots.free.is_empty() {
@@ -117,6 +140,7 @@ impl RowPool {
         ensures width { self.new.width ≡ self.old.width }
         ensures free { ¬ IsTaken self.new slot }
         ensures others { SameOthers self.old self.new slot }
+        ensures count { taken_count self.old ≡ taken_count self.new + 1 }
         ensures spare { self.new.spare ≡ self.old.spare + 1 }
     {
         self.slots.give_back(slot);

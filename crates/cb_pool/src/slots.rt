@@ -1,9 +1,12 @@
 //! Slots that are taken, slots that are free, and room for slots that were never taken.
-ghost use Rattle.std.specs.Prelude.{◌≡◌, ◌<◌, ◌≤◌, ◌+◌, ◌^◌, [], length, OnOk, OnErr};
+ghost use Rattle.std.specs.Prelude.{◌≡◌, ◌<◌, ◌≤◌, ◌+◌, ◌^◌, [], length, vec_capacity, OnOk, OnErr, IfOk};
 ghost use Rattle.cb_pool.specs.Kept.{AreKept, Takes, IsOut, spare_of};
 
 use crate::slot::Slot;
 use std::alloc::{AllocError, Global};
+
+// Numbers of slots have 32 bits.
+const MOST_SLOTS: usize = u32::MAX as usize;
 
 /// For each slot that was ever taken whether it is taken now, and those that were given back.
 #[derive(Drop)]
@@ -38,6 +41,21 @@ impl Slots {
         self.free.len() + (self.room - self.taken.len())
     }
 
+    /// How many slots there are to be so that this many can be taken. More than 32 bits can number are want of memory.
+    pub fn room_for(&self, rows: usize) -> Result<usize, AllocError>
+        requires { AreKept self.now }
+        ensures more { IfOk result (λ room. self.now.room ≤ room) }
+        ensures few { IfOk result (λ room. room < 2 ^ 32) }
+        ensures spare { IfOk result (λ room. rows + self.now.room ≤ spare_of self.now + room) }
+    {
+        let further = rows.saturating_sub(self.spare());
+        let room = self.room.saturating_add(further);
+        if room > MOST_SLOTS {
+            return Err(AllocError);
+        }
+        Ok(room)
+    }
+
     /// Makes room for this many slots.
     pub fn reserve(&mut self, room: usize) -> Result<(), AllocError>
         requires kept { AreKept self.old }
@@ -49,10 +67,25 @@ impl Slots {
         ensures ok { OnOk result (self.new.room ≡ room) }
         ensures err { OnErr result (self.new.room ≡ self.old.room) }
     {
-        self.taken.reserve_exact(room - self.taken.len())?;
-        self.free.reserve_exact(room - self.free.len())?;
+        self.taken.reserve(room - self.taken.len())?;
+        self.free.reserve(room - self.free.len())?;
         self.room = room;
         Ok(())
+    }
+
+    /// A copy with room for this many slots.
+    pub fn copy(&self, alloc: Global, room: usize) -> Result<Slots, AllocError>
+        requires kept { AreKept self.now }
+        requires more { self.now.room ≤ room }
+        requires few { room < 2 ^ 32 }
+        ensures kept { IfOk result AreKept }
+        ensures taken { IfOk result (λ copy. copy.taken.items ≡ self.now.taken.items) }
+        ensures free { IfOk result (λ copy. copy.free.items ≡ self.now.free.items) }
+        ensures room { IfOk result (λ copy. copy.room ≡ room) }
+    {
+        let taken = copied(alloc, &self.taken, room)?;
+        let free = copied(alloc, &self.free, room)?;
+        Ok(Slots { taken, free, room })
     }
 
     /// Takes a slot that was given back.
@@ -101,4 +134,14 @@ impl Slots {
         self.taken[slot.0 as usize] = false;
         self.free.push_reserved(slot);
     }
+}
+
+// These items, with room for so many.
+fn copied<T: Copy>(alloc: Global, items: &[T], room: usize) -> Result<Vec<T>, AllocError>
+    ensures items { IfOk result (λ made. made.items ≡ items.now) }
+    ensures room { IfOk result (λ made. room ≤ vec_capacity made) }
+{
+    let mut made = Vec::with_capacity(alloc, room)?;
+    made.extend_from_slice(items)?;
+    Ok(made)
 }

@@ -34,6 +34,26 @@ fn rows_stay(alloc: Global) -> Result<bool, AllocError> {
     Ok(two_fewer && one_more && rows && pool.spare() + 2 == spare)
 }
 
+// Whether a wider copy has the rows that are taken, and room for two more.
+fn copy_has_rows(alloc: Global) -> Result<bool, AllocError> {
+    let mut pool = RowPool::new(alloc, 1);
+    pool.reserve(2)?;
+    let a = pool.take();
+    let b = pool.take();
+    put(&mut pool, b, 0, 1 << 36);
+    pool.give(a);
+    let mut copy = pool.wider(alloc, 2, 2)?;
+    let row = copy.row(b) == [1 << 36, 0].as_slice();
+    let c = copy.take();
+    Ok(row && copy.row(c) == [0, 0].as_slice() && copy.spare() >= 1)
+}
+
+#[test]
+fn a_copy_is_wider(rt: HostRuntime) -> Result<(), Fail> {
+    assert!(rt; copy_has_rows(rt.alloc())?);
+    Ok(())
+}
+
 #[test]
 fn a_slot_taken_again_is_zero(rt: HostRuntime) -> Result<(), Fail> {
     assert!(rt; rows_stay(rt.alloc())?);

@@ -1,4 +1,4 @@
-use Rattle.std.proofs.Common.{◌≡◌, ◌∙◌, ap, false, slice_index_or}
+use Rattle.std.proofs.Common.{◌∙◌, ap, false, slice_index_or}
 use Rattle.cb_pool.proofs.Views.{still_taken, left_taken, wider_taken, not_the_same}
 use Rattle.cb_pool.proofs.tests.rows_stay.Goals as goal
 
