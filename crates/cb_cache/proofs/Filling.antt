@@ -4,15 +4,17 @@ use Rattle.std.specs.List.{Contains}
 use Rattle.std.proofs.lemmas.Bool.{cases_eq}
 use Rattle.std.proofs.lemmas.List.Elements.{Contains-push, Contains-append_left, Contains-push_cases}
 use Rattle.std.proofs.lemmas.List.Sums.{sum_by_push}
+use Rattle.cb_model.proofs.Rising.{nothing_in_empty}
 use Rattle.cb_model.proofs.Numbers.{slice_get-set_other, slice_get-set_same, slice_get-set_here, zip_push}
 use Rattle.cb_nodes.specs.declared.id.NodeId.{NodeId}
 use Rattle.cb_pool.specs.declared.slot.Slot.{Slot}
 use Rattle.cb_pool.specs.Pool.{Pool, IsTaken}
 use Rattle.cb_topo.specs.Numbered.{Numbered}
 use Rattle.cb_graph.specs.Edges.{number}
-use Rattle.cb_cache.specs.Cached.{IsRowOf}
+use Rattle.cb_cache.specs.Cached.{IsRowOf, AreRows}
+use Rattle.cb_cache.specs.Kept.{AreApart}
 use Rattle.cb_cache.specs.Reached.{HasSlot}
-use Rattle.cb_cache.specs.Filled.{AddsRow, HaveRows, HasSize, CostAtMost}
+use Rattle.cb_cache.specs.Filled.{AddsRow, AddsRows, HasSize, CostAtMost}
 
 -- a row that stands in another slot stays
 row_kept : (n : Numbered) (i j : ℕ) (slots new_slots : List (Option Slot)) (p new : Pool) (adds : AddsRow n j slots new_slots p new) (slot : Slot)
@@ -20,8 +22,18 @@ row_kept : (n : Numbered) (i j : ℕ) (slots new_slots : List (Option Slot)) (p 
 row_kept n i j slots new_slots p new adds slot (words, has, reached) =
     (words, (adds.others slot (λ same. adds.free (subst (λ (s : Slot). IsTaken p s) same has.0)) words).1 has, reached)
 
-module _ (n : Numbered) (ids : List NodeId) (id : NodeId) (slots new_slots : List (Option Slot)) (p new : Pool) (have : HaveRows n ids slots p) (low : id.0 < length slots)
-    (adds : AddsRow n id.0 slots new_slots p new) where
+-- before a row is added
+pub none_added : (n : Numbered) (slots : List (Option Slot)) (p : Pool) → AreRows n slots p → AreApart slots → AddsRows n [] slots slots p
+none_added n slots p rows apart = record {
+  rows = rows;
+  kept = λ i slot has. has;
+  only = λ i slot has. inl has;
+  all = λ id has. absurd (nothing_in_empty id has);
+  apart = apart;
+}
+
+module _ (n : Numbered) (ids : List NodeId) (id : NodeId) (first slots new_slots : List (Option Slot)) (p new : Pool) (have : AddsRows n ids first slots p)
+    (fresh : (slot : Slot) → ¬ HasSlot first id.0 slot) (low : id.0 < length slots) (adds : AddsRow n id.0 slots new_slots p new) where
   -- what a number has now, it has newly or had
   slot_cases : (i : ℕ) (slot : Slot) → HasSlot new_slots i slot → ((i ≡ id.0) × (slot ≡ adds.slot)) ⊎ ((i ≢ id.0) × HasSlot slots i slot)
   slot_cases i slot has =
@@ -40,22 +52,29 @@ module _ (n : Numbered) (ids : List NodeId) (id : NodeId) (slots new_slots : Lis
   old_apart : (i : ℕ) (slot : Slot) → HasSlot slots i slot → slot ≢ adds.slot
   old_apart i slot has same = let row = have.rows i slot has in adds.free (subst (λ (s : Slot). IsTaken p s) same row.1.0)
 
-  pub rows_more : HaveRows n (ids ++ id ∷ []) new_slots new
+  stays : (i : ℕ) (slot : Slot) → i ≢ id.0 → HasSlot slots i slot → HasSlot new_slots i slot
+  stays i slot other has = subst (λ xs. HasSlot xs i slot) (sym adds.listed) (slice_get-set_other slots id.0 i (Some adds.slot) (λ e. other (sym e)) ∙ has)
+
+  pub rows_more : AddsRows n (ids ++ id ∷ []) first new_slots new
   rows_more = record {
     rows = λ i slot has. elim (slot_cases i slot has) [
       | inl e ↦ subst (λ (k : ℕ). IsRowOf n k new slot) (sym e.0) (subst (λ (s : Slot). IsRowOf n id.0 new s) (sym e.1) adds.row)
       | inr e ↦ row_kept n i id.0 slots new_slots p new adds slot (have.rows i slot e.1)
     ];
+    kept = λ i slot has. stays i slot (λ same. fresh slot (subst (λ (k : ℕ). HasSlot first k slot) same has)) (have.kept i slot has);
     only = λ i slot has. elim (slot_cases i slot has) [
-      | inl e ↦ subst (λ (k : ℕ). Contains (ids ++ id ∷ []) (number k)) (sym e.0) (Contains-push ids id)
-      | inr e ↦ Contains-append_left ids (id ∷ []) (number i) (have.only i slot e.1)
+      | inl e ↦ inr (subst (λ (k : ℕ). Contains (ids ++ id ∷ []) (number k)) (sym e.0) (Contains-push ids id))
+      | inr e ↦ elim (have.only i slot e.1) [
+        | inl old ↦ inl old
+        | inr early ↦ inr (Contains-append_left ids (id ∷ []) (number i) early)
+      ]
     ];
     all = λ other has. elim (cases_eq other.0 id.0) [
       | inl same ↦ (adds.slot, subst (λ (k : ℕ). HasSlot new_slots k adds.slot) (sym same) here)
       | inr apart ↦ elim (Contains-push_cases ids id other has) [
         | inl early ↦
             let old = have.all other early in
-            (old.0, subst (λ xs. HasSlot xs other.0 old.0) (sym adds.listed) (slice_get-set_other slots id.0 other.0 (Some adds.slot) (λ e. apart (sym e)) ∙ old.1))
+            (old.0, stays other.0 old.0 apart old.1)
         | inr last ↦ absurd (apart (ap (λ (z : NodeId). z.0) (sym last)))
       ]
     ];

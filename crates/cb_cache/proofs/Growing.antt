@@ -4,7 +4,6 @@ use Rattle.std.specs.Prelude.{map}
 use Rattle.std.specs.FinSet as set
 use Rattle.std.specs.List.{Contains}
 use Rattle.std.proofs.lemmas.Bool.{cases_Bool}
-use Rattle.std.proofs.lemmas.List.{length-map}
 use Rattle.cb_model.specs.declared.id.ClassId.{ClassId}
 use Rattle.cb_model.specs.declared.id.EventId.{EventId}
 use Rattle.cb_model.specs.declared.node.NodeName.{NodeName}
@@ -12,18 +11,15 @@ use Rattle.cb_model.specs.declared.tables.Tables.{Tables}
 use Rattle.cb_model.specs.Classes.{HasEvent}
 use Rattle.cb_model.specs.NodeOrder.{node_cmp}
 use Rattle.cb_model.specs.Views.{AreEventsOf}
-use Rattle.cb_model.specs.WellTyped.{WellTyped}
 use Rattle.cb_model.proofs.Rising.{name_cmp_total, name_cmp_exact, node_cmp_total, node_cmp_exact, contains_cases, contains_head, contains_tail, nothing_in_empty}
-use Rattle.cb_network.specs.declared.edit.Edit.{Edit}
-use Rattle.cb_network.specs.declared.edit.Edit.TheVariants.{Create, Delete, Link, Unlink, Mute, Unmute}
-use Rattle.cb_network.specs.Edits.{Changes, node_of, with_instance, without_instance}
+use Rattle.cb_network.specs.Edits.{node_of, with_instance}
 use Rattle.cb_network.specs.Nodes.{IsProblem, IsCount}
 use Rattle.cb_network.specs.Topology.{Topology}
-use Rattle.cb_network.proofs.Sets.{in_insert, len_of_part, got_insert, got_remove}
+use Rattle.cb_network.proofs.Sets.{in_insert, len_of_part, got_insert}
 use Rattle.cb_instances.specs.Net.{event_name}
 use Rattle.cb_accept.proofs.Own.{event_is_listed}
 use Rattle.cb_topo.proofs.Named.{event_name_is}
-use Rattle.cb_cache.specs.Most.{HasAtMost, HasEventsWithin}
+use Rattle.cb_cache.specs.Most.{HasAtMost}
 
 -- a set with the names of a list too
 record HasBoth (s : set.FinSet node_cmp) (names : List NodeName) : Type 0 where
@@ -93,29 +89,3 @@ came_with t name c events are q x = elim ((got_insert name_cmp_total name_cmp_ex
       (contains_map (called t.model name) events x.event (event_is_listed t.model c events are x.event has)))
   | inr (other, old) ↦ inl (record { class = x.class; of_class = old; event = x.event; problem = x.problem; named = x.named })
 ]
-
-module _ (t : Topology) (typed : WellTyped t.model) (m : ℕ) (was : IsCount (IsProblem t) m) where
-  pub most_after : (edit : Edit) (more : ℕ) → HasEventsWithin t.model edit more → (u : Topology) → Changes t edit u → HasAtMost u (m + more)
-  most_after (Create name class) more events u (c, names, is) =
-      let (list, are, few) = events c names in
-      let bound : HasAtMost (with_instance t name c) (m + more) = λ k count.
-      let most = at_most t (with_instance t name c) m (map (called t.model name) list) was (came_with t name c list are) k count in
-      let long = length-map list (called t.model name) in
-      omega arith in
-      subst (λ (v : Topology). HasAtMost v (m + more)) (sym is) bound
-  most_after (Delete name) more events u is = subst (λ (v : Topology). HasAtMost v (m + more)) (sym is)
-      (none_came t (without_instance t name) m more was (λ q x. record {
-        class = x.class;
-        of_class = ((got_remove name_cmp_total name_cmp_exact t.instances name q.instance x.class).0 x.of_class).1;
-        event = x.event;
-        problem = x.problem;
-        named = x.named;
-      }))
-  most_after (Link a rel b) more events u (r, s, pair, is) = subst (λ (v : Topology). HasAtMost v (m + more)) (sym is)
-      (none_came t _ m more was (λ q x. record { class = x.class; of_class = x.of_class; event = x.event; problem = x.problem; named = x.named }))
-  most_after (Unlink a rel b) more events u (r, s, pair, is) = subst (λ (v : Topology). HasAtMost v (m + more)) (sym is)
-      (none_came t _ m more was (λ q x. record { class = x.class; of_class = x.of_class; event = x.event; problem = x.problem; named = x.named }))
-  most_after (Mute event name) more events u is = subst (λ (v : Topology). HasAtMost v (m + more)) (sym is)
-      (none_came t _ m more was (λ q x. record { class = x.class; of_class = x.of_class; event = x.event; problem = x.problem; named = x.named }))
-  most_after (Unmute event name) more events u is = subst (λ (v : Topology). HasAtMost v (m + more)) (sym is)
-      (none_came t _ m more was (λ q x. record { class = x.class; of_class = x.of_class; event = x.event; problem = x.problem; named = x.named }))

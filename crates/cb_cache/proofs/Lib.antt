@@ -10,3 +10,13 @@ pub mod Opened
 pub mod Slots
 pub mod Gathered
 pub mod Growing
+pub mod Edited
+pub mod Marked
+pub mod Expanding
+pub mod Furthering
+pub mod Stale
+pub mod Cutting
+pub mod Linked
+pub mod Extending
+pub mod Growth
+pub mod Creating

@@ -12,7 +12,7 @@ use Rattle.cb_network.specs.Topology.{Topology}
 use Rattle.cb_network.specs.Nodes.{IsProblem, IsNodeOf, IsCount, IsWithin}
 use Rattle.cb_network.proofs.Counts.{count_of_rising}
 use Rattle.cb_network.proofs.Sets.{len_of_part}
-use Rattle.cb_change.specs.Costs.{IsOpenCost}
+use Rattle.cb_change.specs.Costs.{IsOpenCost, IsTotal}
 use Rattle.cb_change.proofs.Totals.{one_total}
 use Rattle.cb_nodes.specs.declared.id.NodeId.{NodeId}
 use Rattle.cb_pool.specs.declared.slot.Slot.{Slot}
@@ -21,9 +21,10 @@ use Rattle.cb_topo.specs.Numbered.{Numbered, topology_of, IsNodeNamed, IsLiveNod
 use Rattle.cb_graph.specs.Edges.{number}
 use Rattle.cb_graph.proofs.Chains.{named_once}
 use Rattle.cb_cache.specs.Reached.{HasSlot}
-use Rattle.cb_cache.specs.Filled.{HaveRows, HasSize, CostAtMost}
-use Rattle.cb_cache.specs.Numbers.{AreProblemNumbers}
-use Rattle.cb_cache.specs.Kept.{AreRight}
+use Rattle.cb_cache.specs.Filled.{AddsRows, HaveNoSlots, HasSize, CostAtMost}
+use Rattle.cb_cache.specs.Cached.{AreRows}
+use Rattle.cb_cache.specs.Numbers.{AreOnce, AreProblemNumbers}
+use Rattle.cb_cache.specs.Kept.{AreApart, AreRight}
 
 -- the name of a listed number, and the number of a listed name
 name_of : (n : Numbered) (ids : List NodeId) (names : List NodeName) → AreNamed n ids names → (id : NodeId) → Contains ids id → (name : NodeName) × Contains names name × IsNodeNamed n id name
@@ -51,17 +52,19 @@ at_place n (a ∷ ids) [] zip i d e lt = absurd zip
 at_place n (a ∷ ids) (x ∷ names) zip zero d e lt = (omega arith, zip.0)
 at_place n (a ∷ ids) (x ∷ names) zip (suc i) d e lt = let f = at_place n ids names zip.1 i d e (omega arith) in (omega (arith, f.0), f.1)
 
--- nothing is there where no place has a slot
-pub no_rows : (n : Numbered) (room : ℕ) (slots : List (Option Slot)) (p : Pool) → slots ≡ replicate room None → HaveRows n [] slots p
-no_rows n room slots p is = record {
-  rows = λ i slot has. absurd (none i slot has);
-  only = λ i slot has. absurd (none i slot has);
-  all = λ id has. absurd (nothing_in_empty id has);
-  apart = λ i j slot has _. absurd (none i slot has);
-}
-  where
-    none : (i : ℕ) (slot : Slot) → ¬ HasSlot slots i slot
-    none i slot has = let e = slice_get-replicate room i None (Some slot) (subst (λ xs. HasSlot xs i slot) is has) in cc
+-- no number has a slot where no place has one
+pub no_slot : (room : ℕ) (slots : List (Option Slot)) → slots ≡ replicate room None → (i : ℕ) (slot : Slot) → ¬ HasSlot slots i slot
+no_slot room slots is i slot has = let e = slice_get-replicate room i None (Some slot) (subst (λ xs. HasSlot xs i slot) is has) in cc
+
+module _ (room : ℕ) (slots : List (Option Slot)) (is : slots ≡ replicate room None) where
+  pub no_slots_for : (ids : List NodeId) → HaveNoSlots slots ids
+  no_slots_for ids id slot _ has = no_slot room slots is id.0 slot has
+
+  pub no_rows : (n : Numbered) (p : Pool) → AreRows n slots p
+  no_rows n p i slot has = absurd (no_slot room slots is i slot has)
+
+  pub none_apart : AreApart slots
+  none_apart i j slot has _ = absurd (no_slot room slots is i slot has)
 
 -- the names of numbers of nodes
 names_for : (n : Numbered) (ids : List NodeId) → All (IsLiveNode n) ids → (names : List NodeName) × AreNamed n ids names
@@ -101,20 +104,18 @@ sized n (a ∷ ids) (x ∷ names) (k ∷ sizes) named zip = (zip.0 x named.0, si
 pub node_of_problem : (t : Topology) (p : NodeName) → IsProblem t p → IsNodeOf t p
 node_of_problem t p x = (x.event, record { class = x.class; of_class = x.of_class; named = (x.problem.has, x.named) })
 
-module _ (n : Numbered) (whole : IsWhole n) (ids : List NodeId) (are : AreProblemNumbers n ids) where
-  pub are_right : (slots : List (Option Slot)) (p : Pool) → HaveRows n ids slots p → AreRight n slots p
-  are_right slots p have = record {
-    rows = have.rows;
-    only = λ i slot has. (are.each (number i)).0 (have.only i slot has);
-    all = λ i problem. have.all (number i) ((are.each (number i)).1 problem);
-    apart = have.apart;
-  }
+-- these are the numbers of the nodes of which P holds
+abbrev pub AreNumbersOf : Numbered → (NodeName → Type 0) → List NodeId → Type 0
+AreNumbersOf n P ids = (id : NodeId) → Contains ids id ↔ ((name : NodeName) × IsNodeNamed n id name × P name)
 
-  pub all_live : All (IsLiveNode n) ids
-  all_live k d lt = let problem = (are.each (slice_index_or ids k d)).0 (Contains-get_or ids k d lt) in (problem.0, problem.1)
+-- what searches from listed nodes cost is no more than the total over these
+module _ (n : Numbered) (whole : IsWhole n) (ids : List NodeId) (once : AreOnce ids) (P : NodeName → Type 0) (are : AreNumbersOf n P ids)
+    (nodes : (p : NodeName) → P p → IsNodeOf (topology_of n) p) where
+  pub numbers_live : All (IsLiveNode n) ids
+  numbers_live k d lt = let there = (are (slice_index_or ids k d)).0 (Contains-get_or ids k d lt) in (there.0, there.1)
 
   called : (called : List NodeName) × AreNamed n ids called
-  called = names_for n ids all_live
+  called = names_for n ids numbers_live
 
   called_once : AllPairs (λ p q. p ≢ q) called.0
   called_once i j d lt low same =
@@ -122,31 +123,49 @@ module _ (n : Numbered) (whole : IsWhole n) (ids : List NodeId) (are : AreProble
       let long = length_named n ids called.0 called.1 in
       let first = at_place n ids called.0 called.1 i zero d (omega arith) in
       let second = at_place n ids called.0 called.1 j zero d (omega arith) in
-      are.once i j zero lt (omega arith) (whole.one (slice_index_or ids i zero) (slice_index_or ids j zero) (slice_index_or called.0 j d)
+      once i j zero lt (omega arith) (whole.one (slice_index_or ids i zero) (slice_index_or ids j zero) (slice_index_or called.0 j d)
       (subst (λ p. IsNodeNamed n (slice_index_or ids i zero) p) same first.1) second.1)
 
-  called_problems : (p : NodeName) → Contains called.0 p ↔ IsProblem (topology_of n) p
-  called_problems p = (
+  called_all : (p : NodeName) → Contains called.0 p ↔ P p
+  called_all p = (
     λ has.
         let at = number_of n ids called.0 called.1 p has in
-        let there = (are.each at.0).0 at.1 in
-        subst (IsProblem (topology_of n)) (named_once n at.0 there.0 p there.1 at.2) there.2,
-    λ problem.
-        let at = whole.named p (node_of_problem (topology_of n) p problem) in
-        let there = name_of n ids called.0 called.1 at.0 ((are.each at.0).1 (p, at.1, problem)) in
+        let there = (are at.0).0 at.1 in
+        subst P (named_once n at.0 there.0 p there.1 at.2) there.2,
+    λ holds.
+        let at = whole.named p (nodes p holds) in
+        let there = name_of n ids called.0 called.1 at.0 ((are at.0).1 (p, at.1, holds)) in
         subst (Contains called.0) (named_once n at.0 there.0 p there.2 at.1) there.1,
   )
 
-  pub within_cost : (steps new_steps cost : ℕ) → CostAtMost n ids steps new_steps → IsOpenCost (topology_of n) cost → new_steps ≤ steps + cost
-  within_cost steps new_steps cost most is =
-      let own : IsOpenCost (topology_of n) (sum most.sizes) = record {
+  pub within_total : (steps new_steps cost : ℕ) → CostAtMost n ids steps new_steps → IsTotal P (Causes (topology_of n)) cost → new_steps ≤ steps + cost
+  within_total steps new_steps cost most is =
+      let own : IsTotal P (Causes (topology_of n)) (sum most.sizes) = record {
         names = called.0;
         once = called_once;
-        each = called_problems;
+        each = called_all;
         sizes = most.sizes;
         sized = sized n ids called.0 most.sizes called.1 most.sized;
         total_is = refl;
       } in
-      let same = one_total (IsProblem (topology_of n)) (Causes (topology_of n)) cost (sum most.sizes) is own in
+      let same = one_total P (Causes (topology_of n)) cost (sum most.sizes) is own in
       let few = most.few in
       omega arith
+
+module _ (n : Numbered) (whole : IsWhole n) (ids : List NodeId) (are : AreProblemNumbers n ids) where
+  pub are_right : (slots new_slots : List (Option Slot)) (p : Pool) → ((i : ℕ) (slot : Slot) → ¬ HasSlot slots i slot) → AddsRows n ids slots new_slots p → AreRight n new_slots p
+  are_right slots new_slots p none adds = record {
+    rows = adds.rows;
+    only = λ i slot has. elim (adds.only i slot has) [
+      | inl old ↦ absurd (none i slot old)
+      | inr listed ↦ (are.each (number i)).0 listed
+    ];
+    all = λ i problem. adds.all (number i) ((are.each (number i)).1 problem);
+    apart = adds.apart;
+  }
+
+  pub all_live : All (IsLiveNode n) ids
+  all_live = numbers_live n whole ids are.once (IsProblem (topology_of n)) are.each (node_of_problem (topology_of n))
+
+  pub within_cost : (steps new_steps cost : ℕ) → CostAtMost n ids steps new_steps → IsOpenCost (topology_of n) cost → new_steps ≤ steps + cost
+  within_cost = within_total n whole ids are.once (IsProblem (topology_of n)) are.each (node_of_problem (topology_of n))

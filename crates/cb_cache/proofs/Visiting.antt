@@ -5,7 +5,7 @@ use Rattle.cb_pool.specs.declared.slot.Slot.{Slot}
 use Rattle.cb_pool.specs.Pool.{Pool, HasRow}
 use Rattle.cb_reach.specs.Rows.{Has}
 use Rattle.cb_reach.proofs.Chains.{chain_more}
-use Rattle.cb_cache.specs.Reached.{IsReached, HoldsReached, IsClosed, Visits}
+use Rattle.cb_cache.specs.Reached.{IsReached, HoldsReached, AreFollowed, Visits}
 
 -- a slot has one row
 pub row_reached : (edge : ℕ → ℕ → Type 0) (i : ℕ) (p : Pool) (slot : Slot) (words : List ℕ) → HasRow p slot words → HoldsReached edge i p slot → IsReached edge i words
@@ -13,11 +13,14 @@ row_reached edge i p slot words has (own, there, reached) = subst (IsReached edg
 
 -- the row of the node is taken over
 module _ (edge : ℕ → ℕ → Type 0) (node : ℕ) (joined joined' row : List ℕ) where
-  pub joined_closed : IsReached edge node row → ((k : ℕ) → (bit_of joined' k ≡ true) ↔ ((bit_of joined k ≡ true) ⊎ (bit_of row k ≡ true)))
-      → IsClosed edge joined → IsClosed edge joined'
-  joined_closed reached cases closed k next bit e = elim ((cases k).0 bit) [
-    | inl old ↦ (cases next).1 (inl (closed k next old e))
-    | inr new ↦ let leads = (reached k).0 new in (cases next).1 (inr ((reached next).1 (chain_more edge node leads.0 k next leads.1 e)))
+  pub joined_followed : (found : List Bool) → IsReached edge node row → ((k : ℕ) → (bit_of joined' k ≡ true) ↔ ((bit_of joined k ≡ true) ⊎ (bit_of row k ≡ true)))
+      → AreFollowed edge found joined → AreFollowed edge found joined'
+  joined_followed found reached cases followed k next bit e = elim ((cases k).0 bit) [
+    | inl old ↦ elim (followed k next old e) [
+      | inl has ↦ inl has
+      | inr there ↦ inr ((cases next).1 (inl there))
+    ]
+    | inr new ↦ let leads = (reached k).0 new in inr ((cases next).1 (inr ((reached next).1 (chain_more edge node leads.0 k next leads.1 e))))
   ]
 
   pub joined_visits : (found : List Bool) → IsReached edge node row → ((k : ℕ) → (bit_of joined' k ≡ true) ↔ ((bit_of joined k ≡ true) ⊎ (bit_of row k ≡ true)))
@@ -27,6 +30,7 @@ module _ (edge : ℕ → ℕ → Type 0) (node : ℕ) (joined joined' row : List
       | inl has ↦ inl has
       | inr bit ↦ inr ((cases k).1 (inl bit))
     ];
+    stays = λ k bit. (cases k).1 (inl bit);
     next = λ k e. inr ((cases k).1 (inr ((reached k).1 (k ∷ [], (e, refl)))));
     led = λ k met. elim met [
       | inl has ↦ inl (inl has)
@@ -45,6 +49,7 @@ added_visits edge node found found' joined added = record {
     | inl has ↦ inl ((added k).1 (inl has))
     | inr bit ↦ inr bit
   ];
+  stays = λ k bit. bit;
   next = λ k e. inl ((added k).1 (inr e));
   led = λ k met. elim met [
     | inl has ↦ elim ((added k).0 has) [
@@ -53,4 +58,21 @@ added_visits edge node found found' joined added = record {
     ]
     | inr bit ↦ inl (inr bit)
   ];
+}
+
+pub added_followed : (edge : ℕ → ℕ → Type 0) (node : ℕ) (found found' : List Bool) (joined : List ℕ) → ((k : ℕ) → Has found' k ↔ (Has found k ⊎ edge node k))
+    → AreFollowed edge found joined → AreFollowed edge found' joined
+added_followed edge node found found' joined added followed k next bit e = elim (followed k next bit e) [
+  | inl has ↦ inl ((added next).1 (inl has))
+  | inr there ↦ inr there
+]
+
+-- a node of the words has its successors met already
+pub joined_before : (edge : ℕ → ℕ → Type 0) (node : ℕ) (found : List Bool) (joined : List ℕ) → bit_of joined node ≡ true → AreFollowed edge found joined
+    → Visits edge node found found joined joined
+joined_before edge node found joined here followed = record {
+  kept = λ k met. met;
+  stays = λ k bit. bit;
+  next = λ k e. followed node k here e;
+  led = λ k met. inl met;
 }

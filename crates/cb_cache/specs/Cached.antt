@@ -9,11 +9,15 @@ use Rattle.cb_topo.specs.Numbered.{Numbered, topology_of, IsNodeNamed}
 use Rattle.cb_graph.specs.Edges.{EdgeAt, number}
 use Rattle.cb_cache.specs.Reached.{IsReached, HoldsReached, AreReached}
 
--- the topology, for the number of each problem the slot of its row, and the rows
+-- the topology, for the number of each problem the slot of its row, and the rows, whatever there is to spare
 pub record Cached : Type 0 where
   pub graph : Numbered
   pub slots : List (Option Slot)
   pub pool : Pool
+
+-- a pool, whatever it has to spare
+abbrev pub but_spare : Pool → Pool
+but_spare p = record p { spare = 0 }
 
 -- bit k of the words is one exactly where edges lead from this number to k
 abbrev pub IsReachedRow : Numbered → ℕ → List ℕ → Type 0

@@ -1,5 +1,5 @@
 -- Rows that are filled one after the other.
-use Rattle.std.specs.Prelude.{◌≡◌, ℕ, ◌+◌, ◌≤◌, List, Option, Some, sum, slice_set}
+use Rattle.std.specs.Prelude.{◌≡◌, ◌⊎◌, ℕ, ◌+◌, ◌≤◌, List, Option, Some, sum, slice_set}
 use Rattle.std.specs.List.{AllZip, Contains}
 use Rattle.cb_model.specs.declared.node.NodeName.{NodeName}
 use Rattle.cb_network.specs.Causes.{Causes}
@@ -23,12 +23,17 @@ pub record AddsRow (n : Numbered) (i : ℕ) (slots new_slots : List (Option Slot
   pub width : new.width ≡ p.width
   pub spare : p.spare ≡ new.spare + 1
 
--- exactly these numbers have slots, each its own, with the row of all that it leads to
-pub record HaveRows (n : Numbered) (ids : List NodeId) (slots : List (Option Slot)) (p : Pool) : Type 0 where
-  pub rows : AreRows n slots p
-  pub only : (i : ℕ) (slot : Slot) → HasSlot slots i slot → Contains ids (number i)
-  pub all : (id : NodeId) → Contains ids id → (slot : Slot) × HasSlot slots id.0 slot
-  pub apart : AreApart slots
+-- none of these numbers has a slot
+abbrev pub HaveNoSlots : List (Option Slot) → List NodeId → Type 0
+HaveNoSlots slots ids = (id : NodeId) (slot : Slot) → Contains ids id → ¬ HasSlot slots id.0 slot
+
+-- these numbers have slots now, and the others those that they had; each slot is one number's, with the row of all that it leads to
+pub record AddsRows (n : Numbered) (ids : List NodeId) (slots new_slots : List (Option Slot)) (new : Pool) : Type 0 where
+  pub rows : AreRows n new_slots new
+  pub kept : (i : ℕ) (slot : Slot) → HasSlot slots i slot → HasSlot new_slots i slot
+  pub only : (i : ℕ) (slot : Slot) → HasSlot new_slots i slot → HasSlot slots i slot ⊎ Contains ids (number i)
+  pub all : (id : NodeId) → Contains ids id → (slot : Slot) × HasSlot new_slots id.0 slot
+  pub apart : AreApart new_slots
 
 -- the node of this number causes so many nodes
 abbrev pub HasSize : Numbered → NodeId → ℕ → Type 0

@@ -6,8 +6,9 @@ use Rattle.cb_pool.specs.Pool.{Pool}
 use Rattle.cb_topo.specs.Numbered.{Numbered, IsWhole}
 use Rattle.cb_graph.specs.Edges.{number}
 use Rattle.cb_cache.specs.declared.rows.Rows.{Rows}
+use Rattle.cb_cache.specs.declared.rows.Store.{Store}
 use Rattle.cb_cache.specs.declared.scratch.Scratch.{Scratch}
-use Rattle.cb_cache.specs.Room.{HasRoomFor}
+use Rattle.cb_cache.specs.Room.{HasRoomFor, HasAgendaFor}
 use Rattle.cb_cache.specs.Cached.{AreRows}
 use Rattle.cb_cache.specs.Numbers.{IsProblemNumber}
 use Rattle.cb_cache.specs.Reached.{HasSlot}
@@ -33,8 +34,9 @@ pub record HaveRoom (n : Numbered) (rows : Rows) : Type 0 where
   pub width : rows.pool.width ≡ words_for (length n.nodes)
   pub scratch : HasRoom n rows.scratch
 
--- the topology is whole, the rows are right, and there is room
-pub record IsKept (n : Numbered) (rows : Rows) : Type 0 where
+-- the topology is whole, the rows are right, and there is room for searches and for edits
+pub record IsKept (n : Numbered) (store : Store) : Type 0 where
   pub whole : IsWhole n
-  pub right : AreRight n rows.slots.items rows.pool
-  pub room : HaveRoom n rows
+  pub right : AreRight n store.rows.slots.items store.rows.pool
+  pub room : HaveRoom n store.rows
+  pub agenda : HasAgendaFor (length n.nodes) store.agenda

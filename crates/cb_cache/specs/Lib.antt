@@ -5,6 +5,11 @@ pub mod Codes
 pub mod Room
 pub mod Kept
 pub mod Filled
-pub mod Hindered
 pub mod Most
 pub mod Prepared
+pub mod Laws
+pub mod Marks
+pub mod Extended
+pub mod Stale
+pub mod Created
+pub mod Spare

@@ -1,6 +1,7 @@
 -- Room for searches.
-use Rattle.std.specs.Prelude.{◌≡◌, ℕ, length}
+use Rattle.std.specs.Prelude.{◌≡◌, ◌≤◌, ℕ, length, vec_capacity}
 use Rattle.cb_bits.specs.Bits.{words_for}
+use Rattle.cb_cache.specs.declared.agenda.Agenda.{Agenda}
 use Rattle.cb_cache.specs.declared.scratch.Scratch.{Scratch}
 
 -- a search has places for so many nodes
@@ -8,3 +9,8 @@ pub record HasRoomFor (room : ℕ) (scratch : Scratch) : Type 0 where
   pub found : length scratch.found ≡ room
   pub done : length scratch.done ≡ room
   pub joined : length scratch.joined.items ≡ words_for room
+
+-- a touched one of so many nodes can be marked, and all that are problems can be listed
+pub record HasAgendaFor (room : ℕ) (agenda : Agenda) : Type 0 where
+  pub touched : length agenda.touched ≡ room
+  pub listed : room ≤ vec_capacity agenda.problems

@@ -2,18 +2,21 @@
 ghost use Rattle.std.specs.Prelude.{◌≡◌, ◌≤◌, ◌+◌, ℕ, length, IfOk, IfErr, OnOk, OnErr};
 ghost use Rattle.cb_model.specs.declared.node.NodeName.{NodeName as Name};
 ghost use Rattle.cb_bits.specs.Bits.{words_for};
-ghost use Rattle.cb_change.specs.Costs.{IsOpenCost};
+ghost use Rattle.cb_change.specs.Costs.{IsOpenCost, IsEditCost};
 ghost use Rattle.cb_pool.specs.declared.slot.Slot.{Slot as SlotOf};
 ghost use Rattle.cb_pool.specs.Pool.{IsTaken, HasRow};
 ghost use Rattle.cb_network.specs.Laws.{HasGoodName};
-ghost use Rattle.cb_topo.specs.Applied.{Applies};
+ghost use Rattle.cb_topo.specs.Applied.{Applies, Prevents};
 ghost use Rattle.cb_topo.specs.Numbered.{topology_of, IsNodeNamed};
-ghost use Rattle.cb_cache.specs.Cached.{IsReachedRow, IsCausedRow};
-ghost use Rattle.cb_cache.specs.Hindered.{Hinders};
+ghost use Rattle.cb_cache.specs.Cached.{IsReachedRow, IsCausedRow, but_spare};
 ghost use Rattle.cb_cache.specs.Numbers.{IsProblemNumber};
 ghost use Rattle.cb_cache.specs.Reached.{HasSlot};
 
-use crate::rows::{Rows, room_after, search_after, search_all};
+use crate::create::create;
+use crate::cut::cut;
+use crate::edits::mark;
+use crate::link::link;
+use crate::rows::{Store, search_all};
 use cb_graph::Graph;
 use cb_nodes::NodeId;
 use cb_pool::{RowPool, Slot};
@@ -26,22 +29,22 @@ use std::sync::ledger::Ledger;
 #[derive(Drop)]
 pub struct Cache {
     graph: Graph,
-    rows: Rows,
+    store: Store,
 }
 
 impl std::marker::Model for Cache {
-    ghost use Rattle.cb_cache.specs.Cached.{Cached};
+    ghost use Rattle.cb_cache.specs.Cached.{Cached, but_spare};
     ghost use Rattle.cb_cache.specs.Codes.{cached_code};
 
     ghost Value = { Cached };
 
     ghost coded = { cached_code };
 
-    ghost view = { λ c. record { graph = c.graph; slots = c.rows.slots.items; pool = c.rows.pool } };
+    ghost view = { λ c. record { graph = c.graph; slots = c.store.rows.slots.items; pool = but_spare c.store.rows.pool } };
 
     ghost use Rattle.cb_cache.specs.Kept.{IsKept};
 
-    ghost invariant = { λ c. IsKept c.graph c.rows };
+    ghost invariant = { λ c. IsKept c.graph c.store };
 }
 
 impl Cache {
@@ -55,8 +58,8 @@ impl Cache {
         ensures graph { IfOk result (λ cache. cache.graph ≡ graph) }
         ensures cost { (cost : ℕ) → IsOpenCost (topology_of graph) cost → steps.new ≤ steps.old + cost }
     {
-        let rows = search_all(alloc, &mut graph, steps)?;
-        Ok(Cache { graph, rows })
+        let store = search_all(alloc, &mut graph, steps)?;
+        Ok(Cache { graph, store })
     }
 
     /// The graph, with the topology.
@@ -68,10 +71,11 @@ impl Cache {
 
     /// The rows.
     pub fn pool(&self) -> &RowPool
-        ensures value { result.now ≡ self.now.pool }
+        ensures value { but_spare result.now ≡ self.now.pool }
+        ensures same_width { result.now.width ≡ self.now.pool.width }
         ensures width { self.now.pool.width ≡ words_for (length self.now.graph.nodes) }
     {
-        &self.rows.pool
+        &self.store.rows.pool
     }
 
     /// The slot of a problem's row.
@@ -81,7 +85,7 @@ impl Cache {
         ensures taken { IsTaken self.now.pool result }
         ensures own { (other : ℕ) → HasSlot self.now.slots other result → other ≡ problem.0 }
     {
-        self.rows.slots[problem.0 as usize].unwrap()
+        self.store.rows.slots[problem.0 as usize].unwrap()
     }
 
     /// The row of a problem.
@@ -92,7 +96,7 @@ impl Cache {
         ensures slot { (slot : SlotOf) → HasSlot self.now.slots problem.0 slot → HasRow self.now.pool slot result.now }
         ensures width { length result.now ≡ self.now.pool.width }
     {
-        self.rows.pool.row(self.slot(problem))
+        self.store.rows.pool.row(self.slot(problem))
     }
 
     /// Makes the edit: the topology is the one after it, and every row is right again. Where the edit is refused, or memory is wanting,
@@ -105,19 +109,20 @@ impl Cache {
     ) -> Result<(), EditFault>
         requires { HasGoodName edit.now }
         ensures made { OnOk result (Applies self.old.graph edit.now self.new.graph) }
-        ensures fault { IfErr result (Hinders self.old.graph edit.now) }
+        ensures cost { OnOk result ((cost : ℕ) → IsEditCost (topology_of self.old.graph) edit.now (topology_of self.new.graph) cost → steps.new ≤ steps.old + cost) }
+        ensures fault { IfErr result (Prevents self.old.graph edit.now) }
         ensures kept { OnErr result (self.new ≡ self.old) }
         ensures steps { OnErr result (steps.new ≡ steps.old) }
     {
-        let mut unfilled = room_after(alloc, self.graph.topology(), edit)?;
-        search_after(
-            alloc,
-            &mut self.graph,
-            edit,
-            &mut unfilled,
-            &mut self.rows,
-            steps,
-        )
+        let graph = &mut self.graph;
+        match edit {
+            Edit::Create { .. } => create(alloc, graph, edit, &mut self.store, steps),
+            Edit::Link { .. } => link(alloc, graph, edit, &mut self.store, steps),
+            Edit::Delete { .. } | Edit::Unlink { .. } => {
+                cut(alloc, graph, edit, &mut self.store, steps)
+            }
+            Edit::Mute { .. } | Edit::Unmute { .. } => mark(alloc, graph, edit, &self.store),
+        }
     }
 
     /// The graph alone.

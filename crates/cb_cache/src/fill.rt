@@ -1,12 +1,12 @@
 //! Rows that are searched for and put into the pool.
-ghost use Rattle.std.specs.Prelude.{◌≡◌, ◌<◌, ◌≤◌, length, [], bit_or};
+ghost use Rattle.std.specs.Prelude.{◌≡◌, ◌<◌, ◌≤◌, length, bit_or};
 ghost use Rattle.std.specs.List.{All};
 ghost use Rattle.std.specs.Simd.Lanes.{zip2};
 ghost use Rattle.cb_topo.specs.Numbered.{IsLiveNode, IsWhole};
 ghost use Rattle.cb_pool.specs.Pool.{IsTaken, with_row};
 ghost use Rattle.cb_cache.specs.Cached.{AreRows};
-ghost use Rattle.cb_cache.specs.Kept.{HaveRoom};
-ghost use Rattle.cb_cache.specs.Filled.{AddsRow, CostsAtMost, HaveRows, CostAtMost};
+ghost use Rattle.cb_cache.specs.Kept.{HaveRoom, AreApart};
+ghost use Rattle.cb_cache.specs.Filled.{AddsRow, AddsRows, HaveNoSlots, CostsAtMost, CostAtMost};
 ghost use Rattle.cb_cache.specs.Numbers.{AreOnce};
 
 use crate::rows::Rows;
@@ -18,7 +18,8 @@ use cb_pool::{RowPool, Slot};
 use cb_steps::Steps;
 use std::sync::ledger::Ledger;
 
-/// Searches from each of these nodes, none of which has a row yet, and gives it one.
+/// Searches from each of these nodes, none of which has a row yet, and gives it one. The rows that are there are taken over where a search
+/// meets their nodes.
 pub fn add_rows<L: Ledger>(
     graph: &mut Graph,
     nodes: &[NodeId],
@@ -28,12 +29,14 @@ pub fn add_rows<L: Ledger>(
     requires live { All (IsLiveNode graph.old) nodes.now }
     requires whole { IsWhole graph.old }
     requires once { AreOnce nodes.now }
-    requires none { HaveRows graph.old [] rows.old.slots.items rows.old.pool }
+    requires none { HaveNoSlots rows.old.slots.items nodes.now }
+    requires rows { AreRows graph.old rows.old.slots.items rows.old.pool }
+    requires apart { AreApart rows.old.slots.items }
     requires room { HaveRoom graph.old rows.old }
     requires spare { length nodes.now ≤ rows.old.pool.spare }
     ensures same { graph.new ≡ graph.old }
     ensures room { HaveRoom graph.old rows.new }
-    ensures rows { HaveRows graph.old nodes.now rows.new.slots.items rows.new.pool }
+    ensures rows { AddsRows graph.old nodes.now rows.old.slots.items rows.new.slots.items rows.new.pool }
     ensures cost { CostAtMost graph.old nodes.now steps.old steps.new }
 {
     for node in nodes {
@@ -71,8 +74,8 @@ fn add_row<L: Ledger>(graph: &mut Graph, node: NodeId, rows: &mut Rows, steps: &
     rows.slots[node.0 as usize] = Some(slot);
 }
 
-// Writes both rows, united, into a slot.
-fn write_row(pool: &mut RowPool, slot: Slot, row: &[u64], other: &[u64])
+/// Writes both rows, united, into a slot.
+pub fn write_row(pool: &mut RowPool, slot: Slot, row: &[u64], other: &[u64])
     requires taken { IsTaken pool.old slot }
     requires row { length row.now ≡ pool.old.width }
     requires other { length other.now ≡ pool.old.width }

@@ -1,8 +1,14 @@
 //! A graph with a row for each problem: all the nodes that the problem causes. README.md tells more.
 #![tactic(auto)]
 
+mod agenda;
 mod cache;
+mod create;
+mod cut;
+mod edits;
 mod fill;
+mod laws;
+mod link;
 mod order;
 mod problems;
 mod rows;

@@ -1,9 +1,11 @@
 //! The order in which nodes are searched from.
+ghost use Rattle.std.specs.Prelude.{◌≡◌, vec_capacity};
 ghost use Rattle.std.specs.List.Sorted.{IsPermutation};
 
 /// Brings the items into an order that leaps to and fro: each changes places with the one whose place has the same bits backwards.
 pub fn scatter<T: Copy>(items: &mut Vec<T>)
-    ensures { IsPermutation items.old.items items.new.items }
+    ensures items { IsPermutation items.old.items items.new.items }
+    ensures room { vec_capacity items.new ≡ vec_capacity items.old }
 {
     let idle = items.len().saturating_sub(1).leading_zeros();
     for place in 0..items.len() {
@@ -13,7 +15,8 @@ pub fn scatter<T: Copy>(items: &mut Vec<T>)
 
 // Lets two items change places, if both places are there.
 fn trade<T: Copy>(items: &mut Vec<T>, place: usize, other: usize)
-    ensures { IsPermutation items.old.items items.new.items }
+    ensures items { IsPermutation items.old.items items.new.items }
+    ensures room { vec_capacity items.new ≡ vec_capacity items.old }
 {
     if place < other && other < items.len() {
         items.swap(place, other);

@@ -1,13 +1,11 @@
-//! The problems of a topology by their numbers, and how many there can be after an edit.
-ghost use Rattle.std.specs.Prelude.{◌≡◌, ◌≤◌, ◌↔◌, [], IsTrue, vec_capacity};
+//! The problems of a topology by their numbers.
+ghost use Rattle.std.specs.Prelude.{◌≡◌, ◌≤◌, ◌↔◌, [], length, IsTrue, vec_capacity};
 ghost use Rattle.cb_model.specs.WellTyped.{WellTyped};
-ghost use Rattle.cb_network.specs.Edits.{Changes};
 ghost use Rattle.cb_network.specs.Nodes.{IsProblem, IsCount};
 ghost use Rattle.cb_network.specs.Sound.{problem_limit};
-ghost use Rattle.cb_network.specs.Topology.{Topology as Instances};
 ghost use Rattle.cb_topo.specs.Numbered.{topology_of, IsWhole};
 ghost use Rattle.cb_cache.specs.Numbers.{IsProblemNumber, AreProblemNumbers};
-ghost use Rattle.cb_cache.specs.Most.{HasAtMost, HasEventsWithin, problem_room_limit};
+ghost use Rattle.cb_cache.specs.Most.{HasEventsWithin};
 
 use crate::order::scatter;
 use cb_model::Model;
@@ -29,16 +27,8 @@ pub fn problem_count(topology: &Topology) -> usize
     count
 }
 
-/// At least as many as there are problems once the edit is made: a further instance has no more than its class has events.
-pub fn problem_room_after(topology: &Topology, edit: &Edit) -> usize
-    ensures most { (new : Instances) → Changes (topology_of topology.now) edit.now new → HasAtMost new result }
-    ensures few { result ≤ problem_room_limit }
-{
-    problem_count(topology) + events_within(topology.model(), edit)
-}
-
-// How many events the class of a further instance has.
-fn events_within(model: &Model, edit: &Edit) -> usize
+/// How many events the class of a further instance has.
+pub fn events_within(model: &Model, edit: &Edit) -> usize
     requires { WellTyped model.now }
     ensures events { HasEventsWithin model.now edit.now result }
     ensures few { result ≤ 256 }
@@ -56,9 +46,10 @@ fn events_within(model: &Model, edit: &Edit) -> usize
 /// was searched from before. It takes no memory.
 pub fn list_problems(topology: &Topology, list: &mut Vec<NodeId>)
     requires empty { list.old.items ≡ [] }
-    requires room { HasAtMost (topology_of topology.now) (vec_capacity list.old) }
+    requires room { length topology.now.nodes ≤ vec_capacity list.old }
     ensures problems { AreProblemNumbers topology.now list.new.items }
     ensures whole { IsWhole topology.now }
+    ensures room { vec_capacity list.new ≡ vec_capacity list.old }
 {
     push_problems(topology, list);
     scatter(list);
@@ -67,9 +58,10 @@ pub fn list_problems(topology: &Topology, list: &mut Vec<NodeId>)
 // Lists the numbers of all problems as they rise.
 fn push_problems(topology: &Topology, list: &mut Vec<NodeId>)
     requires empty { list.old.items ≡ [] }
-    requires room { HasAtMost (topology_of topology.now) (vec_capacity list.old) }
+    requires room { length topology.now.nodes ≤ vec_capacity list.old }
     ensures problems { AreProblemNumbers topology.now list.new.items }
     ensures whole { IsWhole topology.now }
+    ensures room { vec_capacity list.new ≡ vec_capacity list.old }
 {
     for place in 0..topology.node_room() {
         let node = NodeId(place as u32);

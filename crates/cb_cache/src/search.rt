@@ -1,11 +1,12 @@
 //! The search for all that a node leads to, which takes finished rows over.
-ghost use Rattle.std.specs.Prelude.{◌≡◌, ◌<◌, ◌≤◌, ◌+◌, ◌*◌, ◌↔◌, ◌⊎◌, ℕ, length, replicate, true, false, IfSome, IfNone};
+ghost use Rattle.std.specs.Prelude.{◌≡◌, ◌<◌, ◌≤◌, ◌+◌, ◌*◌, ◌↔◌, ◌⊎◌, ℕ, [], length, replicate, true, false, IfSome, IfNone};
 ghost use Rattle.cb_lanes.specs.Words.{bit_of};
 ghost use Rattle.cb_bits.specs.Bits.{words_for};
 ghost use Rattle.cb_reach.specs.Rows.{Has, HasAllOf, IsLeft, ones};
-ghost use Rattle.cb_reach.specs.Graphs.{IsLedTo};
+ghost use Rattle.cb_pool.specs.Pool.{IsTaken, row_of};
 ghost use Rattle.cb_cache.specs.Room.{HasRoomFor};
-ghost use Rattle.cb_cache.specs.Reached.{HasSlot, AreReached, IsClosed, IsMet, Visits, IsAllMet};
+ghost use Rattle.cb_cache.specs.Reached.{HasSlot, AreReached, AreFollowed, IsMet, IsLedByMet, Visits, IsAllMet, CountsOnly};
+ghost use Rattle.cb_cache.specs.Extended.{IsSettledBut, IsLedByWords, IsExpanded, AddsBelow};
 
 use crate::scratch::Scratch;
 use cb_bits::Row;
@@ -35,8 +36,7 @@ pub fn search<L: Ledger, G: Edges>(
     ensures within { (k : ℕ) → Has scratch.new.done k → IsMet scratch.new.found scratch.new.joined.items k }
     ensures cost { steps.new ≤ steps.old + ones scratch.new.done }
 {
-    scratch.found.wipe();
-    scratch.done.wipe();
+    forget(scratch);
     wipe(&mut scratch.joined);
     scratch.found.set(node);
     spread(
@@ -51,6 +51,107 @@ pub fn search<L: Ledger, G: Edges>(
     );
 }
 
+/// Meets all that the nodes of a slot's row lead to. Of these only the touched ones may have successors outside the row, and only
+/// they and the nodes outside it cost something.
+pub fn search_further<L: Ledger, G: Edges>(
+    graph: &mut G,
+    pool: &RowPool,
+    slot: Slot,
+    touched: &Row,
+    scratch: &mut Scratch,
+    steps: &mut Steps<L>,
+)
+    requires taken { IsTaken pool.now slot }
+    requires width { pool.now.width ≡ words_for (G.count graph.old) }
+    requires touched { length touched.now ≡ G.count graph.old }
+    requires settled { IsSettledBut (G.edge graph.old) touched.now (row_of pool.now slot) }
+    requires room { HasRoomFor (G.count graph.old) scratch.old }
+    ensures same { graph.new ≡ graph.old }
+    ensures room { HasRoomFor (G.count graph.old) scratch.new }
+    ensures met { (k : ℕ) → IsMet scratch.new.found scratch.new.joined.items k ↔ IsLedByWords (G.edge graph.old) (row_of pool.now slot) k }
+    ensures cost { CountsOnly (IsExpanded (G.edge graph.old) touched.now (row_of pool.now slot)) (G.count graph.old) steps.old steps.new }
+{
+    let row = pool.row(slot);
+    forget(scratch);
+    copy(&mut scratch.joined, row);
+    expand(graph, touched, row, &mut scratch.found, steps);
+    spread(
+        graph,
+        0,
+        &[],
+        pool,
+        &mut scratch.found,
+        &mut scratch.done,
+        &mut scratch.joined,
+        steps,
+    );
+}
+
+// Makes nothing found, and nothing done.
+fn forget(scratch: &mut Scratch)
+    ensures found { scratch.new.found ≡ replicate (length scratch.old.found) false }
+    ensures done { scratch.new.done ≡ replicate (length scratch.old.done) false }
+    ensures joined { scratch.new.joined ≡ scratch.old.joined }
+{
+    scratch.found.wipe();
+    scratch.done.wipe();
+}
+
+// Adds the successors of each of these nodes that is one of the words.
+fn expand<L: Ledger, G: Edges>(
+    graph: &mut G,
+    nodes: &Row,
+    words: &[u64],
+    found: &mut Row,
+    steps: &mut Steps<L>,
+)
+    requires nodes { length nodes.now ≡ G.count graph.old }
+    requires words { length words.now ≡ words_for (G.count graph.old) }
+    requires found { length found.old ≡ G.count graph.old }
+    ensures same { graph.new ≡ graph.old }
+    ensures found { length found.new ≡ length found.old }
+    ensures adds { AddsBelow (G.edge graph.old) nodes.now words.now (G.count graph.old) found.old found.new }
+    ensures cost { CountsOnly (λ k. Has nodes.now k × (bit_of words.now k ≡ true)) (G.count graph.old) steps.old steps.new }
+{
+    // A length fits its type, and so does the place behind a node.
+    let _room = nodes.len();
+    let mut from = 0;
+    while let Some(node) = nodes.next_one(from) {
+        expand_one(graph, node, words, found, steps);
+        from = node + 1;
+    }
+}
+
+// Adds the successors of the node if it is one of the words.
+fn expand_one<L: Ledger, G: Edges>(
+    graph: &mut G,
+    node: usize,
+    words: &[u64],
+    found: &mut Row,
+    steps: &mut Steps<L>,
+)
+    requires node { node < G.count graph.old }
+    requires words { length words.now ≡ words_for (G.count graph.old) }
+    requires found { length found.old ≡ G.count graph.old }
+    ensures same { graph.new ≡ graph.old }
+    ensures found { length found.new ≡ length found.old }
+    ensures adds { (k : ℕ) → Has found.new k ↔ (Has found.old k ⊎ ((bit_of words.now node ≡ true) × G.edge graph.old node k)) }
+    ensures step { steps.new ≤ steps.old + 1 }
+    ensures free { bit_of words.now node ≡ false → steps.new ≡ steps.old }
+{
+    if has_bit(words, node) {
+        graph.add_successors(node, found, steps);
+    }
+}
+
+// Makes the words those of a row.
+fn copy(words: &mut Vec<u64>, row: &[u64])
+    requires { length words.old.items ≡ length row.now }
+    ensures { words.new.items ≡ row.now }
+{
+    words.copy_from_slice(row);
+}
+
 // Makes all words zero.
 fn wipe(words: &mut Vec<u64>)
     ensures { words.new.items ≡ replicate (length words.old.items) 0 }
@@ -58,7 +159,8 @@ fn wipe(words: &mut Vec<u64>)
     words.fill(0);
 }
 
-// Meets all that the nodes of `found` lead to, where nothing is done yet. They are looked for from the first one on.
+// Meets all that the nodes of `found` and `joined` lead to, where nothing is done yet, and the successors of those in `joined` are met.
+// The others are looked for from the first one on, and they alone cost something.
 fn spread<L: Ledger, G: Edges>(
     graph: &mut G,
     first: usize,
@@ -73,14 +175,15 @@ fn spread<L: Ledger, G: Edges>(
     requires width { pool.now.width ≡ words_for (G.count graph.old) }
     requires found { length found.old ≡ G.count graph.old }
     requires done { done.old ≡ replicate (G.count graph.old) false }
-    requires joined { joined.old.items ≡ replicate (words_for (G.count graph.old)) 0 }
+    requires joined { length joined.old.items ≡ words_for (G.count graph.old) }
+    requires followed { AreFollowed (G.edge graph.old) found.old joined.old.items }
     ensures same { graph.new ≡ graph.old }
     ensures found { length found.new ≡ length found.old }
     ensures done { length done.new ≡ length done.old }
     ensures joined { length joined.new.items ≡ length joined.old.items }
-    ensures met { (k : ℕ) → IsMet found.new joined.new.items k ↔ IsLedTo (G.edge graph.old) found.old k }
+    ensures met { (k : ℕ) → IsMet found.new joined.new.items k ↔ IsLedByMet (G.edge graph.old) found.old joined.old.items k }
     ensures within { (k : ℕ) → Has done.new k → IsMet found.new joined.new.items k }
-    ensures cost { steps.new ≤ steps.old + ones done.new }
+    ensures cost { CountsOnly (λ k. Has done.new k × ¬ (bit_of joined.old.items k ≡ true)) (G.count graph.old) steps.old steps.new }
 {
     // The start of the word in which a node was last found: the next one is looked for from there on.
     let mut last = first / 64 * 64;
@@ -106,13 +209,14 @@ fn visit<L: Ledger, G: Edges>(
     requires width { pool.now.width ≡ words_for (G.count graph.old) }
     requires found { length found.old ≡ G.count graph.old }
     requires joined { length joined.old.items ≡ words_for (G.count graph.old) }
-    requires closed { IsClosed (G.edge graph.old) joined.old.items }
+    requires followed { AreFollowed (G.edge graph.old) found.old joined.old.items }
     ensures same { graph.new ≡ graph.old }
     ensures found { length found.new ≡ length found.old }
     ensures joined { length joined.new.items ≡ length joined.old.items }
-    ensures closed { IsClosed (G.edge graph.old) joined.new.items }
+    ensures followed { AreFollowed (G.edge graph.old) found.new joined.new.items }
     ensures visits { Visits (G.edge graph.old) node found.old found.new joined.old.items joined.new.items }
     ensures step { steps.new ≤ steps.old + 1 }
+    ensures free { bit_of joined.old.items node ≡ true → steps.new ≡ steps.old }
 {
     if has_bit(joined, node) {
         return;

@@ -70,7 +70,7 @@ fn has_good_name(edit: &Edit) -> bool
 // An edit, and why it isn't made, if it isn't.
 type Step = (Words, Option<EditRefusal>);
 
-const STEPS: [Step; 15] = [
+const STEPS: [Step; 17] = [
     (Words::Create(b"a"), None),
     (Words::Create(b"b"), None),
     (Words::Create(b"c"), None),
@@ -81,20 +81,23 @@ const STEPS: [Step; 15] = [
     (Words::Mute(b"Dry", b"c"), None),
     (Words::Unlink(b"a", b"b"), None),
     (Words::Delete(b"a"), None),
+    (Words::Delete(b"a"), Some(EditRefusal::NoInstance)),
     // The new pipe gets the numbers of the one that is gone.
     (Words::Create(b"d"), None),
     (Words::Link(b"d", b"b"), None),
     (Words::Unmute(b"Dry", b"c"), None),
     (Words::Unmute(b"Dry", b"c"), Some(EditRefusal::NotMuted)),
     (Words::Create(b"e"), None),
+    // A link behind all others makes each row longer that leads to it.
+    (Words::Link(b"c", b"e"), None),
 ];
 
 // A pipe, and the pipes that run dry where it leaks.
 type Dry = (&'static [u8], &'static [&'static [u8]]);
 
 const AT_LAST: [Dry; 4] = [
-    (b"b", &[b"c"]),
-    (b"c", &[]),
+    (b"b", &[b"c", b"e"]),
+    (b"c", &[b"e"]),
     (b"d", &[b"b", b"c"]),
     (b"e", &[]),
 ];

@@ -1,5 +1,5 @@
 use Rattle.std.proofs.Common.{◌≡◌, ◌+◌, ◌≤◌, length, take}
-use Rattle.cb_cache.specs.Filled.{HaveRows, CostAtMost}
+use Rattle.cb_cache.specs.Filled.{AddsRows, CostAtMost}
 use Rattle.cb_cache.specs.Kept.{HaveRoom}
 use Rattle.cb_cache.proofs.fill.add_rows.Given as goal
 
@@ -7,7 +7,7 @@ abbrev pub invariant-loop-node : goal.invariant-loop-node
 invariant-loop-node g l = record {
   same : l.graph ≡ l.initial.graph;
   room : HaveRoom l.initial.graph l.rows;
-  rows : HaveRows l.initial.graph (take l.node-index l.nodes) l.rows.slots.items l.rows.pool;
+  rows : AddsRows l.initial.graph (take l.node-index l.nodes) l.initial.rows.slots.items l.rows.slots.items l.rows.pool;
   spare : length l.nodes ≤ l.rows.pool.spare + l.node-index;
   cost : CostAtMost l.initial.graph (take l.node-index l.nodes) l.initial.steps l.steps;
 }

@@ -1,5 +1,9 @@
+use Rattle.std.proofs.Common.{◌∙◌}
 use Rattle.std.proofs.lemmas.List.Sorted.{IsPermutation-trans}
 use Rattle.cb_cache.proofs.order.scatter.Goals as goal
 
 pub loop-place-preserved : goal.loop-place-preserved
-loop-place-preserved g c = IsPermutation-trans _ _ _ c.loop-place.invariant c.trade.ensures
+loop-place-preserved g c = record {
+  items = IsPermutation-trans _ _ _ c.loop-place.invariant.items c.trade.ensures.items;
+  room = c.trade.ensures.room ∙ c.loop-place.invariant.room;
+}

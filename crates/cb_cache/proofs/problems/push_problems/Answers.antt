@@ -5,7 +5,7 @@ use Rattle.std.specs.declared.vec.Vec.{Vec}
 use Rattle.std.proofs.lemmas.Bool.{false≢true}
 use Rattle.cb_nodes.specs.declared.id.NodeId.{NodeId}
 use Rattle.cb_topo.specs.Numbered.{IsLiveNode}
-use Rattle.cb_cache.proofs.Gathered.{AreBelow, below_none, below_past, below_more, all_gathered, next_within}
+use Rattle.cb_cache.proofs.Gathered.{AreBelow, below_none, below_past, below_more, all_gathered}
 use Rattle.cb_cache.proofs.problems.push_problems.Goals as goal
 use Rattle.cb_cache.proofs.problems.push_problems.Goals.{then-is_problem_number, else-is_problem_number}
 
@@ -14,14 +14,11 @@ loop-place-init c = (subst (AreBelow c.args.topology.now 0) (sym c.requires.empt
 
 pub push_reserved-requires : goal.push_reserved-requires
 push_reserved-requires c =
-    let n = c.args.topology.now in
-    let k = c.loop-place.place in
-    let id : NodeId = record { 0 = k } in
-    let ids = c.loop-place.list.items in
     let (below, room) = c.loop-place.invariant in
-    let seen = c.node_room-place-end.ensures in
-    let problem = c.is_problem_number.ensures.0 c.if-is_problem_number.true in
-    let few = next_within n seen.whole k ids (vec_capacity c.args.list.now) id below refl problem seen.sound c.requires.room in
+    let low = c.loop-place-test.true in
+    let most = c.node_room-place-end.ensures.value in
+    let few = below.few in
+    let enough = c.requires.room in
     let long = c.loop-place.list.ok.0 in
     omega arith
 

@@ -4,4 +4,4 @@ use Rattle.cb_cache.specs.Prepared.{IsRoomFor}
 use Rattle.cb_cache.proofs.rows.search_all.Goals as goal
 
 pub search_each-requires : goal.search_each-requires
-search_each-requires g c = subst (λ (m : Numbered). IsRoomFor m c.in_ok-unfilled.unfilled) c.topology.ensures c.in_ok-unfilled.ensures
+search_each-requires g c = subst (λ (m : Numbered). IsRoomFor m c.in_ok-store.store) c.topology.ensures c.in_ok-store.ensures

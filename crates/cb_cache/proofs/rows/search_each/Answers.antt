@@ -1,21 +1,19 @@
-use Rattle.std.proofs.Common.{List, length, ap, sym, subst, ◌∙◌, arith}
+use Rattle.std.proofs.Common.{◌≤◌, List, length, ap, sym, subst, ◌∙◌, arith}
 use Rattle.std.specs.Prelude.{vec_capacity}
 use Rattle.std.specs.List.{All}
 use Rattle.std.proofs.lemmas.List.{length-replicate}
 use Rattle.cb_nodes.specs.declared.id.NodeId.{NodeId}
-use Rattle.cb_topo.specs.Numbered.{Numbered, topology_of, IsWhole, IsLiveNode}
-use Rattle.cb_cache.specs.Filled.{HaveRows, CostAtMost}
-use Rattle.cb_cache.specs.Most.{HasAtMost}
+use Rattle.cb_topo.specs.Numbered.{Numbered, IsWhole, IsLiveNode}
+use Rattle.cb_cache.specs.Filled.{AddsRows, CostAtMost}
 use Rattle.cb_cache.specs.Numbers.{AreProblemNumbers, AreOnce}
-use Rattle.cb_cache.proofs.Opened.{all_live, no_rows, are_right, within_cost}
+use Rattle.cb_cache.proofs.Opened.{all_live, no_slot, no_slots_for, no_rows, none_apart, are_right, within_cost}
 use Rattle.cb_cache.proofs.Gathered.{within_most}
 use Rattle.cb_cache.proofs.rows.search_each.Goals as goal
 
 pub list_problems-requires-clause-room : goal.list_problems-requires-clause-room
 list_problems-requires-clause-room g c =
     let (count, most, empty) = c.requires in
-    subst (λ (m : Numbered). HasAtMost (topology_of m) (vec_capacity c.args.unfilled.now.order)) (sym c.topology.ensures)
-    (λ k is. let few = most k is in let room = empty.listed in omega arith)
+    subst (λ (m : Numbered). length m.nodes ≤ vec_capacity c.args.store.now.agenda.problems) (sym c.topology.ensures) empty.agenda.listed
 
 pub add_rows-requires-clause-live : goal.add_rows-requires-clause-live
 add_rows-requires-clause-live g c =
@@ -35,8 +33,17 @@ add_rows-requires-clause-once g c =
 pub add_rows-requires-clause-none : goal.add_rows-requires-clause-none
 add_rows-requires-clause-none g c =
     let (count, most, empty) = c.requires in
-    let n = c.args.graph.now in
-    no_rows n (length n.nodes) c.args.unfilled.now.rows.slots.items c.args.unfilled.now.rows.pool empty.slots
+    no_slots_for (length c.args.graph.now.nodes) c.args.store.now.rows.slots.items empty.slots c.deref.result.now
+
+pub add_rows-requires-clause-rows : goal.add_rows-requires-clause-rows
+add_rows-requires-clause-rows g c =
+    let (count, most, empty) = c.requires in
+    no_rows (length c.args.graph.now.nodes) c.args.store.now.rows.slots.items empty.slots c.args.graph.now c.args.store.now.rows.pool
+
+pub add_rows-requires-clause-apart : goal.add_rows-requires-clause-apart
+add_rows-requires-clause-apart g c =
+    let (count, most, empty) = c.requires in
+    none_apart (length c.args.graph.now.nodes) c.args.store.now.rows.slots.items empty.slots
 
 pub add_rows-requires-clause-room : goal.add_rows-requires-clause-room
 add_rows-requires-clause-room g c =
@@ -58,13 +65,23 @@ add_rows-requires-clause-spare g c =
 
 pub returns-clause-kept : goal.returns-clause-kept
 returns-clause-kept g c =
+    let (count, most, empty) = c.requires in
     let n = c.args.graph.now in
     let ids = c.list_problems.new.list.items in
     let whole = subst IsWhole c.topology.ensures c.list_problems.ensures.whole in
     let are = subst (λ (m : Numbered). AreProblemNumbers m ids) c.topology.ensures c.list_problems.ensures.problems in
+    let slots = c.args.store.now.rows.slots.items in
     let made = c.add_rows.new.rows in
-    let rows = subst (λ (xs : List NodeId). HaveRows n xs made.slots.items made.pool) c.deref.ensures.value c.add_rows.ensures.rows in
-    record { whole = whole; right = are_right n whole ids are made.slots.items made.pool rows; room = c.add_rows.ensures.room }
+    let rows = subst (λ (xs : List NodeId). AddsRows n xs slots made.slots.items made.pool) c.deref.ensures.value c.add_rows.ensures.rows in
+    record {
+      whole = whole;
+      right = are_right n whole ids are slots made.slots.items made.pool (no_slot (length n.nodes) slots empty.slots) rows;
+      room = c.add_rows.ensures.room;
+      agenda = record {
+        touched = empty.agenda.touched;
+        listed = (let e = empty.agenda.listed in let f = c.list_problems.ensures.room in omega arith);
+      };
+    }
 
 pub returns-clause-cost : goal.returns-clause-cost
 returns-clause-cost g c = λ cost is.

@@ -7,7 +7,7 @@ abbrev pub invariant-loop-node : goal.invariant-loop-node
 invariant-loop-node g l = record {
   same : l.graph ≡ l.initial.graph;
   joined : length l.joined.items ≡ length l.initial.joined.items;
-  spread : IsSpread (g.G.Edges.edge l.initial.graph) (g.G.Edges.count l.initial.graph) l.initial.found l.found l.done l.joined.items l.initial.steps l.steps;
+  spread : IsSpread (g.G.Edges.edge l.initial.graph) (g.G.Edges.count l.initial.graph) l.initial.found l.initial.joined.items l.found l.done l.joined.items l.initial.steps l.steps;
 }
 
 abbrev pub decreases-loop-node : goal.decreases-loop-node

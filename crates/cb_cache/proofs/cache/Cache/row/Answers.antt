@@ -16,7 +16,7 @@ returns-clause-reached c =
     let slot = c.slot.result in
     let has = subst (λ (k : Cached). HasSlot k.slots i slot) (sym c.self.view_is) c.slot.ensures.slot in
     let inside = c.self.inside in
-    let reached = row_reached (EdgeAt inside.graph) i inside.rows.pool slot c.row.result.now c.row.ensures.row (c.self.invariant.right.rows i slot has) in
+    let reached = row_reached (EdgeAt inside.graph) i inside.store.rows.pool slot c.row.result.now c.row.ensures.row (c.self.invariant.right.rows i slot has) in
     subst (λ (k : Cached). IsReachedRow k.graph i c.row.result.now) c.self.view_is reached
 
 pub returns-clause-caused : goal.returns-clause-caused
@@ -25,7 +25,7 @@ returns-clause-caused c = λ name named.
     let slot = c.slot.result in
     let has = subst (λ (k : Cached). HasSlot k.slots i slot) (sym c.self.view_is) c.slot.ensures.slot in
     let inside = c.self.inside in
-    let reached = row_reached (EdgeAt inside.graph) i inside.rows.pool slot c.row.result.now c.row.ensures.row (c.self.invariant.right.rows i slot has) in
+    let reached = row_reached (EdgeAt inside.graph) i inside.store.rows.pool slot c.row.result.now c.row.ensures.row (c.self.invariant.right.rows i slot has) in
     let now = c.args.self.now.graph in
     caused_row now (subst (λ (k : Cached). IsWhole k.graph) c.self.view_is c.self.invariant.whole) i name c.row.result.now named
     (subst (λ (k : Cached). IsReachedRow k.graph i c.row.result.now) c.self.view_is reached)

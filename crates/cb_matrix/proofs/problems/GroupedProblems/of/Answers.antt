@@ -25,7 +25,7 @@ pub indexed-requires-clause-below : goal.indexed-requires-clause-below
 indexed-requires-clause-below c =
     let n = c.args.cache.now.graph in
     let columns = c.in_ok-column_nodes.ensures in
-    let wide : c.width.result ≡ words_for (length n.nodes) = (rw c.pool.ensures.value at c.width.ensures) ∙ c.pool.ensures.width in
+    let wide : c.width.result ≡ words_for (length n.nodes) = c.width.ensures ∙ c.pool.ensures.same_width ∙ c.pool.ensures.width in
     let room : c.node_room-room.result ≡ length n.nodes = c.node_room-room.ensures.value ∙ ap (λ (m : Numbered). length m.nodes) (c.topology-topology.ensures ∙ c.graph.ensures) in
     all_below c.topology-topology.result.now (64 * c.width.result) c.in_ok-column_nodes.column_nodes columns.0
     (λ id live. let low = c.node_room-room.ensures.above id live in omega arith) columns.2

@@ -1,0 +1,31 @@
+use Rattle.std.proofs.Common.{◌↔◌, ℕ, subst}
+use Rattle.cb_change.specs.Costs.{IsEditCost}
+use Rattle.cb_change.specs.Laws.{IsStep}
+use Rattle.cb_reach.specs.Rows.{Has}
+use Rattle.cb_topo.specs.Numbered.{Numbered, topology_of}
+use Rattle.cb_graph.specs.Touched.{IsTouchedNumber}
+use Rattle.cb_cache.specs.Laws.{IsEdited}
+use Rattle.cb_cache.specs.Stale.{FollowsEdit}
+use Rattle.cb_cache.proofs.cut.cut.Goals as goal
+
+pub search_again-requires-clause-follows : goal.search_again-requires-clause-follows
+search_again-requires-clause-follows g c =
+    let old = c.args.graph.now in
+    let new = c.edit_graph.new.graph in
+    let edit = c.args.edit.now in
+    let edited : IsEdited old edit new = subst (λ (m : Numbered). IsEdited m edit new) c.touched.ensures.same c.in_ok-edit_graph.ensures.made in
+    let step : IsStep (topology_of old) edit (topology_of new) = record { before = edited.sound; accepted = edited.applies.after; afterwards = edited.sound_after } in
+    let told : (k : ℕ) → Has c.touched.new.out k ↔ IsTouchedNumber old (topology_of new) k = c.touched.ensures.exactly (topology_of new) step in
+    (old, edit, c.requires.takes, record { edited = edited; right = c.requires.kept.right; told = told })
+
+pub returns-clause-cost : goal.returns-clause-cost
+returns-clause-cost g c = λ cost is.
+    let old = c.args.graph.now in
+    let new = c.edit_graph.new.graph in
+    let edit = c.args.edit.now in
+    let edited : IsEdited old edit new = subst (λ (m : Numbered). IsEdited m edit new) c.touched.ensures.same c.in_ok-edit_graph.ensures.made in
+    let step : IsStep (topology_of old) edit (topology_of new) = record { before = edited.sound; accepted = edited.applies.after; afterwards = edited.sound_after } in
+    let told : (k : ℕ) → Has c.touched.new.out k ↔ IsTouchedNumber old (topology_of new) k = c.touched.ensures.exactly (topology_of new) step in
+    let rows = c.args.store.now.rows in
+    let follows : FollowsEdit old edit new c.touched.new.out rows.slots.items rows.pool = record { edited = edited; right = c.requires.kept.right; told = told } in
+    c.search_again.ensures.cost old edit cost c.requires.takes follows (subst (λ (m : Numbered). IsEditCost (topology_of old) edit (topology_of m) cost) c.search_again.ensures.same is)

@@ -1,0 +1,20 @@
+use Rattle.std.proofs.Common.{◌≡◌, Result, Ok, Err, OnOk, OnErr, sym, subst}
+use Rattle.cb_topo.specs.Numbered.{Numbered}
+use Rattle.cb_cache.specs.Kept.{IsKept}
+use Rattle.cb_cache.specs.Laws.{IsEdited}
+use Rattle.cb_cache.proofs.Marked.{kept_marked}
+use Rattle.cb_cache.proofs.edits.mark.Goals as goal
+
+-- what follows from both outcomes holds
+either_way : {X Y : Type 0} (result : Result X Y) (P Q R : Type 0) → OnOk result P → OnErr result Q → (P → R) → (Q → R) → R
+either_way (Ok x) P Q R ok err from_ok from_err = from_ok ok
+either_way (Err y) P Q R ok err from_ok from_err = from_err err
+
+pub returns-clause-kept : goal.returns-clause-kept
+returns-clause-kept c =
+    let old = c.args.graph.now in
+    let new = c.edit_graph.new.graph in
+    let store = c.args.store.now in
+    either_way c.edit_graph.result (IsEdited old c.args.edit.now new) (new ≡ old) (IsKept new store) c.edit_graph.ensures.made c.edit_graph.ensures.kept
+    (λ edited. kept_marked old new c.args.edit.now edited c.requires.marks store c.requires.kept)
+    (λ same. subst (λ (n : Numbered). IsKept n store) (sym same) c.requires.kept)

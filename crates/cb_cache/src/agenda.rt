@@ -1,0 +1,27 @@
+//! What is to be done about an edit.
+ghost use Rattle.std.specs.Prelude.{◌≡◌, [], IfOk};
+ghost use Rattle.cb_cache.specs.Room.{HasAgendaFor};
+
+use cb_bits::Row;
+use cb_nodes::NodeId;
+use std::alloc::{AllocError, Global};
+
+/// What is to be done about an edit. It is kept for its room: no edit begins with what an earlier one left here.
+#[derive(Drop)]
+pub struct Agenda {
+    /// The nodes that the edit touches.
+    pub touched: Row,
+    /// The problems that are to be searched from.
+    pub problems: Vec<NodeId>,
+}
+
+/// Room for so many nodes.
+pub fn agenda_for(alloc: Global, room: usize) -> Result<Agenda, AllocError>
+    ensures room { IfOk result (HasAgendaFor room) }
+    ensures none { IfOk result (λ agenda. agenda.problems.items ≡ []) }
+{
+    Ok(Agenda {
+        touched: Row::zeroed(alloc, room)?,
+        problems: Vec::with_capacity(alloc, room)?,
+    })
+}

@@ -1,0 +1,227 @@
+//! Edits that bring an instance: there are more nodes then, and more problems.
+ghost use Rattle.std.specs.Prelude.{◌≡◌, ◌≤◌, ◌+◌, ◌↔◌, ◌++◌, ◌-◌, ℕ, [], length, replicate, None, vec_capacity, OnOk, OnErr, IfOk, IfErr, IfSome, IfNone};
+ghost use Rattle.std.specs.List.{Contains};
+ghost use Rattle.cb_change.specs.Costs.{IsEditCost};
+ghost use Rattle.cb_network.specs.Edits.{IsAccepted};
+ghost use Rattle.cb_network.specs.Laws.{HasGoodName};
+ghost use Rattle.cb_instances.specs.Net.{IsLive, Once};
+ghost use Rattle.cb_nodes.specs.declared.id.NodeId.{NodeId as NodeNumber};
+ghost use Rattle.cb_nodes.specs.Table.{IsNode, node_of};
+ghost use Rattle.cb_topo.specs.Applied.{Applies, Prevents};
+ghost use Rattle.cb_topo.specs.Numbered.{Numbered, topology_of, IsWhole};
+ghost use Rattle.cb_cache.specs.Cached.{but_spare};
+ghost use Rattle.cb_cache.specs.Created.{Creates, IsNewProblem, IsPoolFor, IsProblemAmong, IsRoomWith, pool_or};
+ghost use Rattle.cb_cache.specs.Kept.{HaveRoom, IsKept};
+ghost use Rattle.cb_cache.specs.Most.{HasEventsWithin};
+ghost use Rattle.cb_cache.specs.Numbers.{AreOnce, IsProblemNumber};
+ghost use Rattle.cb_cache.specs.Spare.{AreButSpare, IsButSpare};
+
+use crate::agenda::{Agenda, agenda_for};
+use crate::edits::edit_graph;
+use crate::fill::add_rows;
+use crate::problems::events_within;
+use crate::rows::{Rows, Store, scratch_for};
+use crate::scratch::Scratch;
+use cb_graph::Graph;
+use cb_model::EventId;
+use cb_nodes::NodeId;
+use cb_pool::{RowPool, Slot};
+use cb_steps::Steps;
+use cb_topo::{Edit, EditFault, InstanceId, Topology};
+use std::alloc::{AllocError, Global};
+use std::mem::swap;
+use std::sync::ledger::Ledger;
+
+/// What more nodes need: places for all, and, where rows must be longer, another pool.
+#[derive(Drop)]
+pub struct Further {
+    slots: Vec<Option<Slot>>,
+    scratch: Scratch,
+    agenda: Agenda,
+    pool: Option<RowPool>,
+}
+
+/// Makes an edit that brings an instance, and searches from its problems. All memory is taken before the edit is made.
+pub fn create<L: Ledger>(
+    alloc: Global,
+    graph: &mut Graph,
+    edit: &Edit,
+    store: &mut Store,
+    steps: &mut Steps<L>,
+) -> Result<(), EditFault>
+    requires name { HasGoodName edit.now }
+    requires creates { Creates edit.now }
+    requires kept { IsKept graph.old store.old }
+    ensures made { OnOk result (Applies graph.old edit.now graph.new) }
+    ensures kept { IsKept graph.new store.new }
+    ensures cost { OnOk result ((cost : ℕ) → IsEditCost (topology_of graph.old) edit.now (topology_of graph.new) cost → steps.new ≤ steps.old + cost) }
+    ensures fault { IfErr result (Prevents graph.old edit.now) }
+    ensures graph { OnErr result (graph.new ≡ graph.old) }
+    ensures store { OnErr result (IsButSpare store.old store.new) }
+    ensures steps { OnErr result (steps.new ≡ steps.old) }
+{
+    graph.topology().allows(edit)?;
+    let mut further = further_for(alloc, graph.topology(), edit, &mut store.rows)?;
+    create_in(alloc, graph, edit, &mut further, store, steps)
+}
+
+// The same, in the room that was made for it.
+fn create_in<L: Ledger>(
+    alloc: Global,
+    graph: &mut Graph,
+    edit: &Edit,
+    further: &mut Further,
+    store: &mut Store,
+    steps: &mut Steps<L>,
+) -> Result<(), EditFault>
+    requires name { HasGoodName edit.now }
+    requires creates { Creates edit.now }
+    requires kept { IsKept graph.old store.old }
+    requires further { IsRoomWith graph.old edit.now store.old.rows further.old }
+    ensures made { OnOk result (Applies graph.old edit.now graph.new) }
+    ensures kept { IsKept graph.new store.new }
+    ensures cost { OnOk result ((cost : ℕ) → IsEditCost (topology_of graph.old) edit.now (topology_of graph.new) cost → steps.new ≤ steps.old + cost) }
+    ensures fault { IfErr result (Prevents graph.old edit.now) }
+    ensures graph { OnErr result (graph.new ≡ graph.old) }
+    ensures store { OnErr result (store.new ≡ store.old) }
+    ensures steps { OnErr result (steps.new ≡ steps.old) }
+{
+    edit_graph(alloc, graph, edit)?;
+    move_in(further, store);
+    list_new(graph.topology(), edit, &mut store.agenda.problems);
+    add_rows(graph, &store.agenda.problems, &mut store.rows, steps);
+    Ok(())
+}
+
+// Room for the nodes that there are once the edit is made, beside the rows as they are.
+fn further_for(
+    alloc: Global,
+    topology: &Topology,
+    edit: &Edit,
+    rows: &mut Rows,
+) -> Result<Further, AllocError>
+    requires accepted { IsAccepted (topology_of topology.now) edit.now }
+    requires room { HaveRoom topology.now rows.old }
+    ensures further { IfOk result (IsRoomWith topology.now edit.now rows.new) }
+    ensures rows { AreButSpare rows.old rows.new }
+{
+    let room = topology.node_room_after(edit);
+    let more = events_within(topology.model(), edit);
+    let pool = pool_for(alloc, &mut rows.pool, room.div_ceil(64), more)?;
+    Ok(Further {
+        slots: slots_for(alloc, &rows.slots, room)?,
+        scratch: scratch_for(alloc, room)?,
+        agenda: agenda_for(alloc, room)?,
+        pool,
+    })
+}
+
+// Makes room for so many rows more; in another pool, where rows must be longer.
+fn pool_for(
+    alloc: Global,
+    pool: &mut RowPool,
+    width: usize,
+    more: usize,
+) -> Result<Option<RowPool>, AllocError>
+    requires { pool.old.width ≤ width }
+    ensures room { IfOk result (IsPoolFor width more pool.new) }
+    ensures same { but_spare pool.new ≡ but_spare pool.old }
+{
+    if width > pool.width() {
+        return Ok(Some(pool.wider(alloc, width, more)?));
+    }
+    pool.reserve(more)?;
+    Ok(None)
+}
+
+// The slots, with places for so many numbers.
+fn slots_for(
+    alloc: Global,
+    slots: &[Option<Slot>],
+    room: usize,
+) -> Result<Vec<Option<Slot>>, AllocError>
+    ensures { IfOk result (λ made. made.items ≡ slots.now ++ replicate (room - length slots.now) None) }
+{
+    let mut made = Vec::with_capacity(alloc, room)?;
+    made.extend_from_slice(slots)?;
+    made.resize(room.max(slots.len()), None)?;
+    Ok(made)
+}
+
+// Puts the rows that are there into their new places. What is left behind doesn't matter.
+fn move_in(further: &mut Further, store: &mut Store)
+    ensures slots { store.new.rows.slots ≡ further.old.slots }
+    ensures scratch { store.new.rows.scratch ≡ further.old.scratch }
+    ensures agenda { store.new.agenda ≡ further.old.agenda }
+    ensures pool { store.new.rows.pool ≡ pool_or store.old.rows.pool further.old.pool }
+{
+    swap(&mut store.rows.slots, &mut further.slots);
+    swap(&mut store.rows.scratch, &mut further.scratch);
+    swap(&mut store.agenda, &mut further.agenda);
+    if let Some(pool) = &mut further.pool {
+        swap(&mut store.rows.pool, pool);
+    }
+}
+
+// Lists the problems of the instance that the edit has brought.
+fn list_new(topology: &Topology, edit: &Edit, list: &mut Vec<NodeId>)
+    requires creates { Creates edit.now }
+    requires made { (old : Numbered) × Applies old edit.now topology.now }
+    requires room { HasEventsWithin (topology_of topology.now).model edit.now (vec_capacity list.old) }
+    ensures problems { (id : NodeNumber) → Contains list.new.items id ↔ IsNewProblem topology.now edit.now id }
+    ensures once { AreOnce list.new.items }
+    ensures few { (most : ℕ) → HasEventsWithin (topology_of topology.now).model edit.now most → length list.new.items ≤ most }
+    ensures room { vec_capacity list.new ≡ vec_capacity list.old }
+{
+    list.clear();
+    let Edit::Create { name, class } = edit else {
+        return;
+    };
+    let Some(instance) = topology.instance_named(name.bytes()) else {
+        return;
+    };
+    let Some(class) = topology.model().class_named(class.bytes()) else {
+        return;
+    };
+    let events = topology.model().events_of(class).as_slice();
+    list_problems_among(topology, instance, events, list);
+}
+
+// Lists those of the instance's events that are problems.
+fn list_problems_among(
+    topology: &Topology,
+    instance: InstanceId,
+    events: &[EventId],
+    list: &mut Vec<NodeId>,
+)
+    requires live { IsLive topology.now.net instance }
+    requires once { Once events.now }
+    requires empty { list.old.items ≡ [] }
+    requires room { length events.now ≤ vec_capacity list.old }
+    ensures problems { (id : NodeNumber) → Contains list.new.items id ↔ IsProblemAmong topology.now instance events.now id }
+    ensures once { AreOnce list.new.items }
+    ensures few { length list.new.items ≤ length events.now }
+    ensures room { vec_capacity list.new ≡ vec_capacity list.old }
+{
+    for event in events {
+        if let Some(node) = problem_at(topology, instance, *event) {
+            list.push_reserved(node);
+        }
+    }
+}
+
+// The node of the instance's event, where that is a problem.
+fn problem_at(topology: &Topology, instance: InstanceId, event: EventId) -> Option<NodeId>
+    requires { IsLive topology.now.net instance }
+    ensures problem { IfSome result (IsProblemNumber topology.now) }
+    ensures event { IfSome result (λ id. IsNode topology.now.nodes id (node_of instance event)) }
+    ensures none { IfNone result ((id : NodeNumber) → IsNode topology.now.nodes id (node_of instance event) → ¬ IsProblemNumber topology.now id) }
+    ensures whole { IsWhole topology.now }
+{
+    let node = topology.node_at(instance, event)?;
+    if topology.is_problem(node) {
+        Some(node)
+    } else {
+        None
+    }
+}
