@@ -39,10 +39,10 @@ module _ (sites : ℕ) where
   sound_of : (known : Known) → Means Role.model nothing model_text known → IsSound known
   sound_of known means = means_sound Role.model nothing model_text known tt means
 
-  regular_of : (t : Topology) → MakesUp sites t → IsRegular t.model
+  pub regular_of : (t : Topology) → MakesUp sites t → IsRegular t.model
   regular_of t (known, first, second) = means_sound Role.topology known (topology_text sites) (network t) (sound_of known first) second
 
-  made_up_one : (t u : Topology) → MakesUp sites t → MakesUp sites u → t ≡ u
+  pub made_up_one : (t u : Topology) → MakesUp sites t → MakesUp sites u → t ≡ u
   made_up_one t u (a, m, p) (b, n, q) =
       let same = same_known b a n m in
       let over = subst (λ (known : Known). Means Role.topology known (topology_text sites) (network u)) same q in

@@ -69,14 +69,16 @@ ended_go_on [] first tail = refl
 ended_go_on (y ∷ []) first tail = refl
 ended_go_on (y ∷ z ∷ zs) first tail = ap (λ (v : Parts). y ∷ v) (ended_go_on (z ∷ zs) first tail)
 
-numbered : (n : ℕ) (xs ys : Parts) → (rest : List Line) × (map line_of (enumerate_from n (xs ++ ys)) ≡ map line_of (enumerate_from n xs) ++ rest)
+-- with their numbers, the first of some lines are the first
+pub numbered : (n : ℕ) (xs ys : Parts) → (rest : List Line) × (map line_of (enumerate_from n (xs ++ ys)) ≡ map line_of (enumerate_from n xs) ++ rest)
 numbered n [] ys = (map line_of (enumerate_from n ys), refl)
 numbered n (x ∷ xs) ys = let later = numbered (n + 1) xs ys in (later.0, ap (λ (v : List Line). line_of (n, x) ∷ v) later.1)
 
 abbrev lf : ℕ → Bool
 lf b = b == 10
 
-front_lines : (front rest : List ℕ) → (later : List Line) × (log_lines (front ++ rest) ≡ ended_lines front ++ later)
+-- the lines that end within the first bytes of a log are its first
+pub front_lines : (front rest : List ℕ) → (later : List Line) × (log_lines (front ++ rest) ≡ ended_lines front ++ later)
 front_lines front rest =
     let (first, tail, e) = split_front lf front rest in
     let before = ended_parts (slice_split lf front) in
@@ -98,7 +100,8 @@ onward head tail first rest e = ap (λ (v : List Event). head ++ v) e ∙ simp a
 onto_end : (body due rest ends : List Event) → body ≡ due ++ rest → body ++ ends ≡ due ++ (rest ++ ends)
 onto_end body due rest ends e = ap (λ (v : List Event). v ++ ends) e ∙ simp append_assoc
 
-first_come : (xs ys : List Line) (entries : List Entry) → ComeTo (xs ++ ys) entries
+-- what the first of some lines come to is the first of what they come to
+pub first_come : (xs ys : List Line) (entries : List Entry) → ComeTo (xs ++ ys) entries
     → (before : List Entry) × (after : List Entry) × (entries ≡ before ++ after) × ComeTo xs before
 first_come [] ys entries c = ([], entries, refl, tt)
 first_come (x ∷ xs) ys [] c = absurd c

@@ -1,10 +1,50 @@
--- How many steps a run counts.
-use Rattle.std.specs.Prelude.{◌≡◌, ℕ, Option, None, Some}
+-- How many steps a run counts. `files` is told before the run, `after` after it.
+use Rattle.std.specs.Prelude.{◌≡◌, ℕ, ◌+◌, ◌≤◌, List, Option, None, Some}
+use Rattle.cb_change.specs.Costs.{IsOpenCost}
+use Rattle.cb_change.specs.InTurn.{IsCostInTurn}
+use Rattle.cb_gen.specs.Log.{log_text}
+use Rattle.cb_io.specs.Outside.{FilesTold, left_of}
+use Rattle.cb_network.specs.Topology.{Topology}
+use Rattle.cb_log.specs.Entries.{Entry, records_of}
+use Rattle.cb_log.specs.Network.{edits_of}
+use Rattle.cb_alarm.specs.Lines.{Line, log_lines, ComeTo}
 use Rattle.cb_request.specs.declared.request.Request.{Request}
-use Rattle.cb_request.specs.declared.request.Request.TheVariants.{Model}
+use Rattle.cb_request.specs.declared.request.Request.TheVariants.{Model, Correlate, Grow}
+use Rattle.cb_outcome.specs.Contents.{Left, files_from, log_from}
+use Rattle.cb_outcome.specs.Grown.{MakesUp}
+use Rattle.cb_outcome.specs.Judged.{nothing, network, PassFrom}
+use Rattle.cb_outcome.specs.Reading.{Told, LeavesRest}
 
--- how many steps are counted, by what is asked for: `model` searches nothing and counts none; of the others nothing is said
-abbrev pub Counts : Option Request → ℕ → ℕ → Type 0
-Counts None old new = new ≡ old
-Counts (Some (Model one)) old new = new ≡ old
-Counts asked old new = Unit {0}
+-- what the edits in these lines cost together, each made of the topology that those before it leave
+abbrev pub AreLinesCost : Topology → List Line → ℕ → Type 0
+AreLinesCost t lines cost = (entries : List Entry) × ComeTo lines entries × IsCostInTurn t (edits_of (records_of entries)) cost
+
+-- no more steps are counted than the edits in these lines cost
+abbrev pub CountsLines : Topology → List Line → ℕ → ℕ → Type 0
+CountsLines t lines old new = (cost : ℕ) → AreLinesCost t lines cost → new ≤ old + cost
+
+-- no more steps are counted than the search of the topology costs, and then the edits in the lines of these bytes of a log
+abbrev pub CountsLog : Topology → List ℕ → ℕ → ℕ → Type 0
+CountsLog t log old new = (searched : ℕ) → IsOpenCost t searched → CountsLines t (log_lines log) (old + searched) new
+
+-- `correlate`: the topology is that of the model and the topology file, and the bytes of the log are those that were taken of it. Where
+-- the two files give no topology, no step is counted.
+pub record CountsCorrelate (left : Left) (request : Request) (log : List ℕ) (after : FilesTold) (old new : ℕ) : Type 0 where
+  pub most : (t : Topology) → PassFrom nothing (files_from left request) (network t)
+      → (taken : LeavesRest (log_from left request log) (left_of after log)) → CountsLog t taken.0 old new
+  pub none : ((t : Topology) → ¬ PassFrom nothing (files_from left request) (network t)) → new ≡ old
+
+-- `grow`: the topology and the log are those that are made up
+pub record CountsGrow (sites start old new : ℕ) : Type 0 where
+  pub most : (t : Topology) → MakesUp sites t → CountsLog t (log_text sites start) old new
+  pub none : ((t : Topology) → ¬ MakesUp sites t) → new ≡ old
+
+-- how many steps are counted, by what is asked for: none for `model`, which searches nothing. Of `burst`, `matrix`, `codebook`, `verify` and
+-- `decode` nothing is said.
+abbrev pub Counts : Option Request → FilesTold → FilesTold → ℕ → ℕ → Type 0
+Counts None files after old new = new ≡ old
+Counts (Some (Model one)) files after old new = new ≡ old
+Counts (Some (Correlate one two log distance window)) files after old new =
+    Told files (λ left. CountsCorrelate left (Correlate one two log distance window) log after old new)
+Counts (Some (Grow sites start)) files after old new = CountsGrow sites start old new
+Counts asked files after old new = Unit {0}

@@ -6,3 +6,4 @@ pub mod Telling
 pub mod Stepping
 pub mod ByOne
 pub mod Sessions
+pub mod Counting

@@ -8,3 +8,4 @@ pub mod Told
 pub mod Acts
 pub mod Steps
 pub mod Sources
+pub mod Counted

@@ -3,6 +3,7 @@ ghost use Rattle.std.specs.Prelude.{◌≡◌, ◌<◌, ◌≤◌, ◌++◌, ◌
 ghost use Rattle.std.specs.List.{All};
 ghost use Rattle.cb_alarm.specs.Lines.{ComesTo};
 ghost use Rattle.cb_cert.specs.Format.{IsWanted};
+ghost use Rattle.cb_coding.specs.declared.book.Book.{Book as BookOf};
 ghost use Rattle.cb_log.specs.declared.closed.Closed.{Closed as ClosedOf};
 ghost use Rattle.cb_log.specs.Basis.{wanted as for_wanted, fixed as by_fixed};
 ghost use Rattle.cb_log.specs.Entries.{Entry, said, records_of};
@@ -11,6 +12,7 @@ ghost use Rattle.cb_network.specs.Regular.{IsRegular};
 ghost use Rattle.cb_network.specs.Topology.{Topology};
 ghost use Rattle.cb_topo.specs.Numbered.{topology_of};
 ghost use Rattle.cb_session.specs.Acts.{IsWellNamed};
+ghost use Rattle.cb_session.specs.Counted.{CountsEntry};
 ghost use Rattle.cb_session.specs.Sources.{StandsAlone, EndsAlone};
 ghost use Rattle.cb_session.specs.State.{State, StandsForEntries, line_of, IsFitting};
 ghost use Rattle.cb_session.specs.Steps.{EntryTells, EntryStands, ClosesAtEnd, TellsAtEnd};
@@ -104,7 +106,7 @@ impl Session {
     }
 
     /// What comes of the next line: the diagnoses of the windows that it closes, and then what comes of its body. An edit is made behind
-    /// them. Where memory is wanting the session is as before the call, and no step is counted.
+    /// them, and that alone counts steps. Where memory is wanting the session is as before the call, and no step is counted.
     pub fn step<L: Ledger>(
         &mut self,
         alloc: Global,
@@ -126,6 +128,8 @@ impl Session {
         ensures length { self.new.windows.length ≡ self.old.windows.length }
         ensures same { OnErr result (self.new ≡ self.old) }
         ensures steps { OnErr result (steps.new ≡ steps.old) }
+        ensures cost { (entry : Entry) → ComesTo (line_of line.entry) entry → CountsEntry self.old.network entry steps.old steps.new }
+        ensures fixed { (book : BookOf) → self.old.mode ≡ by_fixed book → steps.new ≡ steps.old }
     {
         match entry_of(alloc, line)? {
             Taken::Blank => Ok(List::new(alloc)),
@@ -153,6 +157,8 @@ impl Session {
         ensures length { self.new.windows.length ≡ self.old.windows.length }
         ensures same { OnErr result (self.new ≡ self.old) }
         ensures steps { OnErr result (steps.new ≡ steps.old) }
+        ensures cost { CountsEntry self.old.network (said number next.now) steps.old steps.new }
+        ensures fixed { (book : BookOf) → self.old.mode ≡ by_fixed book → steps.new ≡ steps.old }
     {
         match &mut self.course {
             Course::Wanted { distance, ready } => go_on_wanted(

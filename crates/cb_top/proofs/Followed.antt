@@ -60,7 +60,7 @@ there : {X : Type 0} (o : Option X) (P : X → Type 0) (x : X) → o ≡ Some x 
 there {X} o P x e told = subst (λ (v : Option X). IfSome v P) e told
 
 -- files pass in one way
-pass_is_one : (known : Known) (files : List File) (a b : Known) → IsSound known → PassFrom known files a → PassFrom known files b → a ≡ b
+pub pass_is_one : (known : Known) (files : List File) (a b : Known) → IsSound known → PassFrom known files a → PassFrom known files b → a ≡ b
 pass_is_one known [] a b sound p q = sym p ∙ q
 pass_is_one known (file ∷ files) a b sound (next, says, pass) (other, says', pass') =
     let same : other ≡ next = says_one known sound file other next says' says in

@@ -25,7 +25,7 @@ use Rattle.cb_top.proofs.Further.{told_is_due, due_is_short}
 
 -- ---- what is told
 
-there : {X : Type 0} (o : Option X) (P : X → Type 0) (x : X) → o ≡ Some x → IfSome o P → P x
+pub there : {X : Type 0} (o : Option X) (P : X → Type 0) (x : X) → o ≡ Some x → IfSome o P → P x
 there {X} o P x e told = subst (λ (v : Option X). IfSome v P) e told
 
 reads_on : (a b c : FilesTold) (name : List ℕ) → ReadsOnly name a b → ReadsOnly name b c → ReadsOnly name a c
@@ -39,7 +39,7 @@ write_failed_after : (a b c : SinkTold) → a.faults ≤ b.faults → WriteFaile
 write_failed_after a b c le rose = omega (arith, le, rose)
 
 -- what is left of the file, where these bytes come
-left_there : (kept : List ℕ) (left : Option (List ℕ)) (rest : List ℕ) → option_map (λ l. kept ++ l) left ≡ Some rest
+pub left_there : (kept : List ℕ) (left : Option (List ℕ)) (rest : List ℕ) → option_map (λ l. kept ++ l) left ≡ Some rest
     → (l : List ℕ) × (left ≡ Some l) × (rest ≡ kept ++ l)
 left_there kept None rest e = cc
 left_there kept (Some l) rest e = (l, refl, there_is rest (kept ++ l) e)
@@ -47,7 +47,7 @@ left_there kept (Some l) rest e = (l, refl, there_is rest (kept ++ l) e)
     there_is : (x y : List ℕ) → Some y ≡ Some x → x ≡ y
     there_is x y e = cc
 
-no_more : (xs ys : List ℕ) → [] ≡ xs ++ ys → ys ≡ []
+pub no_more : (xs ys : List ℕ) → [] ≡ xs ++ ys → ys ≡ []
 no_more [] ys e = sym e
 no_more (x ∷ xs) ys e = cc
 

@@ -30,10 +30,10 @@ text_more opening told text events more t m =
     let parts : told ++ text ≡ (opening ++ events_text events) ++ events_text more = λ i. t i ++ m i in
     parts ∙ (append_assoc opening (events_text events) (events_text more) ∙ ap (λ (v : List ℕ). opening ++ v) (sym joined_text))
 
-one_alone : (line : List ℕ) → IsOneLine line → All IsOneLine (line ∷ [])
+pub one_alone : (line : List ℕ) → IsOneLine line → All IsOneLine (line ∷ [])
 one_alone line one = All-cons IsOneLine line [] one (λ k d low. absurd (omega (arith, low)))
 
-last_is : (line : List ℕ) → (line ≡ [] → ⊥) → last_line line ≡ line ∷ []
+pub last_is : (line : List ℕ) → (line ≡ [] → ⊥) → last_line line ≡ line ∷ []
 last_is [] some = absurd (some refl)
 last_is (b ∷ bs) some = refl
 

@@ -17,3 +17,5 @@ pub mod Opening
 pub mod Decoded
 pub mod Summing
 pub mod Growing
+pub mod Counting
+pub mod Counted

@@ -36,10 +36,10 @@ not_within a b past =
     ]
 
 -- a line as its number and its bytes
-short_line : (number : ℕ) (line : List ℕ) → length line ≤ log_line_limit → line_of (number, line) ≡ lines.text number line
+pub short_line : (number : ℕ) (line : List ℕ) → length line ≤ log_line_limit → line_of (number, line) ≡ lines.text number line
 short_line number line short = cond_true (nat_le (length line) log_line_limit) (lines.text number line) (lines.long number) (le-leb (length line) log_line_limit short)
 
-long_line : (number : ℕ) (line : List ℕ) → log_line_limit < length line → line_of (number, line) ≡ lines.long number
+pub long_line : (number : ℕ) (line : List ℕ) → log_line_limit < length line → line_of (number, line) ≡ lines.long number
 long_line number line past = cond_false (nat_le (length line) log_line_limit) (lines.text number line) (lines.long number) (not_within (length line) log_line_limit past)
 
 module _ (old new : Reading) (after : FilesTold) (session mid : State) (told_text out : List ℕ) (reads_log : ReadsLog old)

@@ -280,10 +280,6 @@ module _ (bytes : List ℕ) (events : List Event) (old mid : Summary) where
   })
   record_keeps (inr (not, e)) earlier has = subst (λ (s : Summary). CountsEvents earlier s) (sym e) has
 
-  pub record_asks : CountsRecord bytes events old mid → IsAskedFor old mid
-  record_asks (inl (is, e)) = record { sites = ap (λ (s : Summary). s.sites) e; start = ap (λ (s : Summary). s.start) e }
-  record_asks (inr (not, e)) = record { sites = ap (λ (s : Summary). s.sites) e; start = ap (λ (s : Summary). s.start) e }
-
   pub record_one : CountsRecord bytes events old mid → IsRecord bytes events → mid.records ≡ old.records + 1
   record_one (inl (is, e)) has = ap (λ (s : Summary). s.records) e
   record_one (inr (not, e)) has = absurd (not has)

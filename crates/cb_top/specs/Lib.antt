@@ -8,3 +8,4 @@ pub mod Written
 pub mod Telling
 pub mod Given
 pub mod Summing
+pub mod Counting

@@ -1,10 +1,12 @@
 //! The command `correlate`.
-ghost use Rattle.std.specs.Prelude.{◌≡◌, ◌≤◌, [], IfOk};
+ghost use Rattle.std.specs.Prelude.{◌≡◌, ◌≤◌, ◌+◌, ℕ, [], Some, IfOk};
 ghost use Rattle.cb_cert.specs.Format.{IsWanted};
+ghost use Rattle.cb_change.specs.Costs.{IsOpenCost};
 ghost use Rattle.cb_log.specs.Basis.{wanted as for_wanted};
 ghost use Rattle.cb_network.specs.Regular.{IsRegular};
 ghost use Rattle.cb_request.specs.declared.request.Request.TheVariants.{Correlate};
 ghost use Rattle.cb_request.specs.Ranges.{IsInRange};
+ghost use Rattle.cb_outcome.specs.Steps.{Counts};
 ghost use Rattle.cb_session.specs.State.{StandsForEntries};
 ghost use Rattle.cb_topo.specs.Numbered.{topology_of};
 ghost use Rattle.cb_top.specs.Ways.{EndsRequest, wrong};
@@ -41,8 +43,10 @@ pub fn correlate<'w, F: Files, O: Sink, L: Ledger>(
     steps: &mut Steps<L>,
 ) -> Result<(), Fault<'w>>
     requires { IsInRange (Correlate model topology log asked.distance asked.window) }
-    ensures { EndsRequest (Correlate model.entry topology.entry log.entry asked.distance asked.window) (F.tells files.old) (F.tells files.new)
+    ensures ends { EndsRequest (Correlate model.entry topology.entry log.entry asked.distance asked.window) (F.tells files.old) (F.tells files.new)
         (O.tells out.old) (O.tells out.new) (wrong result) }
+    ensures steps { Counts (Some (Correlate model.entry topology.entry log.entry asked.distance asked.window)) (F.tells files.old) (F.tells files.new)
+        steps.old steps.new }
 {
     let topology = read_network(alloc, files, model, topology)?;
     let mut session = opened(alloc, topology, asked, steps)?;
@@ -64,6 +68,7 @@ pub fn opened<L: Ledger>(
     ensures length { IfOk result (λ session. session.windows.length ≡ asked.window) }
     ensures stands { IfOk result (λ session. StandsForEntries session (topology_of topology) []) }
     ensures regular { IsRegular (topology_of topology).model }
+    ensures cost { (cost : ℕ) → IsOpenCost (topology_of topology) cost → steps.new ≤ steps.old + cost }
 {
     let _typed = topology.model();
     let graph = Graph::new(alloc, topology)?;

@@ -1,9 +1,11 @@
 //! A log, followed line by line: what comes of each is written before the next one is asked for.
-ghost use Rattle.std.specs.Prelude.{◌≡◌, ◌⊎◌, ◌<◌, ◌≤◌, true, IfOk, IfErr, IfSome, IsErrOf};
+ghost use Rattle.std.specs.Prelude.{◌≡◌, ◌⊎◌, ◌<◌, ◌≤◌, ℕ, true, IfOk, IfErr, IfSome, IsErrOf};
 ghost use Rattle.cb_alarm.specs.Lines.{log_line_limit};
 ghost use Rattle.cb_io.specs.LineReading.{coming, unread, ReadsSame, GoesOn};
 ghost use Rattle.cb_io.specs.Outside.{FilesTold, SinkTold, ReadFailed};
+ghost use Rattle.cb_log.specs.Basis.{wanted as for_wanted};
 ghost use Rattle.cb_outcome.specs.LogJobs.{Watch, log_limit};
+ghost use Rattle.cb_top.specs.Counting.{PieceTakes, PieceCounts, HasCounted, CountsOn, CountsTaken};
 ghost use Rattle.cb_top.specs.Following.{EndsLog};
 ghost use Rattle.cb_top.specs.Kinds.{ReadsOnly};
 ghost use Rattle.cb_top.specs.Telling.{PieceSays, StopSays, ReadsLog, Going, wrong_of, GoesOrEnds, Opens};
@@ -34,8 +36,10 @@ pub fn follow<'w, F: Files, O: Sink, L: Ledger>(
     session: &mut Session,
     steps: &mut Steps<L>,
 ) -> Result<(), Fault<'w>>
-    ensures { (watch : Watch) (before : SinkTold) → Opens watch session.old before (O.tells out.old)
+    ensures ends { (watch : Watch) (before : SinkTold) → Opens watch session.old before (O.tells out.old)
         → EndsLog watch log.entry (F.tells files.old) (F.tells files.new) before (O.tells out.new) (wrong result) }
+    ensures steps { (watch : Watch) (before : SinkTold) (d : ℕ) → watch.mode ≡ for_wanted d → Opens watch session.old before (O.tells out.old)
+        → CountsTaken watch.from log.entry (F.tells files.old) (F.tells files.new) steps.old steps.new }
 {
     match follow_lines(alloc, files, out, log.as_str(), session, steps) {
         Ok(()) => Ok(()),
@@ -52,8 +56,10 @@ fn follow_lines<F: Files, O: Sink, L: Ledger>(
     session: &mut Session,
     steps: &mut Steps<L>,
 ) -> Result<(), LogStop>
-    ensures { (watch : Watch) (before : SinkTold) → Opens watch session.old before (O.tells out.old)
+    ensures ends { (watch : Watch) (before : SinkTold) → Opens watch session.old before (O.tells out.old)
         → EndsLog watch log.now (F.tells files.old) (F.tells files.new) before (O.tells out.new) (wrong_of log.now result) }
+    ensures steps { (watch : Watch) (before : SinkTold) (d : ℕ) → watch.mode ≡ for_wanted d → Opens watch session.old before (O.tells out.old)
+        → CountsTaken watch.from log.now (F.tells files.old) (F.tells files.new) steps.old steps.new }
 {
     let mut reader = reader_of(alloc, log)?;
     let end = tell_all(alloc, files, out, &mut reader, session, steps);
@@ -78,9 +84,12 @@ fn tell_all<F: Files, O: Sink, L: Ledger>(
     steps: &mut Steps<L>,
 ) -> Result<(), LogStop>
     requires { ReadsLog reader.old }
-    ensures { (watch : Watch) (now : FilesTold) (before : SinkTold)
+    ensures ends { (watch : Watch) (now : FilesTold) (before : SinkTold)
         → Going watch now before reader.old (F.tells files.old) (O.tells out.old) session.old
         → EndsLog watch reader.old.name now (F.tells files.new) before (O.tells out.new) (wrong_of reader.old.name result) }
+    ensures steps { (watch : Watch) (now : FilesTold) (before : SinkTold) (start : ℕ)
+        → Going watch now before reader.old (F.tells files.old) (O.tells out.old) session.old → HasCounted watch now reader.old start steps.old
+        → CountsTaken watch.from reader.old.name now (F.tells files.new) start steps.new }
 {
     while !tell_next(alloc, files, out, reader, session, steps)? {}
     Ok(())
@@ -102,6 +111,12 @@ fn tell_next<F: Files, O: Sink, L: Ledger>(
     ensures tells { (watch : Watch) (now : FilesTold) (before : SinkTold)
         → Going watch now before reader.old (F.tells files.old) (O.tells out.old) session.old
         → GoesOrEnds watch now before reader.new (F.tells files.new) (O.tells out.new) session.new result }
+    ensures steps { (watch : Watch) (now : FilesTold) (before : SinkTold) (start : ℕ)
+        → Going watch now before reader.old (F.tells files.old) (O.tells out.old) session.old → HasCounted watch now reader.old start steps.old
+        → CountsTaken watch.from reader.old.name now (F.tells files.new) start steps.new }
+    ensures counts { (watch : Watch) (now : FilesTold) (before : SinkTold) (start : ℕ)
+        → Going watch now before reader.old (F.tells files.old) (O.tells out.old) session.old → HasCounted watch now reader.old start steps.old
+        → CountsOn watch now reader.new start steps.new result }
 {
     let text = next_piece(alloc, files, reader, session, steps)?;
     write_all(out, &text)?;
@@ -125,6 +140,9 @@ fn next_piece<F: Files, L: Ledger>(
     ensures says { IfOk result (λ text. IfSome (coming reader.old (F.tells files.old))
         (PieceSays reader.old reader.new (F.tells files.new) session.old session.new text.items)) }
     ensures stops { IfErr result (λ stop. IfSome (coming reader.old (F.tells files.old)) (StopSays reader.old (F.tells files.new) stop)) }
+    ensures takes { IfSome (coming reader.old (F.tells files.old)) (PieceTakes reader.old (F.tells files.new) session.old steps.old steps.new) }
+    ensures counts { IfOk result (λ text. IfSome (coming reader.old (F.tells files.old))
+        (PieceCounts reader.old reader.new session.old steps.old steps.new)) }
 {
     let line = reader.next_line(files)?;
     let mut text = text_of_line(alloc, line, reader.text(), session, steps)?;

@@ -3,7 +3,9 @@ ghost use Rattle.std.specs.Prelude.{◌≡◌, ◌⊎◌, ◌≤◌, IfOk, IfErr
 ghost use Rattle.cb_io.specs.Outside.{FilesTold};
 ghost use Rattle.cb_request.specs.declared.request.Request.TheVariants.{Grow};
 ghost use Rattle.cb_request.specs.Ranges.{IsInRange};
+ghost use Rattle.cb_gen.specs.Log.{log_text as made_up_log};
 ghost use Rattle.cb_outcome.specs.Grown.{MakesUp, HasMadeUpFault};
+ghost use Rattle.cb_outcome.specs.Steps.{CountsLog, CountsGrow};
 ghost use Rattle.cb_topo.specs.Numbered.{topology_of};
 ghost use Rattle.cb_top.specs.Ending.{Comes};
 ghost use Rattle.cb_top.specs.Kinds.{IsWant};
@@ -36,7 +38,8 @@ pub fn grow<'w, L: Ledger>(
     steps: &mut Steps<L>,
 ) -> Result<Output<'w>, Fault<'w>>
     requires { IsInRange (Grow sites start) }
-    ensures { (files : FilesTold) → Comes (Grow sites start) files files result }
+    ensures comes { (files : FilesTold) → Comes (Grow sites start) files files result }
+    ensures steps { CountsGrow sites start steps.old steps.new }
 {
     match made_up(alloc, sites as u32) {
         Ok(topology) => Ok(Output {
@@ -79,7 +82,8 @@ fn summary_of<L: Ledger>(
 ) -> Result<Vec<u8>, AllocError>
     requires some { 1 ≤ sites }
     requires few { sites ≤ 256 }
-    ensures { IfOk result (λ text. GivesSummary sites start (topology_of topology) text.items) }
+    ensures gives { IfOk result (λ text. GivesSummary sites start (topology_of topology) text.items) }
+    ensures steps { CountsLog (topology_of topology) (made_up_log sites start) steps.old steps.new }
 {
     let log = log_text(alloc, sites, start)?;
     let mut session = opened(alloc, topology, ASKED, steps)?;

@@ -1,5 +1,6 @@
 //! What is asked for, command by command.
-ghost use Rattle.std.specs.Prelude.{Some};
+ghost use Rattle.std.specs.Prelude.{◌≡◌, [], Some};
+ghost use Rattle.cb_request.specs.Files.{names_of};
 ghost use Rattle.cb_request.specs.Ranges.{IsInRange};
 ghost use Rattle.cb_outcome.specs.Steps.{Counts};
 ghost use Rattle.cb_top.specs.Ways.{EndsRequest, wrong};
@@ -30,7 +31,8 @@ pub fn perform<'w, F: Files, O: Sink, L: Ledger>(
 ) -> Result<(), Fault<'w>>
     requires range { IsInRange request }
     ensures ends { EndsRequest request.entry (F.tells files.old) (F.tells files.new) (O.tells out.old) (O.tells out.new) (wrong result) }
-    ensures steps { Counts (Some request.entry) steps.old steps.new }
+    ensures unread { names_of request.entry ≡ [] → files.new ≡ files.old }
+    ensures steps { Counts (Some request.entry) (F.tells files.old) (F.tells files.new) steps.old steps.new }
 {
     match request {
         Request::Burst {

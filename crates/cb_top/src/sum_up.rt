@@ -8,6 +8,7 @@ ghost use Rattle.cb_report.specs.SummaryText.{CountsAlone, CountsEvents};
 ghost use Rattle.cb_outcome.specs.Grown.{CountsNetwork, SumsUpLog};
 ghost use Rattle.cb_session.specs.State.{StandsForEntries, line_of, IsFitting};
 ghost use Rattle.cb_topo.specs.Numbered.{topology_of};
+ghost use Rattle.cb_top.specs.Counting.{CountsLine, CountsSummed};
 ghost use Rattle.cb_top.specs.Summing.{skips, HasSummedUp, IsAskedFor, KeepsCounts};
 
 use crate::follow::MOST_LINE;
@@ -34,6 +35,7 @@ pub fn sum_up<L: Ledger>(
     ensures sums { OnOk result ((opening : TopologyOf) → IsRegular opening.model → StandsForEntries session.old opening []
         → CountsEvents [] summary.old → summary.old.records ≡ 0
         → SumsUpLog opening session.old.mode session.old.windows.length log.now summary.new) }
+    ensures counts { CountsSummed session.old summary.old (log_lines log.now) steps.old steps.new }
 {
     take_lines(alloc, log, session, summary, steps)?;
     let events = session.finish(alloc)?;
@@ -54,6 +56,7 @@ fn take_lines<L: Ledger>(
     ensures length { session.new.windows.length ≡ session.old.windows.length }
     ensures takes { OnOk result ((opening : TopologyOf) → IsRegular opening.model → HasSummedUp opening [] session.old summary.old
         → HasSummedUp opening (log_lines log.now) session.new summary.new) }
+    ensures counts { CountsSummed session.old summary.old (log_lines log.now) steps.old steps.new }
 {
     let mut number = 0;
     for line in lines(log) {
@@ -77,6 +80,7 @@ fn take_line<L: Ledger>(
     ensures length { session.new.windows.length ≡ session.old.windows.length }
     ensures takes { OnOk result ((opening : TopologyOf) (before : Items Line) → IsRegular opening.model → HasSummedUp opening before session.old summary.old
         → HasSummedUp opening (before ++ line_of_numbered (number, bytes.now) ∷ []) session.new summary.new) }
+    ensures counts { CountsLine session.old.network (line_of_numbered (number, bytes.now)) steps.old steps.new }
 {
     let events = session.step(alloc, log_line(number, bytes), steps)?;
     if is_record(bytes, &events) {

@@ -1,6 +1,7 @@
 //! The top call.
-ghost use Rattle.std.specs.Prelude.{◌≡◌, IsNone};
+ghost use Rattle.std.specs.Prelude.{◌≡◌, []};
 ghost use Rattle.cb_request.specs.Commands.{asked};
+ghost use Rattle.cb_request.specs.Files.{file_words};
 ghost use Rattle.cb_outcome.specs.Clauses.{AnswersOutcome, WritesDue, KeepsQuiet, SaysStatus, ReadsInOrder, Blames, IsComplete};
 ghost use Rattle.cb_outcome.specs.Ends.{MayEnd};
 ghost use Rattle.cb_outcome.specs.Finds.{Finds};
@@ -38,8 +39,8 @@ pub fn run<F: Files, O: Sink, E: Sink, L: Ledger>(
 
     // Which words end how, whatever the files tell: 2 comes exactly where they are none of the table, 4 for commands with a topology alone.
     ensures ends { MayEnd (asked words.now) result }
-    // Nothing is read where they are none.
-    ensures unread { IsNone (asked words.now) → files.new ≡ files.old }
+    // Nothing is read where no word names a file.
+    ensures unread { file_words (asked words.now) ≡ [] → files.new ≡ files.old }
 
     // What was read: files in the order of the words, each whole before the next, and no other.
     ensures order { ReadsInOrder (asked words.now) (F.tells files.old) (F.tells files.new) }
@@ -55,8 +56,9 @@ pub fn run<F: Files, O: Sink, E: Sink, L: Ledger>(
     // distance. Of each window of a log that `correlate` or `decode` follows to 0 the same as of `burst` is said, over the codebook in use, and
     // each thin line names two groups that are closer than wanted, too. No distance of 1 is refused so.
     ensures finds { Finds (asked words.now) result (seen F.tells O.tells E.tells files.old files.new out.old out.new err.old err.new) }
-    // No command counts a step but those that search.
-    ensures steps { Counts (asked words.now) steps.old steps.new }
+    // `model` counts no step; `correlate` and `grow` no more than it costs to search from each problem of their topology, and again after each
+    // edit of the log for what that makes dirty, as far as the log was read. Of the others nothing is said.
+    ensures steps { Counts (asked words.now) (F.tells files.old) (F.tells files.new) steps.old steps.new }
 {
     let end = answer(alloc, words, files, out, steps);
     conclude(end, err)
@@ -71,8 +73,8 @@ fn answer<'w, F: Files, O: Sink, L: Ledger>(
     steps: &mut Steps<L>,
 ) -> Result<(), Fault<'w>>
     ensures ends { EndsAsked (asked words.now) (F.tells files.old) (F.tells files.new) (O.tells out.old) (O.tells out.new) (wrong result) }
-    ensures unread { IsNone (asked words.now) → files.new ≡ files.old }
-    ensures steps { Counts (asked words.now) steps.old steps.new }
+    ensures unread { file_words (asked words.now) ≡ [] → files.new ≡ files.old }
+    ensures steps { Counts (asked words.now) (F.tells files.old) (F.tells files.new) steps.old steps.new }
 {
     match Request::of(words) {
         Some(request) => perform(alloc, request, files, out, steps),

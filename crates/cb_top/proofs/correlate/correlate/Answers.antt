@@ -8,11 +8,12 @@ use Rattle.cb_log.specs.Basis.{wanted}
 use Rattle.cb_outcome.specs.Judged.{network}
 use Rattle.cb_outcome.specs.LogJobs.{Watch}
 use Rattle.cb_top.proofs.Chain.{err_is, reads_front}
+use Rattle.cb_top.proofs.Counted.{correlate_none, correlate_opened, correlate_followed}
 use Rattle.cb_top.proofs.Following.{reads_nothing}
 use Rattle.cb_top.proofs.correlate.correlate.Goals as goal
 
-pub returns-in_err-topology : goal.returns-in_err-topology
-returns-in_err-topology g c =
+pub returns-in_err-topology-clause-ends : goal.returns-in_err-topology-clause-ends
+returns-in_err-topology-clause-ends g c =
     let request = Correlate c.args.model c.args.topology c.args.log c.args.asked.distance c.args.asked.window in
     rw (err_is c.from_residual.result c.in_err-topology.field-0.0 c.from_residual.ensures.1)
     (inl (record {
@@ -21,8 +22,8 @@ returns-in_err-topology g c =
       delivers = record { written = Appends-nil (g.O.Sink.tells c.args.out.now).taken; end_is = refl };
     }))
 
-pub returns-in_err-session : goal.returns-in_err-session
-returns-in_err-session g c =
+pub returns-in_err-session-clause-ends : goal.returns-in_err-session-clause-ends
+returns-in_err-session-clause-ends g c =
     let old = g.F.Files.tells c.args.files.now in
     let two = g.F.Files.tells c.read_network.new.files in
     let m = c.args.model in
@@ -40,8 +41,8 @@ returns-in_err-session g c =
       delivers = record { written = Appends-nil (g.O.Sink.tells c.args.out.now).taken; end_is = refl };
     }))
 
-pub returns : goal.returns
-returns g c =
+pub returns-clause-ends : goal.returns-clause-ends
+returns-clause-ends g c =
     let old = g.F.Files.tells c.args.files.now in
     let two = g.F.Files.tells c.read_network.new.files in
     let out = g.O.Sink.tells c.args.out.now in
@@ -59,7 +60,7 @@ returns g c =
       now = two;
       read = passed.read;
       counts = passed.counts;
-      ends = c.follow-end.ensures watch out (record {
+      ends = c.follow-end.ensures.ends watch out (record {
         regular = c.in_ok-session.ensures.regular;
         mode = c.in_ok-session.ensures.mode;
         window = c.in_ok-session.ensures.length;
@@ -68,3 +69,31 @@ returns g c =
         faults = omega arith;
       });
     })
+
+pub returns-in_err-topology-clause-steps : goal.returns-in_err-topology-clause-steps
+returns-in_err-topology-clause-steps g c =
+    correlate_none c.args.model c.args.topology c.args.log c.args.asked.distance c.args.asked.window (g.F.Files.tells c.args.files.now)
+    (g.F.Files.tells c.read_network.new.files) c.args.steps.now c.args.steps.now refl
+
+pub returns-in_err-session-clause-steps : goal.returns-in_err-session-clause-steps
+returns-in_err-session-clause-steps g c =
+    correlate_opened c.args.model c.args.topology c.args.log c.args.asked.distance c.args.asked.window (g.F.Files.tells c.args.files.now)
+    (g.F.Files.tells c.read_network.new.files) (topology_of c.in_ok-topology.topology) c.args.steps.now c.opened.new.steps c.in_ok-topology.ensures.passed.said
+    c.opened.ensures.cost
+
+pub returns-clause-steps : goal.returns-clause-steps
+returns-clause-steps g c =
+    let out = g.O.Sink.tells c.args.out.now in
+    let t = topology_of c.in_ok-topology.topology in
+    let watch : Watch = record { opening = []; from = t; mode = wanted c.args.asked.distance; window = c.args.asked.window } in
+    let passed = c.in_ok-topology.ensures.passed in
+    correlate_followed c.args.model c.args.topology c.args.log c.args.asked.distance c.args.asked.window (g.F.Files.tells c.args.files.now)
+    (g.F.Files.tells c.read_network.new.files) (g.F.Files.tells c.follow-end.new.files) t c.args.steps.now c.opened.new.steps c.follow-end.new.steps passed.said
+    passed.read c.opened.ensures.cost (c.follow-end.ensures.steps watch out c.args.asked.distance refl (record {
+      regular = c.in_ok-session.ensures.regular;
+      mode = c.in_ok-session.ensures.mode;
+      window = c.in_ok-session.ensures.length;
+      stands = c.in_ok-session.ensures.stands;
+      written = Appends-nil out.taken;
+      faults = omega arith;
+    }))

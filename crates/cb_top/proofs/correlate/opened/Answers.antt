@@ -1,4 +1,5 @@
-use Rattle.std.proofs.Common.{IfOk, subst, ◌∙◌, []}
+use Rattle.std.proofs.Common.{IfOk, sym, subst, ◌∙◌, []}
+use Rattle.cb_change.specs.Costs.{IsOpenCost}
 use Rattle.cb_topo.specs.Numbered.{Numbered, topology_of}
 use Rattle.cb_topo.proofs.Regular.{typed_is_regular}
 use Rattle.cb_session.specs.State.{State, StandsForEntries}
@@ -17,3 +18,9 @@ pub returns-clause-stands : goal.returns-clause-stands
 returns-clause-stands g c =
     subst (λ (n : Numbered). IfOk c.open-2.result (λ (session : State). StandsForEntries session (topology_of n) []))
     (c.in_ok-cache.ensures.graph ∙ c.in_ok-graph.ensures) c.open-2.ensures.stands
+
+pub returns-in_err-cache-clause-cost : goal.returns-in_err-cache-clause-cost
+returns-in_err-cache-clause-cost g c = λ cost is. c.open.ensures.cost cost (subst (λ (n : Numbered). IsOpenCost (topology_of n) cost) (sym c.in_ok-graph.ensures) is)
+
+pub returns-clause-cost : goal.returns-clause-cost
+returns-clause-cost g c = λ cost is. c.open.ensures.cost cost (subst (λ (n : Numbered). IsOpenCost (topology_of n) cost) (sym c.in_ok-graph.ensures) is)

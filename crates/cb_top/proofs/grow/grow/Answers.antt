@@ -4,12 +4,13 @@ use Rattle.cb_outcome.specs.Judged.{nothing}
 use Rattle.cb_outcome.specs.Outcome.{done}
 use Rattle.cb_topo.specs.Numbered.{topology_of}
 use Rattle.cb_top.proofs.Chain.{of_all}
+use Rattle.cb_top.proofs.Counted.{grow_none, grow_counts}
 use Rattle.cb_top.proofs.Growing.{refused_comes}
 use Rattle.cb_top.proofs.grow.grow.Goals as goal
 
-pub returns-in_ok-summary_of-in-Ok : goal.returns-in_ok-summary_of-in-Ok
-returns-in_ok-summary_of-in-Ok g c =
-    let (summary, sums, is) = c.in_ok-summary_of-in-Ok.ensures in
+pub returns-in_ok-summary_of-in-Ok-clause-comes : goal.returns-in_ok-summary_of-in-Ok-clause-comes
+returns-in_ok-summary_of-in-Ok-clause-comes g c =
+    let (summary, sums, is) = c.in_ok-summary_of-in-Ok.ensures.gives in
     λ files. record {
       known = nothing;
       said = of_all files.left _ (λ left. refl);
@@ -24,5 +25,16 @@ returns-in_ok-summary_of-in-Ok g c =
       alone = refl;
     }
 
-pub returns-in-Err : goal.returns-in-Err
-returns-in-Err g c = refused_comes c.args.sites c.args.start c.in-Err.fault c.refused.result c.refused.ensures c.in-Err.ensures.fault
+pub returns-in-Err-clause-comes : goal.returns-in-Err-clause-comes
+returns-in-Err-clause-comes g c = refused_comes c.args.sites c.args.start c.in-Err.fault c.refused.result c.refused.ensures c.in-Err.ensures.fault
+
+pub returns-in_err-summary_of-in-Ok-clause-steps : goal.returns-in_err-summary_of-in-Ok-clause-steps
+returns-in_err-summary_of-in-Ok-clause-steps g c =
+    grow_counts c.args.sites c.args.start (topology_of c.in-Ok.topology) c.args.steps.now c.summary_of.new.steps c.in-Ok.ensures.network c.summary_of.ensures.steps
+
+pub returns-in_ok-summary_of-in-Ok-clause-steps : goal.returns-in_ok-summary_of-in-Ok-clause-steps
+returns-in_ok-summary_of-in-Ok-clause-steps g c =
+    grow_counts c.args.sites c.args.start (topology_of c.in-Ok.topology) c.args.steps.now c.summary_of.new.steps c.in-Ok.ensures.network c.summary_of.ensures.steps
+
+pub returns-in-Err-clause-steps : goal.returns-in-Err-clause-steps
+returns-in-Err-clause-steps g c = grow_none c.args.sites c.args.start c.args.steps.now c.args.steps.now refl

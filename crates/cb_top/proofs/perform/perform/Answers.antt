@@ -5,6 +5,6 @@ pub returns-in-Grow-clause-ends : goal.returns-in-Grow-clause-ends
 returns-in-Grow-clause-ends g c =
     rw c.in-Grow.is (inl (record {
       made = c.grow.result;
-      comes = c.grow.ensures (g.F.Files.tells c.args.files.now);
+      comes = c.grow.ensures.comes (g.F.Files.tells c.args.files.now);
       delivers = c.deliver-in-Grow.ensures;
     }))

@@ -2,6 +2,7 @@ use Rattle.std.proofs.Common.{◌≡◌, ◌∙◌, ap, subst, inl, inr}
 use Rattle.cb_alarm.specs.Lines.{Line, ComesTo}
 use Rattle.cb_gen.proofs.Going.{on_ok_more}
 use Rattle.cb_report.specs.declared.summary.Summary.{Summary}
+use Rattle.cb_top.specs.Counting.{CountsLine}
 use Rattle.cb_top.proofs.Summing.{CountsRecord, one_more_summed, record_keeps, record_one, record_none}
 use Rattle.cb_top.proofs.sum_up.take_line.Goals as goal
 use Rattle.cb_top.proofs.sum_up.take_line.Goals.{then-is_record+in_ok-count_record, else-is_record}
@@ -26,3 +27,15 @@ returns-clause-takes g c =
     (λ earlier is. counts earlier (record_keeps bytes events old mid way earlier is))
     (λ is. counted ∙ record_one bytes events old mid way is)
     (λ none. counted ∙ record_none bytes events old mid way none)) c.count_all.ensures.counts
+
+pub returns-in_err-events-clause-counts : goal.returns-in_err-events-clause-counts
+returns-in_err-events-clause-counts g c =
+    subst (λ (l : Line). CountsLine c.args.session.now.network l c.args.steps.now c.step.new.steps) c.log_line.ensures.line c.step.ensures.cost
+
+pub returns-in_err-count_record-clause-counts : goal.returns-in_err-count_record-clause-counts
+returns-in_err-count_record-clause-counts g c =
+    subst (λ (l : Line). CountsLine c.args.session.now.network l c.args.steps.now c.step.new.steps) c.log_line.ensures.line c.step.ensures.cost
+
+pub returns-clause-counts : goal.returns-clause-counts
+returns-clause-counts g c =
+    subst (λ (l : Line). CountsLine c.args.session.now.network l c.args.steps.now c.step.new.steps) c.log_line.ensures.line c.step.ensures.cost

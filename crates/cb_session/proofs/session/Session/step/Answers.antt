@@ -6,6 +6,7 @@ use Rattle.cb_log.specs.Entries.{said, skipped, blank}
 use Rattle.cb_session.specs.declared.entry.Taken.{Taken}
 use Rattle.cb_session.specs.State.{line_of}
 use Rattle.cb_session.specs.Taken.{entry_of_taken}
+use Rattle.cb_session.proofs.Counting.{line_counted}
 use Rattle.cb_session.proofs.Stepping.{aside_stands, line_tells, line_stands, line_alone, if_line_tells, if_line_stands, if_line_alone}
 use Rattle.cb_session.proofs.session.Session.step.Goals as goal
 
@@ -60,3 +61,10 @@ returns-in_ok-push-in-Skipped-clause-alone g c =
 pub returns-in-Said-clause-alone : goal.returns-in-Said-clause-alone
 returns-in-Said-clause-alone g c =
     if_line_alone (line_of c.args.line) c.args.self.now c.go_on.result (returns-in-Said-clause-gives g c)
+
+pub returns-in-Said-clause-cost : goal.returns-in-Said-clause-cost
+returns-in-Said-clause-cost g c =
+    let line = line_of c.args.line in
+    let entry = said c.in-Said.number c.in-Said.record in
+    let comes : ComesTo line entry = subst (λ (taken : Taken). ComesTo line (entry_of_taken taken)) c.in-Said.is c.in_ok-entry_of.ensures in
+    line_counted line entry comes c.args.self.now.network c.args.steps.now c.go_on.new.steps c.go_on.ensures.cost
