@@ -16,7 +16,17 @@ import measure
 NETWORKS = (("ring", 2048, 1), ("limits", 2048, None), ("random", 4000, 1), ("dense", 4000, 4), ("chain", 1000, 1), ("mesh", 1024, 1))
 
 # Networks with a log: how many lines it has, and that each so many of them one is an edit.
-LOGS = (("ring", 200, 100_000, 10_000), ("ring", 200, 1_000_000, 10_000))
+LOGS = (
+    ("ring", 200, 100_000, 10_000),
+    ("ring", 200, 1_000_000, 10_000),
+    ("ring", 500, 50_000, 5),
+    ("random", 1000, 50_000, 5),
+    ("mesh", 1000, 50_000, 5),
+)
+
+
+# How many sites `grow` makes up, and from which number on its numbers are drawn.
+GROWN = ((200, 7), (256, 1))
 
 
 def least(program, command, folder):
@@ -57,7 +67,10 @@ def main():
             folder = pathlib.Path(name)
             asked = [kind, str(sites), str(folder), str(lines), str(every)]
             subprocess.run([sys.executable, words.sizes[0], *asked], check=True, stdout=subprocess.DEVNULL)
-            line(words, ["correlate", "m", "t", "log", "1", "30"], f"{kind} {sites:,}, {lines:,} lines", folder)
+            line(words, ["correlate", "m", "t", "log", "1", "30"], f"{kind} {sites:,}, {lines:,} lines, an edit in {every:,}", folder)
+    with tempfile.TemporaryDirectory() as name:
+        for sites, start in GROWN:
+            line(words, ["grow", str(sites), str(start)], f"{sites} sites from {start}", pathlib.Path(name))
 
 
 if __name__ == "__main__":
