@@ -21,6 +21,3 @@ mod skip;
 pub use cb_log::{Body, Record, SkipKind};
 pub use read::read_record;
 pub use skip::Skip;
-
-#[cfg(test)]
-mod tests;

@@ -5,6 +5,3 @@ mod row;
 mod words;
 
 pub use row::Row;
-
-#[cfg(test)]
-mod tests;

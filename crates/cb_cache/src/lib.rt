@@ -16,8 +16,3 @@ mod scratch;
 mod search;
 
 pub use cache::Cache;
-
-#[cfg(test)]
-mod pipes;
-#[cfg(test)]
-mod tests;

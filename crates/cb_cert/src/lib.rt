@@ -32,6 +32,3 @@ pub use fault::CertText;
 pub use line::Line;
 pub use reading::read;
 pub use writer::write;
-
-#[cfg(test)]
-mod tests;

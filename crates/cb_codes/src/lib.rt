@@ -18,6 +18,3 @@ pub use codes::Codes;
 pub use each_once::EachOnce;
 pub use grouping::Grouping;
 pub use groups::Groups;
-
-#[cfg(test)]
-mod tests;

@@ -10,6 +10,3 @@ pub use cb_coding::Answer;
 pub use decode::{nearest, nearest_by};
 pub use decoder::Decoder;
 pub use finding::{find, find_by};
-
-#[cfg(test)]
-mod tests;

@@ -7,6 +7,3 @@ mod stop;
 
 pub use read::read_edit;
 pub use stop::EditText;
-
-#[cfg(test)]
-mod tests;

@@ -30,6 +30,3 @@ mod topology;
 pub use log::log_text;
 pub use model::model_text;
 pub use topology::topology_text;
-
-#[cfg(test)]
-mod tests;

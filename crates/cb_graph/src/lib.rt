@@ -27,8 +27,3 @@ mod touched;
 mod walk;
 
 pub use graph::Graph;
-
-#[cfg(test)]
-mod pipes;
-#[cfg(test)]
-mod tests;

@@ -7,6 +7,3 @@ mod grouping;
 
 pub use close::first_close;
 pub use grouping::groups;
-
-#[cfg(test)]
-mod tests;

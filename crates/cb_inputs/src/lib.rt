@@ -8,6 +8,3 @@ mod topology;
 
 pub use symptoms::{SymptomStop, read_symptoms};
 pub use topology::{LineFault, TopologyStop, read_topology};
-
-#[cfg(test)]
-mod tests;

@@ -24,6 +24,3 @@ mod net;
 
 pub use id::InstanceId;
 pub use net::Net;
-
-#[cfg(test)]
-mod tests;

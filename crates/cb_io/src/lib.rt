@@ -26,6 +26,3 @@ pub use mem_sink::MemSink;
 pub use never::{NeverFiles, NeverSink};
 pub use outside::{Failed, FileStop, Files, Sink};
 pub use whole::{ReadStop, read_whole, write_all};
-
-#[cfg(test)]
-mod tests;

@@ -23,6 +23,3 @@ pub use compare::{and_any, equal};
 pub use count::{distance, distance_under};
 pub use join::or_into;
 pub use seek::next_in_a_not_b;
-
-#[cfg(test)]
-mod tests;

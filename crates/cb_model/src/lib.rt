@@ -26,6 +26,3 @@ pub use roomy_list::RoomyList;
 pub use rule::{Marks, Rule};
 pub use sample::sample_model;
 pub use tables::{BlockRow, ClassRow, EventRow, HideRow, RelRow, RuleRow, Tables};
-
-#[cfg(test)]
-mod tests;

@@ -22,6 +22,3 @@ mod slots;
 pub use laws::one_row_is_written;
 pub use pool::RowPool;
 pub use slot::Slot;
-
-#[cfg(test)]
-mod tests;

@@ -8,6 +8,3 @@ mod search;
 
 pub use edges::Edges;
 pub use search::{extend, reach};
-
-#[cfg(test)]
-mod tests;

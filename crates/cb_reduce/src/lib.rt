@@ -25,6 +25,3 @@ pub use least_pair::least;
 pub use measure::{distance_from, distance_over, mask_of};
 pub use plain::{book, is_good};
 pub use whole::{every_column, whole_book};
-
-#[cfg(test)]
-mod tests;

@@ -18,6 +18,3 @@ pub use directory::{Directory, Place};
 pub use fault::first_fault;
 pub use laws::one_fault;
 pub use rule::{BrokenRule, TypeRule};
-
-#[cfg(test)]
-mod tests;

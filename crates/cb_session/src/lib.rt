@@ -13,6 +13,3 @@ mod wanted;
 
 pub use line::LogLine;
 pub use session::Session;
-
-#[cfg(test)]
-mod tests;

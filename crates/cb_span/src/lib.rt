@@ -21,8 +21,3 @@ mod trees;
 
 pub use fault::SpanFault;
 pub use made::{book, thin};
-
-#[cfg(test)]
-mod links;
-#[cfg(test)]
-mod tests;

@@ -14,6 +14,3 @@ pub use line::{LineAt, LineIter, first_long, line_from, lines, lines_are_met};
 pub use name::{is_instance, is_name};
 pub use node::{node_parts, nodes_are_read_once};
 pub use word::{WordIter, is_passed_over, only_word, words};
-
-#[cfg(test)]
-mod tests;

@@ -28,10 +28,3 @@ mod verify;
 
 pub use cb_report::Status;
 pub use top::run;
-
-#[cfg(test)]
-mod certificate_tests;
-#[cfg(test)]
-mod log_tests;
-#[cfg(test)]
-mod tests;

@@ -28,6 +28,3 @@ pub use cb_nodes::NodeId;
 pub use fault::EditFault;
 pub use laws::node_room_is_one;
 pub use topology::Topology;
-
-#[cfg(test)]
-mod tests;

@@ -23,6 +23,3 @@ mod windows;
 
 pub use cb_log::Closed;
 pub use windows::Windows;
-
-#[cfg(test)]
-mod tests;

@@ -1,5 +1,0 @@
-use Rattle.cb_codes.specs.Grouped.{IsSound}
-use Rattle.cb_codes.proofs.tests.five_problems.Given as goal
-
-abbrev pub invariant-loop-event : goal.invariant-loop-event
-invariant-loop-event l = IsSound 3 l.grouping

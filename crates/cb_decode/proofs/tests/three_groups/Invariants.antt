@@ -1,5 +1,0 @@
-use Rattle.cb_codes.specs.Grouped.{IsSound}
-use Rattle.cb_decode.proofs.tests.three_groups.Given as goal
-
-abbrev pub invariant-loop-event : goal.invariant-loop-event
-invariant-loop-event l = IsSound 3 l.grouping

@@ -1,4 +1,0 @@
-use Rattle.cb_graph.proofs.tests.successors_under_edits.Given as goal
-
-abbrev pub ghosts-work_through : goal.ghosts-work_through
-ghosts-work_through g a = record { name = a.blank.name; parts = a.blank.parts }

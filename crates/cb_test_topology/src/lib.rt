@@ -1,0 +1,15 @@
+//! The tests of the live network: its instances and links, its nodes, and its text.
+//!
+//! They stand in a crate of their own, since a crate's tests are proved together with the whole crate once more.
+#![tactic(auto)]
+
+#[cfg(test)]
+mod edits;
+#[cfg(test)]
+mod inputs;
+#[cfg(test)]
+mod instances;
+#[cfg(test)]
+mod nodes;
+#[cfg(test)]
+mod topo;
