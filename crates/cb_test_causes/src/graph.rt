@@ -2,9 +2,9 @@
 ghost use Rattle.std.specs.Prelude.{◌≡◌, ◌<◌, ◌≤◌, length, IsTrue};
 ghost use Rattle.cb_network.specs.Laws.{HasGoodName};
 
-use cb_graph::Graph;
 use crate::pipes::model;
 use cb_bits::Row;
+use cb_graph::Graph;
 use cb_model::Name;
 use cb_network::{Edit, EditRefusal};
 use cb_steps::Steps;

@@ -4,8 +4,8 @@ ghost use Rattle.std.specs.List.{Contains};
 ghost use Rattle.std.specs.declared.vec.Vec.{Vec};
 ghost use Rattle.std.specs.Global.{Global};
 
-use cb_reach::{Edges, reach};
 use cb_bits::Row;
+use cb_reach::{Edges, reach};
 use cb_steps::Steps;
 use std::alloc::{AllocError, Global};
 use std::marker::Brand;

@@ -5,12 +5,12 @@ ghost use Rattle.cb_cert.specs.Format.{column_limit};
 ghost use Rattle.cb_span.specs.Made.{AreColumnsAt, IsProblemAt, IsSideAt};
 
 use crate::links::model;
-use cb_span::{SpanFault, book, thin};
 use cb_cert::write;
 use cb_graph::Graph;
 use cb_model::{List, Name};
 use cb_network::Edit;
 use cb_nodes::NodeId;
+use cb_span::{SpanFault, book, thin};
 use cb_steps::Steps;
 use cb_text::is_instance;
 use cb_topo::Topology;

@@ -2,11 +2,11 @@
 ghost use Rattle.std.specs.Prelude.{◌≡◌, ◌<◌};
 ghost use Rattle.cb_session.specs.State.{IsFitting};
 
-use cb_session::{LogLine, Session};
 use cb_cache::Cache;
 use cb_graph::Graph;
 use cb_log::Event;
 use cb_model::{GroupName, List, NamedGroup, NodeName, sample_model};
+use cb_session::{LogLine, Session};
 use cb_steps::Steps;
 use cb_topo::Topology;
 use std::alloc::{AllocError, Global};

@@ -1,6 +1,6 @@
 //! A log of raises, clears and ticks, with the windows that each record closes.
-use cb_window::{Closed, Windows};
 use cb_model::{List, Name, NodeName};
+use cb_window::{Closed, Windows};
 use std::alloc::{AllocError, Global};
 use std::process::Abort;
 use std::test::Fail;

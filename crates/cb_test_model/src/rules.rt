@@ -1,6 +1,6 @@
-use cb_rules::{BrokenRule, Directory, TypeRule, first_fault};
 use cb_grammar::{ClassDecl, Member, Token, Tree};
 use cb_model::{List, Name};
+use cb_rules::{BrokenRule, Directory, TypeRule, first_fault};
 use std::alloc::{AllocError, Global};
 use std::test::Fail;
 

@@ -5,13 +5,18 @@
 
 #[cfg(test)]
 mod cert;
+
 #[cfg(test)]
 mod certificates;
+
 #[cfg(test)]
 mod gen;
+
 #[cfg(test)]
 mod logs;
+
 #[cfg(test)]
 mod report;
+
 #[cfg(test)]
 mod top;

@@ -1,10 +1,10 @@
 //! Logs that are followed, over files and sinks in memory.
 ghost use Rattle.std.specs.Prelude.{◌≡◌, ◌<◌};
 
-use cb_top::run;
 use crate::top::{Case, LINK, LINKED, Wanted, check, words_of};
 use cb_io::{MemFiles, MemSink, read_whole};
 use cb_steps::Steps;
+use cb_top::run;
 use std::alloc::{AllocError, Global};
 use std::marker::Brand;
 use std::process::Abort;

@@ -1,9 +1,9 @@
 //! The lines of findings, events and sums, as an operator reads them.
-use cb_report::{Summary, burst_text, event_text, events_text, grow_text};
 use cb_finding::Finding;
 use cb_log::{Event, RefusedWhy, SkipKind, SkipWhy};
 use cb_model::{GroupName, List, Name, NamedGroup, NodeName};
 use cb_network::EditRefusal;
+use cb_report::{Summary, burst_text, event_text, events_text, grow_text};
 use std::alloc::{AllocError, Global};
 use std::test::Fail;
 

@@ -1,9 +1,9 @@
 //! The top call, over files and sinks in memory.
 ghost use Rattle.std.specs.Prelude.{◌≡◌, ◌<◌};
 
-use cb_top::{Status, run};
 use cb_io::{MemFiles, MemSink};
 use cb_steps::Steps;
+use cb_top::{Status, run};
 use std::alloc::{AllocError, Global};
 use std::marker::Brand;
 use std::process::Abort;
@@ -12,6 +12,7 @@ use std::sync::ledger::{Blank, Ledger};
 
 // The most bytes of a file that is read whole.
 const MOST_BYTES: usize = 16 << 20;
+
 use std::test::Fail;
 
 const QUIET: &str = "burst raised 0 unknown 0 distance 0 radius 0 sure groups 1\n  group quiet\n";
