@@ -10,7 +10,6 @@ ghost use Rattle.std.specs.Prelude.{◌≡◌, ◌+◌, ◌<◌, ℕ};
 use std::marker::Model;
 use std::sync::ledger::{Blank, Book, Ledger, Share};
 
-
 /// How many steps were counted. Contracts see the number itself. The ledger `L` only names the count, so that the
 /// tokens of two counts cannot be mixed: code that counts takes any `L`, and who starts a count picks one.
 #[derive(Drop)]
