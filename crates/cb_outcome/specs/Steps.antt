@@ -9,8 +9,8 @@ use Rattle.cb_log.specs.Entries.{Entry, records_of}
 use Rattle.cb_log.specs.Network.{edits_of}
 use Rattle.cb_alarm.specs.Lines.{Line, log_lines, ComeTo}
 use Rattle.cb_request.specs.declared.request.Request.{Request}
-use Rattle.cb_request.specs.declared.request.Request.TheVariants.{Model, Correlate, Grow}
-use Rattle.cb_outcome.specs.Contents.{Left, files_from, log_from}
+use Rattle.cb_request.specs.declared.request.Request.TheVariants.{Burst, Model, Matrix, Correlate, Grow}
+use Rattle.cb_outcome.specs.Contents.{Left, files_before, files_from, log_from}
 use Rattle.cb_outcome.specs.Grown.{MakesUp}
 use Rattle.cb_outcome.specs.Judged.{nothing, network, PassFrom}
 use Rattle.cb_outcome.specs.Reading.{Told, LeavesRest}
@@ -27,23 +27,32 @@ CountsLines t lines old new = (cost : ℕ) → AreLinesCost t lines cost → new
 abbrev pub CountsLog : Topology → List ℕ → ℕ → ℕ → Type 0
 CountsLog t log old new = (searched : ℕ) → IsOpenCost t searched → CountsLines t (log_lines log) (old + searched) new
 
+-- `burst` and `matrix`: no more steps are counted than the search of the topology costs that the model and the topology file give. Where
+-- they give none, no step is counted.
+pub record CountsSearch (left : Left) (request : Request) (old new : ℕ) : Type 0 where
+  pub most : (t : Topology) → PassFrom nothing (files_before 2 left request) (network t) → (searched : ℕ) → IsOpenCost t searched → new ≤ old + searched
+  pub none : ((t : Topology) → ¬ PassFrom nothing (files_before 2 left request) (network t)) → new ≡ old
+
 -- `correlate`: the topology is that of the model and the topology file, and the bytes of the log are those that were taken of it. Where
--- the two files give no topology, no step is counted.
+-- the two files give no topology, no step is counted, nor where the log was never come to, so that what is left under its name is no rest of it.
 pub record CountsCorrelate (left : Left) (request : Request) (log : List ℕ) (after : FilesTold) (old new : ℕ) : Type 0 where
   pub most : (t : Topology) → PassFrom nothing (files_from left request) (network t)
       → (taken : LeavesRest (log_from left request log) (left_of after log)) → CountsLog t taken.0 old new
   pub none : ((t : Topology) → ¬ PassFrom nothing (files_from left request) (network t)) → new ≡ old
+  pub missed : ¬ LeavesRest (log_from left request log) (left_of after log) → new ≡ old
 
 -- `grow`: the topology and the log are those that are made up
 pub record CountsGrow (sites start old new : ℕ) : Type 0 where
   pub most : (t : Topology) → MakesUp sites t → CountsLog t (log_text sites start) old new
   pub none : ((t : Topology) → ¬ MakesUp sites t) → new ≡ old
 
--- how many steps are counted, by what is asked for: none for `model`, which searches nothing. Of `burst`, `matrix`, `codebook`, `verify` and
--- `decode` nothing is said.
+-- how many steps are counted, by what is asked for: none for `model`, which searches nothing. Of `codebook`, `verify` and `decode`, which make
+-- or check spans, nothing is said.
 abbrev pub Counts : Option Request → FilesTold → FilesTold → ℕ → ℕ → Type 0
 Counts None files after old new = new ≡ old
 Counts (Some (Model one)) files after old new = new ≡ old
+Counts (Some (Burst one two three)) files after old new = Told files (λ left. CountsSearch left (Burst one two three) old new)
+Counts (Some (Matrix one two)) files after old new = Told files (λ left. CountsSearch left (Matrix one two) old new)
 Counts (Some (Correlate one two log distance window)) files after old new =
     Told files (λ left. CountsCorrelate left (Correlate one two log distance window) log after old new)
 Counts (Some (Grow sites start)) files after old new = CountsGrow sites start old new

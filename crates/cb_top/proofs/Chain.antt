@@ -75,7 +75,7 @@ front_within (x ∷ xs) rest = let h = front_within xs rest in omega (arith, h)
 
 -- ---- how far files were read
 
-leaves_rest : (a b : Option (List ℕ)) (bytes front : List ℕ) → a ≡ Some bytes → Consumes a b front → LeavesRest bytes b
+pub leaves_rest : (a b : Option (List ℕ)) (bytes front : List ℕ) → a ≡ Some bytes → Consumes a b front → LeavesRest bytes b
 leaves_rest None b bytes front e came = cc
 leaves_rest (Some xs) None bytes front e came = absurd came
 leaves_rest (Some xs) (Some ys) bytes front e came =

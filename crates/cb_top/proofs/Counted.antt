@@ -3,7 +3,7 @@ use Rattle.std.proofs.Common.{◌≡◌, ◌∙◌, ◌≤◌, ◌+◌, ℕ, Boo
 use Rattle.std.specs.Prelude.{Option, Some, IfSome}
 use Rattle.cb_change.specs.Costs.{IsOpenCost}
 use Rattle.cb_io.specs.LineReading.{Reading, unread, coming}
-use Rattle.cb_io.specs.Outside.{FilesTold, SinkTold, contents, left_of, ReadsEach}
+use Rattle.cb_io.specs.Outside.{FilesTold, SinkTold, contents, left_of, ReadsEach, ReadsFront}
 use Rattle.cb_text.specs.Lines.{lines_of}
 use Rattle.cb_network.specs.Regular.{IsRegular}
 use Rattle.cb_network.specs.Topology.{Topology}
@@ -13,14 +13,15 @@ use Rattle.cb_log.specs.Events.{IsNetwork}
 use Rattle.cb_log.specs.Network.{IsNow}
 use Rattle.cb_alarm.specs.Lines.{Line, line_of, log_lines, log_line_limit}
 use Rattle.cb_gen.specs.Log.{log_text}
+use Rattle.cb_request.specs.declared.request.Request.{Request}
 use Rattle.cb_request.specs.declared.request.Request.TheVariants.{Correlate}
 use Rattle.cb_report.specs.declared.summary.Summary.{Summary}
-use Rattle.cb_outcome.specs.Contents.{files_from, log_from}
+use Rattle.cb_outcome.specs.Contents.{files_before, files_from, log_from}
 use Rattle.cb_outcome.specs.Grown.{MakesUp}
 use Rattle.cb_outcome.specs.Judged.{Known, nothing, network, PassFrom}
 use Rattle.cb_outcome.specs.LogJobs.{Watch, log_limit}
 use Rattle.cb_outcome.specs.Reading.{Told, LeavesRest}
-use Rattle.cb_outcome.specs.Steps.{CountsLines, CountsLog, CountsCorrelate, CountsGrow}
+use Rattle.cb_outcome.specs.Steps.{CountsLines, CountsLog, CountsSearch, CountsCorrelate, CountsGrow}
 use Rattle.cb_outcome.proofs.GrownOne.{made_up_one}
 use Rattle.cb_outcome.proofs.LogFronts as fronts
 use Rattle.cb_session.specs.State.{State}
@@ -28,11 +29,14 @@ use Rattle.cb_top.specs.declared.stop.LogStop.{LogStop}
 use Rattle.cb_top.specs.Counting.{CountsLine, PieceTakes, PieceCounts, HasCounted, CountsOn, CountsTaken, CountsSummed}
 use Rattle.cb_top.specs.Summing.{HasSummedUp}
 use Rattle.cb_top.specs.Telling.{numbered, Going, GoesOrEnds}
-use Rattle.cb_top.proofs.Chain.{if_some, if_some2, of_all}
+use Rattle.cb_top.proofs.Chain.{if_some, if_some2, of_all, leaves_rest, left_whole}
 use Rattle.cb_top.proofs.Counting.{counts_more, counts_front}
 use Rattle.cb_top.proofs.Followed.{pass_is_one}
 use Rattle.cb_top.proofs.Following.{there}
 use Rattle.cb_top.proofs.Lines.{numbered_more}
+
+same_network : (u v : Topology) → network u ≡ network v → u ≡ v
+same_network u v e = cc
 
 -- where no step is counted, no bound is passed
 pub none_counts : (t : Topology) (lines : List Line) (steps steps' : ℕ) → steps' ≡ steps → CountsLines t lines steps steps'
@@ -103,6 +107,23 @@ pub counts_further_on : (watch : Watch) (now : FilesTold) (reader : Reading) (st
     → CountsOn watch now reader start steps (Ok b) → HasCounted watch now reader start steps
 counts_further_on watch now reader start steps b e counts = subst (λ (v : Bool). CountsOn watch now reader start steps (Ok v)) e counts
 
+-- ---- `burst` and `matrix`
+
+module _ (request : Request) (files : FilesTold) where
+  -- no step is counted
+  pub search_none : (steps steps' : ℕ) → steps' ≡ steps → Told files (λ left. CountsSearch left request steps steps')
+  search_none steps steps' same = of_all files.left _ (λ left. record { most = λ t passed searched is. omega (arith, same); none = λ not. same })
+
+  -- the topology was searched
+  pub search_counts : (t : Topology) (steps steps' : ℕ) → Told files (λ left. PassFrom nothing (files_before 2 left request) (network t))
+      → ((cost : ℕ) → IsOpenCost t cost → steps' ≤ steps + cost) → Told files (λ left. CountsSearch left request steps steps')
+  search_counts t steps steps' passed opened = if_some files.left _ _ (λ left here. record {
+    most = λ u there searched is.
+        let same : network u ≡ network t = pass_is_one nothing (files_before 2 left request) (network u) (network t) tt there here in
+        opened searched (subst (λ (v : Topology). IsOpenCost v searched) (same_network u t same) is);
+    none = λ not. absurd (not t here);
+  }) passed
+
 -- ---- `correlate`
 
 module _ (model topology log : List ℕ) (distance window : ℕ) (old : FilesTold) where
@@ -112,29 +133,28 @@ module _ (model topology log : List ℕ) (distance window : ℕ) (old : FilesTol
   correlate_none after steps steps' same = of_all old.left _ (λ left. record {
     most = λ t passed taken searched is cost costs. omega (arith, same);
     none = λ not. same;
+    missed = λ not. same;
   })
 
-  -- the topology was searched
+  -- the topology was searched, and nothing was read of the log
   pub correlate_opened : (after : FilesTold) (t : Topology) (steps steps' : ℕ) → Told old (λ left. PassFrom nothing (files_from left (Correlate model topology log distance window)) (network t))
-      → ((cost : ℕ) → IsOpenCost t cost → steps' ≤ steps + cost)
+      → ReadsEach old after (model ∷ topology ∷ []) → ((cost : ℕ) → IsOpenCost t cost → steps' ≤ steps + cost)
       → Told old (λ left. CountsCorrelate left (Correlate model topology log distance window) log after steps steps')
-  correlate_opened after t steps steps' passed opened = if_some old.left _ _ (λ left here. record {
+  correlate_opened after t steps steps' passed read opened = if_some2 old.left _ _ _ (λ left here known. record {
     most = λ u there taken searched is cost costs.
         let same : network u ≡ network t = pass_is_one nothing (files_from left (Correlate model topology log distance window)) (network u) (network t) tt there here in
         let low = opened searched (subst (λ (v : Topology). IsOpenCost v searched) (same_network u t same) is) in
         omega (arith, low);
     none = λ not. absurd (not t here);
-  }) passed
-    where
-      same_network : (u v : Topology) → network u ≡ network v → u ≡ v
-      same_network u v e = cc
+    missed = λ not. absurd (not (left_whole (log_from left (Correlate model topology log distance window) log) (left_of after log) (known log)));
+  }) passed read
 
   -- and the log was followed
   pub correlate_followed : (now after : FilesTold) (t : Topology) (steps mid steps' : ℕ)
       → Told old (λ left. PassFrom nothing (files_from left (Correlate model topology log distance window)) (network t))
-      → ReadsEach old now (model ∷ topology ∷ []) → ((cost : ℕ) → IsOpenCost t cost → mid ≤ steps + cost) → CountsTaken t log now after mid steps'
+      → ReadsEach old now (model ∷ topology ∷ []) → ReadsFront now after log → ((cost : ℕ) → IsOpenCost t cost → mid ≤ steps + cost) → CountsTaken t log now after mid steps'
       → Told old (λ left. CountsCorrelate left (Correlate model topology log distance window) log after steps steps')
-  correlate_followed now after t steps mid steps' passed read opened follows = if_some2 old.left _ _ _ (λ left here known. record {
+  correlate_followed now after t steps mid steps' passed read (front, came) opened follows = if_some2 old.left _ _ _ (λ left here known. record {
     most = λ u given taken searched is cost costs.
         let same : u ≡ t = same_network u t (pass_is_one nothing (files_from left (Correlate model topology log distance window)) (network u) (network t) tt given here) in
         let low = opened searched (subst (λ (v : Topology). IsOpenCost v searched) same is) in
@@ -143,10 +163,8 @@ module _ (model topology log : List ℕ) (distance window : ℕ) (old : FilesTol
         let more = subst (λ (v : Topology). CountsLines v (log_lines taken.0) mid steps') (sym same) counts cost costs in
         omega (arith, low, more);
     none = λ not. absurd (not t here);
+    missed = λ not. absurd (not (leaves_rest (left_of now log) (left_of after log) (log_from left (Correlate model topology log distance window) log) front (known log) came));
   }) passed read
-    where
-      same_network : (u v : Topology) → network u ≡ network v → u ≡ v
-      same_network u v e = cc
 
 -- ---- a log that is summed up
 

@@ -1,5 +1,7 @@
 //! The command `burst`.
+ghost use Rattle.std.specs.Prelude.{Some};
 ghost use Rattle.cb_request.specs.declared.request.Request.TheVariants.{Burst};
+ghost use Rattle.cb_outcome.specs.Steps.{Counts};
 ghost use Rattle.cb_top.specs.Ending.{Comes};
 
 use crate::judge::lines_of_burst;
@@ -23,7 +25,8 @@ pub fn burst<'w, F: Files, L: Ledger>(
     symptoms: FileName<'w>,
     steps: &mut Steps<L>,
 ) -> Result<Output<'w>, Fault<'w>>
-    ensures { Comes (Burst model.entry topology.entry symptoms.entry) (F.tells files.old) (F.tells files.new) result }
+    ensures comes { Comes (Burst model.entry topology.entry symptoms.entry) (F.tells files.old) (F.tells files.new) result }
+    ensures steps { Counts (Some (Burst model.entry topology.entry symptoms.entry)) (F.tells files.old) (F.tells files.new) steps.old steps.new }
 {
     let topology = read_network(alloc, files, model, topology)?;
     let kind = SymptomFile {

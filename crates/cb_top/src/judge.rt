@@ -32,7 +32,8 @@ pub fn lines_of_burst<L: Ledger>(
     steps: &mut Steps<L>,
 ) -> Result<Vec<u8>, AllocError>
     requires { Rises node_cmp raised.now }
-    ensures { IfOk result (λ bytes. (finding : Finding) × IsBurst (topology_of topology) raised.now finding × (bytes.items ≡ text_of_burst finding)) }
+    ensures found { IfOk result (λ bytes. (finding : Finding) × IsBurst (topology_of topology) raised.now finding × (bytes.items ≡ text_of_burst finding)) }
+    ensures cost { (cost : ℕ) → IsOpenCost (topology_of topology) cost → steps.new ≤ steps.old + cost }
 {
     let matrix = matrix_of(alloc, topology, steps)?;
     let book = whole_book(alloc, matrix.codes())?;
@@ -52,7 +53,8 @@ pub fn lines_of_matrix<L: Ledger>(
     topology: Topology,
     steps: &mut Steps<L>,
 ) -> Result<Vec<u8>, AllocError>
-    ensures { IfOk result (λ bytes. (whole : ℕ) → MatrixGives (topology_of topology) whole (done bytes.items whole)) }
+    ensures gives { IfOk result (λ bytes. (whole : ℕ) → MatrixGives (topology_of topology) whole (done bytes.items whole)) }
+    ensures cost { (cost : ℕ) → IsOpenCost (topology_of topology) cost → steps.new ≤ steps.old + cost }
 {
     let matrix = matrix_of(alloc, topology, steps)?;
     let least = least(matrix.codes());

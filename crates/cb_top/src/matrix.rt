@@ -1,5 +1,7 @@
 //! The command `matrix`.
+ghost use Rattle.std.specs.Prelude.{Some};
 ghost use Rattle.cb_request.specs.declared.request.Request.TheVariants.{Matrix};
+ghost use Rattle.cb_outcome.specs.Steps.{Counts};
 ghost use Rattle.cb_top.specs.Ending.{Comes};
 
 use crate::judge::lines_of_matrix;
@@ -20,7 +22,8 @@ pub fn matrix<'w, F: Files, L: Ledger>(
     topology: FileName<'w>,
     steps: &mut Steps<L>,
 ) -> Result<Output<'w>, Fault<'w>>
-    ensures { Comes (Matrix model.entry topology.entry) (F.tells files.old) (F.tells files.new) result }
+    ensures comes { Comes (Matrix model.entry topology.entry) (F.tells files.old) (F.tells files.new) result }
+    ensures steps { Counts (Some (Matrix model.entry topology.entry)) (F.tells files.old) (F.tells files.new) steps.old steps.new }
 {
     let topology = read_network(alloc, files, model, topology)?;
     Ok(Output {

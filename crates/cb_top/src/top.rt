@@ -56,8 +56,9 @@ pub fn run<F: Files, O: Sink, E: Sink, L: Ledger>(
     // distance. Of each window of a log that `correlate` or `decode` follows to 0 the same as of `burst` is said, over the codebook in use, and
     // each thin line names two groups that are closer than wanted, too. No distance of 1 is refused so.
     ensures finds { Finds (asked words.now) result (seen F.tells O.tells E.tells files.old files.new out.old out.new err.old err.new) }
-    // `model` counts no step; `correlate` and `grow` no more than it costs to search from each problem of their topology, and again after each
-    // edit of the log for what that makes dirty, as far as the log was read. Of the others nothing is said.
+    // No step is counted by `model`, nor where no topology comes of the files; by `burst` and `matrix` no more than it costs to search from each
+    // problem of the topology; by `correlate` and `grow` no more than that, and again after each edit of the log for what it makes dirty, of
+    // `correlate` as far as the log was read. Of the others nothing is said.
     ensures steps { Counts (asked words.now) (F.tells files.old) (F.tells files.new) steps.old steps.new }
 {
     let end = answer(alloc, words, files, out, steps);

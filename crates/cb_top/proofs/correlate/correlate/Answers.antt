@@ -9,6 +9,7 @@ use Rattle.cb_outcome.specs.Judged.{network}
 use Rattle.cb_outcome.specs.LogJobs.{Watch}
 use Rattle.cb_top.proofs.Chain.{err_is, reads_front}
 use Rattle.cb_top.proofs.Counted.{correlate_none, correlate_opened, correlate_followed}
+use Rattle.cb_top.specs.Telling.{Opens}
 use Rattle.cb_top.proofs.Following.{reads_nothing}
 use Rattle.cb_top.proofs.correlate.correlate.Goals as goal
 
@@ -79,7 +80,7 @@ pub returns-in_err-session-clause-steps : goal.returns-in_err-session-clause-ste
 returns-in_err-session-clause-steps g c =
     correlate_opened c.args.model c.args.topology c.args.log c.args.asked.distance c.args.asked.window (g.F.Files.tells c.args.files.now)
     (g.F.Files.tells c.read_network.new.files) (topology_of c.in_ok-topology.topology) c.args.steps.now c.opened.new.steps c.in_ok-topology.ensures.passed.said
-    c.opened.ensures.cost
+    c.in_ok-topology.ensures.passed.read c.opened.ensures.cost
 
 pub returns-clause-steps : goal.returns-clause-steps
 returns-clause-steps g c =
@@ -87,13 +88,15 @@ returns-clause-steps g c =
     let t = topology_of c.in_ok-topology.topology in
     let watch : Watch = record { opening = []; from = t; mode = wanted c.args.asked.distance; window = c.args.asked.window } in
     let passed = c.in_ok-topology.ensures.passed in
-    correlate_followed c.args.model c.args.topology c.args.log c.args.asked.distance c.args.asked.window (g.F.Files.tells c.args.files.now)
-    (g.F.Files.tells c.read_network.new.files) (g.F.Files.tells c.follow-end.new.files) t c.args.steps.now c.opened.new.steps c.follow-end.new.steps passed.said
-    passed.read c.opened.ensures.cost (c.follow-end.ensures.steps watch out c.args.asked.distance refl (record {
+    let opens : Opens watch c.in_ok-session.session out out = record {
       regular = c.in_ok-session.ensures.regular;
       mode = c.in_ok-session.ensures.mode;
       window = c.in_ok-session.ensures.length;
       stands = c.in_ok-session.ensures.stands;
       written = Appends-nil out.taken;
       faults = omega arith;
-    }))
+    } in
+    correlate_followed c.args.model c.args.topology c.args.log c.args.asked.distance c.args.asked.window (g.F.Files.tells c.args.files.now)
+    (g.F.Files.tells c.read_network.new.files) (g.F.Files.tells c.follow-end.new.files) t c.args.steps.now c.opened.new.steps c.follow-end.new.steps passed.said
+    passed.read (c.follow-end.ensures.ends watch out opens).only.front c.opened.ensures.cost
+    (c.follow-end.ensures.steps watch out c.args.asked.distance refl opens)

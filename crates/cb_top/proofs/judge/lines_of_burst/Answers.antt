@@ -38,8 +38,8 @@ find-requires-clause-narrow g c =
     let wide = c.codes.ensures.width in
     omega arith
 
-pub returns : goal.returns
-returns g c =
+pub returns-clause-found : goal.returns-clause-found
+returns-clause-found g c =
     let least = c.in_ok-book.ensures.distance in
     if_ok_more c.burst_text.result _ _ (λ bytes text. (
       c.in_ok-finding.finding,

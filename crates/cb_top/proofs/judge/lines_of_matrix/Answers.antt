@@ -15,8 +15,8 @@ least-least-requires g c = record {
   columns_fit = let few = c.in_ok-matrix.ensures.few_columns in let wide = c.codes.ensures.width in omega arith;
 }
 
-pub returns : goal.returns
-returns g c =
+pub returns-clause-gives : goal.returns-clause-gives
+returns-clause-gives g c =
     let made = c.in_ok-matrix.matrix in
     if_ok_more c.matrix_text.result _ _ (λ bytes text. λ whole. record {
       columns = made.columns;
