@@ -13,8 +13,8 @@ use cb_log::{Record, SkipKind};
 use serde_json::Value;
 use std::alloc::Global;
 
-/// The record that a line of a log spells. Its names are looked at where they lie, and only those that the record keeps
-/// are copied.
+/// The record that a line of a log spells. The line is first read into a value, which copies its strings; the names that the
+/// record keeps are copied out of it once more.
 pub fn read_record(alloc: Global, line: &[u8]) -> Result<Record, Skip>
     ensures record { IfOk result (Spells line.now) }
     ensures skip { OnSkip result (IsSkipped line.now) }

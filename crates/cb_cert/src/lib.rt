@@ -8,8 +8,8 @@
 //! that over its columns the groups are a distance apart, a *thin* certificate that two groups are too close.
 //!
 //! Promised: what is written is read again; a text is the one certificate that it spells, or has one first fault,
-//! told with its line, which counts from 1. Reading goes once over the text, and counts that a text claims take no
-//! memory before their lines are there. Not promised: that what a certificate claims is true.
+//! told with its line, which counts from 1. Not promised: that what a certificate claims is true; nor, though it is so, that
+//! reading goes once over the text, and that counts which a text claims take no memory before their lines are there.
 //!
 //! Read first: `specs/Lines.antt` (the text), `specs/Format.antt` (ranges), `specs/Fronts.antt` (faults), `src/laws.rt`.
 //! How the text is read, place by place (`specs/Ahead.antt`, `specs/Steps.antt`), may change freely.

@@ -9,7 +9,7 @@ pub struct Pair {
     pub distance: u32,
 }
 
-/// The columns that are looked at, as rising places, and how far any two codes are apart over them.
+/// The columns that are looked at, as rising places, and a distance: over a good book any two codes are at least so far apart.
 #[derive(Debug, Drop)]
 pub struct Book {
     pub columns: List<u32>,
@@ -17,7 +17,7 @@ pub struct Book {
 }
 
 /// The groups nearest to a word, as rising places; at how many columns their codes differ from it; and whether that
-/// is within the radius, so that no other group can be meant.
+/// is within the radius of the book's distance. Over a good book no other group can be meant then.
 #[derive(Debug, Drop)]
 pub struct Answer {
     pub distance: u32,

@@ -67,6 +67,7 @@ impl RowPool {
         ensures rows { SameRows self.old self.new }
         ensures same { record self.new { spare = self.old.spare } ≡ self.old }
         ensures spare { OnOk result (rows ≤ self.new.spare) }
+        ensures no_fewer { self.old.spare ≤ self.new.spare }
         ensures err { OnErr result (self.new ≡ self.old) }
     {
         let room = self.slots.room_for(rows)?;

@@ -12,7 +12,7 @@ use std::alloc::{AllocError, Global};
 // As many columns have at most so many words as `distance_under` takes.
 const MOST_COLUMNS: usize = 4_294_967_232;
 
-/// The mask of these columns, where they rise and are columns of codes of that width; else there is none.
+/// The mask of these columns, where they rise and are columns of codes of that width. Where there is none, they are gone over one by one.
 pub fn mask_of(alloc: Global, columns: &List<u32>, width: usize) -> Result<Option<Row>, AllocError>
     ensures { IfOk result (AreMasked columns.now) }
 {

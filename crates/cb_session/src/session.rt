@@ -1,5 +1,5 @@
 //! A session.
-ghost use Rattle.std.specs.Prelude.{◌≡◌, ◌<◌, ◌≤◌, ◌++◌, ◌^◌, List as Items, [], ◌∷◌, length as length_of, IfOk, OnOk, OnErr};
+ghost use Rattle.std.specs.Prelude.{◌≡◌, ◌<◌, ◌≤◌, ◌++◌, ◌^◌, List as Items, [], ◌∷◌, length as length_of, IfOk, IsOk, OnOk, OnErr};
 ghost use Rattle.std.specs.List.{All};
 ghost use Rattle.cb_alarm.specs.Lines.{ComesTo};
 ghost use Rattle.cb_cert.specs.Format.{IsWanted};
@@ -72,6 +72,7 @@ impl Session {
         ensures mode { IfOk result (λ s. s.mode ≡ for_wanted wanted) }
         ensures length { IfOk result (λ s. s.windows.length ≡ length) }
         ensures stands { IfOk result (λ s. StandsForEntries s (topology_of cache.graph) []) }
+        ensures never_fails { IsOk result }
     {
         Ok(Session {
             cache,
