@@ -6,5 +6,6 @@ pub mod LogFronts
 pub mod LogsOne
 pub mod GrownOne
 pub mod Outcomes
+pub mod EndingWell
 pub mod Complete
 pub mod Accepted

@@ -86,7 +86,8 @@ front_lines front rest =
     let (later, l) = numbered 1 before (lines_of_parts (first ∷ tail)) in
     (later, ap (λ (v : Parts). map line_of (enumerate_from 1 v)) parts ∙ l)
 
-front_ended : (front rest : List ℕ) → (later : List Line) × (ended_lines (front ++ rest) ≡ ended_lines front ++ later)
+-- and of those that end within more bytes
+pub front_ended : (front rest : List ℕ) → (later : List Line) × (ended_lines (front ++ rest) ≡ ended_lines front ++ later)
 front_ended front rest =
     let (first, tail, e) = split_front lf front rest in
     let before = ended_parts (slice_split lf front) in

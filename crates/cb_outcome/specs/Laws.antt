@@ -1,5 +1,5 @@
 -- What holds of outcomes, whatever the program does.
-use Rattle.std.specs.Prelude.{◌≡◌, ◌≢◌, ◌⊎◌, ℕ, ◌++◌, List, [], ◌∷◌, length, Option, None, Some}
+use Rattle.std.specs.Prelude.{◌≡◌, ◌≢◌, ◌⊎◌, ◌≤◌, ℕ, ◌++◌, List, [], ◌∷◌, length, Option, None, Some}
 use Rattle.cb_io.specs.Outside.{contents}
 use Rattle.cb_network.specs.Regular.{IsRegular}
 use Rattle.cb_network.specs.Topology.{Topology}
@@ -7,12 +7,13 @@ use Rattle.cb_log.specs.declared.event.Event.{Event}
 use Rattle.cb_log.specs.Basis.{Mode}
 use Rattle.cb_alarm.specs.Lines.{LogGives, FrontGives}
 use Rattle.cb_request.specs.declared.request.Request.{Request}
-use Rattle.cb_request.specs.declared.request.Request.TheVariants.{Codebook, Verify}
-use Rattle.cb_request.specs.Files.{file_words}
+use Rattle.cb_request.specs.declared.request.Request.TheVariants.{Codebook, Verify, Grow}
+use Rattle.cb_request.specs.Files.{file_words, logs_of}
 use Rattle.cb_outcome.specs.Outcome.{Outcome}
 use Rattle.cb_outcome.specs.Judged.{Known, nothing, PassFrom}
 use Rattle.cb_outcome.specs.Jobs.{JobGives}
-use Rattle.cb_outcome.specs.Contents.{Left, files_from}
+use Rattle.cb_outcome.specs.Contents.{Left, files_from, log_from}
+use Rattle.cb_outcome.specs.LogJobs.{log_limit}
 use Rattle.cb_outcome.specs.Answer.{RequestGives, IsOutcome, IsDue}
 use Rattle.cb_outcome.specs.Point.{Point}
 
@@ -39,6 +40,21 @@ DueIsFront = (asked : Option Request) (left : Left) (point : Point) (due : List 
 abbrev pub PassedGoToJob : Type 0
 PassedGoToJob = (request : Request) (left : Left) (known : Known) (outcome : Outcome) → PassFrom nothing (files_from left request) known
     → RequestGives request left outcome → (whole : ℕ) × JobGives left request known whole outcome
+
+-- the log of the request, where it has one, isn't too long
+abbrev pub HasShortLog : Left → Request → Type 0
+HasShortLog left request = (name : List ℕ) → logs_of request ≡ name ∷ [] → length (log_from left request name) ≤ log_limit
+
+-- nothing is wrong; `codebook`, which may find that there is none, and `grow`, which reads no file, aside
+abbrev pub EndsWell : Request → Outcome → Type 0
+EndsWell (Codebook model topology distance) outcome = Unit {0}
+EndsWell (Grow sites start) outcome = Unit {0}
+EndsWell request outcome = outcome.fault ≡ None
+
+-- where all judged files pass, and the log isn't too long, nothing is wrong
+abbrev pub PassedEndWell : Type 0
+PassedEndWell = (request : Request) (left : Left) (known : Known) (outcome : Outcome) → PassFrom nothing (files_from left request) known
+    → HasShortLog left request → RequestGives request left outcome → EndsWell request outcome
 
 -- an outcome without a fault has read each file word whole
 abbrev pub DoneReadsAll : Type 0

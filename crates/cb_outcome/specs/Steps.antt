@@ -1,5 +1,5 @@
 -- How many steps a run counts. `files` is told before the run, `after` after it.
-use Rattle.std.specs.Prelude.{◌≡◌, ℕ, ◌+◌, ◌≤◌, List, Option, None, Some}
+use Rattle.std.specs.Prelude.{◌≡◌, ℕ, ◌+◌, ◌≤◌, List, [], ◌∷◌, Option, None, Some}
 use Rattle.cb_change.specs.Costs.{IsOpenCost}
 use Rattle.cb_change.specs.InTurn.{IsCostInTurn}
 use Rattle.cb_gen.specs.Log.{log_text}
@@ -7,7 +7,7 @@ use Rattle.cb_io.specs.Outside.{FilesTold, left_of}
 use Rattle.cb_network.specs.Topology.{Topology}
 use Rattle.cb_log.specs.Entries.{Entry, records_of}
 use Rattle.cb_log.specs.Network.{edits_of}
-use Rattle.cb_alarm.specs.Lines.{Line, log_lines, ComeTo}
+use Rattle.cb_alarm.specs.Lines.{Line, ended_lines, log_lines, ComeTo}
 use Rattle.cb_request.specs.declared.request.Request.{Request}
 use Rattle.cb_request.specs.declared.request.Request.TheVariants.{Burst, Model, Matrix, Correlate, Grow}
 use Rattle.cb_outcome.specs.Contents.{Left, files_before, files_from, log_from}
@@ -23,9 +23,18 @@ AreLinesCost t lines cost = (entries : List Entry) × ComeTo lines entries × Is
 abbrev pub CountsLines : Topology → List Line → ℕ → ℕ → Type 0
 CountsLines t lines old new = (cost : ℕ) → AreLinesCost t lines cost → new ≤ old + cost
 
--- no more steps are counted than the search of the topology costs, and then the edits in the lines of these bytes of a log
+-- no more steps are counted than the search of the topology costs, and then the edits in these lines
+abbrev pub CountsBoth : Topology → List Line → ℕ → ℕ → Type 0
+CountsBoth t lines old new = (searched : ℕ) → IsOpenCost t searched → CountsLines t lines (old + searched) new
+
+-- the same of the lines of a log
 abbrev pub CountsLog : Topology → List ℕ → ℕ → ℕ → Type 0
-CountsLog t log old new = (searched : ℕ) → IsOpenCost t searched → CountsLines t (log_lines log) (old + searched) new
+CountsLog t log old new = CountsBoth t (log_lines log) old new
+
+-- the lines of a log of which the first bytes were taken and the others are left: all lines where none is left, and else those that ended
+abbrev pub lines_taken : List ℕ → List ℕ → List Line
+lines_taken taken [] = log_lines taken
+lines_taken taken (byte ∷ left) = ended_lines taken
 
 -- `burst` and `matrix`: no more steps are counted than the search of the topology costs that the model and the topology file give. Where
 -- they give none, no step is counted.
@@ -33,11 +42,11 @@ pub record CountsSearch (left : Left) (request : Request) (old new : ℕ) : Type
   pub most : (t : Topology) → PassFrom nothing (files_before 2 left request) (network t) → (searched : ℕ) → IsOpenCost t searched → new ≤ old + searched
   pub none : ((t : Topology) → ¬ PassFrom nothing (files_before 2 left request) (network t)) → new ≡ old
 
--- `correlate`: the topology is that of the model and the topology file, and the bytes of the log are those that were taken of it. Where
+-- `correlate`: the topology is that of the model and the topology file, and the lines are those of the log's bytes that were taken. Where
 -- the two files give no topology, no step is counted, nor where the log was never come to, so that what is left under its name is no rest of it.
 pub record CountsCorrelate (left : Left) (request : Request) (log : List ℕ) (after : FilesTold) (old new : ℕ) : Type 0 where
   pub most : (t : Topology) → PassFrom nothing (files_from left request) (network t)
-      → (taken : LeavesRest (log_from left request log) (left_of after log)) → CountsLog t taken.0 old new
+      → (taken : LeavesRest (log_from left request log) (left_of after log)) → CountsBoth t (lines_taken taken.0 taken.1) old new
   pub none : ((t : Topology) → ¬ PassFrom nothing (files_from left request) (network t)) → new ≡ old
   pub missed : ¬ LeavesRest (log_from left request log) (left_of after log) → new ≡ old
 

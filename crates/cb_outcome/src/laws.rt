@@ -1,5 +1,5 @@
 //! What holds of outcomes.
-ghost use Rattle.cb_outcome.specs.Laws.{OutcomeIsOne, FrontIsFront, DueIsFront, PassedGoToJob, DoneReadsAll, WrittenIsAccepted};
+ghost use Rattle.cb_outcome.specs.Laws.{OutcomeIsOne, FrontIsFront, DueIsFront, PassedGoToJob, PassedEndWell, DoneReadsAll, WrittenIsAccepted};
 
 /// The words of the command line and the bytes of the files have one outcome: in how large pieces the files give their
 /// bytes makes no difference.
@@ -20,6 +20,11 @@ pub fn due_is_front()
 /// Where all judged files pass, the outcome is what the job gives.
 pub fn passed_go_to_job()
     ensures { PassedGoToJob }
+{}
+
+/// Where all judged files pass, and the log isn't too long, nothing is wrong; `codebook` and `grow` aside.
+pub fn passed_end_well()
+    ensures { PassedEndWell }
 {}
 
 /// An outcome without a fault has read each file word whole.

@@ -21,7 +21,7 @@ use Rattle.cb_outcome.specs.Grown.{MakesUp}
 use Rattle.cb_outcome.specs.Judged.{Known, nothing, network, PassFrom}
 use Rattle.cb_outcome.specs.LogJobs.{Watch, log_limit}
 use Rattle.cb_outcome.specs.Reading.{Told, LeavesRest}
-use Rattle.cb_outcome.specs.Steps.{CountsLines, CountsLog, CountsSearch, CountsCorrelate, CountsGrow}
+use Rattle.cb_outcome.specs.Steps.{CountsLines, CountsLog, lines_taken, CountsSearch, CountsCorrelate, CountsGrow}
 use Rattle.cb_outcome.proofs.GrownOne.{made_up_one}
 use Rattle.cb_outcome.proofs.LogFronts as fronts
 use Rattle.cb_session.specs.State.{State}
@@ -55,7 +55,7 @@ counts_begin watch d mode now name steps = record {
 
 -- nor taken
 pub takes_nothing : (t : Topology) (now after : FilesTold) (name : List ℕ) (steps : ℕ) → CountsTaken t name now after steps steps
-takes_nothing t now after name steps = of_all (left_of now name) _ (λ log taken. none_counts t (log_lines taken.0) steps steps refl)
+takes_nothing t now after name steps = of_all (left_of now name) _ (λ log taken. none_counts t (lines_taken taken.0 taken.1) steps steps refl)
 
 -- it doesn't go on behind a stop
 pub stops_counting : (watch : Watch) (now : FilesTold) (reader : Reading) (start steps : ℕ) (result : Result Bool LogStop) (stop : LogStop) → result ≡ Err stop
@@ -158,9 +158,9 @@ module _ (model topology log : List ℕ) (distance window : ℕ) (old : FilesTol
     most = λ u given taken searched is cost costs.
         let same : u ≡ t = same_network u t (pass_is_one nothing (files_from left (Correlate model topology log distance window)) (network u) (network t) tt given here) in
         let low = opened searched (subst (λ (v : Topology). IsOpenCost v searched) same is) in
-        let counts = there (left_of now log) (λ bytes. (front : LeavesRest bytes (left_of after log)) → CountsLines t (log_lines front.0) mid steps')
+        let counts = there (left_of now log) (λ bytes. (front : LeavesRest bytes (left_of after log)) → CountsLines t (lines_taken front.0 front.1) mid steps')
         (log_from left (Correlate model topology log distance window) log) (known log) follows taken in
-        let more = subst (λ (v : Topology). CountsLines v (log_lines taken.0) mid steps') (sym same) counts cost costs in
+        let more = subst (λ (v : Topology). CountsLines v (lines_taken taken.0 taken.1) mid steps') (sym same) counts cost costs in
         omega (arith, low, more);
     none = λ not. absurd (not t here);
     missed = λ not. absurd (not (leaves_rest (left_of now log) (left_of after log) (log_from left (Correlate model topology log distance window) log) front (known log) came));

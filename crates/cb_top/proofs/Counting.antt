@@ -29,8 +29,8 @@ use Rattle.cb_alarm.specs.Lines as lines
 use Rattle.cb_alarm.proofs.OneSkip.{come_to_one}
 use Rattle.cb_outcome.specs.LogJobs.{Watch}
 use Rattle.cb_outcome.specs.Reading.{LeavesRest}
-use Rattle.cb_outcome.specs.Steps.{CountsLines}
-use Rattle.cb_outcome.proofs.LogFronts.{front_lines, first_come}
+use Rattle.cb_outcome.specs.Steps.{CountsLines, lines_taken}
+use Rattle.cb_outcome.proofs.LogFronts.{front_lines, front_ended, first_come}
 use Rattle.cb_session.specs.State.{State}
 use Rattle.cb_top.specs.Counting.{CountsLine, CountsGiven, IsCountedAt}
 use Rattle.cb_top.specs.Telling.{joined, numbered, ReadsLog}
@@ -100,12 +100,16 @@ module _ (t : Topology) where
 joined_lines : (ls : List (List ℕ)) → All IsOneLine ls → log_lines (joined ls) ≡ numbered ls
 joined_lines ls all = ap log_lines (sym (append-nil (joined ls))) ∙ (lines_are ls [] all one_none ∙ ap numbered (append-nil ls))
 
--- and the first of those of more bytes
-first_lines : (ls : List (List ℕ)) → All IsOneLine ls → (more : List ℕ) → (later : List Line) × (log_lines (joined ls ++ more) ≡ numbered ls ++ later)
-first_lines ls all more =
-    let (later, e) = front_lines (joined ls) more in
-    let ended : ended_lines (joined ls) ≡ numbered ls = ap ended_lines (sym (append-nil (joined ls))) ∙ ended_are ls [] all one_none in
-    (later, e ∙ ap (λ (v : List Line). v ++ later) ended)
+-- all of which end
+joined_end : (ls : List (List ℕ)) → All IsOneLine ls → ended_lines (joined ls) ≡ numbered ls
+joined_end ls all = ap ended_lines (sym (append-nil (joined ls))) ∙ ended_are ls [] all one_none
+
+-- and they are the first of those that are taken with more bytes
+first_taken : (ls : List (List ℕ)) → All IsOneLine ls → (more rest : List ℕ) → (later : List Line) × (lines_taken (joined ls ++ more) rest ≡ numbered ls ++ later)
+first_taken ls all more [] =
+    let (later, e) = front_lines (joined ls) more in (later, e ∙ ap (λ (v : List Line). v ++ later) (joined_end ls all))
+first_taken ls all more (b ∷ rest) =
+    let (later, e) = front_ended (joined ls) more in (later, e ∙ ap (λ (v : List Line). v ++ later) (joined_end ls all))
 
 -- what stands before the same bytes is the same
 cut_off : (a b c : List ℕ) → a ++ c ≡ b ++ c → a ≡ b
@@ -116,14 +120,15 @@ cut_off a b c e =
     let same : length a ≡ length b = omega (arith, whole, one, two) in
     sym (take_front a c) ∙ (ap (λ (n : ℕ). take n (a ++ c)) same ∙ (ap (take (length b)) e ∙ take_front b c))
 
--- no more is counted than the bytes cost that were taken, where those are the lines and some more
+-- no more is counted than the lines cost that were taken, where the bytes are those of these lines and some more
 taken_counts : (t : Topology) (log : List ℕ) (ls : List (List ℕ)) → All IsOneLine ls → (start steps : ℕ) → CountsLines t (numbered ls) start steps
-    → (kept : List ℕ) (left : Option (List ℕ)) (taken : LeavesRest log left) → log ≡ joined ls ++ (kept ++ taken.1) → CountsLines t (log_lines taken.0) start steps
+    → (kept : List ℕ) (left : Option (List ℕ)) (taken : LeavesRest log left) → log ≡ joined ls ++ (kept ++ taken.1)
+    → CountsLines t (lines_taken taken.0 taken.1) start steps
 taken_counts t log ls all start steps counts kept left taken log_is =
     let same : taken.0 ≡ joined ls ++ kept =
     cut_off taken.0 (joined ls ++ kept) taken.1 (sym taken.2 ∙ (log_is ∙ sym (append_assoc (joined ls) kept taken.1))) in
-    let (later, are) = first_lines ls all kept in
-    subst (λ (v : List Line). CountsLines t v start steps) (sym (ap log_lines same ∙ are)) (counts_front t (numbered ls) later start steps counts)
+    let (later, are) = first_taken ls all kept taken.1 in
+    subst (λ (v : List Line). CountsLines t v start steps) (sym (ap (λ (front : List ℕ). lines_taken front taken.1) same ∙ are)) (counts_front t (numbered ls) later start steps counts)
 
 same_some : (x y : List ℕ) → Some x ≡ Some y → x ≡ y
 same_some x y e = cc
@@ -151,7 +156,7 @@ module _ (watch : Watch) (log : List ℕ) (old : Reading) (bytes : List ℕ) (se
 
   -- none was given, and some more bytes may have been taken
   pub nothing_given : (files after : FilesTold) → coming old files ≡ Some bytes → ReadsFront files after old.name
-      → (taken : LeavesRest log (left_of after old.name)) → CountsLines watch.from (log_lines taken.0) start steps
+      → (taken : LeavesRest log (left_of after old.name)) → CountsLines watch.from (lines_taken taken.0 taken.1) start steps
   nothing_given files after comes read taken =
       let (l, is, are) = left_there old.kept (left_of files old.name) bytes comes in
       let front = read.0 in
@@ -208,17 +213,18 @@ module _ (watch : Watch) (log : List ℕ) (old : Reading) (bytes : List ℕ) (se
               subst (λ (v : List Line). CountsLines watch.from v start steps') (sym (ap log_lines are ∙ joined_lines more (all_more is.begin.one))) further
           by_way (inr is) = let ended : true ≡ false = sym is.ended ∙ going in absurd (cc)
 
-      line_taken : (taken : LeavesRest log (left_of after old.name)) → CountsLines watch.from (log_lines taken.0) start steps'
+      line_taken : (taken : LeavesRest log (left_of after old.name)) → CountsLines watch.from (lines_taken taken.0 taken.1) start steps'
       line_taken taken = by_way gives.way
         where
-          by_way : GivesEnded old new bytes line gives.rest ⊎ GivesLast old new bytes line gives.rest → CountsLines watch.from (log_lines taken.0) start steps'
+          by_way : GivesEnded old new bytes line gives.rest ⊎ GivesLast old new bytes line gives.rest → CountsLines watch.from (lines_taken taken.0 taken.1) start steps'
           by_way (inl is) =
               taken_counts watch.from log more (all_more is.begin.one) start steps' further new.kept (left_of after old.name) taken
               (log_more is ∙ ap (λ (v : List ℕ). joined more ++ v) (left_is gives.rest gives.comes taken))
           by_way (inr is) =
               let none : taken.1 ≡ [] = no_more new.kept taken.1 (sym is.none ∙ left_is gives.rest gives.comes taken) in
               let all : taken.0 ≡ log = sym (append-nil taken.0) ∙ (ap (λ (v : List ℕ). taken.0 ++ v) (sym none) ∙ sym taken.2) in
-              subst (λ (v : List Line). CountsLines watch.from v start steps') (sym (ap log_lines all ∙ log_all is)) further
+              subst (λ (rest : List ℕ). CountsLines watch.from (lines_taken taken.0 rest) start steps') (sym none)
+              (subst (λ (v : List Line). CountsLines watch.from v start steps') (sym (ap log_lines all ∙ log_all is)) further)
 
     -- the text of a line as its number and its bytes
     module _ (reads_log : ReadsLog old) where
@@ -239,7 +245,7 @@ module _ (watch : Watch) (log : List ℕ) (old : Reading) (bytes : List ℕ) (se
       piece_counts given.End is counts says going = let ended : true ≡ false = sym says.ended ∙ going in absurd (cc)
 
       pub piece_takes : (line : Given) → IsNumbered new line → CountsGiven session.network line new.text steps steps' → Says old new after (Ok line) bytes
-          → (taken : LeavesRest log (left_of after old.name)) → CountsLines watch.from (log_lines taken.0) start steps'
+          → (taken : LeavesRest log (left_of after old.name)) → CountsLines watch.from (lines_taken taken.0 taken.1) start steps'
       piece_takes (given.Text number) is counts says taken =
           let limit = reads_log.line_most in
           let short = says.short in
@@ -255,5 +261,5 @@ module _ (watch : Watch) (log : List ℕ) (old : Reading) (bytes : List ℕ) (se
       piece_takes given.End is counts says taken =
           let none : taken.1 ≡ [] = no_more new.kept taken.1 (left_is [] says.comes taken) in
           let log_is : log ≡ joined ls ++ ([] ++ taken.1) = at.is_at.log_is ∙ ap (λ (v : List ℕ). joined ls ++ v) (says.none ∙ sym none) in
-          subst (λ (n : ℕ). CountsLines watch.from (log_lines taken.0) start n) (sym counts)
+          subst (λ (n : ℕ). CountsLines watch.from (lines_taken taken.0 taken.1) start n) (sym counts)
           (taken_counts watch.from log ls at.is_at.one_each start steps so_far [] (left_of after old.name) taken log_is)

@@ -12,7 +12,7 @@ use Rattle.cb_alarm.specs.Lines.{Line, log_lines, ComesTo}
 use Rattle.cb_report.specs.declared.summary.Summary.{Summary}
 use Rattle.cb_outcome.specs.LogJobs.{Watch}
 use Rattle.cb_outcome.specs.Reading.{LeavesRest}
-use Rattle.cb_outcome.specs.Steps.{CountsLines}
+use Rattle.cb_outcome.specs.Steps.{CountsLines, lines_taken}
 use Rattle.cb_session.specs.Counted.{CountsEntry}
 use Rattle.cb_session.specs.State.{State}
 use Rattle.cb_top.specs.declared.stop.LogStop.{LogStop}
@@ -42,10 +42,10 @@ pub record IsCountedAt (watch : Watch) (log : List ℕ) (reader : Reading) (byte
   pub is_at : IsAt watch log reader.number reader.given bytes session told
   pub counts : CountsLines watch.from (log_lines (take reader.given log)) start steps
 
--- then, once the next piece is asked for, no more were counted than the lines of the bytes cost that were taken
+-- then, once the next piece is asked for, no more were counted than the lines cost that were taken
 abbrev pub PieceTakes : Reading → FilesTold → State → ℕ → ℕ → List ℕ → Type 0
 PieceTakes reader after session old new bytes = (watch : Watch) (log : List ℕ) (start : ℕ) → IsCountedAt watch log reader bytes session start old
-    → (taken : LeavesRest log (left_of after reader.name)) → CountsLines watch.from (log_lines taken.0) start new
+    → (taken : LeavesRest log (left_of after reader.name)) → CountsLines watch.from (lines_taken taken.0 taken.1) start new
 
 -- and where it came, and wasn't the last, than the lines cost that were given
 abbrev pub PieceCounts : Reading → Reading → State → ℕ → ℕ → List ℕ → Type 0
@@ -63,10 +63,10 @@ abbrev pub CountsOn : Watch → FilesTold → Reading → ℕ → ℕ → Result
 CountsOn watch now reader start steps (Ok false) = HasCounted watch now reader start steps
 CountsOn watch now reader start steps result = Unit {0}
 
--- no more steps were counted than the lines of the bytes cost that were taken of the name
+-- no more steps were counted than the lines cost that were taken of the name
 abbrev pub CountsTaken : Topology → List ℕ → FilesTold → FilesTold → ℕ → ℕ → Type 0
 CountsTaken t name now after start steps =
-    IfSome (left_of now name) (λ log. (taken : LeavesRest log (left_of after name)) → CountsLines t (log_lines taken.0) start steps)
+    IfSome (left_of now name) (λ log. (taken : LeavesRest log (left_of after name)) → CountsLines t (lines_taken taken.0 taken.1) start steps)
 
 -- ---- a log that is summed up
 
