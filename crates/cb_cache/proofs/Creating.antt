@@ -40,7 +40,7 @@ use Rattle.cb_nodes.specs.Table.{IsNode, node_of}
 use Rattle.cb_nodes.proofs.Events.{one_count}
 use Rattle.cb_nodes.proofs.Listing.{one_node, not_before}
 use Rattle.cb_pool.specs.declared.slot.Slot.{Slot}
-use Rattle.cb_pool.specs.Pool.{Pool, HasRow, row_of}
+use Rattle.cb_pool.specs.Pool.{Pool, HasRow, IsTaken, row_of}
 use Rattle.cb_topo.specs.Applied.{Applies, IsNodeRoomAfter}
 use Rattle.cb_topo.specs.Numbered.{Numbered, topology_of, IsNodeNamed, IsLiveNode, IsWhole}
 use Rattle.cb_graph.specs.Edges.{number}
@@ -52,7 +52,7 @@ use Rattle.cb_cache.specs.declared.rows.Rows.{Rows}
 use Rattle.cb_cache.specs.declared.scratch.Scratch.{Scratch}
 use Rattle.cb_cache.specs.Created.{Creates, IsNewProblem, IsProblemAmong, IsPoolFor, IsFurtherFor, pool_or}
 use Rattle.cb_cache.specs.Filled.{AddsRows, HaveNoSlots, CostAtMost}
-use Rattle.cb_cache.specs.Kept.{AreApart, AreRight, IsKept}
+use Rattle.cb_cache.specs.Kept.{AreApart, AreOwned, AreRight, IsKept}
 use Rattle.cb_cache.specs.Laws.{IsEdited}
 use Rattle.cb_cache.specs.Most.{HasEventsWithin}
 use Rattle.cb_cache.specs.Numbers.{AreOnce, IsProblemNumber}
@@ -127,10 +127,11 @@ created (Unlink a rel b) none = absurd none
 created (Mute event name) none = absurd none
 created (Unmute event name) none = absurd none
 
--- what has a row had it in the old topology, and has it in the same slot
+-- what has a row had it in the old topology, and has it in the same slot, and no further slot is taken
 pub record AreMoved (slots new_slots : List (Option Slot)) (p new : Pool) : Type 0 where
   pub slots_are : (i : ℕ) (slot : Slot) → HasSlot new_slots i slot ↔ HasSlot slots i slot
   pub rows : (slot : Slot) (row : List ℕ) → HasRow p slot row → (words : List ℕ) × HasRow new slot words × ((k : ℕ) → bit_of words k ≡ bit_of row k)
+  pub taken : (slot : Slot) → IsTaken new slot → IsTaken p slot
 
 module _ (old new : Numbered) (name class : List ℕ) (edited : IsEdited old (Create name class) new) where
   abbrev t : Topology
@@ -210,7 +211,7 @@ module _ (old new : Numbered) (name class : List ℕ) (edited : IsEdited old (Cr
     pub new_live : All (IsLiveNode new) ids
     new_live = numbers_live new edited.whole_after ids once (λ q. IsProblem u q × ¬ IsProblem t q) new_numbers (λ q x. node_of_problem u q x.0)
 
-    pub right_created : (after_slots : List (Option Slot)) (after : Pool) → AddsRows new ids new_slots after_slots after → AreRight new after_slots after
+    pub right_created : (after_slots : List (Option Slot)) (after : Pool) → AddsRows new ids new_slots after_slots mid after → AreRight new after_slots after
     right_created after_slots after adds = record {
       rows = adds.rows;
       only = λ i slot has. elim (adds.only i slot has) [
@@ -225,6 +226,12 @@ module _ (old new : Numbered) (name class : List ℕ) (edited : IsEdited old (Cr
             (own.0, adds.kept i own.0 ((moved.slots_are i own.0).1 own.1))
       ];
       apart = adds.apart;
+      owned = λ slot taken. elim (adds.taken slot taken) [
+        | inl before ↦
+            let (i, own) = right.owned slot (moved.taken slot before) in
+            (i, adds.kept i slot ((moved.slots_are i slot).1 own))
+        | inr now ↦ now
+      ];
     }
 
     pub within_new : (steps new_steps cost : ℕ) → CostAtMost new ids steps new_steps → IsTotal (λ q. IsProblem u q × ¬ IsProblem t q) (Causes u) cost → new_steps ≤ steps + cost
@@ -297,10 +304,15 @@ moved_pool width more p (Some wider) (wide, rows, spare) slot row has =
     let words = row_of p slot ++ zeros (wider.width - p.width) in
     (words, (rows slot words).1 (has.0, refl), λ k. bit_behind (row_of p slot) (wider.width - p.width) k ∙ ap (λ (r : List ℕ). bit_of r k) (sym has.1))
 
+moved_taken : (width more : ℕ) (p : Pool) (pool : Option Pool) → IsPoolFor width more p pool → (slot : Slot) → IsTaken (pool_or p pool) slot → IsTaken p slot
+moved_taken width more p None is slot taken = taken
+moved_taken width more p (Some wider) (wide, rows, spare) slot taken = ((rows slot (row_of wider slot)).0 (taken, refl)).0
+
 pub moved_for : (room more : ℕ) (rows : Rows) (further : Further) → IsFurtherFor room more rows further → AreMoved rows.slots.items further.slots.items rows.pool (pool_or rows.pool further.pool)
 moved_for room more rows further is = record {
   slots_are = λ i slot. subst (λ (xs : List (Option Slot)). HasSlot xs i slot ↔ HasSlot rows.slots.items i slot) (sym is.slots) (more_slots rows.slots.items (room - length rows.slots.items) i slot);
   rows = moved_pool (words_for room) more rows.pool further.pool is.pool;
+  taken = moved_taken (words_for room) more rows.pool further.pool is.pool;
 }
 
 pub wide_for : (width more : ℕ) (p : Pool) (pool : Option Pool) → IsPoolFor width more p pool → ((pool_or p pool).width ≡ width) × (more ≤ (pool_or p pool).spare)
@@ -333,7 +345,7 @@ pub record FitsIn (old new : Numbered) (edit : Edit) (slots : List (Option Slot)
   pub apart : AreApart slots
   pub none : HaveNoSlots slots ids
   pub live : All (IsLiveNode new) ids
-  pub right : (after_slots : List (Option Slot)) (after : Pool) → AddsRows new ids slots after_slots after → AreRight new after_slots after
+  pub right : (after_slots : List (Option Slot)) (after : Pool) → AddsRows new ids slots after_slots mid after → AreRight new after_slots after
   pub within : (steps new_steps cost : ℕ) → CostAtMost new ids steps new_steps → IsEditCost (topology_of old) edit (topology_of new) cost → new_steps ≤ steps + cost
 
 pub fits_in : (old new : Numbered) (edit : Edit) → Creates edit → IsEdited old edit new → (slots new_slots : List (Option Slot)) (p mid : Pool) → AreRight old slots p → AreMoved slots new_slots p mid
@@ -365,7 +377,9 @@ right_spared : (n : Numbered) (slots : List (Option Slot)) (p q : Pool) → but_
 right_spared n slots p q same right =
     let here : AreRows n slots (but_spare p) = right.rows in
     let there : AreRows n slots (but_spare q) = subst (λ (r : Pool). AreRows n slots r) (sym same) here in
-    record { rows = there; only = right.only; all = right.all; apart = right.apart }
+    let owned : AreOwned slots (but_spare p) = right.owned in
+    let owned_there : AreOwned slots (but_spare q) = subst (λ (r : Pool). AreOwned slots r) (sym same) owned in
+    record { rows = there; only = right.only; all = right.all; apart = right.apart; owned = owned_there }
 
 -- rows that are as they were but for what there is to spare are kept as well
 pub kept_spared : (n : Numbered) (rows now : Rows) (agenda : Agenda) → AreButSpare rows now → IsKept n record { rows = rows; agenda = agenda } → IsKept n record { rows = now; agenda = agenda }

@@ -180,7 +180,7 @@ module _ (old : Numbered) (edit : Edit) (new : Numbered) (touched : List Bool) (
       pub listed_live : All (IsLiveNode new) ids
       listed_live = numbers_live new edited.whole_after ids takes.once (λ name. IsDirty t u name × IsProblem u name) numbers (λ name x. node_of_problem u name x.1)
 
-      pub right_again : (new_slots : List (Option Slot)) (after : Pool) → AddsRows new ids kept_slots new_slots after → AreRight new new_slots after
+      pub right_again : (new_slots : List (Option Slot)) (after : Pool) → AddsRows new ids kept_slots new_slots mid after → AreRight new new_slots after
       right_again new_slots after adds = record {
         rows = adds.rows;
         only = λ i slot own. elim (adds.only i slot own) [
@@ -196,6 +196,13 @@ module _ (old : Numbered) (edit : Edit) (new : Numbered) (touched : List Bool) (
               | inr among ↦ adds.all (number i) among
             ];
         apart = adds.apart;
+        owned = λ slot taken. elim (adds.taken slot taken) [
+          | inl before ↦
+              let (was, stays) = takes.taken slot before in
+              let (i, own) = follows.right.owned slot was in
+              (i, adds.kept i slot (stays i own))
+          | inr now ↦ now
+        ];
       }
 
       pub within_cut : (steps new_steps cost : ℕ) → CostAtMost new ids steps new_steps → IsEditCost t edit u cost → new_steps ≤ steps + cost
@@ -209,6 +216,7 @@ pub takes_permuted : (n : Numbered) (touched : List Bool) (slots : List (Option 
 takes_permuted n touched slots p kept_slots mid ids order permuted takes = record {
   clean = takes.clean;
   rows = takes.rows;
+  taken = takes.taken;
   live = λ i slot has lives. elim (takes.live i slot has lives) [
     | inl kept ↦ inl kept
     | inr among ↦ inr (Contains-permutation ids order (number i) permuted among)

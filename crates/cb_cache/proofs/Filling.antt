@@ -15,6 +15,10 @@ use Rattle.cb_cache.specs.Cached.{IsRowOf, AreRows}
 use Rattle.cb_cache.specs.Kept.{AreApart}
 use Rattle.cb_cache.specs.Reached.{HasSlot}
 use Rattle.cb_cache.specs.Filled.{AddsRow, AddsRows, HasSize, CostAtMost}
+use Rattle.cb_cache.proofs.Pooled.{was_taken}
+
+same_slot : (a b : Slot) → a.0 ≡ b.0 → a ≡ b
+same_slot a b e = λ k. record { 0 = e k }
 
 -- a row that stands in another slot stays
 row_kept : (n : Numbered) (i j : ℕ) (slots new_slots : List (Option Slot)) (p new : Pool) (adds : AddsRow n j slots new_slots p new) (slot : Slot)
@@ -23,17 +27,18 @@ row_kept n i j slots new_slots p new adds slot (words, has, reached) =
     (words, (adds.others slot (λ same. adds.free (subst (λ (s : Slot). IsTaken p s) same has.0)) words).1 has, reached)
 
 -- before a row is added
-pub none_added : (n : Numbered) (slots : List (Option Slot)) (p : Pool) → AreRows n slots p → AreApart slots → AddsRows n [] slots slots p
+pub none_added : (n : Numbered) (slots : List (Option Slot)) (p : Pool) → AreRows n slots p → AreApart slots → AddsRows n [] slots slots p p
 none_added n slots p rows apart = record {
   rows = rows;
   kept = λ i slot has. has;
   only = λ i slot has. inl has;
   all = λ id has. absurd (nothing_in_empty id has);
   apart = apart;
+  taken = λ slot taken. inl taken;
 }
 
-module _ (n : Numbered) (ids : List NodeId) (id : NodeId) (first slots new_slots : List (Option Slot)) (p new : Pool) (have : AddsRows n ids first slots p)
-    (fresh : (slot : Slot) → ¬ HasSlot first id.0 slot) (low : id.0 < length slots) (adds : AddsRow n id.0 slots new_slots p new) where
+module _ (n : Numbered) (ids : List NodeId) (id : NodeId) (first slots new_slots : List (Option Slot)) (first_pool p new : Pool) (have : AddsRows n ids first slots first_pool p)
+    (fresh : (slot : Slot) → ¬ HasSlot first id.0 slot) (once : ¬ Contains ids id) (low : id.0 < length slots) (adds : AddsRow n id.0 slots new_slots p new) where
   -- what a number has now, it has newly or had
   slot_cases : (i : ℕ) (slot : Slot) → HasSlot new_slots i slot → ((i ≡ id.0) × (slot ≡ adds.slot)) ⊎ ((i ≢ id.0) × HasSlot slots i slot)
   slot_cases i slot has =
@@ -55,7 +60,20 @@ module _ (n : Numbered) (ids : List NodeId) (id : NodeId) (first slots new_slots
   stays : (i : ℕ) (slot : Slot) → i ≢ id.0 → HasSlot slots i slot → HasSlot new_slots i slot
   stays i slot other has = subst (λ xs. HasSlot xs i slot) (sym adds.listed) (slice_get-set_other slots id.0 i (Some adds.slot) (λ e. other (sym e)) ∙ has)
 
-  pub rows_more : AddsRows n (ids ++ id ∷ []) first new_slots new
+  none_yet : (slot : Slot) → ¬ HasSlot slots id.0 slot
+  none_yet slot has = elim (have.only id.0 slot has) [ inl old ↦ fresh slot old | inr early ↦ once early ]
+
+  -- what is taken now was taken at first, or is some number's
+  taken_cases : (slot : Slot) → IsTaken new slot → IsTaken first_pool slot ⊎ ((i : ℕ) × HasSlot new_slots i slot)
+  taken_cases slot taken = elim (cases_eq slot.0 adds.slot.0) [
+    | inl same ↦ inr (id.0, subst (λ (s : Slot). HasSlot new_slots id.0 s) (same_slot adds.slot slot (sym same)) here)
+    | inr other ↦ elim (have.taken slot (was_taken p new adds.slot slot adds.others (λ e. other (ap (λ (s : Slot). s.0) e)) taken)) [
+      | inl early ↦ inl early
+      | inr (i, has) ↦ inr (i, stays i slot (λ e. none_yet slot (subst (λ (k : ℕ). HasSlot slots k slot) e has)) has)
+    ]
+  ]
+
+  pub rows_more : AddsRows n (ids ++ id ∷ []) first new_slots first_pool new
   rows_more = record {
     rows = λ i slot has. elim (slot_cases i slot has) [
       | inl e ↦ subst (λ (k : ℕ). IsRowOf n k new slot) (sym e.0) (subst (λ (s : Slot). IsRowOf n id.0 new s) (sym e.1) adds.row)
@@ -88,6 +106,7 @@ module _ (n : Numbered) (ids : List NodeId) (id : NodeId) (first slots new_slots
         | inr f ↦ have.apart i j slot e.1 f.1
       ]
     ];
+    taken = taken_cases;
   }
 
 -- no steps for no nodes

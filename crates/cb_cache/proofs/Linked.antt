@@ -34,6 +34,7 @@ use Rattle.cb_cache.specs.Kept.{AreRight}
 use Rattle.cb_cache.specs.Reached.{HasSlot}
 use Rattle.cb_cache.proofs.Edited.{close, old_number, row_settled}
 use Rattle.cb_cache.proofs.Opened.{node_of_problem}
+use Rattle.cb_cache.proofs.Pooled.{as_taken}
 use Rattle.cb_cache.proofs.Sizes.{led_named, set_of_row}
 use Rattle.cb_cache.proofs.Visiting.{row_reached}
 
@@ -205,8 +206,8 @@ module _ (old new : Numbered) (edit : Edit) (touched : List Bool) (slots : List 
         omega arith
 
   -- rows that are extended are right
-  pub right_later : (after : Pool) → ((i : ℕ) (slot : Slot) → HasSlot slots i slot → HasLed (EdgeAt new) after slot (row_of p slot)) → AreRight new slots after
-  right_later after led = record {
+  pub right_later : (after : Pool) → after.taken ≡ p.taken → ((i : ℕ) (slot : Slot) → HasSlot slots i slot → HasLed (EdgeAt new) after slot (row_of p slot)) → AreRight new slots after
+  right_later after same_taken led = record {
     rows = λ i slot has.
         let (words, there, is) = led i slot has in
         (words, there, λ k. (λ bit. (led_now i slot has k).0 ((is k).0 bit), λ leads. (is k).1 ((led_now i slot has k).1 leads)));
@@ -215,4 +216,5 @@ module _ (old new : Numbered) (edit : Edit) (touched : List Bool) (slots : List 
         let was = (same q).1 problem in
         linked.right.all i (q, old_number old new edit linked.edited i q named (node_of_problem t q was), was);
     apart = linked.right.apart;
+    owned = λ slot taken. linked.right.owned slot (as_taken p after slot same_taken taken);
   }

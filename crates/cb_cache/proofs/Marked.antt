@@ -78,6 +78,7 @@ module _ (old new : Numbered) (edit : Edit) (edited : IsEdited old edit new) (ma
         let was = (same name).1 problem in
         right.all i (name, old_number old new edit edited i name is (node_of_problem (topology_of old) name was), was);
     apart = right.apart;
+    owned = right.owned;
   }
 
 module _ (old new : Numbered) (edit : Edit) (edited : IsEdited old edit new) (marks : ChangesMarks edit) (store : Store) where

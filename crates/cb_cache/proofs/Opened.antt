@@ -16,7 +16,7 @@ use Rattle.cb_change.specs.Costs.{IsOpenCost, IsTotal}
 use Rattle.cb_change.proofs.Totals.{one_total}
 use Rattle.cb_nodes.specs.declared.id.NodeId.{NodeId}
 use Rattle.cb_pool.specs.declared.slot.Slot.{Slot}
-use Rattle.cb_pool.specs.Pool.{Pool}
+use Rattle.cb_pool.specs.Pool.{Pool, IsTaken}
 use Rattle.cb_topo.specs.Numbered.{Numbered, topology_of, IsNodeNamed, IsLiveNode, AreNamed, IsWhole}
 use Rattle.cb_graph.specs.Edges.{number}
 use Rattle.cb_graph.proofs.Chains.{named_once}
@@ -153,8 +153,9 @@ module _ (n : Numbered) (whole : IsWhole n) (ids : List NodeId) (once : AreOnce 
       omega arith
 
 module _ (n : Numbered) (whole : IsWhole n) (ids : List NodeId) (are : AreProblemNumbers n ids) where
-  pub are_right : (slots new_slots : List (Option Slot)) (p : Pool) → ((i : ℕ) (slot : Slot) → ¬ HasSlot slots i slot) → AddsRows n ids slots new_slots p → AreRight n new_slots p
-  are_right slots new_slots p none adds = record {
+  pub are_right : (slots new_slots : List (Option Slot)) (p new : Pool) → ((i : ℕ) (slot : Slot) → ¬ HasSlot slots i slot) → ((slot : Slot) → ¬ IsTaken p slot)
+      → AddsRows n ids slots new_slots p new → AreRight n new_slots new
+  are_right slots new_slots p new none free adds = record {
     rows = adds.rows;
     only = λ i slot has. elim (adds.only i slot has) [
       | inl old ↦ absurd (none i slot old)
@@ -162,6 +163,10 @@ module _ (n : Numbered) (whole : IsWhole n) (ids : List NodeId) (are : AreProble
     ];
     all = λ i problem. adds.all (number i) ((are.each (number i)).1 problem);
     apart = adds.apart;
+    owned = λ slot taken. elim (adds.taken slot taken) [
+      | inl before ↦ absurd (free slot before)
+      | inr now ↦ now
+    ];
   }
 
   pub all_live : All (IsLiveNode n) ids

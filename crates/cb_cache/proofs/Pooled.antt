@@ -1,5 +1,6 @@
--- A row that is written into a pool.
-use Rattle.std.proofs.Common.{◌≡◌, ◌≤◌, ℕ, List, length, sym, ◌∙◌}
+-- A row that is written into a pool, and slots that are taken.
+use Rattle.std.proofs.Common.{◌≡◌, ◌≢◌, ◌≤◌, ℕ, List, Bool, [], length, slice_index_or, false, refl, sym, ap, ◌∙◌}
+use Rattle.std.proofs.lemmas.Bool.{false≢true}
 use Rattle.cb_pool.specs.declared.slot.Slot.{Slot}
 use Rattle.cb_pool.specs.Pool.{Pool, HasRow, IsTaken, SameOthers, row_of, with_row}
 use Rattle.cb_pool.proofs.Rows.{put_leaves, put_there}
@@ -18,3 +19,15 @@ module _ (p : Pool) (slot : Slot) (row : List ℕ) where
 pub others_both : (p q r : Pool) (slot : Slot) → SameOthers p q slot → SameOthers q r slot → SameOthers p r slot
 others_both p q r slot first second other apart row =
     (λ h. (first other apart row).0 ((second other apart row).0 h), λ h. (second other apart row).1 ((first other apart row).1 h))
+
+-- another slot that is taken was taken
+pub was_taken : (p new : Pool) (slot other : Slot) → SameOthers p new slot → other ≢ slot → IsTaken new other → IsTaken p other
+was_taken p new slot other same apart taken = ((same other apart (row_of new other)).0 (taken, refl)).0
+
+-- so is one where the same slots are taken
+pub as_taken : (p new : Pool) (slot : Slot) → new.taken ≡ p.taken → IsTaken new slot → IsTaken p slot
+as_taken p new slot same taken = ap (λ (t : List Bool). slice_index_or t slot.0 false) (sym same) ∙ taken
+
+-- an empty pool has no slot that is taken
+pub none_taken : (p : Pool) (slot : Slot) → p.taken ≡ [] → ¬ IsTaken p slot
+none_taken p slot none taken = false≢true (ap (λ (t : List Bool). slice_index_or t slot.0 false) (sym none) ∙ taken)

@@ -18,6 +18,8 @@ use Rattle.cb_cache.specs.Kept.{AreApart}
 use Rattle.cb_cache.specs.Numbers.{AreOnce}
 use Rattle.cb_cache.specs.Reached.{HasSlot}
 use Rattle.cb_cache.specs.Stale.{IsClean, IsStale, AreTaken, Leaves, GivesBack, TakesBackOne, TakesBack}
+use Rattle.cb_cache.proofs.Pooled.{was_taken}
+use Rattle.cb_cache.proofs.Slots.{one_slot}
 use Rattle.cb_cache.proofs.Written.{packed_bit}
 
 -- a row of words and a row of marks have a node in common where their words have a bit in common
@@ -33,6 +35,7 @@ pub record BackUpTo (n : Numbered) (touched : List Bool) (place : ℕ) (first : 
   pub had : (i : ℕ) (slot : Slot) → HasSlot slots i slot → HasSlot first i slot
   pub clean : (i : ℕ) (slot : Slot) → HasSlot slots i slot → i < place → IsClean n touched p i slot
   pub rows : (i : ℕ) (slot : Slot) → HasSlot slots i slot → (row : List ℕ) → HasRow new slot row ↔ HasRow p slot row
+  pub taken : (slot : Slot) → IsTaken new slot → IsTaken p slot × ((i : ℕ) → HasSlot first i slot → HasSlot slots i slot)
   pub later : (i : ℕ) (slot : Slot) → HasSlot first i slot → place ≤ i → HasSlot slots i slot
   pub live : (i : ℕ) (slot : Slot) → HasSlot first i slot → i < place → IsLiveNode n (number i) → HasSlot slots i slot ⊎ Contains ids (number i)
   pub listed : (id : NodeId) → Contains ids id → (id.0 < place) × IsStale n touched first p id
@@ -43,6 +46,7 @@ back_none n touched slots p = record {
   had = λ i slot has. has;
   clean = λ i slot has low. absurd (omega arith);
   rows = λ i slot has row. (λ h. h, λ h. h);
+  taken = λ slot taken. (taken, λ i has. has);
   later = λ i slot has low. has;
   live = λ i slot has low. absurd (omega arith);
   listed = λ id has. absurd (nothing_in_empty id has);
@@ -81,6 +85,7 @@ module _ (n : Numbered) (touched : List Bool) (place : ℕ) (id : NodeId) (here 
           | inr (inr late) ↦ absurd (omega arith)
         ];
         rows = back.rows;
+        taken = back.taken;
         later = λ i slot has low. back.later i slot has (omega arith);
         live = λ i slot has low lives. elim (cases_order i place) [
           | inl same ↦ inl (back.later i slot has (omega arith))
@@ -110,6 +115,21 @@ module _ (n : Numbered) (touched : List Bool) (place : ℕ) (id : NodeId) (here 
     other_slot : (i : ℕ) (slot : Slot) → i ≢ place → HasSlot slots i slot → slot ≢ gives.slot
     other_slot i slot other has same =
         other (apart i id.0 slot (back.had i slot has) (back.had id.0 slot (subst (λ (s : Slot). HasSlot slots id.0 s) (sym same) gives.had)) ∙ here)
+
+    -- neither is one that is still taken, and that is still its number's
+    not_given : (slot : Slot) → IsTaken new slot → slot ≢ gives.slot
+    not_given slot taken same = gives.free (subst (λ (s : Slot). IsTaken new s) same taken)
+
+    still_taken : (slot : Slot) → IsTaken new slot → IsTaken p slot × ((i : ℕ) → HasSlot first i slot → HasSlot new_slots i slot)
+    still_taken slot taken =
+        let apart_from = not_given slot taken in
+        let was = back.taken slot (was_taken mid new gives.slot slot gives.others apart_from taken) in (
+          was.0,
+          λ i has.
+              let so_far = was.1 i has in
+              let given : HasSlot slots place gives.slot = subst (λ (k : ℕ). HasSlot slots k gives.slot) here gives.had in
+              stays i slot (λ same. apart_from (one_slot slots place slot gives.slot (subst (λ (k : ℕ). HasSlot slots k slot) same so_far) given)) so_far,
+        )
 
     stale : IsLiveNode n id → IsStale n touched first p id
     stale live = (gives.slot, back.had id.0 gives.slot gives.had, live, subst (HasTouched touched) (now_row id.0 gives.slot gives.had) (gives.stale live))
@@ -162,6 +182,7 @@ module _ (n : Numbered) (touched : List Bool) (place : ℕ) (id : NodeId) (here 
           let step = gives.others slot (other_slot i slot other was) row in
           let so_far = back.rows i slot was row in
           (λ h. so_far.0 (step.0 h), λ h. step.1 (so_far.1 h));
+      taken = still_taken;
       later = λ i slot has low. stays i slot (λ e. (let same = e in omega arith)) (back.later i slot has (omega arith));
       live = λ i slot has low lives. elim (cases_order i place) [
         | inl same ↦
@@ -194,6 +215,7 @@ module _ (n : Numbered) (touched : List Bool) (place : ℕ) (first : List (Optio
   all_back = record {
     clean = λ i slot has. let had = back.had i slot has in (had, back.clean i slot has (all i slot had));
     rows = λ i slot has row own. (back.rows i slot has row).1 own;
+    taken = back.taken;
     live = λ i slot has lives. back.live i slot has (all i slot has) lives;
     listed = λ id. (
       λ has. (back.listed id has).1,

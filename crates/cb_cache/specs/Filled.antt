@@ -27,13 +27,14 @@ pub record AddsRow (n : Numbered) (i : ℕ) (slots new_slots : List (Option Slot
 abbrev pub HaveNoSlots : List (Option Slot) → List NodeId → Type 0
 HaveNoSlots slots ids = (id : NodeId) (slot : Slot) → Contains ids id → ¬ HasSlot slots id.0 slot
 
--- these numbers have slots now, and the others those that they had; each slot is one number's, with the row of all that it leads to
-pub record AddsRows (n : Numbered) (ids : List NodeId) (slots new_slots : List (Option Slot)) (new : Pool) : Type 0 where
+-- these numbers have slots now, and the others those that they had; each slot is one number's, with the row of all that it leads to, and no further one is taken
+pub record AddsRows (n : Numbered) (ids : List NodeId) (slots new_slots : List (Option Slot)) (p new : Pool) : Type 0 where
   pub rows : AreRows n new_slots new
   pub kept : (i : ℕ) (slot : Slot) → HasSlot slots i slot → HasSlot new_slots i slot
   pub only : (i : ℕ) (slot : Slot) → HasSlot new_slots i slot → HasSlot slots i slot ⊎ Contains ids (number i)
   pub all : (id : NodeId) → Contains ids id → (slot : Slot) × HasSlot new_slots id.0 slot
   pub apart : AreApart new_slots
+  pub taken : (slot : Slot) → IsTaken new slot → IsTaken p slot ⊎ ((i : ℕ) × HasSlot new_slots i slot)
 
 -- the node of this number causes so many nodes
 abbrev pub HasSize : Numbered → NodeId → ℕ → Type 0

@@ -2,7 +2,7 @@
 use Rattle.std.specs.Prelude.{◌≡◌, ℕ, List, Option, length}
 use Rattle.cb_bits.specs.Bits.{words_for}
 use Rattle.cb_pool.specs.declared.slot.Slot.{Slot}
-use Rattle.cb_pool.specs.Pool.{Pool}
+use Rattle.cb_pool.specs.Pool.{Pool, IsTaken}
 use Rattle.cb_topo.specs.Numbered.{Numbered, IsWhole}
 use Rattle.cb_graph.specs.Edges.{number}
 use Rattle.cb_cache.specs.declared.rows.Rows.{Rows}
@@ -17,12 +17,17 @@ use Rattle.cb_cache.specs.Reached.{HasSlot}
 abbrev pub AreApart : List (Option Slot) → Type 0
 AreApart slots = (i j : ℕ) (slot : Slot) → HasSlot slots i slot → HasSlot slots j slot → i ≡ j
 
--- exactly the problems have slots, each its own, with the row of all that the problem leads to
+-- each slot that is taken is some number's
+abbrev pub AreOwned : List (Option Slot) → Pool → Type 0
+AreOwned slots p = (slot : Slot) → IsTaken p slot → (i : ℕ) × HasSlot slots i slot
+
+-- exactly the problems have slots, each its own, with the row of all that the problem leads to, and no other slot is taken
 pub record AreRight (n : Numbered) (slots : List (Option Slot)) (p : Pool) : Type 0 where
   pub rows : AreRows n slots p
   pub only : (i : ℕ) (slot : Slot) → HasSlot slots i slot → IsProblemNumber n (number i)
   pub all : (i : ℕ) → IsProblemNumber n (number i) → (slot : Slot) × HasSlot slots i slot
   pub apart : AreApart slots
+  pub owned : AreOwned slots p
 
 -- a search has places for all numbers of nodes
 abbrev pub HasRoom : Numbered → Scratch → Type 0

@@ -6,10 +6,11 @@ use Rattle.cb_cache.specs.declared.rows.Store.{Store}
 use Rattle.cb_cache.specs.Most.{HasAtMost}
 use Rattle.cb_cache.specs.Room.{HasRoomFor, HasAgendaFor}
 
--- nothing is listed and no number has a slot, and there is room for so many rows of so many nodes
+-- nothing is listed, no number has a slot, and none is taken; there is room for so many rows of so many nodes
 pub record IsEmptyFor (room count : ℕ) (store : Store) : Type 0 where
   pub order : store.agenda.problems.items ≡ []
   pub slots : store.rows.slots.items ≡ replicate room None
+  pub taken : store.rows.pool.taken ≡ []
   pub width : store.rows.pool.width ≡ words_for room
   pub scratch : HasRoomFor room store.rows.scratch
   pub agenda : HasAgendaFor room store.agenda

@@ -51,12 +51,13 @@ pub record Leaves (n : Numbered) (touched : List Bool) (id : NodeId) (slots : Li
 abbrev pub ListsLive : Numbered → NodeId → List NodeId → List NodeId → Type 0
 ListsLive n id ids new_ids = (IsLiveNode n id × (new_ids ≡ ids ++ id ∷ [])) ⊎ ((¬ IsLiveNode n id) × (new_ids ≡ ids))
 
--- its row is given back
+-- its row is given back, and its slot is free
 pub record GivesBack (n : Numbered) (touched : List Bool) (id : NodeId) (slots : List (Option Slot)) (p : Pool) (new_slots : List (Option Slot)) (new : Pool) (ids new_ids : List NodeId) : Type 0 where
   pub slot : Slot
   pub had : HasSlot slots id.0 slot
   pub stale : IsLiveNode n id → HasTouched touched (row_of p slot)
   pub emptied : new_slots ≡ slice_set slots id.0 None
+  pub free : ¬ IsTaken new slot
   pub others : SameOthers p new slot
   pub lists : ListsLive n id ids new_ids
 
@@ -64,10 +65,11 @@ abbrev pub TakesBackOne : Numbered → List Bool → NodeId → List (Option Slo
 TakesBackOne n touched id slots p new_slots new ids new_ids =
     Leaves n touched id slots p new_slots new ids new_ids ⊎ GivesBack n touched id slots p new_slots new ids new_ids
 
--- clean rows stay in their slots, the others are given back, and the numbers that are stale are listed, each once
+-- clean rows stay in their slots, the others are given back, and the numbers that are stale are listed, each once; a slot that is still taken is still that of the number that had it
 pub record TakesBack (n : Numbered) (touched : List Bool) (slots : List (Option Slot)) (p : Pool) (new_slots : List (Option Slot)) (new : Pool) (ids : List NodeId) : Type 0 where
   pub clean : (i : ℕ) (slot : Slot) → HasSlot new_slots i slot → HasSlot slots i slot × IsClean n touched p i slot
   pub rows : (i : ℕ) (slot : Slot) → HasSlot new_slots i slot → (row : List ℕ) → HasRow p slot row → HasRow new slot row
+  pub taken : (slot : Slot) → IsTaken new slot → IsTaken p slot × ((i : ℕ) → HasSlot slots i slot → HasSlot new_slots i slot)
   pub live : (i : ℕ) (slot : Slot) → HasSlot slots i slot → IsLiveNode n (number i) → HasSlot new_slots i slot ⊎ Contains ids (number i)
   pub listed : (id : NodeId) → Contains ids id ↔ IsStale n touched slots p id
   pub once : AreOnce ids

@@ -8,6 +8,7 @@ ghost use Rattle.cb_pool.specs.Pool.{IsTaken, HasRow};
 ghost use Rattle.cb_network.specs.Laws.{HasGoodName};
 ghost use Rattle.cb_topo.specs.Applied.{Applies, Prevents};
 ghost use Rattle.cb_topo.specs.Numbered.{topology_of, IsNodeNamed};
+ghost use Rattle.cb_graph.specs.Edges.{number};
 ghost use Rattle.cb_cache.specs.Cached.{IsReachedRow, IsCausedRow, but_spare};
 ghost use Rattle.cb_cache.specs.Numbers.{IsProblemNumber};
 ghost use Rattle.cb_cache.specs.Reached.{HasSlot};
@@ -74,6 +75,7 @@ impl Cache {
         ensures value { but_spare result.now ≡ self.now.pool }
         ensures same_width { result.now.width ≡ self.now.pool.width }
         ensures width { self.now.pool.width ≡ words_for (length self.now.graph.nodes) }
+        ensures owned { (slot : SlotOf) → IsTaken result.now slot → (problem : ℕ) × HasSlot self.now.slots problem slot × IsProblemNumber self.now.graph (number problem) }
     {
         &self.store.rows.pool
     }

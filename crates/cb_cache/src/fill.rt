@@ -36,7 +36,7 @@ pub fn add_rows<L: Ledger>(
     requires spare { length nodes.now ≤ rows.old.pool.spare }
     ensures same { graph.new ≡ graph.old }
     ensures room { HaveRoom graph.old rows.new }
-    ensures rows { AddsRows graph.old nodes.now rows.old.slots.items rows.new.slots.items rows.new.pool }
+    ensures rows { AddsRows graph.old nodes.now rows.old.slots.items rows.new.slots.items rows.old.pool rows.new.pool }
     ensures cost { CostAtMost graph.old nodes.now steps.old steps.new }
 {
     for node in nodes {

@@ -48,6 +48,7 @@ returns-then-live-2-clause-takes c =
         | else-live-via-else-live w ↦ absurd (false≢true (sym w.if-live.false ∙ c.if-live-2.true))
       ];
       emptied = refl;
+      free = c.give.ensures.free;
       others = c.give.ensures.others;
       lists = inl (live, c.push_reserved.ensures.items);
     }
@@ -62,6 +63,7 @@ returns-else-live-2-clause-takes c =
       had = slot_there slots c.args.node.0 c.index.result.now slot c.requires.within c.index.ensures c.in-Some.is;
       stale = λ live. absurd (gone live);
       emptied = refl;
+      free = c.give.ensures.free;
       others = c.give.ensures.others;
       lists = inr (gone, refl);
     }

@@ -66,7 +66,7 @@ loop-place-preserved g c =
 pub returns-clause-right : goal.returns-clause-right
 returns-clause-right g c =
     let (old, edit, linked) = c.requires.linked in
-    right_later old c.args.graph.now edit c.args.touched.now c.args.slots.now c.args.pool.now linked c.loop-place.pool
+    right_later old c.args.graph.now edit c.args.touched.now c.args.slots.now c.args.pool.now linked c.loop-place.pool c.loop-place.invariant.extended.taken
     (λ i slot has. c.loop-place.invariant.extended.led i slot (let lt = slot_low c.args.slots.now i slot has in omega arith) has)
 
 pub returns-clause-cost : goal.returns-clause-cost

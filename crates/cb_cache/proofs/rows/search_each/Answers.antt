@@ -8,6 +8,7 @@ use Rattle.cb_cache.specs.Filled.{AddsRows, CostAtMost}
 use Rattle.cb_cache.specs.Numbers.{AreProblemNumbers, AreOnce}
 use Rattle.cb_cache.proofs.Opened.{all_live, no_slot, no_slots_for, no_rows, none_apart, are_right, within_cost}
 use Rattle.cb_cache.proofs.Gathered.{within_most}
+use Rattle.cb_cache.proofs.Pooled.{none_taken}
 use Rattle.cb_cache.proofs.rows.search_each.Goals as goal
 
 pub list_problems-requires-clause-room : goal.list_problems-requires-clause-room
@@ -71,11 +72,12 @@ returns-clause-kept g c =
     let whole = subst IsWhole c.topology.ensures c.list_problems.ensures.whole in
     let are = subst (λ (m : Numbered). AreProblemNumbers m ids) c.topology.ensures c.list_problems.ensures.problems in
     let slots = c.args.store.now.rows.slots.items in
+    let pool = c.args.store.now.rows.pool in
     let made = c.add_rows.new.rows in
-    let rows = subst (λ (xs : List NodeId). AddsRows n xs slots made.slots.items made.pool) c.deref.ensures.value c.add_rows.ensures.rows in
+    let rows = subst (λ (xs : List NodeId). AddsRows n xs slots made.slots.items pool made.pool) c.deref.ensures.value c.add_rows.ensures.rows in
     record {
       whole = whole;
-      right = are_right n whole ids are slots made.slots.items made.pool (no_slot (length n.nodes) slots empty.slots) rows;
+      right = are_right n whole ids are slots made.slots.items pool made.pool (no_slot (length n.nodes) slots empty.slots) (λ slot. none_taken pool slot empty.taken) rows;
       room = c.add_rows.ensures.room;
       agenda = record {
         touched = empty.agenda.touched;
