@@ -29,7 +29,7 @@ use Rattle.cb_top.specs.declared.stop.LogStop.{LogStop}
 use Rattle.cb_top.specs.Counting.{CountsLine, PieceTakes, PieceCounts, HasCounted, CountsOn, CountsTaken, CountsSummed}
 use Rattle.cb_top.specs.Summing.{HasSummedUp}
 use Rattle.cb_top.specs.Telling.{numbered, Going, GoesOrEnds}
-use Rattle.cb_top.proofs.Chain.{if_some, if_some2, of_all, leaves_rest, left_whole}
+use Rattle.cb_top.proofs.Chain.{if_some, if_some2, of_all, leaves_rest}
 use Rattle.cb_top.proofs.Counting.{counts_more, counts_front}
 use Rattle.cb_top.proofs.Followed.{pass_is_one}
 use Rattle.cb_top.proofs.Following.{there}
@@ -146,7 +146,7 @@ module _ (model topology log : List ℕ) (distance window : ℕ) (old : FilesTol
         let low = opened searched (subst (λ (v : Topology). IsOpenCost v searched) (same_network u t same) is) in
         omega (arith, low);
     none = λ not. absurd (not t here);
-    missed = λ not. absurd (not (left_whole (log_from left (Correlate model topology log distance window) log) (left_of after log) (known log)));
+    missed = λ not. absurd (not ([], log_from left (Correlate model topology log distance window) log, refl, known log));
   }) passed read
 
   -- and the log was followed
