@@ -23,3 +23,6 @@ mod table;
 pub use id::NodeId;
 pub use node::Node;
 pub use table::NodeTable;
+
+#[cfg(test)]
+mod tests;

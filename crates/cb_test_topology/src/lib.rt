@@ -1,4 +1,4 @@
-//! The tests of the live network: its instances and links, its nodes, and its text.
+//! The tests of the live network: its instances and links, its edits, and its text.
 //!
 //! They stand in a crate of their own, since a crate's tests are proved together with the whole crate once more.
 #![tactic(auto)]
@@ -9,7 +9,5 @@ mod edits;
 mod inputs;
 #[cfg(test)]
 mod instances;
-#[cfg(test)]
-mod nodes;
 #[cfg(test)]
 mod topo;

@@ -1,6 +1,6 @@
 use Rattle.std.proofs.Common.{refl}
 use Rattle.cb_nodes.specs.Table.{node_of}
-use Rattle.cb_test_topology.proofs.nodes.add.Goals as goal
+use Rattle.cb_nodes.proofs.tests.add.Goals as goal
 
 -- the instance had its nodes taken away
 pub add-requires-clause-new : goal.add-requires-clause-new

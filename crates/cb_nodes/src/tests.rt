@@ -1,7 +1,7 @@
 //! Numbers that are given, looked up and taken away in turn.
+use crate::{Node, NodeTable};
 use cb_instances::InstanceId;
 use cb_model::EventId;
-use cb_nodes::{Node, NodeTable};
 use std::alloc::{AllocError, Global};
 use std::process::Abort;
 
