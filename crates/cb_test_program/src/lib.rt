@@ -5,18 +5,13 @@
 
 #[cfg(test)]
 mod cert;
-
 #[cfg(test)]
 mod certificates;
-
-#[cfg(test)]
-mod gen;
-
 #[cfg(test)]
 mod logs;
-
+#[cfg(test)]
+mod made_up;
 #[cfg(test)]
 mod report;
-
 #[cfg(test)]
 mod top;
