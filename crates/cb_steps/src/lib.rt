@@ -1,11 +1,11 @@
-//! A count of steps that contracts see, and that costs nothing when the program runs.
+//! A count of steps that contracts see, and tests too.
 //!
 //! A bound on the time of a search is said by a number that each of its steps raises by one. The number is kept in
-//! tokens of `std::sync::ledger`, which have no bytes and whose calls do no work: so a `Steps` has none either, and
-//! nothing is left of `tick` in the built program. Only a contract can read the number, and only `tick` raises it.
+//! tokens of `std::sync::ledger`, which have no bytes and whose calls do no work; only `tick` raises it. A test that wants to see
+//! exactly how many steps a search took reads it as `count`, for which one addition is left of `tick` in the built program.
 #![tactic(auto)]
 
-ghost use Rattle.std.specs.Prelude.{◌≡◌, ◌+◌, ◌<◌, ℕ};
+ghost use Rattle.std.specs.Prelude.{◌≡◌, ◌+◌, ◌<◌, ◌^◌, ℕ};
 
 use std::marker::Model;
 use std::sync::ledger::{Blank, Book, Ledger, Share};
@@ -16,14 +16,18 @@ use std::sync::ledger::{Blank, Book, Ledger, Share};
 pub struct Steps<L: Ledger> {
     book: Book<L>,
     share: Share<L>,
+    count: u64,
 }
 
 impl<L: Ledger> Model for Steps<L> {
+    ghost use Rattle.std.specs.Prelude.{◌<◌, ℕ};
+    ghost use Rattle.cb_steps.specs.Counted.{IsCounted};
+
     ghost Value = { ℕ };
 
     ghost view = { λ s. s.book.total };
 
-    ghost invariant = { λ s. 0 < s.share.parts };
+    ghost invariant = { λ s. (0 < s.share.parts) × IsCounted s.book.total s.count };
 }
 
 impl<L: Ledger> Steps<L> {
@@ -35,7 +39,11 @@ impl<L: Ledger> Steps<L> {
         ensures { result ≡ 0 }
     {
         let (book, share) = blank.open();
-        Steps { book, share }
+        Steps {
+            book,
+            share,
+            count: 0,
+        }
     }
 
     /// Counts one step.
@@ -43,5 +51,13 @@ impl<L: Ledger> Steps<L> {
         ensures { self.new ≡ self.old + 1 }
     {
         self.book.add(&mut self.share, 1);
+        self.count = self.count.saturating_add(1);
+    }
+
+    /// How many steps were counted, as long as a `u64` has room for that.
+    pub fn count(&self) -> u64
+        ensures { self.now < 2 ^ 64 → result ≡ self.now }
+    {
+        self.count
     }
 }

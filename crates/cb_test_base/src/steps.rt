@@ -2,11 +2,10 @@ ghost use Rattle.std.specs.Prelude.{◌≡◌, ◌<◌};
 
 use cb_steps::Steps;
 use std::marker::Brand;
-use std::mem::size_of;
 use std::sync::ledger::{Blank, Ledger};
 
-// The bytes that a count takes once two steps were counted.
-fn size_after_two<L: Ledger>(blank: Blank) -> usize
+// The count once two steps were counted.
+fn count_after_two<L: Ledger>(blank: Blank) -> u64
     requires name { blank.name ≡ L.name }
     requires parts { blank.parts ≡ L.parts }
     requires some { 0 < L.parts }
@@ -14,10 +13,10 @@ fn size_after_two<L: Ledger>(blank: Blank) -> usize
     let mut steps = Steps::<L>::new(blank);
     steps.tick();
     steps.tick();
-    size_of::<Steps<L>>()
+    steps.count()
 }
 
 #[test]
-fn a_count_has_no_bytes(rt: HostRuntime) {
-    assert_eq!(rt; size_after_two::<Brand>(Blank::new(1)), 0);
+fn two_steps_are_counted(rt: HostRuntime) {
+    assert_eq!(rt; count_after_two::<Brand>(Blank::new(1)), 2);
 }
