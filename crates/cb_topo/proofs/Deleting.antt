@@ -4,7 +4,6 @@ use Rattle.std.specs.Prelude.{slice_set}
 use Rattle.std.proofs.lemmas.List.{get_or-set_other}
 use Rattle.cb_model.specs.declared.id.ClassId.{ClassId}
 use Rattle.cb_model.specs.declared.id.EventId.{EventId}
-use Rattle.cb_model.specs.WellTyped.{WellTyped}
 use Rattle.cb_model.proofs.Rising.{name_cmp_total, name_cmp_exact}
 use Rattle.cb_network.specs.Topology.{Topology, IsLive as IsLiveName, IsOf}
 use Rattle.cb_network.specs.Edits.{without_instance, Changes, IsAccepted}

@@ -9,6 +9,7 @@ pub mod Stepping
 pub mod Limits
 pub mod Empty
 pub mod Naming
+pub mod Sorting
 pub mod Listing
 pub mod Rooms
 pub mod OneRoom

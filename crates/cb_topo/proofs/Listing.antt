@@ -1,96 +1,93 @@
--- The nodes of a kind by their names, as the numbers are gone through.
-use Rattle.std.proofs.Common.{◌≡◌, ℕ, ◌+◌, ◌<◌, List, [], ◌∷◌, Option, Some, None, IsSome, refl, sym, ap, subst, ◌∙◌, inl, inr, arith}
-use Rattle.std.specs.BTreeMap.{BTreeMap, get, keys, values, Updates, IsOrdered, is_at}
-use Rattle.std.specs.List.{All, AllZip, Contains}
-use Rattle.std.specs.Map.{lookup, keys_of, values_of}
-use Rattle.std.specs.Ordering.{eq_by_cmp}
-use Rattle.std.proofs.lemmas.Bool.{cases_Bool, cases_order, false≢true}
-use Rattle.std.proofs.lemmas.List.Elements.{All-head, All-tail, All-weaker}
-use Rattle.std.proofs.lemmas.Map.Keys.{Less-from_sorted}
-use Rattle.std.proofs.lemmas.Map.Views.{All-found, btree_map_contains_key_iff}
+-- The nodes of a kind with their names, as the numbers are gone through, and once they are sorted.
+use Rattle.std.proofs.Common.{◌≡◌, ◌≢◌, ℕ, ◌+◌, ◌<◌, List, [], ◌∷◌, ◌++◌, map, slice_index_or, sym, ap, subst, ◌∙◌, inl, inr, arith}
+use Rattle.std.specs.List.{All, AllPairs, Contains}
+use Rattle.std.specs.List.Sorted.{IsPermutation, IsSortedBy}
+use Rattle.std.specs.Ordering.{is_lt}
+use Rattle.std.proofs.lemmas.Bool.{cases_order}
+use Rattle.std.proofs.lemmas.List.{map_push}
+use Rattle.std.proofs.lemmas.List.Elements.{All-nil, All-head, All-tail, All-push, All-weaker, All-map, All-contains, Contains-push, Contains-append_left}
+use Rattle.std.proofs.lemmas.List.Quantifiers.{all_pairs_push}
+use Rattle.std.proofs.lemmas.List.Sorted.{All-permutation, Contains-permutation, IsPermutation-map}
 use Rattle.cb_model.specs.declared.node.NodeName.{NodeName}
 use Rattle.cb_model.specs.NodeOrder.{node_cmp}
-use Rattle.cb_model.specs.Order.{Rises}
 use Rattle.cb_model.proofs.Rising.{node_cmp_total, node_cmp_exact}
 use Rattle.cb_network.specs.Nodes.{IsNodeOf, AreInOrder}
 use Rattle.cb_network.specs.Topology.{Topology}
-use Rattle.cb_network.proofs.Sets.{tied, tied_same}
-use Rattle.cb_instances.proofs.Showing.{same_inside}
 use Rattle.cb_nodes.specs.declared.id.NodeId.{NodeId}
 use Rattle.cb_nodes.specs.declared.node.Node.{Node}
 use Rattle.cb_nodes.specs.Table.{IsNode}
 use Rattle.cb_topo.specs.declared.kind.Kind.{Kind}
 use Rattle.cb_topo.specs.declared.kind.Kind.TheVariants.{Column, Problem, Any}
+use Rattle.cb_topo.specs.declared.order.NamedNode.{NamedNode}
 use Rattle.cb_topo.specs.Numbered.{Numbered, topology_of, IsNodeNamed, AreNamed, IsWhole}
-use Rattle.cb_topo.specs.Ordered.{IsOfKind, LeadsToKind}
+use Rattle.cb_topo.specs.Ordered.{IsOfKind, AreOfKind, called, number}
 use Rattle.cb_topo.proofs.Naming.{one_name}
+use Rattle.cb_topo.proofs.Sorting.{rises_sorted}
 
--- the map leads from the names of those of the kind whose numbers are below k to these
-pub record LeadsBelow (n : Numbered) (kind : Kind) (k : ℕ) (nodes : BTreeMap NodeName NodeId) : Type 0 where
-  pub each : (name : NodeName) (id : NodeId) → get node_cmp nodes name ≡ Some id → IsNodeNamed n id name
-  pub kinds : (name : NodeName) (id : NodeId) → get node_cmp nodes name ≡ Some id → IsOfKind kind (topology_of n) name
-  pub all : (name : NodeName) (id : NodeId) → id.0 < k → IsNodeNamed n id name → IsOfKind kind (topology_of n) name → get node_cmp nodes name ≡ Some id
+-- these are those of the kind whose numbers are below k, each once, with their names
+pub record AreBelow (n : Numbered) (kind : Kind) (k : ℕ) (nodes : List NamedNode) : Type 0 where
+  pub below : All (λ one. one.node.0 < k) nodes
+  pub named : All (λ one. IsNodeNamed n one.node (called one)) nodes
+  pub kinds : All (λ one. IsOfKind kind (topology_of n) (called one)) nodes
+  pub unlike : AllPairs (λ one other. called one ≢ called other) nodes
+  pub all : (name : NodeName) (id : NodeId) → id.0 < k → IsNodeNamed n id name → IsOfKind kind (topology_of n) name → Contains (map called nodes) name
 
 same_number : (i j : NodeId) → i.0 ≡ j.0 → i ≡ j
 same_number i j e = λ k. record { 0 = e k }
 
-pub leads_none : (n : Numbered) (kind : Kind) (nodes : BTreeMap NodeName NodeId) → nodes.entries ≡ [] → LeadsBelow n kind 0 nodes
-leads_none n kind nodes none = record {
-  each = λ name id is. absurd (nothing name id is);
-  kinds = λ name id is. absurd (nothing name id is);
+pub below_none : (n : Numbered) (kind : Kind) → AreBelow n kind 0 []
+below_none n kind = record {
+  below = All-nil (λ (one : NamedNode). one.node.0 < 0);
+  named = All-nil (λ (one : NamedNode). IsNodeNamed n one.node (called one));
+  kinds = All-nil (λ (one : NamedNode). IsOfKind kind (topology_of n) (called one));
+  unlike = λ i j d lt within. absurd (omega arith);
   all = λ name id below named is. absurd (omega arith);
 }
-  where
-    nothing : (name : NodeName) (id : NodeId) → get node_cmp nodes name ≡ Some id → ⊥
-    nothing name id is = let e : None ≡ Some id = sym (ap (lookup (is_at (node_cmp name))) none) ∙ is in cc
 
-module _ (n : Numbered) (kind : Kind) (k : ℕ) (old : BTreeMap NodeName NodeId) (leads : LeadsBelow n kind k old) (id : NodeId) (here : id.0 ≡ k) where
+module _ (n : Numbered) (kind : Kind) (k : ℕ) (old : List NamedNode) (are : AreBelow n kind k old) where
+  all_below : All (λ one. one.node.0 < k + 1) old
+  all_below = All-weaker (λ (one : NamedNode). one.node.0 < k) (λ (one : NamedNode). one.node.0 < k + 1) (λ one low. omega arith) old are.below
+
   -- the next number is that of no node of the kind
-  pub leads_past : ((name : NodeName) → IsNodeNamed n id name → ¬ IsOfKind kind (topology_of n) name) → LeadsBelow n kind (k + 1) old
-  leads_past none = record {
-    each = leads.each;
-    kinds = leads.kinds;
-    all = λ name i below named is. elim (cases_order i.0 k) [
+  pub below_past : (id : NodeId) → id.0 ≡ k → ((name : NodeName) → IsNodeNamed n id name → ¬ IsOfKind kind (topology_of n) name) → AreBelow n kind (k + 1) old
+  below_past id here none = record {
+    below = all_below;
+    named = are.named;
+    kinds = are.kinds;
+    unlike = are.unlike;
+    all = λ name i low named is. elim (cases_order i.0 k) [
       | inl same ↦ absurd (none name (subst (λ j. IsNodeNamed n j name) (same_number i id (same ∙ sym here)) named) is)
-      | inr (inl early) ↦ leads.all name i early named is
+      | inr (inl early) ↦ are.all name i early named is
       | inr (inr late) ↦ absurd (omega arith)
     ];
   }
 
   -- the next number is that of a node of the kind
-  module _ (whole : IsWhole n) (new : BTreeMap NodeName NodeId) (name : NodeName) (named : IsNodeNamed n id name) (is : IsOfKind kind (topology_of n) name)
-      (updates : Updates node_cmp old new name (Some id)) where
-    at_name : (q : NodeName) → name ≡ q → get node_cmp new q ≡ Some id
-    at_name q same = let tie = tied_same node_cmp_total node_cmp_exact name q same in rw tie at (updates.0 q)
+  module _ (whole : IsWhole n) (one : NamedNode) (here : one.node.0 ≡ k) (named : IsNodeNamed n one.node (called one)) (is : IsOfKind kind (topology_of n) (called one)) where
+    unlike_more : AllPairs (λ a b. called a ≢ called b) (old ++ one ∷ [])
+    unlike_more = all_pairs_push (λ a b. called a ≢ called b) old one are.unlike (λ i d lt same.
+        let was = slice_index_or old i d in
+        let number = whole.one was.node one.node (called one) (subst (IsNodeNamed n was.node) same (are.named i d lt)) named in
+        let low = are.below i d lt in
+        let equal = ap (λ (id : NodeId). id.0) number in
+        omega arith)
 
-    found : (P : NodeName → NodeId → Type 0) → P name id → ((q : NodeName) (i : NodeId) → get node_cmp old q ≡ Some i → P q i)
-        → (q : NodeName) (i : NodeId) → get node_cmp new q ≡ Some i → P q i
-    found P this others q i in_new = elim (cases_Bool (eq_by_cmp node_cmp name q)) [
-      | inl tie ↦
-          let same : name ≡ q = tied node_cmp_total node_cmp_exact name q tie in
-          let number : id ≡ i = same_inside id i (sym (at_name q same) ∙ in_new) in
-          subst (λ j. P q j) number (subst (λ p. P p id) same this)
-      | inr other ↦ let now = rw other at (updates.0 q) in others q i (sym now ∙ in_new)
+    has_all : (name : NodeName) (id : NodeId) → id.0 < k + 1 → IsNodeNamed n id name → IsOfKind kind (topology_of n) name → Contains (map called old ++ called one ∷ []) name
+    has_all name id low its of_kind = elim (cases_order id.0 k) [
+      | inl same ↦
+          let own = subst (λ j. IsNodeNamed n j name) (same_number id one.node (same ∙ sym here)) its in
+          subst (Contains (map called old ++ called one ∷ [])) (one_name n one.node (called one) name named own) (Contains-push (map called old) (called one))
+      | inr (inl early) ↦ Contains-append_left (map called old) (called one ∷ []) name (are.all name id early its of_kind)
+      | inr (inr late) ↦ absurd (omega arith)
     ]
 
-    pub leads_more : LeadsBelow n kind (k + 1) new
-    leads_more = record {
-      each = found (λ q i. IsNodeNamed n i q) named leads.each;
-      kinds = found (λ q i. IsOfKind kind (topology_of n) q) is leads.kinds;
-      all = λ q i below its of_kind. elim (cases_order i.0 k) [
-        | inl same ↦
-            let number : i ≡ id = same_number i id (same ∙ sym here) in
-            let one = one_name n id name q named (subst (λ j. IsNodeNamed n j q) number its) in
-            at_name q one ∙ ap Some (sym number)
-        | inr (inl early) ↦ elim (cases_Bool (eq_by_cmp node_cmp name q)) [
-          | inl tie ↦
-              let one = tied node_cmp_total node_cmp_exact name q tie in
-              let number : id ≡ i = whole.one id i q (subst (λ p. IsNodeNamed n id p) one named) its in
-              at_name q one ∙ ap Some number
-          | inr other ↦ let now = rw other at (updates.0 q) in now ∙ leads.all q i early its of_kind
-        ]
-        | inr (inr late) ↦ absurd (omega arith)
-      ];
+    pub below_more : AreBelow n kind (k + 1) (old ++ one ∷ [])
+    below_more = record {
+      below = All-push (λ (one : NamedNode). one.node.0 < k + 1) old one all_below (omega arith);
+      named = All-push (λ (one : NamedNode). IsNodeNamed n one.node (called one)) old one are.named named;
+      kinds = All-push (λ (one : NamedNode). IsOfKind kind (topology_of n) (called one)) old one are.kinds is;
+      unlike = unlike_more;
+      all = λ name id low its of_kind. subst (λ names. Contains names name) (sym (map_push called old one)) (has_all name id low its of_kind);
     }
 
 -- what is of a kind is a node
@@ -100,36 +97,33 @@ of_topology Problem t name is = (is.event, record { class = is.class; of_class =
 of_topology Any t name is = is
 
 -- all numbers were gone through
-pub leads_all : (n : Numbered) (kind : Kind) (k : ℕ) (nodes : BTreeMap NodeName NodeId) → IsWhole n → ((id : NodeId) (node : Node) → IsNode n.nodes id node → id.0 < k)
-    → LeadsBelow n kind k nodes → LeadsToKind n kind nodes
-leads_all n kind k nodes whole below leads = record {
-  each = leads.each;
-  kinds = leads.kinds;
+pub below_all : (n : Numbered) (kind : Kind) (k : ℕ) (nodes : List NamedNode) → IsWhole n → ((id : NodeId) (node : Node) → IsNode n.nodes id node → id.0 < k)
+    → AreBelow n kind k nodes → AreOfKind n kind nodes
+below_all n kind k nodes whole below are = record {
+  named = are.named;
+  kinds = are.kinds;
+  unlike = are.unlike;
   all = λ name is.
       let (id, named) = whole.named name (of_topology kind (topology_of n) name is) in
-      subst IsSome (sym (leads.all name id (below id named.node named.is) named is)) refl;
+      are.all name id (below id named.node named.is) named is;
 }
 
-some_of : {X : Type 0} (o : Option X) → IsSome o → (x : X) × (o ≡ Some x)
-some_of None is = absurd (false≢true is)
-some_of (Some x) is = (x, refl)
+zipped : (n : Numbered) (nodes : List NamedNode) → All (λ one. IsNodeNamed n one.node (called one)) nodes → AreNamed n (map number nodes) (map called nodes)
+zipped n [] all = tt
+zipped n (one ∷ nodes) all =
+    let P : NamedNode → Type 0 = λ one. IsNodeNamed n one.node (called one) in
+    (All-head P one nodes all, zipped n nodes (All-tail P one nodes all))
 
-zipped : (P : NodeId → NodeName → Type 0) (es : List (NodeName × NodeId)) → All (λ e. P e.1 e.0) es → AllZip P (values_of es) (keys_of es)
-zipped P [] all = tt
-zipped P (e ∷ es) all = (All-head (λ (e : NodeName × NodeId). P e.1 e.0) e es all, zipped P es (All-tail (λ (e : NodeName × NodeId). P e.1 e.0) e es all))
-
--- the names of the map are all of the kind, in order, and its numbers are theirs
-module _ (n : Numbered) (kind : Kind) (nodes : BTreeMap NodeName NodeId) (leads : LeadsToKind n kind nodes) (ordered : IsOrdered node_cmp nodes) where
-  pub names_are : AreInOrder (IsOfKind kind (topology_of n)) (keys nodes)
-  names_are =
-      let has = btree_map_contains_key_iff node_cmp_total node_cmp_exact nodes in
+-- once they are sorted, their names are all of the kind, in order, and their numbers are those of the names
+module _ (n : Numbered) (kind : Kind) (found nodes : List NamedNode) (are : AreOfKind n kind found) (moved : IsPermutation found nodes) where
+  pub names_are : IsSortedBy (λ a b. is_lt (node_cmp (called a) (called b))) nodes → AreInOrder (IsOfKind kind (topology_of n)) (map called nodes)
+  names_are sorted =
+      let of_kind : NodeName → Type 0 = IsOfKind kind (topology_of n) in
       record {
-        rise = λ i j d below within. Less-from_sorted node_cmp (keys nodes) i j d ordered below within;
-        each = λ name there. let (id, is) = some_of (get node_cmp nodes name) ((has name).1 there) in leads.kinds name id is;
-        all = λ name is. (has name).0 (leads.all name is);
+        rise = rises_sorted called node_cmp_total node_cmp_exact found nodes moved are.unlike sorted;
+        each = λ name there. All-contains of_kind (map called nodes) name (All-map of_kind called nodes (All-permutation (λ one. of_kind (called one)) found nodes moved are.kinds)) there;
+        all = λ name is. Contains-permutation (map called found) (map called nodes) name (IsPermutation-map called found nodes moved) (are.all name is);
       }
 
-  pub numbers_are : AreNamed n (values nodes) (keys nodes)
-  numbers_are = zipped (IsNodeNamed n) nodes.entries
-      (All-weaker (λ (e : NodeName × NodeId). get node_cmp nodes e.0 ≡ Some e.1) (λ (e : NodeName × NodeId). IsNodeNamed n e.1 e.0) (λ e is. leads.each e.0 e.1 is) nodes.entries
-      (All-found node_cmp_total nodes ordered))
+  pub numbers_are : AreNamed n (map number nodes) (map called nodes)
+  numbers_are = zipped n nodes (All-permutation (λ (one : NamedNode). IsNodeNamed n one.node (called one)) found nodes moved are.named)

@@ -1,5 +1,5 @@
 -- Edits by their steps.
-use Rattle.std.proofs.Common.{◌≡◌, ℕ, List, refl, sym, ap, subst}
+use Rattle.std.proofs.Common.{◌≡◌, ℕ, List, refl, sym, ap}
 use Rattle.cb_model.specs.declared.id.ClassId.{ClassId}
 use Rattle.cb_model.specs.declared.id.EventId.{EventId}
 use Rattle.cb_model.specs.declared.id.RelId.{RelId}
@@ -11,7 +11,7 @@ use Rattle.cb_network.specs.declared.edit.EditRefusal.TheVariants.{Linked, Alrea
 use Rattle.cb_network.specs.Edits.{IsAccepted}
 use Rattle.cb_network.specs.Laws.{HasGoodName}
 use Rattle.cb_instances.specs.declared.id.InstanceId.{InstanceId}
-use Rattle.cb_instances.specs.Net.{Net, IsNamed, IsLive, LinkAt, HasEventAt, IsMutedAt, name_at, linked, unlinked, muted, unmuted}
+use Rattle.cb_instances.specs.Net.{Net, IsLive, LinkAt, HasEventAt, IsMutedAt, name_at, linked, unlinked, muted, unmuted}
 use Rattle.cb_nodes.specs.Table.{Table}
 use Rattle.cb_accept.specs.declared.counts.Counts.{Counts}
 use Rattle.cb_accept.specs.declared.step.Step.TheVariants as step

@@ -1,16 +1,37 @@
 //! Columns, problems and all nodes in order.
-ghost use Rattle.std.specs.Prelude.{◌↔◌, List as Items, IfOk, IsTrue};
+ghost use Rattle.std.specs.Prelude.{◌≡◌, ◌↔◌, List as Items, IfOk, IsTrue};
 ghost use Rattle.cb_model.specs.declared.node.NodeName.{NodeName as Node};
+ghost use Rattle.cb_model.specs.NodeOrder.{node_cmp};
 ghost use Rattle.cb_network.specs.Nodes.{AreInOrder, AreColumns, AreProblems, IsNodeOf};
 ghost use Rattle.cb_topo.specs.Numbered.{topology_of, IsNodeNamed, IsLiveNode, AreNamed};
-ghost use Rattle.cb_topo.specs.Ordered.{IsOfKind, LeadsToKind};
+ghost use Rattle.cb_topo.specs.Ordered.{IsOfKind, AreOfKind, called};
 
 use crate::kind::Kind;
 use crate::topology::Topology;
 use cb_model::{List, NodeName};
 use cb_nodes::NodeId;
 use std::alloc::{AllocError, Global};
-use std::collections::BTreeMap;
+use std::cmp::Ordering;
+
+/// A node with the two parts of its name, which are lent, so that nodes are put in order without a copy of any name.
+#[derive(Drop)]
+struct NamedNode<'a> {
+    instance: &'a [u8],
+    event: &'a [u8],
+    node: NodeId,
+}
+
+impl NamedNode<'_> {
+    // The order of the names: by the instances, and by the events only where these are equal.
+    fn compare(&self, other: &NamedNode<'_>) -> Ordering
+        ensures { result ≡ node_cmp (called self.now) (called other.now) }
+    {
+        match self.instance.cmp(other.instance) {
+            Ordering::Equal => self.event.cmp(other.event),
+            unlike => unlike,
+        }
+    }
+}
 
 impl Topology {
     /// The columns in order.
@@ -38,23 +59,29 @@ impl Topology {
     fn listed(&self, alloc: Global, kind: Kind) -> Result<List<NodeId>, AllocError>
         ensures { IfOk result (λ ids. (names : Items Node) × AreInOrder (IsOfKind kind (topology_of self.now)) names × AreNamed self.now ids names) }
     {
-        let by_name = self.by_name(alloc, kind)?;
+        let mut named = self.named(alloc, kind)?;
+        named.sort_unstable_by(|one, other| one.compare(other));
         let mut nodes = List::new(alloc);
-        for node in by_name.values() {
-            nodes.push(*node)?;
+        for one in &named {
+            nodes.push(one.node)?;
         }
         Ok(nodes)
     }
 
-    // The nodes of the kind, by their names.
-    fn by_name(&self, alloc: Global, kind: Kind) -> Result<BTreeMap<NodeName, NodeId>, AllocError>
-        ensures { IfOk result (LeadsToKind self.now kind) }
+    // The nodes of the kind with their names, by their numbers.
+    fn named(&self, alloc: Global, kind: Kind) -> Result<Vec<NamedNode<'_>>, AllocError>
+        ensures { IfOk result (λ nodes. AreOfKind self.now kind nodes.items) }
     {
-        let mut nodes = BTreeMap::new(alloc);
+        let mut nodes = Vec::new(alloc);
         for place in 0..self.nodes.room() {
             let node = NodeId(place as u32);
             if self.is_live(node) && self.is_of(node, kind) {
-                nodes.insert(self.copy_name(alloc, node)?, node)?;
+                let (event, instance) = self.node_name(node);
+                nodes.push(NamedNode {
+                    instance,
+                    event,
+                    node,
+                })?;
             }
         }
         Ok(nodes)

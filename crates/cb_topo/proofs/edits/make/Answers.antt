@@ -1,6 +1,5 @@
 use Rattle.std.proofs.Common.{◌≡◌, subst, sym}
 use Rattle.cb_network.specs.declared.edit.Edit.{Edit}
-use Rattle.cb_network.specs.declared.edit.Edit.TheVariants.{Delete}
 use Rattle.cb_network.specs.Edits.{IsAccepted}
 use Rattle.cb_accept.specs.declared.step.Step.TheVariants as step
 use Rattle.cb_accept.specs.Steps.{IsStepOf}

@@ -1,16 +1,20 @@
-use Rattle.std.proofs.Common.{◌≡◌, ◌++◌, sym, ap, subst, ◌∙◌}
-use Rattle.std.specs.BTreeMap.{keys, values, IsOrdered}
-use Rattle.std.proofs.lemmas.List.{append-nil}
-use Rattle.cb_model.specs.NodeOrder.{node_cmp}
+use Rattle.std.proofs.Common.{map, ap, sym, subst, ◌∙◌, rules}
+use Rattle.std.proofs.lemmas.List.{take_all}
+use Rattle.cb_model.proofs.Rising.{node_cmp_total}
 use Rattle.cb_topo.specs.Numbered.{AreNamed}
+use Rattle.cb_topo.specs.Ordered.{called, number}
 use Rattle.cb_topo.proofs.Listing.{names_are, numbers_are}
+use Rattle.cb_topo.proofs.Sorting.{sorted_by}
 use Rattle.cb_topo.proofs.topology.Topology.listed.Goals as goal
 
 pub returns : goal.returns
 returns c =
     let n = c.args.self.now in
-    let nodes = c.in_ok-by_name.by_name in
-    let listed = c.loop-node.nodes in
-    let ordered : IsOrdered node_cmp nodes = c.values-node-items.ensures.ordered in
-    let all : listed ≡ values nodes = sym (append-nil listed) ∙ (ap (λ rest. listed ++ rest) (sym c.in-None.ensures.steps.0) ∙ (c.loop-node.invariant ∙ (c.into_iter-node-iterator.ensures.into_iter_gives ∙ c.values-node-items.ensures.rest))) in
-    (keys nodes, names_are n c.args.kind nodes c.in_ok-by_name.ensures ordered, subst (λ ids. AreNamed n ids (keys nodes)) (sym all) (numbers_are n c.args.kind nodes c.in_ok-by_name.ensures ordered))
+    let nodes = c.sort_unstable_by.new.self.items in
+    let are = c.in_ok-named.ensures in
+    let moved = c.sort_unstable_by.ensures.permutation in
+    let sorted = sorted_by called node_cmp_total nodes c.sort_unstable_by.ensures.sorted (λ a r f k. search rules) in
+    let all = take_all c.loop-one.one-index c.deref-one-items.result.now c.loop-one-test.false ∙ c.deref-one-items.ensures.value in
+    let ids_are = c.loop-one.invariant ∙ ap (map number) all in
+    let named = numbers_are n c.args.kind c.in_ok-named.named.items nodes are moved in
+    (map called nodes, names_are n c.args.kind c.in_ok-named.named.items nodes are moved sorted, subst (λ ids. AreNamed n ids (map called nodes)) (sym ids_are) named)
