@@ -2,11 +2,12 @@
 ghost use Rattle.std.specs.Prelude.{◌≡◌, ◌≤◌, ◌<◌, ◌^◌, length, replicate, [], IfOk, IfSome, IfNone};
 ghost use Rattle.cb_coding.specs.Distance.{all_columns, HaveWidth};
 ghost use Rattle.cb_coding.specs.Pairs.{Good};
-ghost use Rattle.cb_coding.specs.Books.{IsBook};
+ghost use Rattle.cb_coding.specs.Books.{IsBook, IsInUse};
 ghost use Rattle.cb_reduce.specs.Places.{kept_of};
 ghost use Rattle.cb_reduce.specs.Reduced.{IsReduced};
 
 use crate::close::first_close;
+use crate::least_pair::closest_from;
 use crate::moves::{Waiter, decide, move_on};
 use crate::sharing::starts_with_zero;
 use crate::waiting::wait_all;
@@ -39,6 +40,21 @@ pub fn reduce(alloc: Global, codes: &Codes, wanted: u32) -> Result<Book, Refused
     }
 }
 
+/// The book that is in use for a wanted distance: at that distance, or at the least distance of two codes where that is less.
+pub fn book_in_use(alloc: Global, codes: &Codes, wanted: u32) -> Result<Book, AllocError>
+    requires places_fit { length codes.now.rows ≤ 2 ^ 16 }
+    requires columns_fit { codes.now.width ≤ 2 ^ 16 }
+    ensures { IfOk result (IsInUse codes.now.width codes.now.rows wanted) }
+{
+    match first_close(codes, wanted) {
+        Some(pair) => {
+            let closest = closest_from(codes, pair);
+            book_of_good(alloc, codes, codes.width(), closest.distance)
+        }
+        None => book_of_good(alloc, codes, codes.width(), wanted),
+    }
+}
+
 // The book at a distance at which the codes are good.
 fn book_of_good(
     alloc: Global,
@@ -56,7 +72,7 @@ fn book_of_good(
     let mut kept = Row::zeroed(alloc, width)?;
     let mut waiting = empty_lists(alloc, width)?;
     let quiet = starts_with_zero(codes);
-    wait_all(codes, quiet, &kept, distance, &mut waiting)?;
+    wait_all(alloc, codes, quiet, &kept, distance, &mut waiting)?;
     for column in (0..width).rev() {
         let pairs = replace(&mut waiting[column], List::new(alloc));
         decide(codes, &pairs, &mut kept, column, distance);

@@ -6,6 +6,7 @@ mod codebook;
 mod differing;
 mod laws;
 mod least_pair;
+mod marked;
 mod measure;
 mod moves;
 mod place;
@@ -16,12 +17,13 @@ mod whole;
 
 pub use cb_coding::{Book, Pair};
 pub use close::first_close;
-pub use codebook::{Refused, reduce};
+pub use codebook::{Refused, book_in_use, reduce};
 pub use laws::{
     only_differing_count, place_falls, sharing_suffices, waiting_place_is_one,
     waits_where_too_close,
 };
 pub use least_pair::least;
+pub use marked::{mark, mark_sharing};
 pub use measure::{distance_from, distance_over, mask_of};
 pub use plain::{book, is_good};
 pub use whole::{every_column, whole_book};

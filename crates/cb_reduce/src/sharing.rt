@@ -9,6 +9,7 @@ ghost use Rattle.cb_reduce.specs.Close.{AreNumbered, FarBefore, IsCloseAfter};
 ghost use Rattle.cb_reduce.specs.Sharers.{IsTold, IsBehind, Covers, Improves};
 
 use crate::close::close_later;
+use cb_bits::Row;
 use cb_codes::Codes;
 use cb_coding::Pair;
 use cb_model::List;
@@ -20,18 +21,15 @@ pub fn starts_with_zero(codes: &Codes) -> bool
     codes.len() > 0 && codes.row(0).ones() == 0
 }
 
-/// Whether the codes that share a column with this one, one of its first so many, are told by so few places that it is quicker to
+/// Whether the codes that share a column with a word, one of its first so many, are told by so few places that it is quicker to
 /// go through these than through all codes.
-pub fn is_quicker(codes: &Codes, place: usize, most: usize) -> bool
-    requires { place < length codes.now.rows }
-{
-    let code = codes.row(place);
+pub fn is_quicker(codes: &Codes, word: &Row, most: usize) -> bool {
     // A length fits its type, and so does the place behind a column.
-    let _width = code.len();
+    let _width = word.len();
     let mut looks: usize = 0;
     let mut columns = 0;
     let mut from = 0;
-    while let Some(column) = code.next_one(from) {
+    while let Some(column) = word.next_one(from) {
         if most <= columns {
             return true;
         }

@@ -1,20 +1,21 @@
 //! Which pairs wait at first.
-ghost use Rattle.std.specs.Prelude.{◌≡◌, ◌<◌, ◌≤◌, ℕ, true, length, OnOk};
-ghost use Rattle.std.specs.List.{Contains};
+ghost use Rattle.std.specs.Prelude.{◌≡◌, ◌<◌, ℕ, true, length, OnOk, IsTrue};
+ghost use Rattle.cb_coding.specs.Distance.{bit};
 ghost use Rattle.cb_coding.specs.Pairs.{IsPair};
-ghost use Rattle.cb_reduce.specs.Pairs.{MustWait};
+ghost use Rattle.cb_reduce.specs.Pairs.{Counts, MustWait};
 ghost use Rattle.cb_reduce.specs.Places.{kept_of};
 ghost use Rattle.cb_reduce.specs.Moves.{MayWait, IsHeld, Grows};
 
+use crate::marked::mark_sharing;
 use crate::moves::{Waiter, wait};
-use crate::sharing::is_quicker;
 use cb_bits::Row;
 use cb_codes::Codes;
 use cb_model::List;
-use std::alloc::AllocError;
+use std::alloc::{AllocError, Global};
 
 /// Lets all pairs wait, from the last column on. Behind a zero code, those with it and those that share a column suffice.
 pub fn wait_all(
+    alloc: Global,
     codes: &Codes,
     quiet: bool,
     kept: &Row,
@@ -27,40 +28,81 @@ pub fn wait_all(
     ensures held { OnOk result ((i j : ℕ) → IsPair codes.now.rows i j → MustWait quiet codes.now.rows i j
         → IsHeld codes.now.rows (kept_of kept.now) distance waiting.new.items (length kept.now) i j) }
 {
+    let mut marked = Row::zeroed(alloc, codes.len())?;
     for second in 0..codes.len() {
-        wait_for(codes, quiet, second, kept, distance, waiting)?;
+        wait_for(codes, quiet, second, kept, distance, &mut marked, waiting)?;
     }
     Ok(())
 }
 
-// Lets the pairs of a code with those before it wait.
+// Lets the pairs of a code with those before it wait. `marked` has a place for each code.
 fn wait_for(
     codes: &Codes,
     quiet: bool,
     second: usize,
     kept: &Row,
     distance: u32,
+    marked: &mut Row,
     waiting: &mut Vec<List<Waiter>>,
 ) -> Result<(), AllocError>
     requires may { MayWait codes.now.rows kept.now distance }
     requires within { second < length codes.now.rows }
+    requires long { length marked.old ≡ length codes.now.rows }
     requires lists { length waiting.old.items ≡ length kept.now }
+    ensures long { length marked.new ≡ length marked.old }
     ensures grows { OnOk result (Grows codes.now.rows waiting.old.items waiting.new.items) }
     ensures held { OnOk result ((i : ℕ) → i < second → MustWait quiet codes.now.rows i second
         → IsHeld codes.now.rows (kept_of kept.now) distance waiting.new.items (length kept.now) i second) }
 {
-    if quiet && is_quicker(codes, second, codes.width()) {
-        wait_with_sharing(codes, second, kept, distance, waiting)
+    if quiet && mark_counting(codes, second, marked) {
+        wait_with_marked(codes, second, marked, kept, distance, waiting)
     } else {
-        wait_with_earlier(codes, second, second, kept, distance, waiting)
+        wait_with_earlier(codes, second, kept, distance, waiting)
     }
 }
 
-// Lets its pairs with the first of these codes wait, so many.
+// Marks the first code and those that share a column with one. It answers false where it is quicker to go through all codes.
+fn mark_counting(codes: &Codes, place: usize, marked: &mut Row) -> bool
+    requires within { place < length codes.now.rows }
+    requires long { length marked.old ≡ length codes.now.rows }
+    ensures long { length marked.new ≡ length marked.old }
+    ensures counting { IsTrue result → (i : ℕ) → i < length codes.now.rows → Counts codes.now.rows i place → bit marked.new i ≡ true }
+{
+    marked.wipe();
+    marked.set(0);
+    mark_sharing(codes, codes.row(place), marked)
+}
+
+// Lets its pairs with the marked codes before it wait.
+fn wait_with_marked(
+    codes: &Codes,
+    second: usize,
+    marked: &Row,
+    kept: &Row,
+    distance: u32,
+    waiting: &mut Vec<List<Waiter>>,
+) -> Result<(), AllocError>
+    requires may { MayWait codes.now.rows kept.now distance }
+    requires within { second < length codes.now.rows }
+    requires lists { length waiting.old.items ≡ length kept.now }
+    ensures grows { OnOk result (Grows codes.now.rows waiting.old.items waiting.new.items) }
+    ensures held { OnOk result ((i : ℕ) → bit marked.now i ≡ true → i < second
+        → IsHeld codes.now.rows (kept_of kept.now) distance waiting.new.items (length kept.now) i second) }
+{
+    // A length fits its type, and so does the place behind a code.
+    let _count = marked.len();
+    let mut from = 0;
+    while let Some(first) = marked.next_one(from) {
+        wait_before(codes, first, second, kept, distance, waiting)?;
+        from = first + 1;
+    }
+    Ok(())
+}
+
+// Lets its pairs with all codes before it wait.
 fn wait_with_earlier(
     codes: &Codes,
     second: usize,
-    count: usize,
     kept: &Row,
     distance: u32,
     waiting: &mut Vec<List<Waiter>>,
@@ -69,64 +111,11 @@ fn wait_with_earlier(
     requires within { second < length codes.now.rows }
     requires lists { length waiting.old.items ≡ length kept.now }
     ensures grows { OnOk result (Grows codes.now.rows waiting.old.items waiting.new.items) }
-    ensures held { OnOk result ((i : ℕ) → i < count → i < second
+    ensures held { OnOk result ((i : ℕ) → i < second
         → IsHeld codes.now.rows (kept_of kept.now) distance waiting.new.items (length kept.now) i second) }
 {
-    for first in 0..count {
+    for first in 0..second {
         wait_before(codes, first, second, kept, distance, waiting)?;
-    }
-    Ok(())
-}
-
-// Lets its pairs with the first code, and with the earlier ones that share a column with it, wait.
-fn wait_with_sharing(
-    codes: &Codes,
-    second: usize,
-    kept: &Row,
-    distance: u32,
-    waiting: &mut Vec<List<Waiter>>,
-) -> Result<(), AllocError>
-    requires may { MayWait codes.now.rows kept.now distance }
-    requires within { second < length codes.now.rows }
-    requires lists { length waiting.old.items ≡ length kept.now }
-    ensures grows { OnOk result (Grows codes.now.rows waiting.old.items waiting.new.items) }
-    ensures held { OnOk result ((i : ℕ) → i < second → MustWait true codes.now.rows i second
-        → IsHeld codes.now.rows (kept_of kept.now) distance waiting.new.items (length kept.now) i second) }
-{
-    wait_before(codes, 0, second, kept, distance, waiting)?;
-    let code = codes.row(second);
-    // A length fits its type, and so does the place behind a column.
-    let _width = code.len();
-    let mut from = 0;
-    while let Some(column) = code.next_one(from) {
-        let Some(places) = codes.holders(column) else {
-            wait_with_earlier(codes, second, second, kept, distance, waiting)?;
-            return Ok(());
-        };
-        wait_among(codes, second, places, kept, distance, waiting)?;
-        from = column + 1;
-    }
-    Ok(())
-}
-
-// Lets its pairs with the codes at these places wait.
-fn wait_among(
-    codes: &Codes,
-    second: usize,
-    places: &List<u32>,
-    kept: &Row,
-    distance: u32,
-    waiting: &mut Vec<List<Waiter>>,
-) -> Result<(), AllocError>
-    requires may { MayWait codes.now.rows kept.now distance }
-    requires within { second < length codes.now.rows }
-    requires lists { length waiting.old.items ≡ length kept.now }
-    ensures grows { OnOk result (Grows codes.now.rows waiting.old.items waiting.new.items) }
-    ensures held { OnOk result ((i : ℕ) → Contains places.now i → i < second
-        → IsHeld codes.now.rows (kept_of kept.now) distance waiting.new.items (length kept.now) i second) }
-{
-    for place in places.as_slice() {
-        wait_before(codes, *place as usize, second, kept, distance, waiting)?;
     }
     Ok(())
 }

@@ -1,6 +1,6 @@
 pub mod Alone
 pub mod Bases
-pub mod InUse
+pub mod Following
 pub mod Behind
 pub mod Telling
 pub mod Stepping

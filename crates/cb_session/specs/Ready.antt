@@ -1,18 +1,16 @@
 -- What windows are diagnosed by, as a session holds it.
-use Rattle.std.specs.Prelude.{◌≡◌, ◌<◌, ◌≤◌, ◌+◌, ◌^◌, ℕ, List, length, Bool, Some}
+use Rattle.std.specs.Prelude.{◌≡◌, ◌<◌, ◌≤◌, ◌+◌, ◌^◌, ℕ, List, length}
 use Rattle.cb_model.specs.declared.node.GroupName.{GroupName}
 use Rattle.cb_coding.specs.declared.book.Book.{Book}
 use Rattle.cb_coding.specs.declared.book.Pair.{Pair}
 use Rattle.cb_coding.specs.declared.group.Group.{Group}
-use Rattle.cb_coding.specs.Books.{IsBook}
 use Rattle.cb_coding.specs.Groups.{codes_of}
-use Rattle.cb_coding.specs.Pairs.{IsLeast}
 use Rattle.cb_decode.specs.Decoder.{IsDecoder}
 use Rattle.cb_finding.specs.Finding.{IsCalled}
 use Rattle.cb_finding.specs.Matrix.{IsMatrix}
 use Rattle.cb_log.specs.declared.event.Event.{Event}
 use Rattle.cb_log.specs.declared.event.Event.TheVariants.{Thin}
-use Rattle.cb_log.specs.Basis.{Mode, IsUsed, Basis}
+use Rattle.cb_log.specs.Basis.{Mode, wanted, IsUsed, Basis}
 use Rattle.cb_network.specs.Sound.{problem_limit, symptom_limit}
 use Rattle.cb_network.specs.Topology.{Topology}
 use Rattle.cb_session.specs.declared.basis.Ready.{Ready}
@@ -26,6 +24,10 @@ pub record IsReady (network : Topology) (mode : Mode) (ready : Ready) : Type 0 w
   pub few_groups : length ready.matrix.groups ≤ problem_limit + 1
   pub few_kept : length ready.book.columns < 2 ^ 32
 
+-- it is ready for some topology, by the codebook in use for a wanted distance
+abbrev pub IsReadyFor : ℕ → Ready → Type 0
+IsReadyFor d ready = (network : Topology) × IsReady network (wanted d) ready
+
 -- it is ready for some topology
 abbrev pub IsSomewhereReady : Ready → Type 0
 IsSomewhereReady ready = (network : Topology) × (mode : Mode) × IsReady network mode ready
@@ -35,13 +37,6 @@ pub record HasBasis {network : Topology} {mode : Mode} (basis : Basis network mo
   pub columns : basis.columns ≡ ready.matrix.columns
   pub groups : basis.groups ≡ ready.matrix.groups
   pub book : basis.book ≡ ready.book
-
--- a book at the distance of the closest two codes
-pub record IsOfClosest (width : ℕ) (codes : List (List Bool)) (book : Book) : Type 0 where
-  pub is_book : IsBook width codes book
-  pub pair : Pair
-  pub least : IsLeast width codes (Some pair)
-  pub distance : book.distance ≡ pair.distance
 
 -- the group at a place is called by something
 abbrev pub HasName : List Group → ℕ → Type 0

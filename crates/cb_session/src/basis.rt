@@ -1,9 +1,12 @@
 //! What windows are diagnosed by, and their diagnoses.
-ghost use Rattle.std.specs.Prelude.{◌≡◌, ◌≤◌, ◌<◌, ◌^◌, ◌++◌, List as Items, length, IfOk, OnOk};
+ghost use Rattle.std.specs.Prelude.{◌≡◌, ◌≤◌, ◌<◌, ◌^◌, ◌++◌, List as Items, length, IfOk, OnOk, IfSome, IfNone};
 ghost use Rattle.std.specs.List.{All, AllZip};
 ghost use Rattle.cb_cert.specs.Format.{IsWanted};
 ghost use Rattle.cb_coding.specs.Answers.{radius as radius_of};
 ghost use Rattle.cb_coding.specs.Books.{IsInUse};
+ghost use Rattle.cb_coding.specs.Distance.{all_columns};
+ghost use Rattle.cb_coding.specs.Groups.{codes_of};
+ghost use Rattle.cb_coding.specs.Pairs.{Good, IsFirstClose};
 ghost use Rattle.cb_decode.specs.Decoder.{IsDecoder};
 ghost use Rattle.cb_finding.specs.Finding.{IsCalled};
 ghost use Rattle.cb_log.specs.Basis.{Mode, wanted as for_wanted, fixed as by_fixed, Basis, IsDiagnosis, IsAnnounced, book_made as book_made_by};
@@ -11,7 +14,7 @@ ghost use Rattle.cb_log.specs.declared.event.Event.{Event as EventOf};
 ghost use Rattle.cb_model.specs.NodeOrder.{node_cmp};
 ghost use Rattle.cb_model.specs.Order.{Rises};
 ghost use Rattle.cb_network.specs.Topology.{Topology};
-ghost use Rattle.cb_session.specs.Ready.{IsReady, IsSomewhereReady, HasBasis, IsOfClosest, HasName, NamesPair};
+ghost use Rattle.cb_session.specs.Ready.{IsReady, IsReadyFor, IsSomewhereReady, HasBasis, HasName, NamesPair};
 ghost use Rattle.cb_topo.specs.Numbered.{topology_of};
 
 use cb_cache::Cache;
@@ -21,7 +24,7 @@ use cb_decode::{Decoder, find_by};
 use cb_log::{Closed, Event};
 use cb_matrix::Matrix;
 use cb_model::{GroupName, List, Name};
-use cb_reduce::{Refused, first_close, least, reduce};
+use cb_reduce::{book_in_use, first_close};
 use std::alloc::{AllocError, Global};
 
 /// What windows are diagnosed by: the matrix of a topology, the codebook in use for it, and its decoder.
@@ -70,16 +73,28 @@ impl Ready {
 
     /// The events that tell of the codebook, before the first diagnosis by it.
     pub fn announce(&self, alloc: Global, wanted: u32) -> Result<List<Event>, AllocError>
-        requires { IsSomewhereReady self.now }
+        requires { IsReadyFor wanted self.now }
         ensures { IfOk result (λ events. (network : Topology) (mode : Mode) (basis : Basis network mode) → HasBasis basis self.now
             → IsAnnounced basis wanted events) }
     {
         let mut events = List::new(alloc);
-        if let Some(pair) = first_close(self.matrix.codes(), wanted) {
+        if let Some(pair) = self.first_thin(wanted) {
             events.push(thin(alloc, self.matrix.coded_groups(), pair, wanted)?)?;
         }
         events.push(self.book_made())?;
         Ok(events)
+    }
+
+    // The first two groups that are closer than wanted. None are where the codebook keeps that distance.
+    fn first_thin(&self, wanted: u32) -> Option<Pair>
+        requires { IsReadyFor wanted self.now }
+        ensures pair { IfSome result (IsFirstClose (all_columns (length self.now.matrix.columns)) (codes_of self.now.matrix.groups) wanted) }
+        ensures none { IfNone result (Good (codes_of self.now.matrix.groups) (all_columns (length self.now.matrix.columns)) wanted) }
+    {
+        if wanted <= self.book.distance {
+            return None;
+        }
+        first_close(self.matrix.codes(), wanted)
     }
 
     // The numbers of the codebook.
@@ -158,34 +173,6 @@ fn book_and_decoder(
             drop(book);
             Err(none)
         }
-    }
-}
-
-// The codebook in use for a wanted distance: at that distance, or at the least one where two codes are closer.
-fn book_in_use(alloc: Global, codes: &Codes, wanted: u32) -> Result<Book, AllocError>
-    requires places_fit { length codes.now.rows ≤ 2 ^ 16 }
-    requires columns_fit { codes.now.width ≤ 2 ^ 16 }
-    ensures { IfOk result (IsInUse codes.now.width codes.now.rows wanted) }
-{
-    match reduce(alloc, codes, wanted) {
-        Ok(book) => Ok(book),
-        Err(Refused::TooClose(_)) => book_of_closest(alloc, codes),
-        Err(Refused::NoMemory) => Err(AllocError),
-    }
-}
-
-// The codebook at the least distance of two codes. None is closer, so it isn't refused.
-fn book_of_closest(alloc: Global, codes: &Codes) -> Result<Book, AllocError>
-    requires some { 1 < length codes.now.rows }
-    requires places_fit { length codes.now.rows ≤ 2 ^ 16 }
-    requires columns_fit { codes.now.width ≤ 2 ^ 16 }
-    ensures { IfOk result (IsOfClosest codes.now.width codes.now.rows) }
-{
-    let pair = least(codes).unwrap();
-    match reduce(alloc, codes, pair.distance) {
-        Ok(book) => Ok(book),
-        Err(Refused::TooClose(_)) => unreachable!(),
-        Err(Refused::NoMemory) => Err(AllocError),
     }
 }
 

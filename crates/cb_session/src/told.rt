@@ -7,7 +7,7 @@ ghost use Rattle.cb_model.specs.NodeOrder.{node_cmp};
 ghost use Rattle.cb_model.specs.Order.{Rises};
 ghost use Rattle.cb_network.specs.Topology.{Topology};
 ghost use Rattle.cb_topo.specs.Numbered.{topology_of};
-ghost use Rattle.cb_session.specs.Ready.{IsReady, IsSomewhereReady};
+ghost use Rattle.cb_session.specs.Ready.{IsReady, IsReadyFor, IsSomewhereReady};
 ghost use Rattle.cb_session.specs.Told.{TellsInUse, TellsMade, Tells, kept_of};
 
 use crate::basis::{Ready, diagnose};
@@ -81,7 +81,7 @@ fn told_made(
     wanted: u32,
     closing: &List<Closed>,
 ) -> Result<List<Event>, AllocError>
-    requires ready { IsSomewhereReady ready.now }
+    requires ready { IsReadyFor wanted ready.now }
     requires rise { All (λ c. Rises node_cmp c.nodes) closing.now }
     ensures { IfOk result (λ events. (network : Topology) → IsReady network (for_wanted wanted) ready.now
         → TellsMade network wanted ready.now closing.now events) }

@@ -1,6 +1,6 @@
 use Rattle.std.proofs.Common.{subst, sym, ap, ◌∙◌, ◌≡◌, arith, List, [], ◌∷◌, ◌++◌, length}
 use Rattle.cb_coding.specs.declared.group.Group.{Group}
-use Rattle.cb_log.specs.Basis.{IsAnnounced, book_made}
+use Rattle.cb_log.specs.Basis.{IsAnnounced, book_made, wanted}
 use Rattle.cb_log.specs.declared.event.Event.{Event}
 use Rattle.cb_session.specs.Ready.{HasName}
 use Rattle.cb_session.proofs.Bases.{has_name, announced_good, announced_thin}
@@ -9,21 +9,19 @@ use Rattle.cb_session.proofs.basis.Ready.announce.Goals as goal
 
 pub thin-requires-clause-first : goal.thin-requires-clause-first
 thin-requires-clause-first c =
-    let (network, mode, is) = c.requires in
+    let (network, is) = c.requires in
     let pair = c.in-Some.pair in
     let close = c.in-Some.ensures.pair in
     let (below, within) = close.is_pair in
-    let rows = ap length c.codes.ensures.rows in
-    subst (λ (gs : List Group). HasName gs pair.first) (sym c.coded_groups.ensures.groups) (has_name network c.args.self.now mode is pair.first (omega arith))
+    subst (λ (gs : List Group). HasName gs pair.first) (sym c.coded_groups.ensures.groups) (has_name network c.args.self.now (wanted c.args.wanted) is pair.first (omega arith))
 
 pub thin-requires-clause-second : goal.thin-requires-clause-second
 thin-requires-clause-second c =
-    let (network, mode, is) = c.requires in
+    let (network, is) = c.requires in
     let pair = c.in-Some.pair in
     let close = c.in-Some.ensures.pair in
     let (below, within) = close.is_pair in
-    let rows = ap length c.codes.ensures.rows in
-    subst (λ (gs : List Group). HasName gs pair.second) (sym c.coded_groups.ensures.groups) (has_name network c.args.self.now mode is pair.second (omega arith))
+    subst (λ (gs : List Group). HasName gs pair.second) (sym c.coded_groups.ensures.groups) (has_name network c.args.self.now (wanted c.args.wanted) is pair.second (omega arith))
 
 pub returns : goal.returns
 returns c = λ network mode basis has.
@@ -32,19 +30,19 @@ returns c = λ network mode basis has.
     let made = c.book_made.result in
     let made_is = c.book_made.ensures network mode basis has in
     let pushed = c.in_ok-push-2.ensures.ok in
-    elim c.match-first_close.branch [
+    elim c.match-first_thin.branch [
       | in-Some+in_ok-thin+in_ok-push w ↦
           let told = w.in_ok-thin.field-0 in
-          let before : c.match-first_close.events ≡ told ∷ [] = w.events-is ∙ (w.in_ok-push.ensures.ok ∙ ap (λ (es : List Event). es ++ told ∷ []) c.new-events.ensures) in
+          let before : c.match-first_thin.events ≡ told ∷ [] = w.events-is ∙ (w.in_ok-push.ensures.ok ∙ ap (λ (es : List Event). es ++ told ∷ []) c.new-events.ensures) in
           let are : c.push-2.new.self ≡ told ∷ book_made basis ∷ [] =
           pushed ∙ (ap (λ (es : List Event). es ++ made ∷ []) before ∙ ap (λ (e : Event). told ∷ e ∷ []) made_is) in
-          let close = rw (c.codes.ensures.rows, c.codes.ensures.width) at w.in-Some.ensures.pair in
+          let close = w.in-Some.ensures.pair in
           let names = rw w.coded_groups.ensures.groups at w.in_ok-thin.ensures in
           subst (λ (es : List Event). IsAnnounced basis d es) (sym are) (announced_thin basis ready has d w.in-Some.pair told close names)
       | in_default w ↦
-          let before : c.match-first_close.events ≡ [] = w.events-is ∙ c.new-events.ensures in
+          let before : c.match-first_thin.events ≡ [] = w.events-is ∙ c.new-events.ensures in
           let are : c.push-2.new.self ≡ book_made basis ∷ [] =
           pushed ∙ (ap (λ (es : List Event). es ++ made ∷ []) before ∙ ap (λ (e : Event). e ∷ []) made_is) in
-          let good = rw (c.codes.ensures.rows, c.codes.ensures.width) at w.in_default.ensures.none in
+          let good = w.in_default.ensures.none in
           subst (λ (es : List Event). IsAnnounced basis d es) (sym are) (announced_good basis ready has d good)
     ]

@@ -5,7 +5,7 @@ use Rattle.cb_topo.specs.Numbered.{topology_of}
 use Rattle.cb_session.specs.Course.{fixed_state}
 use Rattle.cb_session.specs.State.{State}
 use Rattle.cb_session.specs.Steps.{EntryTells, EntryStands}
-use Rattle.cb_session.proofs.InUse.{if_ok_more}
+use Rattle.cb_session.proofs.Following.{if_ok_more}
 use Rattle.cb_session.proofs.Sessions.{fixed_view, fixed_fits, on_ok_more}
 use Rattle.cb_session.proofs.session.Session.go_on.Goals as goal
 

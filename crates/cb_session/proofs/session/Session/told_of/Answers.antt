@@ -1,6 +1,6 @@
 use Rattle.cb_log.specs.Basis.{fixed}
 use Rattle.cb_topo.specs.Numbered.{topology_of}
-use Rattle.cb_session.proofs.InUse.{if_ok_more}
+use Rattle.cb_session.proofs.Following.{if_ok_more}
 use Rattle.cb_session.proofs.Sessions.{wanted_rise, wanted_tells, fixed_fits, fixed_rise, fixed_tells_end}
 use Rattle.cb_session.proofs.session.Session.told_of.Goals as goal
 
