@@ -9,14 +9,29 @@ use cb_model::NodeName;
 use std::alloc::{AllocError, Global};
 use std::test::Fail;
 
-// Whether two codes of three columns stand where they were put.
+// Whether two codes of three columns stand where they were put, and are told by the columns that they have.
 fn rows_are_kept(alloc: Global) -> Result<bool, AllocError> {
     let mut codes = Codes::new(alloc, 3);
     codes.push(Row::zeroed(alloc, 3)?)?;
     let mut row = Row::zeroed(alloc, 3)?;
     row.set(1);
     codes.push(row)?;
-    Ok(codes.len() == 2 && codes.width() == 3 && !codes.row(0).get(1) && codes.row(1).get(1))
+    Ok(
+        codes.len() == 2
+            && codes.width() == 3
+            && !codes.row(0).get(1)
+            && codes.row(1).get(1)
+            && are_holders(&codes, 0, &[])
+            && are_holders(&codes, 1, &[1]),
+    )
+}
+
+// Whether it is told that just these codes have the column.
+fn are_holders(codes: &Codes, column: usize, places: &[u32]) -> bool {
+    match codes.holders(column) {
+        Some(found) => found.as_slice() == places,
+        None => false,
+    }
 }
 
 #[test]

@@ -3,7 +3,7 @@ ghost use Rattle.std.specs.Prelude.{◌≡◌, ◌<◌, ◌≤◌, length, IsTru
 
 use cb_bits::Row;
 use cb_codes::Codes;
-use cb_reduce::{Pair, Refused, book, first_close, least, reduce, whole_book};
+use cb_reduce::{Pair, Refused, book, book_in_use, first_close, least, reduce, whole_book};
 use std::alloc::{AllocError, Global};
 use std::test::Fail;
 
@@ -29,6 +29,8 @@ fn reduces_the_worked_codes(rt: HostRuntime) -> Result<(), Fail> {
     let alone = codes_of(rt.alloc(), 3, &["000"])?;
     assert!(rt; has_columns(rt.alloc(), &alone, 9_999, Some(&[])));
     assert!(rt; is_whole(rt.alloc(), &codes)?);
+    assert!(rt; is_in_use(rt.alloc(), &codes, 2, &[0, 2, 3], 2)?);
+    assert!(rt; is_in_use(rt.alloc(), &codes, 4, &[0, 1, 2, 3, 4], 3)?);
     Ok(())
 }
 
@@ -51,6 +53,21 @@ fn has_columns(alloc: Global, codes: &Codes, wanted: u32, columns: Option<&[u32]
             && first_close(codes, wanted) == Some(pair),
         Err(Refused::NoMemory) => false,
     }
+}
+
+// Whether the book in use for a wanted distance has these columns and this distance.
+fn is_in_use(
+    alloc: Global,
+    codes: &Codes,
+    wanted: u32,
+    columns: &[u32],
+    distance: u32,
+) -> Result<bool, AllocError> {
+    if !are_small(codes) {
+        return Ok(false);
+    }
+    let book = book_in_use(alloc, codes, wanted)?;
+    Ok(book.columns.as_slice() == columns && book.distance == distance)
 }
 
 // Whether all five columns are a book at the distance of the first two codes, which are the closest.
