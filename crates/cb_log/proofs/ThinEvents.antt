@@ -179,3 +179,7 @@ thins_are_close t mode w entries events ends gives ending event has thin =
       | inl early ↦ in_entries t mode w (records_of entries) event thin [] entries events refl gives early
       | inr late ↦ in_end t mode w (records_of entries) event thin ends ending late
     ]
+
+pub thins_so_far_are_close : (t : Topology) (mode : Mode) (w : ℕ) (entries : List Entry) (events : List Event) → EntriesGive t mode w [] entries events
+    → (event : Event) → Contains events event → IsTrue (is_thin event) → TellsThin t mode w (records_of entries) event
+thins_so_far_are_close t mode w entries events gives event has thin = in_entries t mode w (records_of entries) event thin [] entries events refl gives has

@@ -93,6 +93,11 @@ ThinsAreClose = (t : Topology) (mode : Mode) (w : ℕ) (entries : List Entry) (e
     → EntriesGive t mode w [] entries events → EndGives t mode w (records_of entries) ends
     → (event : Event) → Contains (events ++ ends) event → IsTrue (is_thin event) → TellsThin t mode w (records_of entries) event
 
+-- the same of the events so far, while a log goes on
+abbrev pub ThinsSoFarAreClose : Type 0
+ThinsSoFarAreClose = (t : Topology) (mode : Mode) (w : ℕ) (entries : List Entry) (events : List Event) → EntriesGive t mode w [] entries events
+    → (event : Event) → Contains events event → IsTrue (is_thin event) → TellsThin t mode w (records_of entries) event
+
 -- over the codebook for a wanted distance the groups are as far apart as it says
 abbrev pub WantedKeepsApart : Type 0
 WantedKeepsApart = (network : Topology) (d : ℕ) (basis : Basis network (wanted d)) → 0 < d → KeepsApart basis

@@ -2,7 +2,7 @@
 ghost use Rattle.cb_log.specs.Laws.{WindowsAreOne, WindowsExist, ClosingIsOne, ClosingStays};
 ghost use Rattle.cb_log.specs.Laws.{FreshStands, PassingStands, RaisingStands, ClearingStands, DueAreClosing, OpenAreClosing};
 ghost use Rattle.cb_log.specs.Laws.{EventsAreOne, EventsGoOn, TopologyGoesOn, BookInUseSteps};
-ghost use Rattle.cb_log.specs.Laws.{EachWindowIsDiagnosed, ThinsAreClose, WantedKeepsApart, CauseIsNamedAlone};
+ghost use Rattle.cb_log.specs.Laws.{EachWindowIsDiagnosed, ThinsAreClose, ThinsSoFarAreClose, WantedKeepsApart, CauseIsNamedAlone};
 ghost use Rattle.cb_log.specs.Laws.{SourcesAreIndependent, SourceStandsAlone};
 
 /// Over given records a source has one list of windows.
@@ -69,6 +69,11 @@ pub fn each_window_is_diagnosed()
 /// none comes.
 pub fn thins_are_close()
     ensures { ThinsAreClose }
+{}
+
+/// The same holds of the events so far, while a log goes on.
+pub fn thins_so_far_are_close()
+    ensures { ThinsSoFarAreClose }
 {}
 
 /// The codebook for a wanted distance keeps the groups as far apart as it says.

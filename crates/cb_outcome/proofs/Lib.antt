@@ -9,3 +9,4 @@ pub mod Outcomes
 pub mod EndingWell
 pub mod Complete
 pub mod Accepted
+pub mod ThinsClose

@@ -1,11 +1,16 @@
 -- What holds of outcomes, whatever the program does.
-use Rattle.std.specs.Prelude.{◌≡◌, ◌≢◌, ◌⊎◌, ◌≤◌, ℕ, ◌++◌, List, [], ◌∷◌, length, Option, None, Some}
+use Rattle.std.specs.Prelude.{◌≡◌, ◌≢◌, ◌⊎◌, ◌≤◌, ℕ, ◌++◌, List, [], ◌∷◌, length, Option, None, Some, IsTrue}
+use Rattle.std.specs.List.{Contains}
 use Rattle.cb_io.specs.Outside.{contents}
 use Rattle.cb_network.specs.Regular.{IsRegular}
 use Rattle.cb_network.specs.Topology.{Topology}
 use Rattle.cb_log.specs.declared.event.Event.{Event}
+use Rattle.cb_log.specs.declared.record.Record.{Record}
 use Rattle.cb_log.specs.Basis.{Mode}
+use Rattle.cb_log.specs.Entries.{records_of}
+use Rattle.cb_log.specs.Whole.{is_thin, TellsThin}
 use Rattle.cb_alarm.specs.Lines.{LogGives, FrontGives}
+use Rattle.cb_report.specs.declared.summary.Summary.{Summary}
 use Rattle.cb_request.specs.declared.request.Request.{Request}
 use Rattle.cb_request.specs.declared.request.Request.TheVariants.{Codebook, Verify, Grow}
 use Rattle.cb_request.specs.Files.{file_words, logs_of}
@@ -13,7 +18,8 @@ use Rattle.cb_outcome.specs.Outcome.{Outcome}
 use Rattle.cb_outcome.specs.Judged.{Known, nothing, PassFrom}
 use Rattle.cb_outcome.specs.Jobs.{JobGives}
 use Rattle.cb_outcome.specs.Contents.{Left, files_from, log_from}
-use Rattle.cb_outcome.specs.LogJobs.{log_limit}
+use Rattle.cb_outcome.specs.Grown.{SumsUpLog}
+use Rattle.cb_outcome.specs.LogJobs.{Watch, FrontTells, log_limit}
 use Rattle.cb_outcome.specs.Answer.{RequestGives, IsOutcome, IsDue}
 use Rattle.cb_outcome.specs.Point.{Point}
 
@@ -35,6 +41,17 @@ FrontIsFront = (t : Topology) (mode : Mode) (window : ℕ) (front more : List �
 abbrev pub DueIsFront : Type 0
 DueIsFront = (asked : Option Request) (left : Left) (point : Point) (due : List ℕ) (outcome : Outcome)
     → IsOutcome asked left outcome → IsDue asked left point due → BeginsWith outcome.out due
+
+-- each thin event of what is due, once so many bytes of a log were taken, names two groups that are closer than wanted, in the topology of
+-- that moment
+abbrev pub FrontThinsAreClose : Type 0
+FrontThinsAreClose = (watch : Watch) (front out : List ℕ) (tells : FrontTells watch front out) (event : Event) → Contains tells.0 event
+    → IsTrue (is_thin event) → (records : List Record) × TellsThin watch.from watch.mode watch.window records event
+
+-- and so does each thin event of a log that is summed up
+abbrev pub SummedThinsAreClose : Type 0
+SummedThinsAreClose = (t : Topology) (mode : Mode) (w : ℕ) (log : List ℕ) (summary : Summary) (sums : SumsUpLog t mode w log summary) (event : Event)
+    → Contains sums.events event → IsTrue (is_thin event) → TellsThin t mode w (records_of sums.gives.entries) event
 
 -- where all judged files pass, the outcome is what the job gives, and no refusal
 abbrev pub PassedGoToJob : Type 0

@@ -1,5 +1,5 @@
 //! What holds of outcomes.
-ghost use Rattle.cb_outcome.specs.Laws.{OutcomeIsOne, FrontIsFront, DueIsFront, PassedGoToJob, PassedEndWell, DoneReadsAll, WrittenIsAccepted};
+ghost use Rattle.cb_outcome.specs.Laws.{OutcomeIsOne, FrontIsFront, DueIsFront, FrontThinsAreClose, SummedThinsAreClose, PassedGoToJob, PassedEndWell, DoneReadsAll, WrittenIsAccepted};
 
 /// The words of the command line and the bytes of the files have one outcome: in how large pieces the files give their
 /// bytes makes no difference.
@@ -15,6 +15,17 @@ pub fn front_is_front()
 /// What is due at any point of a run is a front of the outcome's output.
 pub fn due_is_front()
     ensures { DueIsFront }
+{}
+
+/// Each thin event that is due before a log's end names two groups that are closer than wanted, with their distance; at a wanted distance
+/// of 1 none comes.
+pub fn front_thins_are_close()
+    ensures { FrontThinsAreClose }
+{}
+
+/// So does each thin event of a log that is summed up, as `grow` does.
+pub fn summed_thins_are_close()
+    ensures { SummedThinsAreClose }
 {}
 
 /// Where all judged files pass, the outcome is what the job gives.

@@ -4,6 +4,6 @@
 mod laws;
 
 pub use laws::{
-    done_reads_all, due_is_front, front_is_front, outcome_is_one, passed_end_well,
-    passed_go_to_job, written_is_accepted,
+    done_reads_all, due_is_front, front_is_front, front_thins_are_close, outcome_is_one,
+    passed_end_well, passed_go_to_job, summed_thins_are_close, written_is_accepted,
 };
