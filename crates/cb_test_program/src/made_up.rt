@@ -1,5 +1,12 @@
 //! The texts, with ample memory, beside what another program makes of the same numbers.
+ghost use Rattle.std.specs.Prelude.{◌≤◌};
+
+use cb_check::check;
 use cb_gen::{log_text, model_text, topology_text};
+use cb_inputs::read_topology;
+use cb_model::Model;
+use cb_syntax::parse;
+use std::alloc::{AllocError, Global};
 use std::test::Fail;
 
 #[test]
@@ -41,5 +48,40 @@ fn a_log_begins_with_what_is_drawn(rt: HostRuntime) -> Result<(), Fail> {
             b"{\"at\":3760,\"from\":\"c2\",\"clear\":\"NoSignal@p2\"}\n{\"at\":3800,\"tick\":true}\n"
         )
     );
+    Ok(())
+}
+
+// The model, where its text has no fault.
+fn made_up_model(alloc: Global) -> Result<Option<Model>, AllocError> {
+    let text = model_text(alloc)?;
+    let Ok(tree) = parse(alloc, text.as_slice()) else {
+        return Ok(None);
+    };
+    let model = check(alloc, &tree).ok();
+    drop(tree);
+    Ok(model)
+}
+
+// Whether neither the model nor the topology of so many sites has a fault.
+fn has_no_fault(alloc: Global, sites: u32) -> Result<bool, AllocError>
+    requires some { 1 ≤ sites }
+    requires few { sites ≤ 256 }
+{
+    let text = topology_text(alloc, sites)?;
+    let Some(model) = made_up_model(alloc)? else {
+        return Ok(false);
+    };
+    let topology = read_topology(alloc, model, text.as_slice()).ok();
+    let read = topology.is_some();
+    drop(topology);
+    Ok(read)
+}
+
+#[test]
+fn no_size_has_a_fault(rt: HostRuntime) -> Result<(), Fail> {
+    for sites in 1..257 {
+        let right = has_no_fault(rt.alloc(), sites)?;
+        assert!(rt; right, "{sites}");
+    }
     Ok(())
 }
