@@ -1,22 +1,24 @@
 #!/usr/bin/env python3
 """Makes each allocation, each read and each write of the program fail in turn, and looks at what it answers.
 
-    bench/failing.py [--program PROGRAM]
+    bench/failing.py [--program PROGRAM] [--most N]
 
-Over the networks of examples/ and some small faulty inputs it runs the program once undisturbed, and then again for the
-n-th allocation, read and write of the run, with that one call failing, and with all from it on failing. Wanted:
+Over all commands, on networks of examples/, on two small ones of its own and on some faulty inputs, it runs the program once undisturbed, and then
+again for the n-th allocation, read and write of the run, with that one call failing, and with all from it on failing. Of a command that makes more than
+so many calls of a kind only some are tried, evenly spread (`grow`). Wanted:
 
     allocation   status 10 with the line on memory (or none, where there was none for it), or the undisturbed answer
     read         status 8 with a line that names a file of the command
     write        status 9
     short        each read and write moves one byte: the undisturbed answer
 
-and a front of the undisturbed output in each case, which is empty for statuses 8 and 10. Where an answer differs it is
-printed, and the status is 1. The calls are made to fail by failing.c beside this file, which needs gcc and Linux. The
-program is built by `rt run` in crates/cb_cli, which leaves it in out/.
+and a front of the undisturbed output in each case. For statuses 8 and 10 that front is empty, unless the command follows a log; at 8 it is
+empty even then, where the line names another file. Where an answer differs it is printed, and the status is 1. The calls are made to fail by
+failing.c beside this file, which needs gcc and Linux. The program is built by `rt run` in crates/cb_cli, which leaves it in out/.
 """
 import argparse
 import itertools
+import json
 import os
 import pathlib
 import struct
@@ -35,17 +37,95 @@ COMMANDS = [
     ["burst", FEEDER / "feeder.model", FEEDER / "town.topology", FEEDER / "feeder.model"],
     ["model", TANK / "tank.model"],
     ["model", PUMPS / "night.symptoms"],
-    ["matrix", "m", "t"],
+    ["matrix", "nothing.model", "nothing.topology"],
     ["burst"],
+    ["matrix", "link.model", "link.topology"],
+    ["codebook", "link.model", "link.topology", "1"],
+    ["codebook", "link.model", "link.topology", "2"],
+    ["verify", "link.model", "link.topology", "link.certificate"],
+    ["verify", "link.model", "link.topology", "thin.certificate"],
+    ["correlate", "link.model", "link.topology", "edits.log", "1", "10"],
+    ["correlate", "link.model", "link.topology", "deleted.log", "1", "10"],
+    ["correlate", "link.model", "link.topology", "cleared.log", "1", "10"],
+    ["correlate", "link.model", "link.topology", "cleared.log", "2", "10"],
+    ["correlate", "pipe.model", "pipe.topology", "pipe.log", "1", "5"],
+    ["decode", "link.model", "link.topology", "link.certificate", "fixed.log", "10"],
+    ["decode", "link.model", "link.topology", "thin.certificate", "fixed.log", "10"],
+    ["grow", "2", "7"],
 ]
+
+LINK = """class Link {
+  problem Cut;
+  symptom Loss;
+  relation ends to Port many inverse on;
+  rule here: Cut => Loss;
+  rule far: Cut => ends.NoSignal;
+}
+class Port {
+  problem Fail;
+  symptom NoSignal;
+  relation on to Link one inverse ends;
+  rule down: Fail => NoSignal;
+}
+"""
+
+PIPE = """class A {
+  problem P;
+  relation mid to B many inverse top;
+  rule r: P => mid.low.S;
+}
+class B {
+  relation top to A many inverse mid;
+  relation low to C many inverse up;
+}
+class C {
+  symptom S;
+  relation up to B many inverse low;
+}
+"""
+
+
+def record(at, source, node=None, verb="raise"):
+    """A line of a log: a node that is raised or cleared, an edit, or the time alone."""
+    if node is None:
+        return json.dumps({"at": at, "tick": True} if source == "tick" else {"at": at, "edit": source})
+    return json.dumps({"at": at, "from": source, verb: node})
+
+
+FILES = {
+    "link.model": LINK.splitlines(),
+    "link.topology": ["create L1 Link", "create a Port", "create b Port", "link L1 ends a", "link b on L1"],
+    "pipe.model": PIPE.splitlines(),
+    "pipe.topology": ["create a1 A", "create b1 B", "create c1 C", "link a1 mid b1"],
+    # A create, and a link that is refused.
+    "edits.log": [record(1, "create L2 Link"), record(2, "link a on L2"), record(3, "c1", "NoSignal@a")],
+    # What is raised is gone when the window closes.
+    "deleted.log": [record(10, "c1", "Loss@L1"), record(11, "c1", "NoSignal@a"), record(12, "delete L1"), record(20, "tick")],
+    "cleared.log": [
+        record(5, "c1", "NoSignal@a"),
+        record(6, "c1", "NoSignal@b"),
+        record(7, "c1", "NoSignal@b", "clear"),
+        record(15, "c1", "NoSignal@b"),
+    ],
+    # The edit changes what the problem causes by the second place of a path.
+    "pipe.log": [record(1, "link b1 low c1"), record(2, "s1", "S@c1")],
+    "fixed.log": [record(1, "mute NoSignal@a"), record(2, "c1", "NoSignal@a"), record(2, "c1", "NoSignal@b")],
+}
+
+# Files that the program writes itself before it is disturbed.
+WRITTEN = {"link.certificate": "1", "thin.certificate": "2"}
+
+LOGS = {"correlate": 3, "decode": 4}
 
 
 class Runs:
     """Runs of one command, disturbed and not."""
 
-    def __init__(self, program, shim, counter, command):
-        self.program, self.shim, self.counter = program, shim, counter
+    def __init__(self, program, shim, counter, command, folder):
+        self.program, self.shim, self.counter, self.folder = program, shim, counter, folder
         self.command = [str(word) for word in command]
+        place = LOGS.get(self.command[0])
+        self.log = None if place is None else self.command[place]
         self.status, self.out, self.err = self.run("none", 0, False)
 
     def run(self, kind, at, on):
@@ -54,7 +134,9 @@ class Runs:
         environment = dict(os.environ, LD_PRELOAD=str(self.shim), FAIL_KIND=kind, FAIL_AT=str(at), FAIL_COUNT=str(self.counter))
         if on:
             environment["FAIL_ON"] = "1"
-        made = subprocess.run([self.program, *self.command], env=environment, stdin=subprocess.DEVNULL, capture_output=True, check=False)
+        made = subprocess.run(
+            [self.program, *self.command], cwd=self.folder, env=environment, stdin=subprocess.DEVNULL, capture_output=True, check=False
+        )
         return made.returncode, made.stdout, made.stderr
 
     def count(self, kind):
@@ -68,17 +150,22 @@ class Runs:
         if answer == (self.status, self.out, self.err):
             return kind in ("malloc", "short")
         if kind == "malloc":
-            return (status, out) == (10, b"") and err in (b"", b"error 10 memory\n")
+            return status == 10 and self.is_front(out, self.log) and err in (b"", b"error 10 memory\n")
         if kind == "read":
-            return (status, out) == (8, b"") and err in [f"error 8 read {name}\n".encode() for name in self.command[1:]]
+            return status == 8 and any(err == f"error 8 read {name}\n".encode() and self.is_front(out, name) for name in self.command[1:])
         return kind == "write" and status == 9 and self.out.startswith(out) and err == b"error 9 write\n"
 
+    def is_front(self, out, name):
+        """Whether that may have been written: nothing, or a front where the log of this name is followed."""
+        return out == b"" or (self.log is not None and name == self.log and self.out.startswith(out))
 
-def disturb(runs):
+
+def disturb(runs, most):
     """How many disturbed runs there were, and how many went wrong."""
     tried = wrong = 0
     for kind, on in itertools.product(("malloc", "read", "write", "short"), (False, True)):
-        for at in range(1, 2 if kind == "short" else runs.count(kind) + 1):
+        calls = 1 if kind == "short" else runs.count(kind)
+        for at in range(1, calls + 1, max(1, calls // most)):
             answer = runs.run(kind, at, on)
             tried += 1
             if not runs.is_right(kind, answer):
@@ -90,16 +177,24 @@ def disturb(runs):
 def main():
     parser = argparse.ArgumentParser(description=__doc__, formatter_class=argparse.RawDescriptionHelpFormatter)
     parser.add_argument("--program", type=pathlib.Path, default=ROOT / "crates" / "cb_cli" / "out" / "cb_cli")
-    program = parser.parse_args().program.resolve()
+    parser.add_argument("--most", type=int, default=1000, help="how many calls of a kind are tried of one command")
+    words = parser.parse_args()
+    program = words.program.resolve()
     if not program.exists():
         sys.exit(f"{program} isn't there: run `rt run` in crates/cb_cli first")
     with tempfile.TemporaryDirectory() as name:
-        shim, counter = pathlib.Path(name) / "failing.so", pathlib.Path(name) / "count"
+        folder = pathlib.Path(name)
+        shim, counter = folder / "failing.so", folder / "count"
         subprocess.run(["gcc", "-shared", "-fPIC", "-O1", "-o", shim, ROOT / "bench" / "failing.c"], check=True)
+        for file, lines in FILES.items():
+            (folder / file).write_text("".join(f"{line}\n" for line in lines))
+        for file, distance in WRITTEN.items():
+            made = subprocess.run([program, "codebook", "link.model", "link.topology", distance], cwd=folder, capture_output=True, check=False)
+            (folder / file).write_bytes(made.stdout)
         all_tried = all_wrong = 0
         for command in COMMANDS:
-            runs = Runs(program, shim, counter, command)
-            tried, wrong = disturb(runs)
+            runs = Runs(program, shim, counter, command, folder)
+            tried, wrong = disturb(runs, words.most)
             print(f"{' '.join(pathlib.Path(word).name for word in runs.command)}: status {runs.status}, {tried} disturbed runs, {wrong} wrong")
             all_tried, all_wrong = all_tried + tried, all_wrong + wrong
     print(f"{all_tried} disturbed runs, {all_wrong} wrong")
