@@ -1,11 +1,11 @@
 #!/usr/bin/env python3
 """Compares answers on random inputs, good and faulty, with another program that has the same command line.
 
-    bench/compare.py --peer PROGRAM [--program PROGRAM] [--seed N] [RUNS]
+    bench/compare.py --peer PROGRAM [--program PROGRAM] [--seed N] [--lines N] [RUNS]
 
 Each run makes a model text (some of them with a fault in their spelling or in their types), a topology with edits of all
 six kinds, some of them refused, a symptom file, a certificate (of the other program, mostly damaged) and a log, hands them to both
-programs, and compares the status, the output and the line on standard error. It ends with status 1 where two answers differ, and says
+programs by one command line or by as many as are asked for, and compares the status, the output and the line on standard error. It ends with status 1 where two answers differ, and says
 nothing but a word where the other program isn't there. The program is built by the gate, or by `rt run` in crates/cb_cli, which leave it
 in out/.
 """
@@ -361,8 +361,8 @@ def answer(program, words, folder):
     return done.returncode, done.stdout, done.stderr
 
 
-def compare(program, peer, rng, folder):
-    """The words, and the two answers."""
+def compare(program, peer, rng, folder, lines):
+    """The words of each command line, and the two answers."""
     classes = random_classes(rng)
     network = Network(rng, classes)
     (folder / "m").write_text(model_text(rng, classes, rng.random() < 0.3), newline="")
@@ -373,8 +373,9 @@ def compare(program, peer, rng, folder):
     (folder / "t").write_text(topology, newline="")
     (folder / "c").write_text(certificate_text(rng, peer, folder), newline="")
     (folder / "l").write_bytes(log_text(rng, network).encode("latin-1"))
-    words = words_of(rng)
-    return words, answer(program, words, folder), answer(peer, words, folder)
+    for _ in range(lines):
+        words = words_of(rng)
+        yield words, answer(program, words, folder), answer(peer, words, folder)
 
 
 def main():
@@ -382,6 +383,7 @@ def main():
     parser.add_argument("--program", type=pathlib.Path, default=ROOT / "crates" / "cb_cli" / "out" / "cb_cli")
     parser.add_argument("--peer", type=pathlib.Path, help="the other program")
     parser.add_argument("--seed", type=int, default=1)
+    parser.add_argument("--lines", type=int, default=1, help="how many command lines are tried on each network")
     parser.add_argument("runs", type=int, nargs="?", default=1000)
     words = parser.parse_args()
     if words.peer is None or not words.peer.exists():
@@ -393,13 +395,12 @@ def main():
     for run in range(words.seed, words.seed + words.runs):
         with tempfile.TemporaryDirectory() as name:
             folder = pathlib.Path(name)
-            command, ours, theirs = compare(words.program.resolve(), words.peer.resolve(), random.Random(run), folder)
-            if ours == theirs:
+            for command, ours, theirs in compare(words.program.resolve(), words.peer.resolve(), random.Random(run), folder, words.lines):
+                if ours != theirs:
+                    print((folder / "m").read_bytes().decode())
+                    sys.exit(f"run {run}: {command}\nprogram: {ours}\npeer:    {theirs}")
                 alike += 1
                 statuses[ours[0]] = statuses.get(ours[0], 0) + 1
-            else:
-                print((folder / "m").read_bytes().decode())
-                sys.exit(f"run {run}: {command}\nprogram: {ours}\npeer:    {theirs}")
     print(f"{alike} alike {dict(sorted(statuses.items()))}, none different")
 
 
