@@ -1,44 +1,37 @@
--- Codes that are found by their words.
-use Rattle.std.proofs.Common.{◌≡◌, ℕ, List, [], ◌∷◌, ◌++◌, length, slice_get, position, if◌then◌else◌, Option, None, Some, Bool, false, is_some, IfSome, IfNone, IfOk, Result, Ok, Err, bytes_eq, refl, sym, ap, subst, ◌∙◌, inl, inr, arith}
+-- Codes that are found by their keys.
+use Rattle.std.proofs.Common.{◌≡◌, ℕ, ◌<◌, List, [], ◌∷◌, ◌++◌, length, get_or, slice_get, if◌then◌else◌, Some, Bool, true, false, not, bytes_eq, refl, sym, ap, subst, ◌∙◌, inl, inr, arith}
 use Rattle.std.specs.Global.{Vec}
-use Rattle.std.specs.List.{list_any}
-use Rattle.std.proofs.lemmas.Bool.{both_ways, false_from_ne_true}
-use Rattle.std.proofs.lemmas.List.{length_push}
-use Rattle.std.proofs.lemmas.List.Quantifiers.{position-Some}
-use Rattle.std.proofs.lemmas.Option.{slice_get-get_or, slice_get_within, get_or_from_slice_get}
+use Rattle.std.specs.List.{list_any, position_or_len}
+use Rattle.std.proofs.lemmas.Bool.{both_ways}
+use Rattle.std.proofs.lemmas.List.{length_push, get_or_default}
+use Rattle.std.proofs.lemmas.List.Sums.{position_or_len_is}
+use Rattle.std.proofs.lemmas.Option.{slice_get_within, get_or_from_slice_get}
 use Rattle.std.proofs.lemmas.Slice.Eq.{bytes_eq-Decides}
-use Rattle.cb_bits.specs.Bits.{Packs}
-use Rattle.cb_bits.proofs.Packed.{one_packing, one_row}
 use Rattle.cb_model.proofs.Numbers.{all_at}
 use Rattle.cb_coding.specs.Distance.{HaveWidth}
-use Rattle.cb_codes.specs.EachOnce.{AreWordsOf, IsNew}
+use Rattle.cb_coding.proofs.Pushed.{pushed_cases, item_there}
+use Rattle.cb_codes.specs.Keys.{IsKey}
+use Rattle.cb_codes.specs.EachOnce.{AreKeysOf, FindsPlace}
 use Rattle.cb_codes.proofs.Before.{fails_everywhere}
-use Rattle.cb_coding.proofs.Pushed.{pushed_cases, item_there, passes_nowhere}
+use Rattle.cb_codes.proofs.OneKey.{one_key, one_code}
 
-module _ (words : List ℕ) (code : List Bool) (packs : Packs code words) where
-  abbrev is_of : Vec ℕ → Bool
-  is_of key = bytes_eq words key.items
+-- whether this is the key
+abbrev pub is_key : Vec ℕ → Vec ℕ → Bool
+is_key key other = bytes_eq key.items other.items
 
-  -- the words that are found are those of the code
-  pub found_is : (keys : List (Vec ℕ)) (r : Option ℕ) → r ≡ position is_of keys
-      → IfSome r (λ i. (key : Vec ℕ) × (slice_get keys i ≡ Some key) × Packs code key.items)
-  found_is keys None is = tt
-  found_is [] (Some i) is = absurd (cc is)
-  found_is (k ∷ ks) (Some i) is =
-      let found = position-Some is_of (k ∷ ks) i k (sym is) in
-      (_, slice_get-get_or (k ∷ ks) i k found.0, subst (Packs code) ((bytes_eq-Decides words _).0 found.1) packs)
+-- what is new was absent, and what isn't was there
+pub was_absent : (there is_new : Bool) → is_new ≡ not there → is_new ≡ true → there ≡ false
+was_absent true is_new is new = absurd (cc)
+was_absent false is_new is new = refl
 
-  -- and where none are found the code has none of them
-  pub none_is : (keys : List (Vec ℕ)) (r : Option ℕ) → is_some r ≡ list_any is_of keys → IfNone r (IsNew code keys)
-  none_is keys None is = λ key among of_key.
-      let same = one_packing code words key.items packs of_key in
-      both_ways _ (fails_everywhere is_of keys (sym is) key among) ((bytes_eq-Decides words key.items).1 same)
-  none_is keys (Some i) is = tt
+pub was_among : (there is_new : Bool) → is_new ≡ not there → is_new ≡ false → there ≡ true
+was_among true is_new is old = refl
+was_among false is_new is old = absurd (cc)
 
--- one more code with its words
-pub more_words : (codes : List (List Bool)) (keys : List (Vec ℕ)) (code : List Bool) (key : Vec ℕ) → AreWordsOf codes keys → Packs code key.items
-    → AreWordsOf (codes ++ code ∷ []) (keys ++ key ∷ [])
-more_words codes keys code key are packs =
+-- one more code with its key
+pub more_keys : (codes : List (List Bool)) (keys : List (Vec ℕ)) (code : List Bool) (key : Vec ℕ) → AreKeysOf codes keys → IsKey code key.items
+    → AreKeysOf (codes ++ code ∷ []) (keys ++ key ∷ [])
+more_keys codes keys code key are is =
     let all = are.all in
     record {
       all = let a = length_push codes code in let b = length_push keys key in omega arith;
@@ -49,41 +42,49 @@ more_words codes keys code key are packs =
         ]
         | inr new ↦ elim (pushed_cases keys key k i key_at) [
           | inl before ↦ absurd (let e = new.0 in let w = slice_get_within keys i k before in omega arith)
-          | inr last ↦ subst (λ x. Packs x k.items) new.1 (subst (λ (x : Vec ℕ). Packs code x.items) last.1 packs)
+          | inr last ↦ subst (λ x. IsKey x k.items) new.1 (subst (λ (x : Vec ℕ). IsKey code x.items) last.1 is)
         ]
       ];
     }
 
--- words of a code that has none of these are none of these
-pub new_is_absent : (code : List Bool) (key : Vec ℕ) (keys : List (Vec ℕ)) → Packs code key.items → IsNew code keys
-    → list_any (λ (other : Vec ℕ). bytes_eq key.items other.items) keys ≡ false
-new_is_absent code key keys packs none =
-    passes_nowhere (λ (other : Vec ℕ). bytes_eq key.items other.items) keys (λ i other at.
-    false_from_ne_true _ (λ same.
-    none other (i, slice_get_within keys i other at, get_or_from_slice_get keys i other other at)
-    (subst (Packs code) ((bytes_eq-Decides key.items other.items).0 same) packs)))
-
--- an absent key goes last
-pub goes_last : {X : Type 0} (there : Bool) (keys new : List X) (key : X) → new ≡ (if there then keys else keys ++ key ∷ []) → there ≡ false → new ≡ keys ++ key ∷ []
-goes_last there keys new key is absent = is ∙ rw absent refl
-
-module _ (codes : List (List Bool)) (keys : List (Vec ℕ)) (are : AreWordsOf codes keys) (code : List Bool) where
-  -- where words are found the code stands
-  pub found_there : HaveWidth (length code) codes → (place : ℕ) → (key : Vec ℕ) × (slice_get keys place ≡ Some key) × Packs code key.items
+module _ (codes : List (List Bool)) (keys : List (Vec ℕ)) (are : AreKeysOf codes keys) (code : List Bool) (key : Vec ℕ) (is : IsKey code key.items) where
+  -- where its key stands the code stands
+  pub stands_there : HaveWidth (length code) codes → (place : ℕ) (other : Vec ℕ) → slice_get keys place ≡ Some other → is_key key other ≡ true
       → slice_get codes place ≡ Some code
-  found_there wide place found =
-      let key = found.0 in
-      let was = item_there codes place (let within = slice_get_within keys place key found.1 in let all = are.all in omega arith) in
+  stands_there wide place other at same =
+      let was = item_there codes place (let within = slice_get_within keys place other at in let all = are.all in omega arith) in
+      let theirs = subst (IsKey code) ((bytes_eq-Decides key.items other.items).0 same) is in
       was.1
-      ∙ ap Some (one_row was.0 code key.items (all_at (λ (v : List Bool). length v ≡ length code) codes place was.0 was.1 wide)
-      (are.each place was.0 key was.1 found.1) found.2)
+      ∙ ap Some (one_code was.0 code other.items (all_at (λ (v : List Bool). length v ≡ length code) codes place was.0 was.1 wide)
+      (are.each place was.0 other was.1 at) theirs)
 
-  -- and where none are found it stands nowhere
-  pub found_nowhere : IsNew code keys → (i : ℕ) → ¬ (slice_get codes i ≡ Some code)
-  found_nowhere none i at =
-      let key = item_there keys i (let within = slice_get_within codes i code at in let all = are.all in omega arith) in
-      none key.0 (i, slice_get_within keys i key.0 key.1, get_or_from_slice_get keys i key.0 key.0 key.1) (are.each i code key.0 at key.1)
+  -- and where its key is absent it stands nowhere
+  pub stands_nowhere : list_any (is_key key) keys ≡ false → (i : ℕ) → ¬ (slice_get codes i ≡ Some code)
+  stands_nowhere absent i at =
+      let found = item_there keys i (let within = slice_get_within codes i code at in let all = are.all in omega arith) in
+      let other = found.0 in
+      let same = one_key code key.items other.items is (are.each i code other at found.1) in
+      both_ways _ (fails_everywhere (is_key key) keys absent other (i, slice_get_within keys i other found.1, get_or_from_slice_get keys i other other found.1)) ((bytes_eq-Decides key.items other.items).1 same)
 
-pub if_ok_more : {V E : Type 0} (result : Result V E) (P Q : V → Type 0) → ((x : V) → P x → Q x) → IfOk result P → IfOk result Q
-if_ok_more (Ok x) P Q more h = more x h
-if_ok_more (Err e) P Q more h = tt
+  -- a key that is there stays where it is, and so does the code
+  pub was_there : HaveWidth (length code) codes → (after : List (Vec ℕ)) (place : ℕ) → after ≡ (if list_any (is_key key) keys then keys else keys ++ key ∷ [])
+      → list_any (is_key key) keys ≡ true → (other : Vec ℕ) × (slice_get after place ≡ Some other) × (is_key key other ≡ true)
+      → AreKeysOf codes after × FindsPlace code codes codes place
+  was_there wide after place inserts among stored =
+      let same : after ≡ keys = inserts ∙ rw among refl in (
+        subst (AreKeysOf codes) (sym same) are,
+        inl (record { at = stands_there wide place stored.0 (subst (λ ks. slice_get ks place ≡ Some stored.0) same stored.1) stored.2; same = refl }),
+      )
+
+  -- one that is absent goes last, and so does the code
+  pub goes_last : (after : List (Vec ℕ)) (place : ℕ) → after ≡ (if list_any (is_key key) keys then keys else keys ++ key ∷ [])
+      → list_any (is_key key) keys ≡ false → place ≡ position_or_len (is_key key) keys
+      → AreKeysOf (codes ++ code ∷ []) after × FindsPlace code codes (codes ++ code ∷ []) place
+  goes_last after place inserts absent at =
+      let more : after ≡ keys ++ key ∷ [] = inserts ∙ rw absent refl in
+      let none : (k : ℕ) → k < length keys → is_key key (get_or keys k key) ≡ false =
+      λ k lt. fails_everywhere (is_key key) keys absent (get_or keys k key) (k, lt, get_or_default keys k (get_or keys k key) key lt) in
+      let end = position_or_len_is (is_key key) keys (length keys) key (omega arith) none (λ lt. absurd (omega arith)) in (
+        subst (AreKeysOf (codes ++ code ∷ [])) (sym more) (more_keys codes keys code key are is),
+        inr (record { none = stands_nowhere absent; last = at ∙ end ∙ are.all; new_is = refl }),
+      )

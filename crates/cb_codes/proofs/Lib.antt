@@ -5,3 +5,4 @@ pub mod Grouped
 pub mod Added
 pub mod Passing
 pub mod ByColumn
+pub mod OneKey

@@ -1,17 +1,12 @@
 -- Codes, each once.
 use Rattle.std.specs.Prelude.{◌≡◌, ◌⊎◌, ℕ, List, [], ◌∷◌, ◌++◌, length, Bool, Some, slice_get}
-use Rattle.std.specs.List.{Contains}
 use Rattle.std.specs.Global.{Vec}
-use Rattle.cb_bits.specs.Bits.{Packs}
+use Rattle.cb_codes.specs.Keys.{IsKey}
 
--- the words of codes, in the order of the codes
-pub record AreWordsOf (codes : List (List Bool)) (keys : List (Vec ℕ)) : Type 0 where
+-- the keys of codes, in the order of the codes
+pub record AreKeysOf (codes : List (List Bool)) (keys : List (Vec ℕ)) : Type 0 where
   pub all : length keys ≡ length codes
-  pub each : (i : ℕ) (code : List Bool) (key : Vec ℕ) → slice_get codes i ≡ Some code → slice_get keys i ≡ Some key → Packs code key.items
-
--- none of these are the words of the code
-abbrev pub IsNew : List Bool → List (Vec ℕ) → Type 0
-IsNew code keys = (key : Vec ℕ) → Contains keys key → ¬ Packs code key.items
+  pub each : (i : ℕ) (code : List Bool) (key : Vec ℕ) → slice_get codes i ≡ Some code → slice_get keys i ≡ Some key → IsKey code key.items
 
 -- the code is at that place already
 pub record IsThere (code : List Bool) (old new : List (List Bool)) (place : ℕ) : Type 0 where

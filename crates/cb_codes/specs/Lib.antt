@@ -1,5 +1,6 @@
 pub mod Codes
 pub mod Holders
 pub mod Groups
+pub mod Keys
 pub mod EachOnce
 pub mod Grouped

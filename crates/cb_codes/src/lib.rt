@@ -13,6 +13,7 @@ mod each_once;
 mod grouping;
 mod groups;
 mod holders;
+mod keys;
 
 pub use codes::Codes;
 pub use each_once::EachOnce;

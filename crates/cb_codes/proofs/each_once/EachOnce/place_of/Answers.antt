@@ -1,16 +1,37 @@
-use Rattle.std.proofs.Common.{refl, sym, subst, inl, inr}
+use Rattle.std.proofs.Common.{sym, subst}
 use Rattle.cb_coding.specs.Distance.{HaveWidth}
-use Rattle.cb_codes.proofs.Found.{found_there, if_ok_more}
+use Rattle.cb_codes.specs.EachOnce.{AreKeysOf, FindsPlace}
+use Rattle.cb_codes.proofs.Found.{was_there, goes_last, was_absent, was_among}
 use Rattle.cb_codes.proofs.each_once.EachOnce.place_of.Goals as goal
 
-pub returns-in-Some-clause-place : goal.returns-in-Some-clause-place
-returns-in-Some-clause-place c =
-    let codes = c.args.self.now.codes.rows in
-    inl (record {
-      at = found_there codes c.args.self.now.words.keys c.requires.words c.args.code (subst (λ width. HaveWidth width codes) (sym c.requires.width) c.width-width.ensures.all)
-          c.in-Some.place c.in-Some.ensures.found;
-      same = refl;
-    })
+pub returns-in_ok-push-clause-keys : goal.returns-in_ok-push-clause-keys
+returns-in_ok-push-clause-keys c =
+    let old = c.args.self.now in
+    let inserts = c.in_ok-place.ensures in
+    let last = goes_last old.codes.rows old.keys.keys c.requires.keys c.args.code c.in_ok-key.key c.in_ok-key.ensures c.insert_full.new.self.keys c.in_ok-place.place
+    inserts.keys (was_absent _ c.in_ok-place.is_new inserts.added c.if-is_new.true) inserts.index in
+    subst (λ codes. AreKeysOf codes c.insert_full.new.self.keys) (sym c.in_ok-push.ensures.pushed) last.0
 
-pub returns-in-None-clause-place : goal.returns-in-None-clause-place
-returns-in-None-clause-place c = if_ok_more c.put.result _ _ (λ place last. inr last) c.put.ensures.place
+pub returns-in_ok-push-clause-place : goal.returns-in_ok-push-clause-place
+returns-in_ok-push-clause-place c =
+    let old = c.args.self.now in
+    let inserts = c.in_ok-place.ensures in
+    let last = goes_last old.codes.rows old.keys.keys c.requires.keys c.args.code c.in_ok-key.key c.in_ok-key.ensures c.insert_full.new.self.keys c.in_ok-place.place
+    inserts.keys (was_absent _ c.in_ok-place.is_new inserts.added c.if-is_new.true) inserts.index in
+    subst (λ codes. FindsPlace c.args.code old.codes.rows codes c.in_ok-place.place) (sym c.in_ok-push.ensures.pushed) last.1
+
+pub returns-else-is_new-clause-keys : goal.returns-else-is_new-clause-keys
+returns-else-is_new-clause-keys c =
+    let old = c.args.self.now in
+    let inserts = c.in_ok-place.ensures in
+    (was_there old.codes.rows old.keys.keys c.requires.keys c.args.code c.in_ok-key.key c.in_ok-key.ensures
+    (subst (λ width. HaveWidth width old.codes.rows) (sym c.requires.width) c.width-width.ensures.all) c.insert_full.new.self.keys c.in_ok-place.place
+    inserts.keys (was_among _ c.in_ok-place.is_new inserts.added c.if-is_new.false) inserts.stored).0
+
+pub returns-else-is_new-clause-place : goal.returns-else-is_new-clause-place
+returns-else-is_new-clause-place c =
+    let old = c.args.self.now in
+    let inserts = c.in_ok-place.ensures in
+    (was_there old.codes.rows old.keys.keys c.requires.keys c.args.code c.in_ok-key.key c.in_ok-key.ensures
+    (subst (λ width. HaveWidth width old.codes.rows) (sym c.requires.width) c.width-width.ensures.all) c.insert_full.new.self.keys c.in_ok-place.place
+    inserts.keys (was_among _ c.in_ok-place.is_new inserts.added c.if-is_new.false) inserts.stored).1

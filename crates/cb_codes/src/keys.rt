@@ -1,0 +1,34 @@
+//! What a code is found by.
+ghost use Rattle.std.specs.Prelude.{◌≡◌, IfOk};
+ghost use Rattle.cb_codes.specs.Keys.{IsKey, columns_of as columns_in};
+
+use cb_bits::Row;
+use std::alloc::{AllocError, Global};
+
+/// The key of a code: the numbers of its columns, where these are fewer than its words, and else its words. So a sparse code has a
+/// short key, however many columns there are, and no two codes of one width have the same.
+pub fn key_of(alloc: Global, code: &Row) -> Result<Vec<u64>, AllocError>
+    ensures { IfOk result (λ key. IsKey code.now key.items) }
+{
+    let words = code.words();
+    if code.ones() < words.len() {
+        columns_of(alloc, code)
+    } else {
+        Vec::from_slice(alloc, words)
+    }
+}
+
+// The columns that a code has, in order.
+fn columns_of(alloc: Global, code: &Row) -> Result<Vec<u64>, AllocError>
+    ensures { IfOk result (λ columns. columns.items ≡ columns_in code.now) }
+{
+    // A length fits its type, and so does the place behind a column.
+    let _width = code.len();
+    let mut columns = Vec::new(alloc);
+    let mut from = 0;
+    while let Some(column) = code.next_one(from) {
+        columns.push(column as u64)?;
+        from = column + 1;
+    }
+    Ok(columns)
+}
