@@ -4,29 +4,35 @@
     bench/commands.py --peer PROGRAM [--program PROGRAM] WORKLOAD
 
 WORKLOAD is the script that writes a network (files m, t and s, and a log) into a folder. Each command is run three times by both programs, and the least
-time is taken; a table is printed, in the form of docs/speed.md. Nothing here is a test: read ratios out of one run.
+time is taken; a table is printed, in the form of docs/speed.md. Where valgrind is there, each is run once more by it, and the instructions are counted, in
+millions, which no other work on the machine moves; of logs with many edits a shorter one is counted. Nothing here is a test: read ratios out of one run.
 """
 import pathlib
+import re
+import shutil
 import subprocess
 import sys
 import tempfile
 
 import measure
+from model import full_model, long_model
 
-NETWORKS = (("ring", 2048, 1), ("limits", 2048, None), ("random", 4000, 1), ("dense", 4000, 4), ("chain", 1000, 1), ("mesh", 1024, 1))
+# Which commands are measured on which networks. A codebook is asked for at the distance that stands with it, and its certificate is verified.
+ANSWERED = (("ring", 2048), ("limits", 2048), ("random", 8192), ("dense", 8192), ("chain", 8192), ("mesh", 8192))
+CERTIFIED = (("ring", 2048, 1), ("random", 4000, 1), ("dense", 2000, 4), ("dense", 4000, 4), ("chain", 1000, 1), ("mesh", 1024, 1))
 
-# Networks with a log: how many lines it has, and that each so many of them one is an edit.
+# Networks with a log: how many lines it has, of how many the instructions are counted, and that each so many of them one is an edit.
 LOGS = (
-    ("ring", 200, 100_000, 10_000),
-    ("ring", 200, 1_000_000, 10_000),
-    ("ring", 500, 50_000, 5),
-    ("random", 1000, 50_000, 5),
-    ("mesh", 1000, 50_000, 5),
+    ("ring", 200, 1_000_000, 100_000, 10_000),
+    ("ring", 500, 50_000, 4_000, 5),
+    ("random", 1000, 50_000, 4_000, 5),
+    ("mesh", 1000, 50_000, 4_000, 5),
 )
-
 
 # How many sites `grow` makes up, and from which number on its numbers are drawn.
 GROWN = ((200, 7), (256, 1))
+
+VALGRIND = ("valgrind", "--tool=cachegrind", "--cache-sim=no", "--cachegrind-out-file=/dev/null")
 
 
 def least(program, command, folder):
@@ -35,15 +41,64 @@ def least(program, command, folder):
     return min(runs, key=lambda run: run[2])
 
 
-def line(words, command, network, folder):
+def instructions(program, command, folder):
+    """How many millions of instructions a run takes, or none where nothing counts them."""
+    if shutil.which(VALGRIND[0]) is None:
+        return None
+    ran = subprocess.run([*VALGRIND, str(program), *command], cwd=folder, capture_output=True, check=False)
+    found = re.search(rb"I\s+refs:\s+([\d,]+)", ran.stderr)
+    return int(found[1].replace(b",", b"")) / 1e6 if found else None
+
+
+def cells(ours, theirs, digits):
+    """Both numbers and their ratio, or three blanks."""
+    if ours is None or theirs is None:
+        return "| | | |"
+    return f"| {ours:.{digits}f} | {theirs:.{digits}f} | {ours / max(theirs, 0.001):.1f} |"
+
+
+def line(words, command, network, folder, counted=None):
+    """Prints a line of the table, and gives what the other program printed. `counted` is the command whose instructions are counted, where it is another."""
     ours, theirs = least(words.program, command, folder), least(words.peer, command, folder)
-    alike = "" if ours[:2] == theirs[:2] else " | DIFFERENT"
-    seconds, memory = ours[2] / max(theirs[2], 0.001), ours[3] / theirs[3]
-    print(
-        f"| `{command[0]}` | {network} | {ours[2]:.3f} | {theirs[2]:.3f} | {seconds:.1f} | {ours[3]:.0f} | {theirs[3]:.0f} | {memory:.1f} |{alike}",
-        flush=True,
-    )
+    alike = "" if ours[:2] == theirs[:2] else " DIFFERENT"
+    counts = [instructions(program, counted or command, folder) for program in (words.program, words.peer)]
+    parts = [cells(ours[2], theirs[2], 3), cells(ours[3], theirs[3], 0), cells(*counts, 0)]
+    print(f"| `{command[0]}` | {network} " + "".join(part[:-1] for part in parts) + "|" + alike, flush=True)
     return theirs[1]
+
+
+def make(words, folder, *asked):
+    subprocess.run([sys.executable, words.sizes[0], asked[0], str(asked[1]), str(folder), *map(str, asked[2:])], check=True, stdout=subprocess.DEVNULL)
+
+
+def answered(words, folder, kind, sites):
+    make(words, folder, kind, sites)
+    line(words, ["burst", "m", "t", "s"], f"{kind} {sites:,}", folder)
+    line(words, ["matrix", "m", "t"], f"{kind} {sites:,}", folder)
+
+
+def certified(words, folder, kind, sites, distance):
+    make(words, folder, kind, sites)
+    network = f"{kind} {sites:,} at {distance}"
+    (folder / "c").write_bytes(line(words, ["codebook", "m", "t", str(distance)], network, folder))
+    line(words, ["verify", "m", "t", "c"], network, folder)
+
+
+def followed(words, folder, kind, sites, lines, counted, every):
+    make(words, folder, kind, sites, lines, every)
+    with open(folder / "log", encoding="utf-8") as log, open(folder / "short", "w", encoding="utf-8") as short:
+        short.writelines(text for _, text in zip(range(counted), log))
+    network = f"{kind} {sites:,}, {lines:,} lines, an edit in {every:,} (instructions: of {counted:,} lines)"
+    line(words, ["correlate", "m", "t", "log", "1", "30"], network, folder, ["correlate", "m", "t", "short", "1", "30"])
+
+
+def grown(words, folder, sites, start):
+    line(words, ["grow", str(sites), str(start)], f"{sites} sites from {start}", folder)
+
+
+def checked(words, folder, what, text):
+    (folder / "m").write_text(text)
+    line(words, ["model", "m"], what, folder)
 
 
 def main():
@@ -51,26 +106,12 @@ def main():
     if words.peer is None:
         print("skipped: no other program is there")
         return
-    for kind, sites, distance in NETWORKS:
-        with tempfile.TemporaryDirectory() as name:
-            folder = pathlib.Path(name)
-            subprocess.run([sys.executable, words.sizes[0], kind, str(sites), str(folder)], check=True, stdout=subprocess.DEVNULL)
-            network = f"{kind} {sites:,}"
-            line(words, ["burst", "m", "t", "s"], network, folder)
-            line(words, ["matrix", "m", "t"], network, folder)
-            if distance is not None:
-                certificate = line(words, ["codebook", "m", "t", str(distance)], network, folder)
-                (folder / "c").write_bytes(certificate)
-                line(words, ["verify", "m", "t", "c"], network, folder)
-    for kind, sites, lines, every in LOGS:
-        with tempfile.TemporaryDirectory() as name:
-            folder = pathlib.Path(name)
-            asked = [kind, str(sites), str(folder), str(lines), str(every)]
-            subprocess.run([sys.executable, words.sizes[0], *asked], check=True, stdout=subprocess.DEVNULL)
-            line(words, ["correlate", "m", "t", "log", "1", "30"], f"{kind} {sites:,}, {lines:,} lines, an edit in {every:,}", folder)
-    with tempfile.TemporaryDirectory() as name:
-        for sites, start in GROWN:
-            line(words, ["grow", str(sites), str(start)], f"{sites} sites from {start}", pathlib.Path(name))
+    models = (("1,024 classes", full_model()), ("16 MiB of classes", long_model(False)))
+    print("| Command | Network | Seconds | Other | Ratio | MiB | Other | Ratio | Million instructions | Other | Ratio |\n|---|---|---|---|---|---|---|---|---|---|---|")
+    for measured, inputs in ((answered, ANSWERED), (certified, CERTIFIED), (followed, LOGS), (grown, GROWN), (checked, models)):
+        for asked in inputs:
+            with tempfile.TemporaryDirectory() as name:
+                measured(words, pathlib.Path(name), *asked)
 
 
 if __name__ == "__main__":

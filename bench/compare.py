@@ -4,7 +4,7 @@
     bench/compare.py --peer PROGRAM [--program PROGRAM] [--seed N] [--lines N] [RUNS]
 
 Each run makes a model text (some of them with a fault in their spelling or in their types), a topology with edits of all
-six kinds, some of them refused, a symptom file, a certificate (of the other program, mostly damaged) and a log, hands them to both
+six kinds, some of them refused, a symptom file, a certificate (of the other program, mostly damaged, and now and then of another topology) and a log, hands them to both
 programs by one command line or by as many as are asked for, and compares the status, the output and the line on standard error. It ends with status 1 where two answers differ, and says
 nothing but a word where the other program isn't there. The program is built by the gate, or by `rt run` in crates/cb_cli, which leave it
 in out/.
@@ -356,6 +356,15 @@ def certificate_text(rng, peer, folder):
     return text
 
 
+def edited_since(rng, network, peer, folder, topology):
+    """The topology without one of its lines, and with further edits: a certificate of it is then one of another network."""
+    lines = topology.splitlines(keepends=True)
+    if lines:
+        del lines[rng.randrange(len(lines))]
+    more = topology_text(rng, network, False).splitlines(keepends=True)
+    return accepted_only(rng, peer, folder, "".join(lines + rng.sample(more, min(len(more), rng.randrange(4)))))
+
+
 def answer(program, words, folder):
     done = subprocess.run([str(program), *words], cwd=folder, capture_output=True, timeout=60, check=False)
     return done.returncode, done.stdout, done.stderr
@@ -372,6 +381,8 @@ def compare(program, peer, rng, folder, lines):
         topology = accepted_only(rng, peer, folder, topology)
     (folder / "t").write_text(topology, newline="")
     (folder / "c").write_text(certificate_text(rng, peer, folder), newline="")
+    if rng.random() < 0.2:
+        (folder / "t").write_text(edited_since(rng, network, peer, folder, topology), newline="")
     (folder / "l").write_bytes(log_text(rng, network).encode("latin-1"))
     for _ in range(lines):
         words = words_of(rng)
