@@ -68,7 +68,7 @@ def rooms():
         box(left, 275, "model", "no type rule is broken", "cb_rules  cb_check"),
         box(left, 360, "model", "the model", "cb_model"),
         box(mid, 360, "topology", "the topology", "cb_accept  cb_instances  cb_nodes  cb_topo"),
-        box(mid, 445, "causes", "what causes what", "cb_graph  cb_reach"),
+        box(mid, 445, "causes", "what causes what", "cb_graph  cb_cache"),
         box(mid, 530, "codes", "columns, groups, codes, radius", "cb_matrix  cb_reduce  cb_bits"),
         box(mid, 615, "codes", "the groups that are nearest: the finding", "cb_decode", 596),
         box(mid, 700, "program", "the lines of the answer, on standard output", "cb_report  cb_io", 596),
