@@ -180,6 +180,30 @@ fn a_changed_certificate_is_refused(rt: HostRuntime) -> Result<(), Fail> {
     Ok(())
 }
 
+#[test]
+fn a_certificate_of_another_topology_is_refused(rt: HostRuntime) -> Result<(), Fail> {
+    // The edits behind those that the certificate knows of, the certificate, and why it is refused.
+    let cases: [(&str, &str, &str); 5] = [
+        ("delete L1\ndelete a\ndelete b\n", BOOK, "bad-node place 1"),
+        ("mute NoSignal@b\n", BOOK, "bad-column place 2"),
+        ("create c Port\n", BOOK, "no-span problem Fail@c"),
+        ("unlink b on L1\n", BOOK, "no-edge entry 4"),
+        ("mute NoSignal@a\n", THIN, "not-thin distance 0"),
+    ];
+    for (edits, certificate, why) in cases {
+        let err = format!(in rt.alloc(); "error 5 certificate {why}\n")?;
+        let wanted = Wanted {
+            code: 5,
+            out: "",
+            err: err.as_str(),
+        };
+        let mut topology = String::from_str(rt.alloc(), LINKED)?;
+        topology.push_str(edits)?;
+        is_checked(&rt, rt.alloc(), topology.as_str(), certificate, &wanted)?;
+    }
+    Ok(())
+}
+
 // An edit, and two raises of one window.
 const LOG: &str =
     "{\"at\":1,\"edit\":\"mute NoSignal@a\"}\n{\"at\":2,\"from\":\"c1\",\"raise\":\"NoSignal@a\"}\n{\"at\":2,\"from\":\"c1\",\"raise\":\"NoSignal@b\"}\n";
