@@ -5,6 +5,7 @@ pub mod Held
 pub mod Kept
 pub mod EitherWay
 pub mod Closest
+pub mod Nearest
 pub mod InUse
 pub mod Places
 pub mod Counting
