@@ -5,16 +5,17 @@ ghost use Rattle.cb_codes.specs.Holders.{holders_of};
 
 use crate::holders::{begin, hold};
 use cb_bits::Row;
+use cb_compact::CompactRow;
 use cb_model::List;
 use std::alloc::{AllocError, Global};
 use std::marker::Model;
 
-/// Codes in order, each a row with one place a column. Contracts see how many columns there are, and the rows.
-/// It keeps for each column which codes have it, as long as that takes little memory.
+/// Codes in order, each a row with one place a column, kept by its columns where these are few. Contracts see how many columns there
+/// are, and the rows. It keeps for each column which codes have it, as long as that takes little memory.
 #[derive(Debug, Drop)]
 pub struct Codes {
     width: usize,
-    rows: Vec<Row>,
+    rows: Vec<CompactRow>,
     holders: Vec<List<u32>>,
     ones: usize,
 }
@@ -46,7 +47,7 @@ impl Codes {
     }
 
     /// Adds a code behind the others. Where memory is wanting it is dropped.
-    pub fn push(&mut self, row: Row) -> Result<(), AllocError>
+    pub fn push(&mut self, alloc: Global, row: Row) -> Result<(), AllocError>
         requires { length row ≡ self.old.width }
         ensures width { self.new.width ≡ self.old.width }
         ensures pushed { OnOk result (self.new.rows ≡ self.old.rows ++ row ∷ []) }
@@ -54,7 +55,8 @@ impl Codes {
     {
         let place = self.rows.len();
         let ones = row.ones();
-        self.rows.push(row)?;
+        let compact = CompactRow::of(alloc, &row)?;
+        self.rows.push(compact)?;
         self.ones = self.ones.saturating_add(ones);
         hold(&mut self.holders, &self.rows[place], place, self.ones);
         Ok(())
@@ -76,7 +78,7 @@ impl Codes {
     }
 
     /// The code at a place.
-    pub fn row(&self, i: usize) -> &Row
+    pub fn row(&self, i: usize) -> &CompactRow
         requires { i < length self.now.rows }
         ensures { slice_get self.now.rows i ≡ Some result.now }
     {

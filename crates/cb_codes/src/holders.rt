@@ -2,7 +2,7 @@
 ghost use Rattle.std.specs.Prelude.{◌≡◌, ◌⊎◌, [], length, replicate, OnOk, IfOk};
 ghost use Rattle.cb_codes.specs.Holders.{AddsPlace};
 
-use cb_bits::Row;
+use cb_compact::CompactRow;
 use cb_model::List;
 use std::alloc::{AllocError, Global};
 
@@ -37,7 +37,7 @@ fn empty_lists(alloc: Global, count: usize) -> Result<Vec<List<u32>>, AllocError
 
 /// Adds the place of a code to the lists of the columns that it has, or gives up all lists. `ones` says how many columns
 /// all codes have together.
-pub fn hold(lists: &mut Vec<List<u32>>, code: &Row, place: usize, ones: usize)
+pub fn hold(lists: &mut Vec<List<u32>>, code: &CompactRow, place: usize, ones: usize)
     ensures { (lists.new.items ≡ []) ⊎ AddsPlace code.now place lists.old.items lists.new.items }
 {
     let kept = ones <= MOST_ONES && place <= u32::MAX as usize && lists.len() == code.len();
@@ -47,7 +47,7 @@ pub fn hold(lists: &mut Vec<List<u32>>, code: &Row, place: usize, ones: usize)
 }
 
 // Adds the place of a code to the lists of the columns that it has.
-fn add_place(lists: &mut Vec<List<u32>>, code: &Row, place: u32) -> Result<(), AllocError>
+fn add_place(lists: &mut Vec<List<u32>>, code: &CompactRow, place: u32) -> Result<(), AllocError>
     requires { length code.now ≡ length lists.old.items }
     ensures { OnOk result (AddsPlace code.now place lists.old.items lists.new.items) }
 {

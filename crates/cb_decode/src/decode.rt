@@ -9,12 +9,18 @@ use crate::marked::may_be_nearest;
 use cb_bits::Row;
 use cb_codes::Codes;
 use cb_coding::{Answer, Book};
+use cb_compact::CompactRow;
 use cb_model::List;
 use cb_reduce::{distance_from, mask_of};
 use std::alloc::{AllocError, Global};
 
 /// The answer for a word over the columns of a book. A code or a word that is too short says false past its end.
-pub fn nearest(alloc: Global, codes: &Codes, book: &Book, word: &Row) -> Result<Answer, AllocError>
+pub fn nearest(
+    alloc: Global,
+    codes: &Codes,
+    book: &Book,
+    word: &CompactRow,
+) -> Result<Answer, AllocError>
     requires some { 0 < length codes.now.rows }
     requires places_fit { length codes.now.rows < 2 ^ 32 }
     requires columns_fit { length book.now.columns < 2 ^ 32 }
@@ -31,7 +37,7 @@ pub fn nearest_by(
     codes: &Codes,
     book: &Book,
     decoder: &Decoder,
-    word: &Row,
+    word: &CompactRow,
 ) -> Result<Answer, AllocError>
     requires some { 0 < length codes.now.rows }
     requires places_fit { length codes.now.rows < 2 ^ 32 }
@@ -51,7 +57,7 @@ pub(crate) fn nearest_of(
     codes: &Codes,
     book: &Book,
     mask: &Option<Row>,
-    word: &Row,
+    word: &CompactRow,
     first: usize,
     marked: &Option<Row>,
 ) -> Result<Answer, AllocError>

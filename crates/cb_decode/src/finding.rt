@@ -13,6 +13,7 @@ use crate::decoder::Decoder;
 use cb_bits::Row;
 use cb_codes::Groups;
 use cb_coding::{Answer, Book};
+use cb_compact::CompactRow;
 use cb_finding::Finding;
 use cb_model::{List, NamedGroup, NodeName};
 use std::alloc::{AllocError, Global};
@@ -66,7 +67,7 @@ fn word_of(
     alloc: Global,
     columns: &List<NodeName>,
     raised: &List<NodeName>,
-) -> Result<Row, AllocError>
+) -> Result<CompactRow, AllocError>
     requires { Rises node_cmp columns.now }
     ensures { IfOk result (λ word. word ≡ word_of_raised columns.now raised.now) }
 {
@@ -76,7 +77,7 @@ fn word_of(
             word.set(k);
         }
     }
-    Ok(word)
+    CompactRow::of(alloc, &word)
 }
 
 // The place of a node among columns, which are in order.
@@ -88,7 +89,7 @@ fn place_of(columns: &List<NodeName>, node: &NodeName) -> Option<usize>
 }
 
 // How many of the raised nodes are no column.
-fn unknown_among(columns: &List<NodeName>, raised: &List<NodeName>, word: &Row) -> u64
+fn unknown_among(columns: &List<NodeName>, raised: &List<NodeName>, word: &CompactRow) -> u64
     requires columns { Rises node_cmp columns.now }
     requires raised { Rises node_cmp raised.now }
     requires word { word.now ≡ word_of_raised columns.now raised.now }

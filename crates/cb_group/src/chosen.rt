@@ -17,7 +17,7 @@ pub fn chosen(alloc: Global, groups: &List<Group>, columns: &[u32]) -> Result<Co
     let places = places_of(alloc, columns, longest(groups))?;
     let mut codes = Codes::new(alloc, columns.len());
     for group in groups.as_slice() {
-        codes.push(over(alloc, &group.code, columns, &places)?)?;
+        codes.push(alloc, over(alloc, &group.code, columns, &places)?)?;
     }
     Ok(codes)
 }

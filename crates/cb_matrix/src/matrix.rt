@@ -9,9 +9,9 @@ ghost use Rattle.cb_codes.specs.Grouped.{IsSound, groups_in};
 ghost use Rattle.cb_matrix.specs.Parts.{problems_with, HavePlaces};
 
 use crate::problems::GroupedProblems;
-use cb_bits::Row;
 use cb_cache::Cache;
 use cb_codes::{Codes, Grouping, Groups};
+use cb_compact::CompactRow;
 use cb_model::{List, NamedGroup, NodeName};
 use std::alloc::{AllocError, Global};
 use std::marker::Model;
@@ -66,7 +66,7 @@ impl Matrix {
     }
 
     /// The code of the problem at a place.
-    pub fn row(&self, problem: usize) -> &Row
+    pub fn row(&self, problem: usize) -> &CompactRow
         requires { problem < length self.now.problems }
         ensures { slice_get (map (λ p. p.code) self.now.problems) problem ≡ Some result.now }
     {

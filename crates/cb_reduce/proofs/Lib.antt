@@ -3,7 +3,6 @@ pub mod Search
 pub mod Shared
 pub mod Held
 pub mod Kept
-pub mod EitherWay
 pub mod Closest
 pub mod Nearest
 pub mod InUse
@@ -14,4 +13,3 @@ pub mod Tried
 pub mod Sharers
 pub mod Looked
 pub mod Masked
-pub mod Differences

@@ -3,7 +3,6 @@
 
 mod close;
 mod codebook;
-mod differing;
 mod laws;
 mod least_pair;
 mod marked;

@@ -30,7 +30,6 @@ pub fn wait(
     waiting: &mut Vec<List<Waiter>>,
 ) -> Result<(), AllocError>
     requires have_width { HaveWidth (length kept.now) codes.now.rows }
-    requires narrow { length kept.now ≤ 2 ^ 16 }
     requires pair { IsPair codes.now.rows pair.first pair.second }
     requires within { before ≤ length kept.now }
     requires safe { IsSafe codes.now.rows (kept_of kept.now) distance before pair.first pair.second }
@@ -53,7 +52,6 @@ pub fn wait(
 // Whether some of these pairs are too close with the columns before one and the kept ones.
 fn are_close(codes: &Codes, pairs: &List<Waiter>, kept: &Row, column: usize, distance: u32) -> bool
     requires have_width { HaveWidth (length kept.now) codes.now.rows }
-    requires narrow { length kept.now ≤ 2 ^ 16 }
     requires pairs { ArePairs codes.now.rows pairs.now }
     requires within { column ≤ length kept.now }
     ensures close { IsTrue result → SomeAreClose codes.now.rows (kept_of kept.now) distance column }
@@ -71,7 +69,6 @@ fn are_close(codes: &Codes, pairs: &List<Waiter>, kept: &Row, column: usize, dis
 // suffice.
 fn is_close(codes: &Codes, pair: Waiter, kept: &Row, column: usize, distance: u32) -> bool
     requires have_width { HaveWidth (length kept.now) codes.now.rows }
-    requires narrow { length kept.now ≤ 2 ^ 16 }
     requires pair { IsPair codes.now.rows pair.first pair.second }
     requires within { column ≤ length kept.now }
     ensures close { IsTrue result → ¬ IsSafe codes.now.rows (kept_of kept.now) distance column pair.first pair.second }
@@ -88,7 +85,6 @@ fn is_close(codes: &Codes, pair: Waiter, kept: &Row, column: usize, distance: u3
 /// Keeps a column where some of these pairs are too close without it.
 pub fn decide(codes: &Codes, pairs: &List<Waiter>, kept: &mut Row, column: usize, distance: u32)
     requires have_width { HaveWidth (length kept.old) codes.now.rows }
-    requires narrow { length kept.old ≤ 2 ^ 16 }
     requires pairs { ArePairs codes.now.rows pairs.now }
     requires within { column < length kept.old }
     ensures { Decides codes.now.rows distance column pairs.now kept.old kept.new }
@@ -108,7 +104,6 @@ pub fn move_on(
     waiting: &mut Vec<List<Waiter>>,
 ) -> Result<(), AllocError>
     requires have_width { HaveWidth (length kept.now) codes.now.rows }
-    requires narrow { length kept.now ≤ 2 ^ 16 }
     requires pairs { ArePairs codes.now.rows pairs.now }
     requires far { AreSafe codes.now.rows (kept_of kept.now) distance column pairs.now }
     requires within { column ≤ length kept.now }

@@ -12,10 +12,10 @@ use std::test::Fail;
 // Whether two codes of three columns stand where they were put, and are told by the columns that they have.
 fn rows_are_kept(alloc: Global) -> Result<bool, AllocError> {
     let mut codes = Codes::new(alloc, 3);
-    codes.push(Row::zeroed(alloc, 3)?)?;
+    codes.push(alloc, Row::zeroed(alloc, 3)?)?;
     let mut row = Row::zeroed(alloc, 3)?;
     row.set(1);
-    codes.push(row)?;
+    codes.push(alloc, row)?;
     Ok(
         codes.len() == 2
             && codes.width() == 3

@@ -7,6 +7,7 @@ ghost use Rattle.cb_model.specs.declared.node.NodeName.{NodeName as NodeName_};
 use cb_bits::Row;
 use cb_codes::{Codes, Grouping, Groups};
 use cb_coding::{Book, Problem};
+use cb_compact::CompactRow;
 use cb_decode::{Answer, Decoder, find, nearest, nearest_by};
 use cb_model::{List, NodeName};
 use std::alloc::{AllocError, Global};
@@ -100,7 +101,7 @@ fn decodes_words(rt: HostRuntime) -> Result<(), Fail> {
             distance,
         };
         assert!(rt; codes.len() == 4 && book.columns.len() <= 5);
-        let code = code_of(alloc, word.len(), word)?;
+        let code = CompactRow::of(alloc, &code_of(alloc, word.len(), word)?)?;
         let answer = nearest(alloc, &codes, &book, &code)?;
         assert!(rt; is_answer(&answer, far, groups, sure), "of {word}");
         let decoder = Decoder::of(alloc, &codes, &book)?;
@@ -122,7 +123,7 @@ fn is_answer(answer: &Answer, distance: u32, groups: &[u32], sure: bool) -> bool
 fn four_codes(alloc: Global) -> Result<Codes, AllocError> {
     let mut codes = Codes::new(alloc, 5);
     for text in ["00000", "11100", "00111", "11011"] {
-        codes.push(code_of(alloc, 5, text)?)?;
+        codes.push(alloc, code_of(alloc, 5, text)?)?;
     }
     Ok(codes)
 }

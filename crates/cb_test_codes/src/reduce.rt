@@ -37,9 +37,9 @@ fn reduces_the_worked_codes(rt: HostRuntime) -> Result<(), Fail> {
 // Whether the codes are few and narrow.
 fn are_small(codes: &Codes) -> bool
     ensures few { IsTrue result → length codes.now.rows ≤ 100 }
-    ensures narrow { IsTrue result → codes.now.width ≤ 100 }
+    ensures narrow { IsTrue result → codes.now.width ≤ 1000 }
 {
-    codes.len() <= 100 && codes.width() <= 100
+    codes.len() <= 100 && codes.width() <= 1000
 }
 
 // Whether the reduction keeps these columns, or names the first close pair.
@@ -103,6 +103,17 @@ fn reduces_as_defined(rt: HostRuntime) -> Result<(), Fail> {
     Ok(())
 }
 
+#[test]
+fn reduces_wide_codes_as_defined(rt: HostRuntime) -> Result<(), Fail> {
+    let mut state = 11;
+    for turn in 0..6 {
+        // Codes of 640 columns with ten on average: about half of them are kept by their columns, and the others whole.
+        let codes = drawn(rt.alloc(), &mut state, 9, 640, turn % 2 == 0, 64)?;
+        assert!(rt; agree(rt.alloc(), &codes, 4 + turn as u32)?, "{turn}");
+    }
+    Ok(())
+}
+
 // The next number of a row that looks random.
 fn next(state: &mut u64) -> u64 {
     *state = state
@@ -125,7 +136,7 @@ fn drawn(
         let empty = quiet && place == 0;
         let code = drawn_code(alloc, state, width, if empty { 0 } else { of })?;
         if code.len() == codes.width() {
-            codes.push(code)?;
+            codes.push(alloc, code)?;
         }
     }
     Ok(codes)
@@ -159,7 +170,7 @@ fn codes_of(alloc: Global, width: usize, texts: &[&str]) -> Result<Codes, AllocE
     for text in texts {
         let code = code_of(alloc, width, text)?;
         if code.len() == codes.width() {
-            codes.push(code)?;
+            codes.push(alloc, code)?;
         }
     }
     Ok(codes)

@@ -9,7 +9,7 @@ use Rattle.cb_reduce.proofs.codebook.book_of_good.Goals as goal
 pub wait_all-requires-clause-may : goal.wait_all-requires-clause-may
 wait_all-requires-clause-may c =
     may_wait c.args.width c.starts_with_zero-quiet.result c.args.codes.now.rows c.args.distance c.in_ok-kept.kept c.requires.have_width
-    c.requires.columns_fit c.requires.places_fit c.requires.good c.in_ok-kept.ensures
+    c.requires.places_fit c.requires.good c.in_ok-kept.ensures
 
 pub loop-column-init : goal.loop-column-init
 loop-column-init c =

@@ -1,4 +1,4 @@
-use Rattle.std.proofs.Common.{◌≡◌, ◌++◌, ◌∷◌, [], length, get_or, sym, subst, ◌∙◌, ap, arith}
+use Rattle.std.proofs.Common.{◌≡◌, ◌++◌, ◌∷◌, [], List, Bool, length, get_or, sym, subst, ◌∙◌, ap, arith}
 use Rattle.std.proofs.lemmas.List.Elements.{All-push}
 use Rattle.cb_coding.specs.Distance.{HaveWidth}
 use Rattle.cb_codes.specs.Codes.{Coded}
@@ -9,7 +9,8 @@ use Rattle.cb_codes.proofs.codes.Codes.push.Goals as goal
 pub invariant_of-self-2 : goal.invariant_of-self-2
 invariant_of-self-2 c =
     let inside = c.self.inside in
-    let pushed = c.in_ok-push.ensures.items in
+    let same = c.in_ok-compact.ensures in
+    let pushed = c.in_ok-push.ensures.items ∙ ap (λ (code : List Bool). inside.rows.items ++ code ∷ []) same in
     let long = c.self.inside.rows.ok.0 in
     let place : c.len-place.result ≡ length inside.rows.items = omega (arith, c.len-place.ensures) in
     let is : c.index.result.now ≡ c.args.row =

@@ -1,0 +1,5 @@
+pub mod Numbers
+pub mod Ones
+pub mod Counting
+pub mod Words
+pub mod Fronts

@@ -1,0 +1,168 @@
+//! A row of truth values, by the places of its ones where these are few.
+ghost use Rattle.std.specs.Prelude.{◌≡◌, ◌+◌, ◌<◌, ◌≤◌, length, true, false, slice_index_or, count_by, SomeIff, IfSome, IfNone, IfOk};
+ghost use Rattle.cb_bits.specs.Bits.{differing, IsNextOne, HasNoneFrom};
+ghost use Rattle.cb_compact.specs.Compact.{Keeps, differs, differing_before, differing_under};
+
+use crate::counted::{count_below, count_under, nth_place, words_under};
+use crate::places::{has_place, next_place, places_of};
+use cb_bits::Row;
+use std::alloc::{AllocError, Global};
+use std::marker::Model;
+
+// The places of as many values fit 32 bits.
+const MOST_PLACES: usize = 4_294_967_296;
+
+// As many values have at most so many words as `distance_under` takes.
+const MOST_COUNTED: usize = 4_294_967_232;
+
+/// What is kept of a row: the places of its ones, in order, or all of it.
+#[derive(Debug, Drop)]
+enum Kept {
+    Places(Vec<u32>),
+    Whole(Row),
+}
+
+/// Truth values in order. Contracts see the list of them. It keeps the places of those that are true, where these are fewer than
+/// the words that all would take.
+#[derive(Debug, Drop)]
+pub struct CompactRow {
+    len: usize,
+    kept: Kept,
+}
+
+impl Model for CompactRow {
+    ghost use Rattle.std.specs.Prelude.{List, Bool};
+    ghost use Rattle.cb_compact.specs.Compact.{values_of, IsKept};
+
+    ghost Value = { List Bool };
+
+    ghost view = { λ r. values_of r.kept r.len };
+
+    ghost invariant = { λ r. IsKept r.kept r.len };
+}
+
+impl CompactRow {
+    /// The same values as those of a row.
+    pub fn of(alloc: Global, row: &Row) -> Result<CompactRow, AllocError>
+        ensures { IfOk result (λ compact. compact ≡ row.now) }
+    {
+        let len = row.len();
+        let kept = kept_of(alloc, row)?;
+        Ok(CompactRow { len, kept })
+    }
+
+    /// How many values there are.
+    pub fn len(&self) -> usize
+        ensures { result ≡ length self.now }
+    {
+        self.len
+    }
+
+    /// The value at a place.
+    pub fn get(&self, i: usize) -> bool
+        requires { i < length self.now }
+        ensures { result ≡ slice_index_or self.now i false }
+    {
+        match &self.kept {
+            Kept::Places(places) => has_place(places, i),
+            Kept::Whole(row) => row.get(i),
+        }
+    }
+
+    /// How many values are true.
+    pub fn ones(&self) -> usize
+        ensures { result ≡ count_by (λ value. value) self.now }
+    {
+        match &self.kept {
+            Kept::Places(places) => places.len(),
+            Kept::Whole(row) => row.ones(),
+        }
+    }
+
+    /// The first true place from a place on.
+    pub fn next_one(&self, from: usize) -> Option<usize>
+        ensures next { IfSome result (IsNextOne self.now from) }
+        ensures none { IfNone result (HasNoneFrom self.now from) }
+    {
+        let mut at = 0;
+        self.next_one_near(&mut at, from)
+    }
+
+    /// The same. Among the places that are kept it is looked for at that index first, which is then where it stands: a wrong index
+    /// only takes longer.
+    pub(crate) fn next_one_near(&self, at: &mut usize, from: usize) -> Option<usize>
+        ensures next { IfSome result (IsNextOne self.now from) }
+        ensures none { IfNone result (HasNoneFrom self.now from) }
+    {
+        match &self.kept {
+            Kept::Places(places) => next_place(places, at, from),
+            Kept::Whole(row) => row.next_one(from),
+        }
+    }
+
+    /// The row, where it is kept.
+    pub(crate) fn whole(&self) -> Option<&Row>
+        ensures { IfSome result (λ row. row.now ≡ self.now) }
+    {
+        match &self.kept {
+            Kept::Places(_) => None,
+            Kept::Whole(row) => Some(row),
+        }
+    }
+
+    /// At how many places the two differ, where these are fewer than the limit. It stops once there are as many.
+    pub fn distance_below(&self, other: &CompactRow, limit: usize) -> Option<usize>
+        requires { length self.now ≡ length other.now }
+        ensures { let distance = differing self.now other.now in
+            SomeIff result (distance < limit) distance }
+    {
+        if let Some(one) = self.whole() {
+            if let Some(two) = other.whole() {
+                return one.distance_below(two, limit);
+            }
+        }
+        count_below(self, other, limit)
+    }
+
+    /// At how many ones of a mask the two differ.
+    pub fn distance_under(&self, other: &CompactRow, mask: &Row) -> usize
+        requires same { length self.now ≡ length other.now }
+        requires masked { length self.now ≡ length mask.now }
+        ensures { result ≡ differing_under mask.now self.now other.now }
+    {
+        if self.len() <= MOST_COUNTED {
+            if let Some(one) = self.whole() {
+                if let Some(two) = other.whole() {
+                    return words_under(one, two, mask);
+                }
+            }
+        }
+        count_under(self, other, mask)
+    }
+
+    /// The nth place from the first, of those before one, at which the two differ.
+    pub fn nth_differing(&self, other: &CompactRow, before: usize, n: usize) -> Option<usize>
+        requires same { length self.now ≡ length other.now }
+        requires some { 0 < n }
+        ensures before { IfSome result (λ k. k < before) }
+        ensures differ { IfSome result (λ k. differs self.now other.now k ≡ true) }
+        ensures nth { IfSome result (λ k. differing_before k self.now other.now + 1 ≡ n) }
+        ensures none { IfNone result (differing_before before self.now other.now < n) }
+    {
+        nth_place(self, other, before, n)
+    }
+}
+
+// The places of the ones, where these are fewer than the words of the row, and else a copy.
+fn kept_of(alloc: Global, row: &Row) -> Result<Kept, AllocError>
+    ensures { IfOk result (Keeps row.now) }
+{
+    let ones = row.ones();
+    if row.len() <= MOST_PLACES && ones < row.words().len() {
+        let places = places_of(alloc, row, ones)?;
+        Ok(Kept::Places(places))
+    } else {
+        let copy = row.copy(alloc)?;
+        Ok(Kept::Whole(copy))
+    }
+}

@@ -1,0 +1,30 @@
+//! Rows of truth values of which few are true.
+//!
+//! A `CompactRow` is the same list of values as a `Row` of cb_bits. It keeps the places of the values that are true, in order, where
+//! these are fewer than the words of the row, and else the row. So a code of five columns takes 20 bytes, however many columns there are,
+//! and two such codes are compared by going through ten places.
+//!
+//! ```rust
+//! let code = CompactRow::of(alloc, &row)?;                       // cb_codes, a code that is added
+//! while let Some(column) = code.next_one(from) { .. }            // its columns, one after the other
+//! self.rows[i].distance_below(&self.rows[j], limit)              // how far two codes are apart
+//! ```
+//!
+//! - **Words:** contracts see the list of values, as they do of a `Row`, and the words of cb_bits for it. `specs/Compact.antt` adds
+//!   `ones_of`, the places of the ones; `differs`, whether two rows differ at a place; `differing_before` and `differing_under`, at how
+//!   many places before one, or how many ones of a mask.
+//! - **Promised:** `of` is the same list, or memory is wanting. `len`, `get`, `ones`, `next_one` and `distance_below` say of it what those of
+//!   `Row` do; `nth_differing` and `distance_under` say where two rows differ, and at how many ones of a mask.
+//! - **Not promised:** which of the two is kept, and that a loop stops as early as it might. A row doesn't change: what is to be set, cleared
+//!   or united is a `Row`.
+//! - **Read first:** `src/compact.rt`, then `specs/Compact.antt`. Two rows are gone through together in `src/differing.rt`. Stands on cb_bits.
+//! - **Free to change:** when places are kept, and how they are gone through (`src/places.rt`). **Dear:** the list as a row's value.
+#![tactic(auto)]
+
+mod apart;
+mod compact;
+mod counted;
+mod differing;
+mod places;
+
+pub use compact::CompactRow;

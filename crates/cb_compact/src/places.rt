@@ -1,0 +1,87 @@
+//! The places of the ones of a row, in order.
+ghost use Rattle.std.specs.Prelude.{◌≡◌, ◌<◌, ◌≤◌, ◌+◌, ◌^◌, List, Bool, ℕ, false, length, slice_index_or, IsTrue, IfOk, IfSome, IfNone};
+ghost use Rattle.cb_bits.specs.Bits.{IsNextOne, HasNoneFrom};
+ghost use Rattle.cb_compact.specs.Compact.{ones_of, AreRising, AreBefore};
+
+use cb_bits::Row;
+use std::alloc::{AllocError, Global};
+
+/// The places of the ones, of which there are so many.
+pub fn places_of(alloc: Global, row: &Row, ones: usize) -> Result<Vec<u32>, AllocError>
+    requires { length row.now ≤ 2 ^ 32 }
+    ensures { IfOk result (λ places. places.items ≡ ones_of row.now) }
+{
+    // A length fits its type, and so does the index behind a place.
+    let _len = row.len();
+    let mut places = Vec::with_capacity(alloc, ones)?;
+    let mut from = 0;
+    while let Some(place) = row.next_one(from) {
+        places.push(place as u32)?;
+        from = place + 1;
+    }
+    Ok(places)
+}
+
+/// Whether a place is one of a row that has its ones at these.
+pub fn has_place(places: &[u32], place: usize) -> bool
+    ensures { (row : List Bool) → places.now ≡ ones_of row → result ≡ slice_index_or row place false }
+{
+    let at = first_from(places, place);
+    at < places.len() && places[at] as usize == place
+}
+
+/// The first one from a place on of a row that has its ones at these. It is looked for at that index first, which is then where it stands.
+pub fn next_place(places: &[u32], at: &mut usize, from: usize) -> Option<usize>
+    ensures next { IfSome result (λ place. (row : List Bool) → places.now ≡ ones_of row → IsNextOne row from place) }
+    ensures none { IfNone result ((row : List Bool) → places.now ≡ ones_of row → HasNoneFrom row from) }
+{
+    *at = first_near(places, *at, from);
+    if *at < places.len() {
+        Some(places[*at] as usize)
+    } else {
+        None
+    }
+}
+
+// How many places come before one. Two guesses are tried first: so many, and one more.
+fn first_near(places: &[u32], guess: usize, from: usize) -> usize
+    ensures { AreRising places.now → AreBefore places.now from result }
+{
+    if are_before(places, guess, from) {
+        return guess;
+    }
+    if guess < places.len() && are_before(places, guess + 1, from) {
+        return guess + 1;
+    }
+    first_from(places, from)
+}
+
+// Whether so many places come before one, and no more.
+fn are_before(places: &[u32], count: usize, from: usize) -> bool
+    ensures { IsTrue result → AreRising places.now → AreBefore places.now from count }
+{
+    if places.len() < count {
+        return false;
+    }
+    if count > 0 && from <= places[count - 1] as usize {
+        return false;
+    }
+    count == places.len() || from <= places[count] as usize
+}
+
+// How many places come before one, found by halves.
+fn first_from(places: &[u32], from: usize) -> usize
+    ensures { AreRising places.now → AreBefore places.now from result }
+{
+    let mut low = 0;
+    let mut high = places.len();
+    while low < high {
+        let middle = low + (high - low) / 2;
+        if (places[middle] as usize) < from {
+            low = middle + 1;
+        } else {
+            high = middle;
+        }
+    }
+    low
+}
