@@ -5,7 +5,7 @@ use Rattle.cb_reach.specs.Rows.{Has}
 use Rattle.cb_reach.proofs.Marks.{nothing}
 use Rattle.cb_breadth.specs.Orders.{AreRanked}
 use Rattle.cb_breadth.proofs.Ranking.{added_alone, successors_ranked, ranks_follow}
-use Rattle.cb_breadth.proofs.search.follow.Goals as goal
+use Rattle.cb_breadth.proofs.successors.follow.Goals as goal
 
 pub add_successors-requires-clause-node : goal.add_successors-requires-clause-node
 add_successors-requires-clause-node g c =

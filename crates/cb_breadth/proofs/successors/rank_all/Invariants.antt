@@ -1,7 +1,7 @@
 use Rattle.std.proofs.Common.{◌≡◌, ◌≤◌, ◌-◌, ◌↔◌, ◌⊎◌, ℕ, length}
 use Rattle.cb_reach.specs.Rows.{Has}
 use Rattle.cb_breadth.specs.Orders.{IsRankBelow}
-use Rattle.cb_breadth.proofs.search.rank_all.Given as goal
+use Rattle.cb_breadth.proofs.successors.rank_all.Given as goal
 
 -- the ranks of the nodes before this one are added
 abbrev pub invariant-loop-node : goal.invariant-loop-node

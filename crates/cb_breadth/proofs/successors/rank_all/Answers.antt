@@ -3,7 +3,7 @@ use Rattle.std.proofs.lemmas.List.{length-set}
 use Rattle.std.proofs.lemmas.Option.{get_or_from_slice_get}
 use Rattle.cb_breadth.proofs.Lists.{has_below}
 use Rattle.cb_breadth.proofs.Ranking.{ranked_more}
-use Rattle.cb_breadth.proofs.search.rank_all.Goals as goal
+use Rattle.cb_breadth.proofs.successors.rank_all.Goals as goal
 
 pub loop-node-preserved : goal.loop-node-preserved
 loop-node-preserved c =
