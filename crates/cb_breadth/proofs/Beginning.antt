@@ -36,8 +36,7 @@ begun edge order searches new =
         counted = none.count ∙ sym (ap (λ items. sum_by kept_in items) none.none ∙ none_in (length order.nodes.items));
         few = let e = none.count in omega arith;
         places = ap length none.none ∙ length-replicate (length order.nodes.items) nothing;
-        numbers = none.numbers;
-        ranks = none.ranks;
+        row = none.row;
       };
       found = new.found;
     }

@@ -26,15 +26,13 @@ pub record AreSuccessors (edge : ℕ → ℕ → Type 0) (order : Order) (s : Su
   pub counted : s.count ≡ sum_by kept_in s.kept.items
   pub few : s.count ≤ kept_limit
   pub places : length s.kept.items ≡ length order.nodes.items
-  pub numbers : length s.numbers ≡ length order.ranks.items
-  pub ranks : length s.ranks ≡ length order.nodes.items
+  pub row : length s.row ≡ length order.ranks.items
 
 -- none are kept, and there is room to ask for them
 pub record AreNone (order : Order) (s : Successors) : Type 0 where
   pub none : s.kept.items ≡ replicate (length order.nodes.items) None
   pub count : s.count ≡ 0
-  pub numbers : length s.numbers ≡ length order.ranks.items
-  pub ranks : length s.ranks ≡ length order.nodes.items
+  pub row : length s.row ≡ length order.ranks.items
 
 -- the list that may be there, or else the other
 abbrev pub list_or : Option (Vec ℕ) → List ℕ → List ℕ

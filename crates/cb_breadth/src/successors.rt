@@ -1,8 +1,7 @@
 //! What edges lead to from each node, asked for once.
-ghost use Rattle.std.specs.Prelude.{◌≡◌, ◌<◌, ◌≤◌, ◌+◌, ◌^◌, ◌↔◌, ◌⊎◌, ℕ, None, length, replicate, IfOk, OnOk};
-ghost use Rattle.cb_reach.specs.Rows.{Has};
-ghost use Rattle.cb_breadth.specs.Lists.{IsListOf};
-ghost use Rattle.cb_breadth.specs.Orders.{IsOrder, Follows, AreRanked, IsRankBelow};
+ghost use Rattle.std.specs.Prelude.{◌≡◌, ◌<◌, ◌≤◌, ◌+◌, ◌^◌, None, length, replicate, IfOk, OnOk};
+ghost use Rattle.cb_breadth.specs.Lists.{IsSetOf};
+ghost use Rattle.cb_breadth.specs.Orders.{IsOrder, AreApart, IsRankBelow};
 ghost use Rattle.cb_breadth.specs.Successors.{AreNone, AreSuccessors, AreSuccessorsOf, list_at};
 
 use crate::visit::Order;
@@ -24,9 +23,8 @@ pub struct Successors {
     count: usize,
     // Those that were asked for last.
     last: Vec<u32>,
-    // Room for the successors of one node, by their numbers and by their ranks.
-    numbers: Row,
-    ranks: Row,
+    // Room for the successors of one node, by their numbers.
+    row: Row,
 }
 
 impl Successors {
@@ -38,8 +36,7 @@ impl Successors {
             kept: none_kept(alloc, order.nodes.len())?,
             count: 0,
             last: Vec::new(alloc),
-            numbers: Row::zeroed(alloc, order.ranks.len())?,
-            ranks: Row::zeroed(alloc, order.nodes.len())?,
+            row: Row::zeroed(alloc, order.ranks.len())?,
         })
     }
 
@@ -64,15 +61,7 @@ impl Successors {
         if self.kept[node as usize].is_some() {
             return Ok(());
         }
-        follow(
-            graph,
-            order,
-            node,
-            &mut self.numbers,
-            &mut self.ranks,
-            steps,
-        );
-        list_places(&self.ranks, &mut self.last)?;
+        follow(graph, order, node, &mut self.row, &mut self.last, steps)?;
         if MOST_KEPT - self.count < self.last.len() {
             return Ok(());
         }
@@ -105,55 +94,41 @@ fn none_kept(alloc: Global, count: usize) -> Result<Vec<Option<Vec<u32>>>, Alloc
     Ok(kept)
 }
 
-// Makes `next` the nodes, by their ranks, that an edge leads to from the node of this rank. The row is room for their numbers.
+// Makes the list that of the ranks that edges lead to from the node of a rank, in order. The row is room for their numbers.
 fn follow<L: Ledger, G: Edges>(
     graph: &mut G,
     order: &Order,
     node: u32,
     row: &mut Row,
-    next: &mut Row,
+    list: &mut Vec<u32>,
     steps: &mut Steps<L>,
-)
+) -> Result<(), AllocError>
     requires order { IsOrder (G.edge graph.old) (G.count graph.old) order.now.nodes.items order.now.ranks.items }
     requires node { node < length order.now.nodes.items }
     requires row { length row.old ≡ G.count graph.old }
-    requires next { length next.old ≡ length order.now.nodes.items }
     ensures same { graph.new ≡ graph.old }
     ensures row { length row.new ≡ length row.old }
-    ensures length { length next.new ≡ length next.old }
-    ensures next { (rank : ℕ) → Has next.new rank ↔ Follows (G.edge graph.old) order.now.nodes.items node rank }
+    ensures list { OnOk result (AreSuccessorsOf (G.edge graph.old) order.now node list.new.items) }
     ensures step { steps.new ≡ steps.old + 1 }
 {
     row.wipe();
-    next.wipe();
     graph.add_successors(order.nodes[node as usize] as usize, row, steps);
-    rank_all(&order.ranks, row, next);
+    list_ranks(&order.ranks, row, list)?;
+    list.sort_unstable();
+    Ok(())
 }
 
-// Adds the ranks of the row's nodes.
-fn rank_all(ranks: &[u32], row: &Row, next: &mut Row)
-    requires ranks { AreRanked ranks.now row.now (length next.old) }
+// Makes the list that of the ranks of the row's nodes, in the order of the nodes.
+fn list_ranks(ranks: &[u32], row: &Row, list: &mut Vec<u32>) -> Result<(), AllocError>
+    requires ranks { AreApart ranks.now row.now }
     requires row { length row.now ≤ length ranks.now }
-    ensures length { length next.new ≡ length next.old }
-    ensures next { (rank : ℕ) → Has next.new rank ↔ (Has next.old rank ⊎ IsRankBelow ranks.now row.now (length row.now) rank) }
-{
-    let mut from = 0;
-    while let Some(node) = row.next_one(from) {
-        next.set(ranks[node] as usize);
-        from = node + 1;
-    }
-}
-
-// Makes the list that of the row's places, in order.
-fn list_places(row: &Row, list: &mut Vec<u32>) -> Result<(), AllocError>
-    requires { length row.now < 2 ^ 32 }
-    ensures { OnOk result (IsListOf (Has row.now) list.new.items) }
+    ensures { OnOk result (IsSetOf (IsRankBelow ranks.now row.now (length row.now)) list.new.items) }
 {
     list.clear();
     let mut from = 0;
-    while let Some(place) = row.next_one(from) {
-        list.push(place as u32)?;
-        from = place + 1;
+    while let Some(node) = row.next_one(from) {
+        list.push(ranks[node])?;
+        from = node + 1;
     }
     Ok(())
 }

@@ -1,10 +1,9 @@
-use Rattle.std.proofs.Common.{◌≡◌, ℕ, length, List, false, refl, sym, ap, subst, ◌∙◌, inl, inr}
-use Rattle.std.proofs.lemmas.List.{length-replicate}
+use Rattle.std.proofs.Common.{ℕ, length, List, refl, sym, subst}
 use Rattle.std.proofs.lemmas.Option.{slice_get_read}
-use Rattle.cb_reach.specs.Rows.{Has}
-use Rattle.cb_reach.proofs.Marks.{nothing}
-use Rattle.cb_breadth.specs.Orders.{AreRanked}
-use Rattle.cb_breadth.proofs.Ranking.{added_alone, successors_ranked, ranks_follow}
+use Rattle.cb_breadth.specs.Lists.{IsSetOf}
+use Rattle.cb_breadth.specs.Orders.{Follows, AreApart, IsRankBelow}
+use Rattle.cb_breadth.proofs.Listing.{set_as, in_order}
+use Rattle.cb_breadth.proofs.Ranking.{added_alone, successors_apart, ranks_follow}
 use Rattle.cb_breadth.proofs.successors.follow.Goals as goal
 
 pub add_successors-requires-clause-node : goal.add_successors-requires-clause-node
@@ -13,28 +12,25 @@ add_successors-requires-clause-node g c =
     let at = slice_get_read nodes (length nodes) c.args.node c.index.result.now refl c.requires.node c.index.ensures in
     (c.requires.order.ranked c.args.node c.index.result.now at).0
 
-pub rank_all-requires-clause-ranks : goal.rank_all-requires-clause-ranks
-rank_all-requires-clause-ranks g c =
+pub list_ranks-requires-clause-ranks : goal.list_ranks-requires-clause-ranks
+list_ranks-requires-clause-ranks g c =
     let nodes = c.args.order.now.nodes.items in
     let edge = g.G.Edges.edge c.args.graph.now in
     let at = slice_get_read nodes (length nodes) c.args.node c.index.result.now refl c.requires.node c.index.ensures in
     let are = added_alone (edge c.index.result.now) (length c.args.row.now) c.wipe.new.self c.add_successors.new.row c.wipe.ensures c.add_successors.ensures.row in
-    let room : length nodes ≡ length c.wipe-2.new.self = sym c.requires.next ∙ (sym (length-replicate (length c.args.next.now) false) ∙ sym (ap length c.wipe-2.ensures)) in
-    let ranked = successors_ranked edge (g.G.Edges.count c.args.graph.now) nodes c.args.order.now.ranks.items c.requires.order c.args.node c.index.result.now at c.add_successors.new.row are in
-    subst (λ (ranks : List ℕ). AreRanked ranks c.add_successors.new.row (length c.wipe-2.new.self)) (sym c.deref.ensures.value)
-    (subst (AreRanked c.args.order.now.ranks.items c.add_successors.new.row) room ranked)
+    let apart = successors_apart edge (g.G.Edges.count c.args.graph.now) nodes c.args.order.now.ranks.items c.requires.order c.args.node c.index.result.now at c.add_successors.new.row are in
+    subst (λ (ranks : List ℕ). AreApart ranks c.add_successors.new.row) (sym c.deref.ensures.value) apart
 
-pub returns-clause-next : goal.returns-clause-next
-returns-clause-next g c = λ rank.
+pub returns-clause-list : goal.returns-clause-list
+returns-clause-list g c =
     let nodes = c.args.order.now.nodes.items in
+    let ranks = c.args.order.now.ranks.items in
     let edge = g.G.Edges.edge c.args.graph.now in
+    let row = c.add_successors.new.row in
+    let list = c.list_ranks.new.list.items in
     let at = slice_get_read nodes (length nodes) c.args.node c.index.result.now refl c.requires.node c.index.ensures in
-    let are = added_alone (edge c.index.result.now) (length c.args.row.now) c.wipe.new.self c.add_successors.new.row c.wipe.ensures c.add_successors.ensures.row in
-    let follow = ranks_follow edge (g.G.Edges.count c.args.graph.now) nodes c.args.order.now.ranks.items c.requires.order c.args.node c.index.result.now at c.add_successors.new.row are rank in
-    let added = rw c.deref.ensures.value at (c.rank_all.ensures.next rank) in (
-      λ has. elim (added.0 has) [
-        | inl had ↦ absurd (nothing (length c.args.next.now) rank (subst (λ r. Has r rank) c.wipe-2.ensures had))
-        | inr is ↦ follow.0 is
-      ],
-      λ is. added.1 (inr (follow.1 is)),
-    )
+    let are = added_alone (edge c.index.result.now) (length c.args.row.now) c.wipe.new.self row c.wipe.ensures c.add_successors.ensures.row in
+    let follow = ranks_follow edge (g.G.Edges.count c.args.graph.now) nodes ranks c.requires.order c.args.node c.index.result.now at row are in
+    let set = subst (λ (places : List ℕ). IsSetOf (IsRankBelow places row (length row)) list) c.deref.ensures.value c.in_ok-list_ranks.ensures in
+    let all = set_as (IsRankBelow ranks row (length row)) (Follows edge nodes c.args.node) list set follow in
+    in_order (Follows edge nodes c.args.node) list c.sort_unstable.new.self.items all c.sort_unstable.ensures.permutation c.sort_unstable.ensures.sorted

@@ -1,9 +1,22 @@
-use Rattle.std.proofs.Common.{rules, ◌≡◌, ◌+◌, ◌<◌, ◌≤◌, ◌++◌, [], ◌∷◌, length, ap, subst, ◌∙◌, arith}
+use Rattle.std.proofs.Common.{rules, ◌≡◌, ◌+◌, ◌<◌, ◌≤◌, ◌++◌, [], ◌∷◌, length, refl, ap, subst, ◌∙◌, arith}
+use Rattle.cb_breadth.specs.Searches.{IsSearchOf}
+use Rattle.cb_breadth.proofs.Beginning.{begun}
+use Rattle.cb_graph.specs.Edges.{EdgeAt}
 use Rattle.cb_topo.specs.Numbered.{Numbered}
 use Rattle.cb_span.specs.Searched.{IsTreeOf, visits_in}
 use Rattle.cb_span.proofs.Zips.{zipped_more, all_zipped}
 use Rattle.cb_span.proofs.Collected.{visits_more, visited_more, many_found}
 use Rattle.cb_span.proofs.trees.trees.Goals as goal
+
+pub loop-place-init : goal.loop-place-init
+loop-place-init g c = record {
+  same = refl;
+  known = begun (EdgeAt c.args.graph.now) c.args.order.now c.in_ok-searches.searches c.in_ok-searches.ensures;
+  trees = search rules;
+  used = search rules;
+  room = refl;
+  left = search rules;
+}
 
 pub returns-then-left-len-clause-fault : goal.returns-then-left-len-clause-fault
 returns-then-left-len-clause-fault g c =
@@ -31,6 +44,7 @@ loop-place-preserved g c =
     let whole = kept.left in
     record {
       same = c.tree_from.ensures.same ∙ kept.same;
+      known = subst (λ (n : Numbered). IsSearchOf (EdgeAt n) order c.tree_from.new.searches) kept.same c.in_ok-visits.ensures.known;
       trees = rw ok (zipped_more (IsTreeOf c.args.graph.now order) c.loop-place.place c.args.nodes.now trees kept.trees c.at.result.now visits c.at.ensures tree);
       used = λ r. rw ok (visited_more trees visits c.args.used.now c.loop-place.used c.tree_from.new.used r (c.in_ok-visits.ensures.used r) (kept.used r));
       room = c.tree_from.ensures.room ∙ kept.room;
