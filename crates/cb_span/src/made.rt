@@ -69,15 +69,7 @@ pub fn thin<L: Ledger>(
     let order = order_of(alloc, graph.topology())?;
     let mut used = Row::zeroed(alloc, order.nodes.len())?;
     let mut searches = Searches::new(alloc, &order)?;
-    let side = side_tree(
-        alloc,
-        graph,
-        &order,
-        &mut searches,
-        first,
-        &mut used,
-        steps,
-    )?;
+    let side = side_tree(alloc, graph, &order, &mut searches, first, &mut used, steps)?;
     let tree = tree_from(
         alloc,
         graph,
