@@ -163,9 +163,7 @@ fn are_thin<L: Ledger>(
     let quiet = thin_text(alloc, graph, None, port, 2, steps)?;
     let both = thin_text(alloc, graph, Some(link), port, 3, steps)?;
     let same = thin_text(alloc, graph, Some(link), link, 1, steps)?;
-    Ok(quiet.as_slice() == THIN
-        && both.as_slice() == THIN_OF_TWO
-        && same.as_slice() == THIN_OF_ONE)
+    Ok(quiet.as_slice() == THIN && both.as_slice() == THIN_OF_TWO && same.as_slice() == THIN_OF_ONE)
 }
 
 // The certificates of a link that is made first, over a graph without a node.
