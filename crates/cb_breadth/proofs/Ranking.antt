@@ -1,54 +1,74 @@
--- The ranks of a row's nodes are added one by one.
-use Rattle.std.proofs.Common.{◌≡◌, ◌↔◌, ◌⊎◌, inl, inr, ℕ, ◌+◌, ◌<◌, List, Bool, true, false, Some, length, slice_get, slice_set, replicate, sym, subst, ◌∙◌, arith}
+-- The ranks of a row's nodes are listed one by one.
+use Rattle.std.proofs.Common.{◌≡◌, ◌↔◌, ◌⊎◌, inl, inr, ℕ, ◌+◌, List, [], ◌∷◌, ◌++◌, Bool, Some, length, slice_get, replicate, false, sym, subst, ◌∙◌, arith}
 use Rattle.std.proofs.lemmas.Bool.{cases_lt}
-use Rattle.std.proofs.lemmas.Option.{same_Some, slice_get_within}
+use Rattle.std.proofs.lemmas.Option.{same_Some}
 use Rattle.cb_bits.specs.Bits.{IsNextOne, HasNoneFrom}
 use Rattle.cb_reach.specs.Rows.{Has}
-use Rattle.cb_reach.proofs.Marks.{has_set, set_cases, nothing}
-use Rattle.cb_breadth.specs.Orders.{IsOrder, Follows, AreRanked, IsRankBelow}
-use Rattle.cb_breadth.proofs.Lists.{never_both, has_below, has_still}
+use Rattle.cb_reach.proofs.Marks.{nothing}
+use Rattle.cb_breadth.specs.Lists.{IsSetOf}
+use Rattle.cb_breadth.specs.Orders.{IsOrder, Follows, AreApart, IsRankBelow}
+use Rattle.cb_breadth.proofs.Lists.{kept_front, last_item, appended, never_both, has_below}
+use Rattle.cb_breadth.proofs.Listing.{set_as}
 
-module _ (ranks : List ℕ) (row next0 next : List Bool) (from : ℕ)
-    (are : (rank : ℕ) → Has next rank ↔ (Has next0 rank ⊎ IsRankBelow ranks row from rank)) where
-  pub ranked_more : (node rank : ℕ) → IsNextOne row from node → slice_get ranks node ≡ Some rank → rank < length next
-      → (r : ℕ) → Has (slice_set next rank true) r ↔ (Has next0 r ⊎ IsRankBelow ranks row (node + 1) r)
-  ranked_more node rank one at lt r = (
-    λ has. elim (set_cases next rank r has) [
-      | inl same ↦ inr (subst (IsRankBelow ranks row (node + 1)) (sym same) (record { node = node; has = one.is; below = omega arith; is = at }))
-      | inr had ↦ elim ((are r).0 had) [
-        | inl first ↦ inl first
-        | inr old ↦ inr (record { node = old.node; has = old.has; below = let low = old.below in let on = one.on in omega arith; is = old.is })
-      ]
-    ],
-    λ either. elim either [
-      | inl first ↦ has_still next rank r lt ((are r).1 (inl first))
-      | inr new ↦ elim (cases_lt new.node from) [
-        | inl low ↦ has_still next rank r lt ((are r).1 (inr (record { node = new.node; has = new.has; below = low; is = new.is })))
-        | inr high ↦ elim (cases_lt new.node node) [
-          | inl between ↦ absurd (never_both row new.node new.has (one.first new.node high between))
-          | inr le ↦
-              let same : new.node ≡ node = let low = new.below in omega arith in
-              let rank_is : rank ≡ r = same_Some rank r (sym at ∙ subst (λ n. slice_get ranks n ≡ Some r) same new.is) in
-              subst (Has (slice_set next rank true)) rank_is (has_set next rank lt)
+pub none_ranked : (ranks : List ℕ) (row : List Bool) → IsSetOf (IsRankBelow ranks row 0) []
+none_ranked ranks row = record {
+  members = λ r. (λ among. absurd (let e = among.1 in cc), λ is. absurd (let low = is.below in omega arith));
+  once = λ i j r a b. absurd (cc);
+}
+
+module _ (ranks : List ℕ) (row : List Bool) (from : ℕ) (list : List ℕ) (set : IsSetOf (IsRankBelow ranks row from) list) where
+  module _ (node rank : ℕ) (one : IsNextOne row from node) (at : slice_get ranks node ≡ Some rank) (apart : AreApart ranks row) where
+    -- the rank isn't listed yet
+    fresh : (i r : ℕ) → slice_get list i ≡ Some r → rank ≡ r → ⊥
+    fresh i r there same =
+        let old = (set.members r).0 (i, there) in
+        let one_node : old.node ≡ node = apart old.node node r old.has one.is old.is (subst (λ s. slice_get ranks node ≡ Some s) same at) in
+        let low = old.below in
+        let on = one.on in
+        omega arith
+
+    pub one_ranked : IsSetOf (IsRankBelow ranks row (node + 1)) (list ++ (rank ∷ []))
+    one_ranked = record {
+      members = λ r. (
+        λ among. elim (appended list rank among.0 r among.1) [
+          | inl before ↦
+              let old = (set.members r).0 (among.0, before) in
+              record { node = old.node; has = old.has; below = let low = old.below in let on = one.on in omega arith; is = old.is }
+          | inr last ↦ subst (IsRankBelow ranks row (node + 1)) last.1 (record { node = node; has = one.is; below = omega arith; is = at })
+        ],
+        λ new. elim (cases_lt new.node from) [
+          | inl low ↦
+              let old = (set.members r).1 (record { node = new.node; has = new.has; below = low; is = new.is }) in
+              (old.0, kept_front list (rank ∷ []) old.0 r old.1)
+          | inr high ↦ elim (cases_lt new.node node) [
+            | inl between ↦ absurd (never_both row new.node new.has (one.first new.node high between))
+            | inr le ↦
+                let same : new.node ≡ node = let low = new.below in omega arith in
+                let rank_is : rank ≡ r = same_Some rank r (sym at ∙ subst (λ n. slice_get ranks n ≡ Some r) same new.is) in
+                (length list, subst (λ s. slice_get (list ++ (rank ∷ [])) (length list) ≡ Some s) rank_is (last_item list rank))
+          ]
+        ],
+      );
+      once = λ i j r a b. elim (appended list rank i r a) [
+        | inl old_i ↦ elim (appended list rank j r b) [
+          | inl old_j ↦ set.once i j r old_i old_j
+          | inr last_j ↦ absurd (fresh i r old_i last_j.1)
         ]
-      ]
-    ],
-  )
+        | inr last_i ↦ elim (appended list rank j r b) [
+          | inl old_j ↦ absurd (fresh j r old_j last_i.1)
+          | inr last_j ↦ last_i.0 ∙ sym last_j.0
+        ]
+      ];
+    }
 
-  pub all_ranked : HasNoneFrom row from → (r : ℕ) → Has next r ↔ (Has next0 r ⊎ IsRankBelow ranks row (length row) r)
-  all_ranked none r = (
-    λ has. elim ((are r).0 has) [
-      | inl first ↦ inl first
-      | inr old ↦ inr (record { node = old.node; has = old.has; below = has_below row old.node old.has; is = old.is })
+  pub all_ranked : HasNoneFrom row from → IsSetOf (IsRankBelow ranks row (length row)) list
+  all_ranked none = set_as (IsRankBelow ranks row from) (IsRankBelow ranks row (length row)) list set (λ r. (
+    λ old. record { node = old.node; has = old.has; below = has_below row old.node old.has; is = old.is },
+    λ new. elim (cases_lt new.node from) [
+      | inl low ↦ record { node = new.node; has = new.has; below = low; is = new.is }
+      | inr high ↦ absurd (never_both row new.node new.has (none new.node high))
     ],
-    λ either. (are r).1 (elim either [
-      | inl first ↦ inl first
-      | inr new ↦ elim (cases_lt new.node from) [
-        | inl low ↦ inr (record { node = new.node; has = new.has; below = low; is = new.is })
-        | inr high ↦ absurd (never_both row new.node new.has (none new.node high))
-      ]
-    ]),
-  )
+  ))
 
 -- what is added to a row without nodes is all that it has
 pub added_alone : (P : ℕ → Type 0) (room : ℕ) (old new : List Bool) → old ≡ replicate room false → ((k : ℕ) → Has new k ↔ (Has old k ⊎ P k))
@@ -61,19 +81,20 @@ added_alone P room old new wiped are k = (
 -- the row of the nodes that edges lead to from the node of a rank
 module _ (edge : ℕ → ℕ → Type 0) (count : ℕ) (nodes ranks : List ℕ) (order : IsOrder edge count nodes ranks) (a from : ℕ)
     (at : slice_get nodes a ≡ Some from) (row : List Bool) (are : (k : ℕ) → Has row k ↔ edge from k) where
-  pub successors_ranked : AreRanked ranks row (length nodes)
-  successors_ranked node has =
-      let rank = order.closed from node ((are node).0 has) in
-      (rank.0, (order.ranked rank.0 node rank.1).1, slice_get_within nodes rank.0 node rank.1)
+  -- the node whose rank this is
+  node_of : (node rank : ℕ) → Has row node → slice_get ranks node ≡ Some rank → slice_get nodes rank ≡ Some node
+  node_of node rank has is =
+      let there = order.closed from node ((are node).0 has) in
+      let same : there.0 ≡ rank = same_Some there.0 rank (sym (order.ranked there.0 node there.1).1 ∙ is) in
+      subst (λ r. slice_get nodes r ≡ Some node) same there.1
+
+  pub successors_apart : AreApart ranks row
+  successors_apart one other rank has_one has_other is_one is_other =
+      same_Some one other (sym (node_of one rank has_one is_one) ∙ node_of other rank has_other is_other)
 
   pub ranks_follow : (rank : ℕ) → IsRankBelow ranks row (length row) rank ↔ Follows edge nodes a rank
   ranks_follow rank = (
-    λ is.
-        let e = (are is.node).0 is.has in
-        let there = order.closed from is.node e in
-        let ranked = (order.ranked there.0 is.node there.1).1 in
-        let same : there.0 ≡ rank = same_Some there.0 rank (sym ranked ∙ is.is) in
-        record { from = from; to = is.node; from_is = at; to_is = subst (λ r. slice_get nodes r ≡ Some is.node) same there.1; leads = e },
+    λ is. record { from = from; to = is.node; from_is = at; to_is = node_of is.node rank is.has is.is; leads = (are is.node).0 is.has },
     λ follows.
         let same : follows.from ≡ from = same_Some follows.from from (sym follows.from_is ∙ at) in
         let has = (are follows.to).1 (subst (λ n. edge n follows.to) same follows.leads) in

@@ -16,9 +16,9 @@ pub record Follows (edge : ℕ → ℕ → Type 0) (nodes : List ℕ) (a b : ℕ
   pub to_is : slice_get nodes b ≡ Some to
   pub leads : edge from to
 
--- the nodes of the row have ranks below the count
-abbrev pub AreRanked : List ℕ → List Bool → ℕ → Type 0
-AreRanked ranks row count = (node : ℕ) → Has row node → (rank : ℕ) × (slice_get ranks node ≡ Some rank) × (rank < count)
+-- no two nodes of the row have one rank
+abbrev pub AreApart : List ℕ → List Bool → Type 0
+AreApart ranks row = (a b rank : ℕ) → Has row a → Has row b → slice_get ranks a ≡ Some rank → slice_get ranks b ≡ Some rank → a ≡ b
 
 -- a node of the row below the bound has this rank
 pub record IsRankBelow (ranks : List ℕ) (row : List Bool) (bound rank : ℕ) : Type 0 where

@@ -1,38 +1,95 @@
 //! The search in breadth. The list of visits is its queue.
-ghost use Rattle.std.specs.Prelude.{◌≡◌, ◌<◌, ◌≤◌, ◌+◌, ◌^◌, ◌↔◌, ◌⊎◌, ℕ, length, IfOk, OnOk};
+ghost use Rattle.std.specs.Prelude.{◌≡◌, ◌<◌, ◌≤◌, ◌+◌, ◌^◌, ◌↔◌, ℕ, length, replicate, false, IfOk, OnOk};
 ghost use Rattle.cb_reach.specs.Rows.{Has};
+ghost use Rattle.cb_breadth.specs.Lists.{AreBelow, AreRising};
 ghost use Rattle.cb_breadth.specs.Trees.{IsTree, IsVisited};
-ghost use Rattle.cb_breadth.specs.Orders.{IsOrder, Follows, AreRanked, IsRankBelow};
+ghost use Rattle.cb_breadth.specs.Orders.{IsOrder, Follows};
+ghost use Rattle.cb_breadth.specs.Successors.{AreSuccessors};
+ghost use Rattle.cb_breadth.specs.Searches.{IsNewSearch, IsSearchOf};
 ghost use Rattle.cb_breadth.specs.Visiting.{AreVisited};
 
-use crate::visit::{Order, Tree, Visit};
+use crate::successors::Successors;
+use crate::visit::{Order, Visit};
 use cb_bits::Row;
 use cb_reach::Edges;
 use cb_steps::Steps;
 use std::alloc::{AllocError, Global};
 use std::sync::ledger::Ledger;
 
-/// Visits the node of a rank and all that it leads to. The graph's value stays as it is.
+/// What searches of one graph over one order share: the successors of the nodes that were visited so far, and a row in which
+/// each search marks what it finds. After an `Err` of a search it is of no more use.
+#[derive(Drop)]
+pub struct Searches {
+    successors: Successors,
+    found: Row,
+}
+
+impl Searches {
+    /// Nothing is known yet.
+    pub fn new(alloc: Global, order: &Order) -> Result<Searches, AllocError>
+        ensures { IfOk result (IsNewSearch order.now) }
+    {
+        Ok(Searches {
+            successors: Successors::new(alloc, order)?,
+            found: Row::zeroed(alloc, order.nodes.len())?,
+        })
+    }
+}
+
+/// Visits the node of a rank and all that it leads to, the root first. The graph's value stays as it is.
 pub fn tree<L: Ledger, G: Edges>(
     alloc: Global,
     graph: &mut G,
     order: &Order,
+    searches: &mut Searches,
     root: u32,
     steps: &mut Steps<L>,
-) -> Result<Tree, AllocError>
+) -> Result<Vec<Visit>, AllocError>
     requires order { IsOrder (G.edge graph.old) (G.count graph.old) order.now.nodes.items order.now.ranks.items }
     requires few { length order.now.nodes.items < 2 ^ 32 }
     requires root { root < length order.now.nodes.items }
+    requires known { IsSearchOf (G.edge graph.old) order.now searches.old }
     ensures same { graph.new ≡ graph.old }
-    ensures tree { IfOk result (λ tree. IsTree (Follows (G.edge graph.old) order.now.nodes.items) root tree.visits.items) }
-    ensures nodes { IfOk result (λ tree. (node : ℕ) → Has tree.nodes node ↔ IsVisited tree.visits.items node) }
-    ensures room { IfOk result (λ tree. length tree.nodes ≡ length order.now.nodes.items) }
-    ensures asked { IfOk result (λ tree. steps.new ≡ steps.old + length tree.visits.items) }
+    ensures tree { IfOk result (λ visits. IsTree (Follows (G.edge graph.old) order.now.nodes.items) root visits.items) }
+    ensures known { OnOk result (IsSearchOf (G.edge graph.old) order.now searches.new) }
+    ensures asked { IfOk result (λ visits. steps.new ≤ steps.old + length visits.items) }
 {
-    let mut nodes = Row::zeroed(alloc, order.nodes.len())?;
-    let mut next = Row::zeroed(alloc, order.nodes.len())?;
-    let mut row = Row::zeroed(alloc, order.ranks.len())?;
-    nodes.set(root as usize);
+    let visits = grow(
+        alloc,
+        graph,
+        order,
+        &mut searches.successors,
+        &mut searches.found,
+        root,
+        steps,
+    )?;
+    forget(&mut searches.found, &visits);
+    Ok(visits)
+}
+
+// Visits the node of a rank and all that it leads to, which is then found.
+fn grow<L: Ledger, G: Edges>(
+    alloc: Global,
+    graph: &mut G,
+    order: &Order,
+    successors: &mut Successors,
+    found: &mut Row,
+    root: u32,
+    steps: &mut Steps<L>,
+) -> Result<Vec<Visit>, AllocError>
+    requires order { IsOrder (G.edge graph.old) (G.count graph.old) order.now.nodes.items order.now.ranks.items }
+    requires few { length order.now.nodes.items < 2 ^ 32 }
+    requires root { root < length order.now.nodes.items }
+    requires known { AreSuccessors (G.edge graph.old) order.now successors.old }
+    requires found { found.old ≡ replicate (length order.now.nodes.items) false }
+    ensures same { graph.new ≡ graph.old }
+    ensures tree { IfOk result (λ visits. IsTree (Follows (G.edge graph.old) order.now.nodes.items) root visits.items) }
+    ensures known { OnOk result (AreSuccessors (G.edge graph.old) order.now successors.new) }
+    ensures found { IfOk result (λ visits. (node : ℕ) → Has found.new node ↔ IsVisited visits.items node) }
+    ensures room { OnOk result (length found.new ≡ length order.now.nodes.items) }
+    ensures asked { IfOk result (λ visits. steps.new ≤ steps.old + length visits.items) }
+{
+    found.set(root as usize);
     let mut visits = Vec::new(alloc);
     visits.push(Visit {
         node: root,
@@ -40,71 +97,42 @@ pub fn tree<L: Ledger, G: Edges>(
     })?;
     let mut place = 0;
     while place < visits.len() {
-        follow(graph, order, visits[place].node, &mut row, &mut next, steps);
+        let node = visits[place].node;
+        successors.learn(alloc, graph, order, node, steps)?;
         place += 1;
-        visit_all(&mut visits, &mut nodes, &next, place as u32)?;
+        visit_all(&mut visits, found, successors.of(node), place as u32)?;
     }
-    Ok(Tree { visits, nodes })
+    Ok(visits)
 }
 
-// Makes `next` the nodes, by their ranks, that an edge leads to from the node of this rank. The row is room for their numbers.
-fn follow<L: Ledger, G: Edges>(
-    graph: &mut G,
-    order: &Order,
-    node: u32,
-    row: &mut Row,
-    next: &mut Row,
-    steps: &mut Steps<L>,
-)
-    requires order { IsOrder (G.edge graph.old) (G.count graph.old) order.now.nodes.items order.now.ranks.items }
-    requires node { node < length order.now.nodes.items }
-    requires row { length row.old ≡ G.count graph.old }
-    requires next { length next.old ≡ length order.now.nodes.items }
-    ensures same { graph.new ≡ graph.old }
-    ensures row { length row.new ≡ length row.old }
-    ensures length { length next.new ≡ length next.old }
-    ensures next { (rank : ℕ) → Has next.new rank ↔ Follows (G.edge graph.old) order.now.nodes.items node rank }
-    ensures step { steps.new ≡ steps.old + 1 }
-{
-    row.wipe();
-    next.wipe();
-    graph.add_successors(order.nodes[node as usize] as usize, row, steps);
-    rank_all(&order.ranks, row, next);
-}
-
-// Adds the ranks of the row's nodes.
-fn rank_all(ranks: &[u32], row: &Row, next: &mut Row)
-    requires ranks { AreRanked ranks.now row.now (length next.old) }
-    requires row { length row.now ≤ length ranks.now }
-    ensures length { length next.new ≡ length next.old }
-    ensures next { (rank : ℕ) → Has next.new rank ↔ (Has next.old rank ⊎ IsRankBelow ranks.now row.now (length row.now) rank) }
-{
-    let mut from = 0;
-    while let Some(node) = row.next_one(from) {
-        next.set(ranks[node] as usize);
-        from = node + 1;
-    }
-}
-
-// Visits the nodes of a row that aren't found yet, in order, from this parent.
+// Visits the nodes of a list that aren't found yet, in order, from this parent.
 fn visit_all(
     visits: &mut Vec<Visit>,
     found: &mut Row,
-    next: &Row,
+    next: &[u32],
     parent: u32,
 ) -> Result<(), AllocError>
-    requires length { length found.old ≡ length next.now }
-    requires few { length next.now < 2 ^ 32 }
+    requires below { AreBelow (length found.old) next.now }
+    requires rise { AreRising next.now }
     ensures visits { OnOk result (AreVisited parent next.now (length next.now) visits.old.items found.old visits.new.items found.new) }
 {
-    let mut from = 0;
-    while let Some(node) = next.next_not_in(found, from) {
-        found.set(node);
-        visits.push(Visit {
-            node: node as u32,
-            parent,
-        })?;
-        from = node + 1;
+    for place in 0..next.len() {
+        let node = next[place];
+        if found.get(node as usize) {
+            continue;
+        }
+        found.set(node as usize);
+        visits.push(Visit { node, parent })?;
     }
     Ok(())
+}
+
+// Makes the row empty, which has exactly the nodes of the visits. Only their places are wiped.
+fn forget(found: &mut Row, visits: &[Visit])
+    requires { (node : ℕ) → Has found.old node ↔ IsVisited visits.now node }
+    ensures { found.new ≡ replicate (length found.old) false }
+{
+    for place in 0..visits.len() {
+        found.clear(visits[place].node as usize);
+    }
 }

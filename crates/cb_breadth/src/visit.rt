@@ -1,7 +1,5 @@
 //! Nodes in an order, and the visits to them.
 
-use cb_bits::Row;
-
 /// Numbers of nodes in an order. A node's rank is its place among them.
 #[derive(Debug, Drop)]
 pub struct Order {
@@ -17,13 +15,4 @@ pub struct Order {
 pub struct Visit {
     pub node: u32,
     pub parent: u32,
-}
-
-/// All that a node leads to.
-#[derive(Debug, Drop)]
-pub struct Tree {
-    /// The visits, the root's first.
-    pub visits: Vec<Visit>,
-    /// For each rank, whether the node is visited.
-    pub nodes: Row,
 }

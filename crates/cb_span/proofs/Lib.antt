@@ -8,3 +8,4 @@ pub mod Ordered
 pub mod Collected
 pub mod Thins
 pub mod TypedLinks
+pub mod Using

@@ -5,8 +5,8 @@
 //! asked: who checks the certificate finds out.
 //!
 //! Nodes go by their ranks, their places among all nodes in order (`order`). From each problem cb_breadth gives a tree of visits
-//! (`trees`, and `sides` for the group that may be quiet); the nodes that are used get numbers (`numbering`), and the visits become
-//! entries (`spans`).
+//! (`trees`, and `sides` for the group that may be quiet); the trees of one certificate share the successors of nodes, which are asked
+//! for at the first visit. The nodes that are used get numbers (`numbering`), and the visits become entries (`spans`).
 //!
 //! Read `src/made.rt` first, then `specs/Made.antt`. All but these two may be changed freely.
 #![tactic(auto)]

@@ -11,6 +11,7 @@ use crate::sides::{side_of, side_tree};
 use crate::spans::{numbers_of, span_of, spans_of};
 use crate::trees::{tree_from, trees};
 use cb_bits::Row;
+use cb_breadth::Searches;
 use cb_cert::Certificate;
 use cb_graph::Graph;
 use cb_model::List;
@@ -67,8 +68,17 @@ pub fn thin<L: Ledger>(
 {
     let order = order_of(alloc, graph.topology())?;
     let mut used = Row::zeroed(alloc, order.nodes.len())?;
-    let side = side_tree(alloc, graph, &order, first, &mut used, steps)?;
-    let tree = tree_from(alloc, graph, &order, second, &mut used, steps)?;
+    let mut searches = Searches::new(alloc, &order)?;
+    let side = side_tree(alloc, graph, &order, &mut searches, first, &mut used, steps)?;
+    let tree = tree_from(
+        alloc,
+        graph,
+        &order,
+        &mut searches,
+        second,
+        &mut used,
+        steps,
+    )?;
     let numbering = numbering_of(alloc, graph.topology(), &order, &used)?;
     let first = side_of(alloc, &side, &numbering.numbers)?;
     let second = span_of(alloc, &tree, &numbering.numbers)?;

@@ -30,6 +30,18 @@ const THIN: &[u8] =
 const THIN_OF_TWO: &[u8] =
     b"codebook certificate 1\nkind thin\nwanted 3\ndistance 2\nnodes 5\nnode Cut@L1\nnode Loss@L1\nnode Fail@a\nnode NoSignal@a\nnode NoSignal@b\nspan 4\nentry 1 0\nentry 2 1\nentry 4 1\nentry 5 1\nspan 2\nentry 3 0\nentry 4 1\nend\n";
 
+// That a cut link and a cut link differ at no column: the second tree is that of the first problem once more, over successors that
+// are all known.
+const THIN_OF_ONE: &[u8] =
+    b"codebook certificate 1\nkind thin\nwanted 1\ndistance 0\nnodes 4\nnode Cut@L1\nnode Loss@L1\nnode NoSignal@a\nnode NoSignal@b\nspan 4\nentry 1 0\nentry 2 1\nentry 3 1\nentry 4 1\nspan 4\nentry 1 0\nentry 2 1\nentry 3 1\nentry 4 1\nend\n";
+
+// A node is asked for its successors once for each certificate, whatever number of trees have it. The book: six nodes are in three
+// trees, which have 4, 2 and 2 visits.
+const BOOK_STEPS: u64 = 6;
+
+// The claims, one after the other: 2 nodes in one tree, 5 in two trees of 4 and 2 visits, 4 in two trees of 4 visits each.
+const THIN_STEPS: u64 = 2 + 5 + 4;
+
 // Instances of these names, with their classes.
 const INSTANCES: [(&[u8], &[u8]); 3] = [(b"L1", b"Link"), (b"a", b"Port"), (b"b", b"Port")];
 
@@ -136,7 +148,7 @@ fn thin_text<L: Ledger>(
     write(alloc, &certificate)
 }
 
-// Whether the texts of both claims are those that are wanted.
+// Whether the texts of the claims are those that are wanted.
 fn are_thin<L: Ledger>(
     alloc: Global,
     graph: &mut Graph,
@@ -150,7 +162,8 @@ fn are_thin<L: Ledger>(
     };
     let quiet = thin_text(alloc, graph, None, port, 2, steps)?;
     let both = thin_text(alloc, graph, Some(link), port, 3, steps)?;
-    Ok(quiet.as_slice() == THIN && both.as_slice() == THIN_OF_TWO)
+    let same = thin_text(alloc, graph, Some(link), link, 1, steps)?;
+    Ok(quiet.as_slice() == THIN && both.as_slice() == THIN_OF_TWO && same.as_slice() == THIN_OF_ONE)
 }
 
 // The certificates of a link that is made first, over a graph without a node.
@@ -167,7 +180,9 @@ fn work_through<L: Ledger>(
     let mut steps = Steps::<L>::new(blank);
     assert!(rt; is_linked(alloc, graph)?);
     assert!(rt; book_text(alloc, graph, &mut steps)?.as_slice() == BOOK);
+    assert!(rt; steps.count() == BOOK_STEPS);
     assert!(rt; are_thin(alloc, graph, &mut steps)?);
+    assert!(rt; steps.count() == BOOK_STEPS + THIN_STEPS);
     Ok(())
 }
 
