@@ -1,9 +1,8 @@
 -- An entry behind the first one, by numbers and by names.
-use Rattle.std.proofs.Common.{◌≡◌, ◌⊎◌, inl, inr, ℕ, ◌+◌, ◌-◌, ◌<◌, ◌≤◌, List, [], ◌∷◌, ◌++◌, true, length, get_or, refl, sym, ap, subst, ◌∙◌, Option, Some, arith}
+use Rattle.std.proofs.Common.{◌≡◌, ◌⊎◌, inl, inr, ℕ, ◌+◌, ◌-◌, ◌<◌, ◌≤◌, List, [], ◌∷◌, ◌++◌, Bool, true, length, refl, sym, ap, subst, ◌∙◌, Option, Some, arith}
 use Rattle.std.specs.Prelude.{Err, slice_get, slice_set}
 use Rattle.std.specs.List.{All}
-use Rattle.std.proofs.lemmas.Option.{same_Some, slice_get_within, slice_get_read}
-use Rattle.std.proofs.lemmas.Bool.{cases_lt}
+use Rattle.std.proofs.lemmas.Option.{same_Some, slice_get_within}
 use Rattle.std.proofs.lemmas.List.{length-append, length-set}
 use Rattle.cb_model.proofs.Numbers.{slice_get-push_before, slice_get-push_last}
 use Rattle.cb_coding.proofs.Pushed.{pushed_cases}
@@ -25,7 +24,7 @@ use Rattle.cb_graph.specs.Edges.{EdgeAt, number}
 use Rattle.cb_graph.proofs.Chains.{named_once}
 use Rattle.cb_checker.specs.declared.marks.Marks.{Marks}
 use Rattle.cb_checker.specs.Known.{IsIdAt, IsKnown}
-use Rattle.cb_checker.specs.Listed.{IsPlaced, ArePlaced, AreMarked}
+use Rattle.cb_checker.specs.Listed.{IsPlaced, ArePlaced, AreListed, AreMarked}
 use Rattle.cb_checker.specs.Spans.{asked}
 use Rattle.cb_checker.proofs.Joined.{fails_here, pass_three, pass_one, pass_two}
 use Rattle.cb_checker.proofs.Naming.{stands, has_id, one_id}
@@ -100,13 +99,13 @@ module _ (n : Numbered) (ids : List NodeId) (c : Certificate) (known : IsKnown n
         here : IsPlaced ids span place id
         here = record { entry = entry; is = at; at = id_at }
 
-        module _ (marks : Marks) (are : ArePlaced ids span place marks.placed.items) (marked : AreMarked n marks) where
-          pub repeated : Has marks.listed id.0 → Judges (topology_of n) c (entry_checks a place) (Err (Repeated (before + place + 1)))
+        module _ (listed : List Bool) (placed : List NodeId) (are : ArePlaced ids span place placed) (each : AreListed listed placed) where
+          pub repeated : Has listed id.0 → Judges (topology_of n) c (entry_checks a place) (Err (Repeated (before + place + 1)))
           repeated has =
-              let among = (marked.each id.0).0 has in
+              let among = (each id.0).0 has in
               let earlier_at = are.each among.0 id among.1 in
               let size = are.count in
-              let low = slice_get_within marks.placed.items among.0 id among.1 in
+              let low = slice_get_within placed among.0 id among.1 in
               let p = listed_by n ids c known span among.0 id earlier_at in
               let q = listed_by n ids c known span place id here in
               let same : q.0 ≡ p.0 = named_once n id q.0 p.0 q.2 p.2 in
@@ -115,41 +114,19 @@ module _ (n : Numbered) (ids : List NodeId) (c : Certificate) (known : IsKnown n
               (fails_here (topology_of n) c (new_check a place) [] (Repeated (before + place + 1))
               (λ new. new among.0 p.0 (omega arith) p.1 (subst (IsListedAt (nodes_of c) span place) same q.1)) refl)
 
-          pub good_entry : ¬ Has marks.listed id.0 → All (Passes (topology_of n) c) (entry_checks a place)
+          pub good_entry : ¬ Has listed id.0 → All (Passes (topology_of n) c) (entry_checks a place)
           good_entry lacks =
               let new : IsNew (nodes_of c) span place = λ k x low at_k at_place.
               let p = placed_by n ids c known span k x at_k in
               let q = placed_by n ids c known span place x at_place in
-              let there = placed_there ids span place marks.placed.items are k low in
+              let there = placed_there ids span place placed are k low in
               let one : there.0 ≡ p.0 = one_placed ids span k there.0 p.0 there.2 p.1 in
               let two : p.0 ≡ q.0 = known.whole.one p.0 q.0 x p.2 q.2 in
               let three : q.0 ≡ id = one_placed ids span place q.0 id q.1 here in
               let same : there.0 ≡ id = one ∙ (two ∙ three) in
-              lacks ((marked.each id.0).1 (k, subst (λ (i : NodeId). slice_get marks.placed.items k ≡ Some i) same there.1))
+              lacks ((each id.0).1 (k, subst (λ (i : NodeId). slice_get placed k ≡ Some i) same there.1))
               in
               pass_three (topology_of n) c (parent_check a place) (edge_check a place) (new_check a place) good_parent good_edge new
-
--- the node of the parent
-pub from_placed : (ids : List NodeId) (span : Span) (place : ℕ) (placed : List NodeId) → ArePlaced ids span place placed → (parent : ℕ) (from : NodeId)
-    → 0 < parent → parent ≤ place → from ≡ get_or placed (parent - 1) from → IsPlaced ids span (parent - 1) from
-from_placed ids span place placed are parent from some earlier read =
-    let size = are.count in
-    are.each (parent - 1) from (slice_get_read placed (length placed) (parent - 1) from refl (omega arith) read)
-
--- the entries behind the first one, below a place, pass their checks
-abbrev pub EntriesPass : Numbered → List NodeId → ℕ → Span → ℕ → Type 0
-EntriesPass n ids before span to = (c : Certificate) (root : Option NodeName) → IsKnown n ids c → (j : ℕ) → 1 ≤ j → j < to
-    → All (Passes (topology_of n) c) (entry_checks (asked before root span) j)
-
-pub entries_more : (n : Numbered) (ids : List NodeId) (before : ℕ) (span : Span) (to : ℕ) → EntriesPass n ids before span to
-    → ((c : Certificate) (root : Option NodeName) → IsKnown n ids c → All (Passes (topology_of n) c) (entry_checks (asked before root span) to))
-    → EntriesPass n ids before span (to + 1)
-entries_more n ids before span to old here = λ c root known j least low. elim (cases_lt j to) [
-  | inl less ↦ old c root known j least less
-  | inr le ↦
-      let same : to ≡ j = omega arith in
-      subst (λ k. All (Passes (topology_of n) c) (entry_checks (asked before root span) k)) same (here c root known)
-]
 
 pub placed_more : (ids : List NodeId) (span : Span) (to : ℕ) (placed : List NodeId) (id : NodeId) → ArePlaced ids span to placed → IsPlaced ids span to id
     → ArePlaced ids span (to + 1) (placed ++ (id ∷ []))
@@ -163,32 +140,34 @@ placed_more ids span to placed id old here = record {
   ];
 }
 
+pub listed_more : (listed more : List Bool) (placed : List NodeId) (id : NodeId) (now : List NodeId) → AreListed listed placed → id.0 < length listed
+    → now ≡ placed ++ (id ∷ []) → more ≡ slice_set listed id.0 true → AreListed more now
+listed_more listed more placed id now are within is_placed is_listed = λ k. (
+  λ has. elim (set_cases listed id.0 k (subst (λ row. Has row k) is_listed has)) [
+    | inl same ↦ (
+      length placed,
+      subst (λ ids. slice_get ids (length placed) ≡ Some (number k)) (sym is_placed)
+          (subst (λ (m : ℕ). slice_get (placed ++ (id ∷ [])) (length placed) ≡ Some (number m)) (sym same)
+          (slice_get-push_last placed (length placed) id refl)),
+    )
+    | inr had ↦
+        let among = (are k).0 had in
+        (among.0, subst (λ ids. slice_get ids among.0 ≡ Some (number k)) (sym is_placed) (slice_get-push_before placed among.0 id (number k) among.1))
+  ],
+  λ among.
+      let at = subst (λ ids. slice_get ids among.0 ≡ Some (number k)) is_placed among.1 in
+      subst (λ row. Has row k) (sym is_listed) (elim (pushed_cases placed id (number k) among.0 at) [
+        | inl before ↦ still listed id.0 k within ((are k).1 (among.0, before))
+        | inr (last, same) ↦
+            let e : id.0 ≡ k = ap (λ (x : NodeId). x.0) same in
+            subst (Has (slice_set listed id.0 true)) e (has_set listed id.0 within)
+      ]),
+)
+
 pub marked_more : (n : Numbered) (old new : Marks) (id : NodeId) → AreMarked n old → id.0 < length n.nodes
     → new.placed.items ≡ old.placed.items ++ (id ∷ []) → new.listed ≡ slice_set old.listed id.0 true → length new.found ≡ length n.nodes → AreMarked n new
 marked_more n old new id are low placed listed spare = record {
   room = ap length listed ∙ (length-set old.listed id.0 true ∙ are.room);
   spare = spare;
-  each = λ k. (
-    λ has. elim (set_cases old.listed id.0 k (subst (λ row. Has row k) listed has)) [
-      | inl same ↦ (
-        length old.placed.items,
-        subst (λ ids. slice_get ids (length old.placed.items) ≡ Some (number k)) (sym placed)
-            (subst (λ (m : ℕ). slice_get (old.placed.items ++ (id ∷ [])) (length old.placed.items) ≡ Some (number m)) (sym same)
-            (slice_get-push_last old.placed.items (length old.placed.items) id refl)),
-      )
-      | inr had ↦
-          let among = (are.each k).0 had in
-          (among.0, subst (λ ids. slice_get ids among.0 ≡ Some (number k)) (sym placed) (slice_get-push_before old.placed.items among.0 id (number k) among.1))
-    ],
-    λ among.
-        let at = subst (λ ids. slice_get ids among.0 ≡ Some (number k)) placed among.1 in
-        let size = are.room in
-        let within : id.0 < length old.listed = omega arith in
-        subst (λ row. Has row k) (sym listed) (elim (pushed_cases old.placed.items id (number k) among.0 at) [
-          | inl before ↦ still old.listed id.0 k within ((are.each k).1 (among.0, before))
-          | inr (last, same) ↦
-              let e : id.0 ≡ k = ap (λ (x : NodeId). x.0) same in
-              subst (Has (slice_set old.listed id.0 true)) e (has_set old.listed id.0 within)
-        ]),
-  );
+  each = listed_more old.listed new.listed old.placed.items id new.placed.items are.each (let size = are.room in omega arith) placed listed;
 }

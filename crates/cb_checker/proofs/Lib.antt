@@ -4,6 +4,8 @@ pub mod Observed
 pub mod Placing
 pub mod Rooted
 pub mod Entering
+pub mod Stating
+pub mod Asking
 pub mod Closing
 pub mod Spanning
 pub mod Claiming

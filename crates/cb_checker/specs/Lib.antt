@@ -2,6 +2,7 @@ pub mod Known
 pub mod Firsts
 pub mod Columns
 pub mod Listed
+pub mod Reasons
 pub mod Spans
 pub mod Missing
 pub mod Codes

@@ -1,17 +1,17 @@
 //! The entries of a span behind its first one.
-ghost use Rattle.std.specs.Prelude.{◌≡◌, ◌<◌, ◌-◌, ◌+◌, ◌↔◌, length, IfOk, IfSome, OnOk, IsTrue, Some};
-ghost use Rattle.std.specs.List.{flat_map, range_with_len};
+ghost use Rattle.std.specs.Prelude.{◌≡◌, ◌<◌, ◌-◌, ◌+◌, ℕ, [], length, IfOk, IfErr, OnOk, Err};
+ghost use Rattle.std.specs.List.{Contains, flat_map, range_with_len};
 ghost use Rattle.cb_claim.specs.Checks.{entry_checks};
-ghost use Rattle.cb_topo.specs.Numbered.{IsLiveNode};
-ghost use Rattle.cb_graph.specs.Edges.{EdgeAt};
-ghost use Rattle.cb_checker.specs.Known.{AreLive, ended};
-ghost use Rattle.cb_checker.specs.Listed.{IsPlaced, ArePlaced, AreMarked};
-ghost use Rattle.cb_checker.specs.Missing.{AreSuccessors};
+ghost use Rattle.cb_checker.specs.declared.reasons.Reason.{Reason as Stated};
+ghost use Rattle.cb_checker.specs.Codes.{IsBelow};
+ghost use Rattle.cb_checker.specs.Known.{AreLive};
+ghost use Rattle.cb_checker.specs.Listed.{ArePlaced, AreListed, AreMarked};
+ghost use Rattle.cb_checker.specs.Reasons.{IsStated, AreStated, JudgesEntry, JudgesEntryIfLed, JudgesIfLed, JudgesIfUnled};
 ghost use Rattle.cb_checker.specs.Spans.{JudgesPart};
 
 use crate::known::id_at;
 use crate::marks::Marks;
-use cb_bits::Row;
+use crate::reasons::{Reason, first_unled};
 use cb_cert::Span;
 use cb_claim::Rejected;
 use cb_graph::Graph;
@@ -19,7 +19,8 @@ use cb_nodes::NodeId;
 use cb_steps::Steps;
 use std::sync::ledger::Ledger;
 
-/// Checks the entries behind the first one, which is listed, and lists them too.
+/// Checks the entries behind the first one, which is listed, and lists them too. Whether edges lead to them is asked of all at once,
+/// up to the first that fails another check.
 pub fn check_entries<L: Ledger>(
     graph: &mut Graph,
     ids: &[NodeId],
@@ -39,40 +40,87 @@ pub fn check_entries<L: Ledger>(
     ensures placed { OnOk result (ArePlaced ids.now span.now (length span.now.entries) marks.new.placed.items) }
     ensures marked { OnOk result (AreMarked graph.old marks.new) }
 {
-    let mut asked = None;
+    let listed = list_entries(ids, span, before, marks);
+    if let Some(place) = first_unled(graph, &mut marks.reasons, &mut marks.found, steps) {
+        return Err(Rejected::NoEdge {
+            entry: before + place + 1,
+        });
+    }
+    listed
+}
+
+// Lists the entries behind the first one, with what they state, up to the first that fails a check, if all edges are there.
+fn list_entries(ids: &[NodeId], span: &Span, before: u32, marks: &mut Marks) -> Result<(), Rejected>
+    requires some { 0 < length span.now.entries }
+    requires few { before + length span.now.entries < 4294967296 }
+    requires below { IsBelow (length marks.old.listed) ids.now }
+    requires first { ArePlaced ids.now span.now 1 marks.old.placed.items }
+    requires listed { AreListed marks.old.listed marks.old.placed.items }
+    ensures led { JudgesIfLed ids.now before span.now marks.new.reasons.items result }
+    ensures unled { JudgesIfUnled ids.now before span.now marks.new.reasons.items }
+    ensures stated { AreStated ids.now span.now (length span.now.entries) marks.new.reasons.items }
+    ensures placed { OnOk result (ArePlaced ids.now span.now (length span.now.entries) marks.new.placed.items) }
+    ensures listed { OnOk result (AreListed marks.new.listed marks.new.placed.items) }
+    ensures room { length marks.new.listed ≡ length marks.old.listed }
+    ensures found { marks.new.found ≡ marks.old.found }
+{
+    marks.reasons.clear();
     for place in 1..span.entries.len() {
-        let node = check_entry(graph, ids, span, before, place, &mut asked, marks, steps)?;
-        let Ok(()) = marks.add(node) else {
-            return Err(Rejected::NoMemory);
-        };
+        list_entry(ids, span, before, place, marks)?;
     }
     Ok(())
 }
 
-// Checks one of them, and finds its node. The row of successors is that of the node that was asked for last.
-fn check_entry<L: Ledger>(
-    graph: &mut Graph,
+// Lists one of them.
+fn list_entry(
     ids: &[NodeId],
     span: &Span,
     before: u32,
     place: usize,
-    asked: &mut Option<NodeId>,
     marks: &mut Marks,
-    steps: &mut Steps<L>,
-) -> Result<NodeId, Rejected>
-    requires live { AreLive graph.old ids.now }
+) -> Result<(), Rejected>
     requires place { place < length span.now.entries }
     requires few { before + length span.now.entries < 4294967296 }
+    requires below { IsBelow (length marks.old.listed) ids.now }
     requires placed { ArePlaced ids.now span.now place marks.old.placed.items }
-    requires marked { AreMarked graph.old marks.old }
-    requires asked { IfSome asked.old (AreSuccessors graph.old marks.old.found) }
-    ensures same { graph.new ≡ graph.old }
-    ensures judges { JudgesPart graph.old ids.now before span.now (λ a. entry_checks a place) (ended result) }
-    ensures node { IfOk result (IsPlaced ids.now span.now place) }
-    ensures placed { marks.new.placed ≡ marks.old.placed }
-    ensures listed { marks.new.listed ≡ marks.old.listed }
-    ensures spare { length marks.new.found ≡ length marks.old.found }
-    ensures asked { IfSome asked.new (AreSuccessors graph.old marks.new.found) }
+    requires listed { AreListed marks.old.listed marks.old.placed.items }
+    requires stated { AreStated ids.now span.now place marks.old.reasons.items }
+    ensures judges { JudgesEntryIfLed ids.now before span.now place marks.new.reasons.items result }
+    ensures stated { AreStated ids.now span.now (place + 1) marks.new.reasons.items }
+    ensures keeps { (reason : Stated) → Contains marks.old.reasons.items reason → Contains marks.new.reasons.items reason }
+    ensures placed { OnOk result (ArePlaced ids.now span.now (place + 1) marks.new.placed.items) }
+    ensures listed { OnOk result (AreListed marks.new.listed marks.new.placed.items) }
+    ensures room { length marks.new.listed ≡ length marks.old.listed }
+    ensures found { marks.new.found ≡ marks.old.found }
+{
+    let reason = reason_at(ids, span, before, place, &marks.placed)?;
+    let entry = before + reason.place + 1;
+    let Ok(()) = marks.reasons.push(reason) else {
+        return Err(Rejected::NoMemory);
+    };
+    if marks.listed.get(reason.to.0 as usize) {
+        return Err(Rejected::Repeated { entry });
+    }
+    let Ok(()) = marks.add(reason.to) else {
+        return Err(Rejected::NoMemory);
+    };
+    Ok(())
+}
+
+// What the entry at a place states, if its parent is earlier and its node has a number.
+fn reason_at(
+    ids: &[NodeId],
+    span: &Span,
+    before: u32,
+    place: usize,
+    placed: &[NodeId],
+) -> Result<Reason, Rejected>
+    requires place { place < length span.now.entries }
+    requires few { before + length span.now.entries < 4294967296 }
+    requires placed { ArePlaced ids.now span.now place placed.now }
+    ensures stated { IfOk result (IsStated ids.now span.now) }
+    ensures place { IfOk result (λ reason. reason.place ≡ place) }
+    ensures judges { IfErr result (λ why. JudgesEntry ids.now before span.now place (Err why)) }
 {
     let entry = *span.entries.at(place);
     let number = before + place as u32 + 1;
@@ -80,50 +128,14 @@ fn check_entry<L: Ledger>(
     if parent == 0 || place < parent {
         return Err(Rejected::BadParent { entry: number });
     }
-    let from = marks.placed[parent - 1];
-    let Some(node) = id_at(ids, entry.node) else {
+    let from = placed[parent - 1];
+    let Some(to) = id_at(ids, entry.node) else {
         return Err(Rejected::NoEdge { entry: number });
     };
-    if !has_edge(graph, from, node, asked, &mut marks.found, steps) {
-        return Err(Rejected::NoEdge { entry: number });
-    }
-    if marks.listed.get(node.0 as usize) {
-        return Err(Rejected::Repeated { entry: number });
-    }
-    Ok(node)
-}
-
-// Whether an edge leads from the one node to the other. Siblings stand together as a rule, so that their parent is asked for once.
-fn has_edge<L: Ledger>(
-    graph: &mut Graph,
-    from: NodeId,
-    to: NodeId,
-    asked: &mut Option<NodeId>,
-    found: &mut Row,
-    steps: &mut Steps<L>,
-) -> bool
-    requires from { IsLiveNode graph.old from }
-    requires to { IsLiveNode graph.old to }
-    requires found { length found.old ≡ length graph.old.nodes }
-    requires asked { IfSome asked.old (AreSuccessors graph.old found.old) }
-    ensures same { graph.new ≡ graph.old }
-    ensures edge { IsTrue result ↔ EdgeAt graph.old from.0 to.0 }
-    ensures room { length found.new ≡ length found.old }
-    ensures asked { IfSome asked.new (AreSuccessors graph.old found.new) }
-{
-    if !is_asked(*asked, from) {
-        graph.successors(from, found, steps);
-        *asked = Some(from);
-    }
-    found.get(to.0 as usize)
-}
-
-// Whether it is this node that was asked for last.
-fn is_asked(asked: Option<NodeId>, node: NodeId) -> bool
-    ensures { IsTrue result → asked ≡ Some node }
-{
-    match asked {
-        Some(asked) => asked == node,
-        None => false,
-    }
+    Ok(Reason {
+        place: place as u32,
+        parent: entry.parent,
+        from,
+        to,
+    })
 }

@@ -21,6 +21,7 @@ mod names;
 mod nodes;
 mod pair;
 mod places;
+mod reasons;
 mod root;
 mod sides;
 mod span;

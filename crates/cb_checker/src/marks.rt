@@ -2,16 +2,18 @@
 ghost use Rattle.std.specs.Prelude.{◌≡◌, ◌<◌, [], ◌∷◌, ◌++◌, length, replicate, true, false, IfOk, OnOk, slice_set};
 ghost use Rattle.cb_checker.specs.Listed.{AreListed, AreMarked};
 
+use crate::reasons::Reason;
 use cb_bits::Row;
 use cb_nodes::NodeId;
 use cb_topo::Topology;
 use std::alloc::{AllocError, Global};
 
-/// The nodes that the entries of a span list so far, in their order and as a row; and a row for successors.
+/// The nodes that the entries of a span list so far, in their order and as a row; what the entries state; and a row for successors.
 #[derive(Drop)]
 pub struct Marks {
     pub placed: Vec<NodeId>,
     pub listed: Row,
+    pub reasons: Vec<Reason>,
     pub found: Row,
 }
 
@@ -24,6 +26,7 @@ impl Marks {
         Ok(Marks {
             placed: Vec::new(alloc),
             listed: Row::zeroed(alloc, room)?,
+            reasons: Vec::new(alloc),
             found: Row::zeroed(alloc, room)?,
         })
     }
@@ -46,6 +49,8 @@ impl Marks {
         requires { node.0 < length self.old.listed }
         ensures placed { OnOk result (self.new.placed.items ≡ self.old.placed.items ++ node ∷ []) }
         ensures listed { OnOk result (self.new.listed ≡ slice_set self.old.listed node.0 true) }
+        ensures room { length self.new.listed ≡ length self.old.listed }
+        ensures reasons { self.new.reasons ≡ self.old.reasons }
         ensures found { self.new.found ≡ self.old.found }
     {
         self.placed.push(node)?;

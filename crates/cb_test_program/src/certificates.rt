@@ -97,7 +97,7 @@ fn a_valid_certificate_is_accepted(rt: HostRuntime) -> Result<(), Fail> {
 #[test]
 fn a_changed_certificate_is_refused(rt: HostRuntime) -> Result<(), Fail> {
     // The certificate, what is changed of it, and why it is refused.
-    let cases: [(&str, &[(&str, &str)], &str); 19] = [
+    let cases: [(&str, &[(&str, &str)], &str); 20] = [
         (BOOK, &[("end\n", "")], "truncated"),
         (BOOK, &[("end\n", "end\nx\n")], "extra line 27"),
         (
@@ -137,6 +137,11 @@ fn a_changed_certificate_is_refused(rt: HostRuntime) -> Result<(), Fail> {
         (
             BOOK,
             &[("entry 4 1\nentry 6", "entry 3 1\nentry 6")],
+            "no-edge entry 3",
+        ),
+        (
+            BOOK,
+            &[("entry 4 1\nentry 6 1", "entry 4 2\nentry 3 1")],
             "no-edge entry 3",
         ),
         (

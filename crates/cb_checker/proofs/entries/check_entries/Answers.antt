@@ -1,59 +1,51 @@
-use Rattle.std.proofs.Common.{◌≡◌, ◌-◌, ◌+◌, ◌++◌, [], ◌∷◌, true, IfSome, length, sym, ap, subst, ◌∙◌, arith}
-use Rattle.std.specs.Prelude.{Ok, Err, slice_set}
-use Rattle.std.specs.List.{flat_map, range_with_len}
-use Rattle.cb_claim.specs.Checks.{Judges, entry_checks}
-use Rattle.cb_topo.specs.Numbered.{Numbered, topology_of}
-use Rattle.cb_checker.specs.Listed.{ArePlaced}
-use Rattle.cb_checker.specs.Missing.{AreSuccessors}
-use Rattle.cb_checker.specs.Spans.{asked, JudgesPart}
-use Rattle.cb_checker.proofs.Joined.{exit, range_fails, range_passes}
+use Rattle.std.proofs.Common.{length, ap, ◌∙◌, arith}
+use Rattle.std.proofs.lemmas.Result.{on_ok_weaker}
+use Rattle.cb_checker.specs.declared.marks.Marks.{Marks}
+use Rattle.cb_checker.specs.Listed.{AreListed, AreMarked}
 use Rattle.cb_checker.proofs.Naming.{live_below}
-use Rattle.cb_checker.proofs.Placing.{live_placed}
-use Rattle.cb_checker.proofs.Entering.{entries_more, placed_more, marked_more}
+use Rattle.cb_checker.proofs.Stating.{stated_live}
 use Rattle.cb_checker.proofs.entries.check_entries.Goals as goal
 
-pub returns-in_err-node-clause-judges : goal.returns-in_err-node-clause-judges
-returns-in_err-node-clause-judges g c = λ whole root known.
-    let n = c.args.graph.now in
-    let span = c.args.span.now in
-    let checks = entry_checks (asked c.args.before root span) in
-    let place = c.loop-place.place in
-    let here = subst (λ (m : Numbered). JudgesPart m c.args.ids.now c.args.before span (λ a. entry_checks a place) (Err c.in_err-node.field-0.0))
-    c.loop-place.invariant.same c.in_err-node.ensures.judges
-    in
-    exit (Judges (topology_of n) whole (flat_map checks (range_with_len 1 (length span.entries - 1)))) c.from_residual.result _ c.from_residual.ensures.1
-    (range_fails (topology_of n) whole checks 1 (length span.entries - 1) place (omega arith) (omega arith)
-    (λ j least low. c.loop-place.invariant.passed whole root known j least low) c.in_err-node.field-0.0 (here whole root known))
+pub list_entries-listed-requires-clause-below : goal.list_entries-listed-requires-clause-below
+list_entries-listed-requires-clause-below g c = λ i id at.
+    let low = live_below c.args.graph.now id (c.requires.live i id at) in
+    let room = c.requires.marked.room in
+    omega arith
 
-pub loop-place-preserved : goal.loop-place-preserved
-loop-place-preserved g c =
-    let n = c.args.graph.now in
-    let ids = c.args.ids.now in
+pub first_unled-requires-clause-live : goal.first_unled-requires-clause-live
+first_unled-requires-clause-live g c =
     let span = c.args.span.now in
-    let place = c.loop-place.place in
-    let node = c.in_ok-node.node in
-    let same = c.loop-place.invariant.same in
-    let marks = c.loop-place.marks in
-    let live = live_placed n ids c.requires.live span place node c.in_ok-node.ensures.node in
-    let placed : c.add.new.self.placed.items ≡ marks.placed.items ++ (node ∷ []) =
-    c.in-Ok.ensures.placed ∙ ap (λ v. v.items ++ (node ∷ [])) c.in_ok-node.ensures.placed
-    in
-    record {
-      same = c.check_entry.ensures.same ∙ same;
-      placed = subst (ArePlaced ids span (place + 1)) (sym placed) (placed_more ids span place marks.placed.items node c.loop-place.invariant.placed c.in_ok-node.ensures.node);
-      marked = marked_more n marks c.add.new.self node c.loop-place.invariant.marked (live_below n node live) placed
-          (c.in-Ok.ensures.listed ∙ ap (λ row. slice_set row node.0 true) c.in_ok-node.ensures.listed)
-          (ap length c.in-Ok.ensures.found ∙ (c.in_ok-node.ensures.spare ∙ c.loop-place.invariant.marked.spare));
-      asked = subst (λ row. IfSome c.check_entry.new.asked (AreSuccessors n row)) (sym c.in-Ok.ensures.found)
-          (subst (λ (m : Numbered). IfSome c.check_entry.new.asked (AreSuccessors m c.check_entry.new.marks.found)) same c.in_ok-node.ensures.asked);
-      passed = entries_more n ids c.args.before span place c.loop-place.invariant.passed
-          (subst (λ (m : Numbered). JudgesPart m ids c.args.before span (λ a. entry_checks a place) (Ok tt)) same c.in_ok-node.ensures.judges);
-    }
+    stated_live c.args.graph.now c.args.ids.now span (length span.entries) c.list_entries-listed.new.marks.reasons.items c.requires.live c.list_entries-listed.ensures.stated
+
+pub overflow_add-result : goal.overflow_add-result
+overflow_add-result g c =
+    let first = c.in-Some.ensures.first in
+    let low = (c.list_entries-listed.ensures.stated first.reason first.is).0 in
+    let at = first.at in
+    omega arith
+
+pub overflow_add-result-in-Some : goal.overflow_add-result-in-Some
+overflow_add-result-in-Some g c =
+    let first = c.in-Some.ensures.first in
+    let low = (c.list_entries-listed.ensures.stated first.reason first.is).0 in
+    let at = first.at in
+    omega arith
+
+pub returns-in-Some-clause-judges : goal.returns-in-Some-clause-judges
+returns-in-Some-clause-judges g c = c.list_entries-listed.ensures.unled c.args.graph.now c.in-Some.place c.in-Some.ensures.first
 
 pub returns-clause-judges : goal.returns-clause-judges
-returns-clause-judges g c = λ whole root known.
-    let span = c.args.span.now in
-    let some = c.requires.some in
-    let end = c.loop-place-test.false in
-    range_passes (topology_of c.args.graph.now) whole (entry_checks (asked c.args.before root span)) 1 (length span.entries - 1)
-    (λ j least low. c.loop-place.invariant.passed whole root known j least (omega arith))
+returns-clause-judges g c = c.list_entries-listed.ensures.led c.args.graph.now c.in_default.ensures.first
+
+pub returns-clause-marked : goal.returns-clause-marked
+returns-clause-marked g c =
+    let n = c.args.graph.now in
+    let marks = c.list_entries-listed.new.marks in
+    let now : Marks = record marks { reasons = c.first_unled.new.reasons; found = c.first_unled.new.found } in
+    let marked = c.requires.marked in
+    let are : AreListed marks.listed marks.placed.items → AreMarked n now = λ listed. record {
+      room = c.list_entries-listed.ensures.room ∙ marked.room;
+      spare = c.first_unled.ensures.room ∙ (ap length c.list_entries-listed.ensures.found ∙ marked.spare);
+      each = listed;
+    } in
+    on_ok_weaker c.list_entries-listed.result are c.list_entries-listed.ensures.listed
