@@ -3,10 +3,12 @@
 
     bench/borrow.py CLONE LOG
 
-CLONE is where `.ci/run` works or has worked, and LOG what it has printed so far. A library is taken where the gate says that it is proved, and where its
-sources and those of all below it are the same in both. On a machine with nothing kept: begin with the gate in a clone, borrow while it goes on, and begin it
-anew, in a new clone, once the work is done. What is checked over borrowed libraries is no verdict: that is the gate's, which proves all from nothing.
-It goes by parts of the kit that no page describes (rtlib.py of 13b): with another kit it may do nothing, or stop.
+CLONE is where `.ci/run` or `rt ci NAME` works or has worked (the second on a copy of its own, /tmp/rt-copy-..../repo), and LOG what it has printed so far. A library
+is taken where the gate says that it is proved or kept, and where its sources and those of all below it are the same in both. Every other library here is removed,
+and is then built again over what `rt check` has kept: two libraries that stand on different builds of a third don't go together, though its sources be the same
+("unusable-built-library"). So let no rt work in this checkout meanwhile. On a machine with nothing kept: begin with the gate in a clone, borrow while it
+goes on, and begin it anew, in a new clone, once the work is done. What is checked over borrowed libraries is no verdict: that is the gate's, which proves all from nothing.
+It goes by parts of the kit that no page describes (rtlib.py of 13b and 13f): with another kit it may do nothing, or stop.
 """
 import importlib.machinery
 import importlib.util
@@ -33,17 +35,17 @@ def kit():
 def main():
     if len(sys.argv) != 3:
         sys.exit(__doc__)
-    clone, log = pathlib.Path(sys.argv[1]).resolve(), pathlib.Path(sys.argv[2])
-    proved = set(re.findall(r"^rt: (\w+) proved$", log.read_text(errors="replace"), re.M))
+    clone, log = pathlib.Path(sys.argv[1]).resolve(), pathlib.Path(sys.argv[2]).read_text(errors="replace")
+    proved = set(re.findall(r"^rt: (\w+) (?:proved$|is kept: an earlier run on this machine proved)", log, re.M))
     crates_below = kit().crates_below
     theirs = {crate.name: crate for crate in crates_below(str(clone))}
     os.chdir(ROOT)
     for crate in sorted(crates_below(str(ROOT)), key=lambda crate: len(crate.below())):
-        other = theirs.get(crate.name)
-        if crate.name not in proved or other is None or crate.is_built() or crate.stamp() != other.stamp():
-            continue
         library = pathlib.Path(crate.folder) / "out" / "rlib"
+        other = theirs.get(crate.name)
         shutil.rmtree(library, ignore_errors=True)
+        if crate.name not in proved or other is None or crate.stamp() != other.stamp():
+            continue
         shutil.copytree(clone / "crates" / crate.name / "out" / "rlib", library, symlinks=True)
         (library / "stamp").write_text(crate.stamp())
         print(f"borrowed {crate.name}")

@@ -1,6 +1,6 @@
 -- What is printed at status 0 names the cause.
-use Rattle.std.proofs.Common.{◌≡◌, ◌⊎◌, ◌∙◌, ◌≤◌, ◌<◌, ℕ, List, [], ◌∷◌, sym, ap, subst, inl, inr, arith, Some}
-use Rattle.std.specs.Prelude.{IsTrue}
+use Rattle.std.proofs.Common.{◌≡◌, ◌⊎◌, ◌∙◌, ◌≤◌, ◌<◌, ℕ, List, [], ◌∷◌, sym, ap, subst, inl, inr, arith, Some, length}
+use Rattle.std.specs.Prelude.{IsTrue, Option, None}
 use Rattle.std.proofs.lemmas.List.{length-map}
 use Rattle.cb_coding.specs.declared.group.Group.{Group}
 use Rattle.cb_coding.specs.Distance.{all_columns}
@@ -32,8 +32,6 @@ use Rattle.cb_outcome.specs.Seen.{Seen}
 use Rattle.cb_outcome.proofs.Accepted.{text_is_valid, text_fits, codebook_spells}
 use Rattle.cb_outcome.proofs.Outcomes.{some_name}
 use Rattle.cb_outcome.specs.Finds.{ListsTheNearest, far_from, PrintsValid, RefusesDistance, FindsFor, RefusesFor}
-use Rattle.std.proofs.Common.{length}
-use Rattle.std.specs.Prelude.{Option, None}
 
 -- what is found lists exactly the nearest groups, where it names a cause alone within the radius
 pub lists_nearest : (columns : List NodeName) (groups : List Group) (book : List ℕ) (d : ℕ) (nodes : List NodeName) (finding : Finding)

@@ -27,7 +27,7 @@ use Rattle.cb_report.specs.Faults.{ending}
 use Rattle.cb_report.specs.FaultTexts.{line_text}
 use Rattle.cb_report.specs.Said.{TakesLine}
 use Rattle.cb_outcome.specs.Outcome.{Outcome, done, done_with}
-use Rattle.cb_outcome.specs.Judged.{File, Known, nothing, network, certified, PassFrom}
+use Rattle.cb_outcome.specs.Judged.{Known, nothing, network, certified, PassFrom}
 use Rattle.cb_outcome.specs.Jobs.{JobGives}
 use Rattle.cb_outcome.specs.LogJobs.{Watch, IsWatch, WholeTells, FrontTells, LogTells, Follows, log_limit}
 use Rattle.cb_outcome.specs.Contents.{Left, with_texts, files_from, log_from}
@@ -39,12 +39,13 @@ use Rattle.cb_outcome.specs.Ends.{RequestMayEnd, MayEnd}
 use Rattle.cb_outcome.specs.Clauses.{Answers, WritesDue, ReadsJudged, HaveAllPassed, HasComeToLog, KeepsQuiet, NamesFileWord, HasTaken, WritesAllDue, BlamesRead, WritesPastStart, IsNotFarAhead, ReadsNotFarAhead, BlamesWrite, Blames}
 use Rattle.cb_outcome.specs.Finds.{PrintsLog, FindsFor, Finds}
 use Rattle.cb_outcome.proofs.LogsOne.{watch_is_one, watch_is_regular}
-use Rattle.cb_outcome.proofs.Once.{IsSound, says_sound, pass_sound, says_one}
+use Rattle.cb_outcome.proofs.Once.{pass_sound}
 use Rattle.cb_outcome.proofs.Outcomes.{texts_count, some_name}
-use Rattle.cb_top.specs.Ending.{names}
-use Rattle.cb_top.specs.Following.{IsDueUpto, IsDueOfAll, TellsLog, GoesWrong, FollowsLog}
-use Rattle.cb_top.proofs.Chain.{if_some, if_some2, take_whole, take_front, at_front, reads_all, reads_front}
-use Rattle.cb_top.proofs.Decoded.{given_keeps_apart, known_is_valid}
+use Rattle.cb_files.specs.Ending.{names}
+use Rattle.cb_follow.specs.Following.{IsDueUpto, IsDueOfAll, TellsLog, GoesWrong, FollowsLog}
+use Rattle.cb_files.proofs.Chain.{if_some, if_some2, take_whole, take_front, at_front, reads_all, reads_front}
+use Rattle.cb_files.proofs.Searched.{pass_is_one}
+use Rattle.cb_follow.proofs.Decoded.{given_keeps_apart, known_is_valid}
 use Rattle.cb_top.proofs.Logged.{AllApart, wanted_apart, fixed_apart, prints_log}
 use Rattle.cb_top.proofs.Made.{gives_job}
 
@@ -58,13 +59,6 @@ one_log name log e = cc
 
 there : {X : Type 0} (o : Option X) (P : X → Type 0) (x : X) → o ≡ Some x → IfSome o P → P x
 there {X} o P x e told = subst (λ (v : Option X). IfSome v P) e told
-
--- files pass in one way
-pub pass_is_one : (known : Known) (files : List File) (a b : Known) → IsSound known → PassFrom known files a → PassFrom known files b → a ≡ b
-pass_is_one known [] a b sound p q = sym p ∙ q
-pass_is_one known (file ∷ files) a b sound (next, says, pass) (other, says', pass') =
-    let same : other ≡ next = says_one known sound file other next says' says in
-    pass_is_one next files a b (says_sound known file next sound says) pass (subst (λ (k : Known). PassFrom k files b) same pass')
 
 -- the job of a request with a log is to follow it
 job_follows : (left : Left) (request : Request) (name : List ℕ) (known : Known) (whole : ℕ) (outcome : Outcome) → logs_of request ≡ name ∷ []

@@ -6,8 +6,8 @@ use Rattle.cb_report.specs.declared.fault.Fault.{Fault}
 use Rattle.cb_outcome.specs.Outcome.{Outcome, refused}
 use Rattle.cb_outcome.specs.Judged.{File, Known, Refuses, Job, Gives, PassFrom}
 use Rattle.cb_outcome.specs.Contents.{Left, with_texts}
-use Rattle.cb_top.specs.Kinds.{file_of}
-use Rattle.cb_top.specs.Ending.{names}
+use Rattle.cb_files.specs.Kinds.{file_of}
+use Rattle.cb_files.specs.Ending.{names}
 
 -- where all files say something, the outcome is the job's
 pub gives_job : (job : Job) (files : List File) (known last : Known) (whole : ℕ) (outcome : Outcome) → PassFrom known files last

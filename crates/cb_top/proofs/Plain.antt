@@ -1,5 +1,5 @@
 -- What the end of a run is like that a refused file or a job brings about: it is no fault of a read or a write, nor want of memory.
-use Rattle.std.proofs.Common.{◌≡◌, ◌≢◌, ◌⊎◌, ◌∙◌, ℕ, List, [], true, refl, sym, subst, inl, inr}
+use Rattle.std.proofs.Common.{◌≡◌, ◌≢◌, ◌⊎◌, ◌∙◌, ℕ, List, [], refl, sym, subst, inl, inr}
 use Rattle.std.specs.Prelude.{Option, None, Some}
 use Rattle.std.specs.List.{Contains}
 use Rattle.cb_io.specs.Outside.{WritesAll}
@@ -30,8 +30,8 @@ use Rattle.cb_outcome.specs.Finds.{FindsCause, RefusesAsked, Finds}
 use Rattle.cb_outcome.specs.Outcome.{Outcome}
 use Rattle.cb_outcome.specs.Reading.{Told}
 use Rattle.cb_outcome.proofs.Outcomes.{JobEnds, well, close, crowded, long, faulty, job_ends, some_name}
-use Rattle.cb_top.specs.Ending.{Makes}
-use Rattle.cb_top.proofs.Chain.{if_some}
+use Rattle.cb_files.specs.Ending.{Makes}
+use Rattle.cb_files.proofs.Chain.{if_some}
 use Rattle.cb_top.proofs.Finding.{finds_for, refuses_for}
 
 -- what is said of the end of a run with this fault, if there is one

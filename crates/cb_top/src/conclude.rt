@@ -3,7 +3,7 @@ ghost use Rattle.std.specs.Prelude.{◌≡◌};
 ghost use Rattle.cb_report.specs.Faults.{ending};
 ghost use Rattle.cb_report.specs.FaultTexts.{line_text};
 ghost use Rattle.cb_report.specs.Said.{TakesLine};
-ghost use Rattle.cb_top.specs.Ways.{wrong};
+ghost use Rattle.cb_files.specs.Ending.{wrong};
 
 use cb_io::Sink;
 use cb_report::{Fault, Status, say_fault};

@@ -7,7 +7,8 @@ ghost use Rattle.cb_outcome.specs.Ends.{MayEnd};
 ghost use Rattle.cb_outcome.specs.Finds.{Finds};
 ghost use Rattle.cb_outcome.specs.Seen.{seen};
 ghost use Rattle.cb_outcome.specs.Steps.{Counts};
-ghost use Rattle.cb_top.specs.Ways.{EndsAsked, wrong};
+ghost use Rattle.cb_follow.specs.Ways.{EndsAsked};
+ghost use Rattle.cb_files.specs.Ending.{wrong};
 
 use crate::conclude::conclude;
 use crate::perform::perform;

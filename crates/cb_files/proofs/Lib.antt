@@ -1,0 +1,5 @@
+pub mod Chain
+pub mod Searched
+pub mod Judging
+pub mod Certified
+pub mod Given

@@ -1,0 +1,10 @@
+pub mod Lines
+pub mod Further
+pub mod Pieces
+pub mod Following
+pub mod Opening
+pub mod Decoded
+pub mod Summing
+pub mod Growing
+pub mod Counting
+pub mod Counted

@@ -1,0 +1,10 @@
+//! The commands on a log: `correlate` and `decode`, which follow one line by line, and `grow`, which sums one up that it makes up. README.md tells more.
+#![tactic(auto)]
+
+pub mod correlate;
+pub mod decode;
+mod follow;
+pub mod grow;
+mod stop;
+mod sum_up;
+mod telling;
