@@ -106,10 +106,10 @@ fn reduces_as_defined(rt: HostRuntime) -> Result<(), Fail> {
 #[test]
 fn reduces_wide_codes_as_defined(rt: HostRuntime) -> Result<(), Fail> {
     let mut state = 11;
-    for turn in 0..6 {
+    for turn in 0..6_u32 {
         // Codes of 640 columns with ten on average: about half of them are kept by their columns, and the others whole.
         let codes = drawn(rt.alloc(), &mut state, 9, 640, turn % 2 == 0, 64)?;
-        assert!(rt; agree(rt.alloc(), &codes, 4 + turn as u32)?, "{turn}");
+        assert!(rt; agree(rt.alloc(), &codes, 4 + turn)?, "{turn}");
     }
     Ok(())
 }
