@@ -3,3 +3,4 @@ pub mod Ones
 pub mod Counting
 pub mod Words
 pub mod Fronts
+pub mod Weights

@@ -7,7 +7,6 @@ use Rattle.std.proofs.lemmas.List.Elements.{filter_passes}
 use Rattle.std.proofs.lemmas.List.Folds.{list_any_at}
 use Rattle.std.proofs.lemmas.List.FromFn.{length-range_with_len, get_or-range_with_len, length-map-range_with_len, get_or-map-range_with_len}
 use Rattle.std.proofs.lemmas.List.Kept.{AllPairs-filter}
-use Rattle.std.proofs.lemmas.List.Sums.{length-filter}
 use Rattle.std.proofs.lemmas.Map.Views.{Contains-from_any, any-filter_same}
 use Rattle.cb_bits.proofs.Totals.{sum_by-map}
 use Rattle.cb_bits.specs.Bits.{IsNextOne, HasNoneFrom}
@@ -68,11 +67,11 @@ module _ (row : List Bool) where
   by_values = same_lists row (map bit (range_with_len 0 (length row))) (sym (length-map-range_with_len bit 0 (length row)))
       (λ k d lt. get_or_default row k d false lt ∙ sym (get_or-map-range_with_len bit 0 (length row) k k d lt (omega arith)))
 
-  pub as_many : length (ones_of row) ≡ count_by (λ value. value) row
-  as_many =
+  -- its ones, counted by their places
+  pub by_places : count_by bit (range_with_len 0 (length row)) ≡ count_by (λ value. value) row
+  by_places =
       let digit : Bool → ℕ = λ b. cond b 1 0 in
-      length-filter bit (range_with_len 0 (length row))
-      ∙ sym (ap (count_by (λ value. value)) by_values ∙ sum_by-map digit bit (range_with_len 0 (length row)))
+      sym (ap (count_by (λ value. value)) by_values ∙ sum_by-map digit bit (range_with_len 0 (length row)))
 
 -- places that are those of a row's ones
 module _ (places : List ℕ) (row : List Bool) (are : places ≡ ones_of row) where

@@ -23,10 +23,12 @@ enum Kept {
 }
 
 /// Truth values in order. Contracts see the list of them. It keeps the places of those that are true, where these are fewer than
-/// the words that all would take.
+/// an eighth of the words that all would take, and how many they are.
 #[derive(Debug, Drop)]
 pub struct CompactRow {
     len: usize,
+    // How many values are true.
+    weight: usize,
     kept: Kept,
 }
 
@@ -38,7 +40,7 @@ impl Model for CompactRow {
 
     ghost view = { λ r. values_of r.kept r.len };
 
-    ghost invariant = { λ r. IsKept r.kept r.len };
+    ghost invariant = { λ r. IsKept r.kept r.len r.weight };
 }
 
 impl CompactRow {
@@ -47,8 +49,9 @@ impl CompactRow {
         ensures { IfOk result (λ compact. compact ≡ row.now) }
     {
         let len = row.len();
-        let kept = kept_of(alloc, row)?;
-        Ok(CompactRow { len, kept })
+        let weight = row.ones();
+        let kept = kept_of(alloc, row, weight)?;
+        Ok(CompactRow { len, weight, kept })
     }
 
     /// How many values there are.
@@ -73,10 +76,7 @@ impl CompactRow {
     pub fn ones(&self) -> usize
         ensures { result ≡ count_by (λ value. value) self.now }
     {
-        match &self.kept {
-            Kept::Places(places) => places.len(),
-            Kept::Whole(row) => row.ones(),
-        }
+        self.weight
     }
 
     /// The first true place from a place on.
@@ -110,12 +110,16 @@ impl CompactRow {
         }
     }
 
-    /// At how many places the two differ, where these are fewer than the limit. It stops once there are as many.
+    /// At how many places the two differ, where these are fewer than the limit. It stops once there are as many, and looks at none where one
+    /// of the two has so many more ones than the other.
     pub fn distance_below(&self, other: &CompactRow, limit: usize) -> Option<usize>
         requires { length self.now ≡ length other.now }
         ensures { let distance = differing self.now other.now in
             SomeIff result (distance < limit) distance }
     {
+        if limit <= self.ones().abs_diff(other.ones()) {
+            return None;
+        }
         if let Some(one) = self.whole() {
             if let Some(two) = other.whole() {
                 return one.distance_below(two, limit);
@@ -153,12 +157,12 @@ impl CompactRow {
     }
 }
 
-// The places of the ones, where these are fewer than the words of the row, and else a copy.
-fn kept_of(alloc: Global, row: &Row) -> Result<Kept, AllocError>
+// The places of so many ones, where these are fewer than an eighth of the words of the row, and else a copy: eight words are compared as
+// quickly as one place is.
+fn kept_of(alloc: Global, row: &Row, ones: usize) -> Result<Kept, AllocError>
     ensures { IfOk result (Keeps row.now) }
 {
-    let ones = row.ones();
-    if row.len() <= MOST_PLACES && ones < row.words().len() {
+    if row.len() <= MOST_PLACES && ones < row.words().len() / 8 {
         let places = places_of(alloc, row, ones)?;
         Ok(Kept::Places(places))
     } else {

@@ -1,8 +1,9 @@
 //! Rows of truth values of which few are true.
 //!
 //! A `CompactRow` is the same list of values as a `Row` of cb_bits. It keeps the places of the values that are true, in order, where
-//! these are fewer than the words of the row, and else the row. So a code of five columns takes 20 bytes, however many columns there are,
-//! and two such codes are compared by going through ten places.
+//! these are fewer than an eighth of the words of the row, and else the row. So a code of five columns takes 20 bytes, however many columns there
+//! are, and two such codes are compared by going through ten places. It knows how many values are true, so that a code is told from a much
+//! heavier one without a look at either.
 //!
 //! ```rust
 //! let code = CompactRow::of(alloc, &row)?;                       // cb_codes, a code that is added

@@ -1,9 +1,9 @@
 -- Steps of a log that is followed to its end, or summed up.
 use Rattle.std.proofs.Common.{◌≡◌, ◌∙◌, ◌≤◌, ◌+◌, ℕ, Bool, true, false, List, [], ◌∷◌, ◌++◌, length, take, refl, sym, ap, subst, arith, Result, Ok, Err}
-use Rattle.std.specs.Prelude.{Option, Some, IfSome}
+use Rattle.std.specs.Prelude.{IfSome}
 use Rattle.cb_change.specs.Costs.{IsOpenCost}
 use Rattle.cb_io.specs.LineReading.{Reading, unread, coming}
-use Rattle.cb_io.specs.Outside.{FilesTold, SinkTold, contents, left_of, ReadsEach, ReadsFront}
+use Rattle.cb_io.specs.Outside.{FilesTold, SinkTold, left_of, ReadsEach, ReadsFront}
 use Rattle.cb_text.specs.Lines.{lines_of}
 use Rattle.cb_network.specs.Regular.{IsRegular}
 use Rattle.cb_network.specs.Topology.{Topology}
@@ -13,15 +13,14 @@ use Rattle.cb_log.specs.Events.{IsNetwork}
 use Rattle.cb_log.specs.Network.{IsNow}
 use Rattle.cb_alarm.specs.Lines.{Line, line_of, log_lines, log_line_limit}
 use Rattle.cb_gen.specs.Log.{log_text}
-use Rattle.cb_request.specs.declared.request.Request.{Request}
 use Rattle.cb_request.specs.declared.request.Request.TheVariants.{Correlate}
 use Rattle.cb_report.specs.declared.summary.Summary.{Summary}
-use Rattle.cb_outcome.specs.Contents.{files_before, files_from, log_from}
+use Rattle.cb_outcome.specs.Contents.{files_from, log_from}
 use Rattle.cb_outcome.specs.Grown.{MakesUp}
-use Rattle.cb_outcome.specs.Judged.{Known, nothing, network, PassFrom}
+use Rattle.cb_outcome.specs.Judged.{nothing, network, PassFrom}
 use Rattle.cb_outcome.specs.LogJobs.{Watch, log_limit}
 use Rattle.cb_outcome.specs.Reading.{Told, LeavesRest}
-use Rattle.cb_outcome.specs.Steps.{CountsLines, CountsLog, lines_taken, CountsSearch, CountsCorrelate, CountsGrow}
+use Rattle.cb_outcome.specs.Steps.{CountsLines, CountsLog, lines_taken, CountsCorrelate, CountsGrow}
 use Rattle.cb_outcome.proofs.GrownOne.{made_up_one}
 use Rattle.cb_outcome.proofs.LogFronts as fronts
 use Rattle.cb_session.specs.State.{State}
@@ -29,7 +28,7 @@ use Rattle.cb_follow.specs.declared.stop.LogStop.{LogStop}
 use Rattle.cb_follow.specs.Counting.{CountsLine, PieceTakes, PieceCounts, HasCounted, CountsOn, CountsTaken, CountsSummed}
 use Rattle.cb_follow.specs.Summing.{HasSummedUp}
 use Rattle.cb_follow.specs.Telling.{numbered, Going, GoesOrEnds}
-use Rattle.cb_files.proofs.Chain.{if_some, if_some2, of_all, leaves_rest}
+use Rattle.cb_files.proofs.Chain.{if_some2, of_all, leaves_rest}
 use Rattle.cb_follow.proofs.Counting.{counts_more, counts_front}
 use Rattle.cb_files.proofs.Searched.{same_network, pass_is_one}
 use Rattle.cb_follow.proofs.Following.{there}

@@ -1,5 +1,5 @@
 -- Steps of a log, one line further.
-use Rattle.std.proofs.Common.{◌≡◌, ◌∙◌, ◌⊎◌, ◌≤◌, ◌+◌, ℕ, Bool, true, false, List, [], ◌∷◌, ◌++◌, append_assoc, append-nil, length, take, refl, sym, ap, subst, inl, inr, arith, Ok}
+use Rattle.std.proofs.Common.{◌≡◌, ◌∙◌, ◌⊎◌, ◌+◌, ℕ, true, false, List, [], ◌∷◌, ◌++◌, append_assoc, append-nil, length, take, refl, sym, ap, subst, inl, inr, arith, Ok}
 use Rattle.std.specs.Prelude.{Option, Some}
 use Rattle.std.specs.List.{All}
 use Rattle.std.specs.Io.KnownBytes.{Consumes}
@@ -11,7 +11,6 @@ use Rattle.cb_io.specs.declared.line_reader.Line.{Line as Given}
 use Rattle.cb_io.specs.declared.line_reader.Line.TheVariants as given
 use Rattle.cb_io.specs.LineReading.{Reading, coming, IsOneLine, GivesEnded, GivesLast, GivesLine, IsNumbered, Says}
 use Rattle.cb_io.specs.Outside.{FilesTold, left_of, ReadsFront}
-use Rattle.cb_text.specs.Lines.{last_line}
 use Rattle.cb_network.specs.declared.edit.Edit.{Edit}
 use Rattle.cb_network.specs.Regular.{IsRegular}
 use Rattle.cb_network.specs.Topology.{Topology}
@@ -24,7 +23,7 @@ use Rattle.cb_log.specs.Entries.{Entry, records_of}
 use Rattle.cb_log.specs.Events.{IsNetwork}
 use Rattle.cb_log.specs.Network.{then_edits, edits_of, IsNow}
 use Rattle.cb_log.proofs.OneForEach.{records_of_both}
-use Rattle.cb_alarm.specs.Lines.{Line, line_of, log_lines, ended_lines, ComesTo, ComeTo, log_line_limit}
+use Rattle.cb_alarm.specs.Lines.{Line, line_of, log_lines, ended_lines, ComesTo, ComeTo}
 use Rattle.cb_alarm.specs.Lines as lines
 use Rattle.cb_alarm.proofs.OneSkip.{come_to_one}
 use Rattle.cb_outcome.specs.LogJobs.{Watch}

@@ -1,6 +1,5 @@
 -- What is made up, judged, and what `grow` makes of it.
-use Rattle.std.proofs.Common.{◌≡◌, ◌⊎◌, ℕ, List, [], refl, sym, subst, inl, inr, Result, Ok, Err}
-use Rattle.std.specs.Prelude.{None, Some}
+use Rattle.std.proofs.Common.{◌≡◌, ◌⊎◌, ℕ, List, refl, sym, subst, inl, inr, Result, Ok, Err}
 use Rattle.cb_io.specs.Outside.{FilesTold}
 use Rattle.cb_io.proofs.Told.{ReadsEach-nil}
 use Rattle.cb_model.specs.declared.tables.Tables.{Tables}
@@ -20,7 +19,7 @@ use Rattle.cb_request.specs.Files.{Role, names_of}
 use Rattle.cb_request.specs.declared.request.Request.TheVariants.{Grow}
 use Rattle.cb_report.specs.declared.fault.Fault.{Fault}
 use Rattle.cb_report.specs.declared.fault.Fault.TheVariants as faults
-use Rattle.cb_outcome.specs.Judged.{Known, nothing, parsed, network, Means, IsModelFault}
+use Rattle.cb_outcome.specs.Judged.{nothing, parsed, Means, IsModelFault}
 use Rattle.cb_outcome.specs.Grown.{MakesUp, HasMadeUpFault}
 use Rattle.cb_files.specs.declared.output.Output.{Output}
 use Rattle.cb_files.specs.Ending.{Comes}

@@ -1,5 +1,5 @@
 -- A log that is summed up, one line more.
-use Rattle.std.proofs.Common.{◌≡◌, ◌≢◌, ◌⊎◌, ◌∙◌, ◌+◌, ◌≤◌, ℕ, suc, Bool, true, false, List, [], ◌∷◌, ◌++◌, append-nil, append_assoc, take, slice_get, length, refl, sym, ap, subst, inl, inr, arith, Ok, Err, Result}
+use Rattle.std.proofs.Common.{◌≡◌, ◌⊎◌, ◌∙◌, ◌+◌, ◌≤◌, ℕ, suc, Bool, true, false, List, [], ◌∷◌, ◌++◌, append_assoc, take, slice_get, length, refl, sym, ap, subst, inl, inr, arith, Ok, Err, Result}
 use Rattle.std.proofs.lemmas.List.{length-append, length-map}
 use Rattle.std.specs.List.{AllZip}
 use Rattle.std.specs.Prelude.{nat_le, cond, Some}
@@ -21,10 +21,10 @@ use Rattle.cb_log.specs.declared.record.Body.TheVariants.{Raise, Clear, Change, 
 use Rattle.cb_log.specs.declared.record.Record.{Record}
 use Rattle.cb_log.specs.Basis.{Mode, wanted, fixed, Basis, IsDiagnosis, IsAnnounced, book_made}
 use Rattle.cb_log.specs.Entries.{Entry, said, skipped, blank, records_of}
-use Rattle.cb_log.specs.Events.{IsOpening, Diagnoses, ClosingGives, IsRefusal, BodyGives, EntryGives, EntriesGive, EndGives}
+use Rattle.cb_log.specs.Events.{IsOpening, Diagnoses, IsRefusal, BodyGives, EntryGives, EntriesGive, EndGives}
 use Rattle.cb_log.proofs.OneForEach.{records_of_both}
 use Rattle.cb_log.proofs.OneMore.{entries_give_more}
-use Rattle.cb_alarm.specs.Lines.{Line, line_of, log_lines, ComesTo, ComeTo, IsBlank, log_line_limit}
+use Rattle.cb_alarm.specs.Lines.{Line, line_of, log_lines, ComesTo, IsBlank, log_line_limit}
 use Rattle.cb_alarm.specs.Lines as lines
 use Rattle.cb_report.specs.declared.summary.Summary.{Summary}
 use Rattle.cb_report.specs.SummaryText.{CountsAlone, CountsEvents, CountsOneMore, one_record_more}

@@ -1,5 +1,5 @@
 -- How many steps are counted of a log that is followed, or summed up. `now` is told before it is read, `after` at last.
-use Rattle.std.specs.Prelude.{◌≡◌, ℕ, List, [], take, Bool, true, false, IfSome, Result, Ok, Err}
+use Rattle.std.specs.Prelude.{◌≡◌, ℕ, List, [], take, Bool, false, IfSome, Result, Ok}
 use Rattle.cb_io.specs.declared.line_reader.Line.{Line as Given}
 use Rattle.cb_io.specs.declared.line_reader.Line.TheVariants as given
 use Rattle.cb_io.specs.LineReading.{Reading}

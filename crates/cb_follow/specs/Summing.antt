@@ -1,5 +1,5 @@
 -- A log that is summed up: where it stands between two lines, and what is counted of it.
-use Rattle.std.specs.Prelude.{◌≡◌, ◌⊎◌, ℕ, List, [], ◌∷◌, length, Bool, true, false, None, Some, Result, Ok, Err}
+use Rattle.std.specs.Prelude.{◌≡◌, ℕ, List, [], ◌∷◌, length, Bool, true, false, Some, Result, Ok, Err}
 use Rattle.cb_alarm.specs.Lines.{Line, ComeTo}
 use Rattle.cb_log.specs.declared.event.Event.{Event}
 use Rattle.cb_log.specs.declared.event.Event.TheVariants.{Skipped}

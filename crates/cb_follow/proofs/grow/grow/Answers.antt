@@ -1,4 +1,4 @@
-use Rattle.std.proofs.Common.{◌≡◌, ℕ, List, ap, refl, inl}
+use Rattle.std.proofs.Common.{ℕ, List, ap, refl, inl}
 use Rattle.cb_io.proofs.Told.{ReadsEach-nil}
 use Rattle.cb_outcome.specs.Judged.{nothing}
 use Rattle.cb_outcome.specs.Outcome.{done}

@@ -1,6 +1,5 @@
-use Rattle.std.proofs.Common.{◌≡◌, ◌∙◌, sym, subst, inr}
+use Rattle.std.proofs.Common.{◌∙◌, sym, subst, inr}
 use Rattle.cb_text.specs.Lines.{HasShortLines}
-use Rattle.cb_gen.specs.Model.{model_text}
 use Rattle.cb_inputs.specs.declared.topology.LineFault.{LineFault}
 use Rattle.cb_inputs.specs.Topologies.{IsFirstWrong, Stops}
 use Rattle.cb_outcome.proofs.FirstLines.{long_or_short}

@@ -1,4 +1,4 @@
-use Rattle.std.proofs.Common.{◌≡◌, ◌∙◌, ap, subst, ℕ}
+use Rattle.std.proofs.Common.{subst, ℕ}
 use Rattle.cb_gen.proofs.Going.{on_ok_more}
 use Rattle.cb_log.specs.Basis.{Mode}
 use Rattle.cb_network.specs.Topology.{Topology}

@@ -1,7 +1,6 @@
-use Rattle.std.proofs.Common.{◌≡◌, ◌∙◌, ap, subst, inl, inr}
+use Rattle.std.proofs.Common.{◌∙◌, subst, inl, inr}
 use Rattle.cb_alarm.specs.Lines.{Line, ComesTo}
 use Rattle.cb_gen.proofs.Going.{on_ok_more}
-use Rattle.cb_report.specs.declared.summary.Summary.{Summary}
 use Rattle.cb_follow.specs.Counting.{CountsLine}
 use Rattle.cb_follow.proofs.Summing.{CountsRecord, one_more_summed, record_keeps, record_one, record_none}
 use Rattle.cb_follow.proofs.sum_up.take_line.Goals as goal

@@ -1,5 +1,5 @@
 use Rattle.std.proofs.Common.{◌≡◌, ◌∙◌, ◌+◌, ◌++◌, ◌∷◌, [], ℕ, List, append_assoc, length, arith, sym, subst, ap}
-use Rattle.cb_alarm.specs.Lines.{Line, line_of}
+use Rattle.cb_alarm.specs.Lines.{line_of}
 use Rattle.cb_text.proofs.LinesRead.{ReadTo, read_all, read_more, number_within}
 use Rattle.cb_follow.specs.Counting.{CountsLine}
 use Rattle.cb_follow.specs.Summing.{HasSummedUp}

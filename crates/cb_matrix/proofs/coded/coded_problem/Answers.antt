@@ -1,4 +1,4 @@
-use Rattle.std.proofs.Common.{◌≡◌, ◌*◌, ℕ, replicate, sym, subst, ap, ◌∙◌}
+use Rattle.std.proofs.Common.{◌*◌, ℕ, sym, subst, ◌∙◌}
 use Rattle.cb_topo.specs.Numbered.{Numbered, IsNodeNamed, IsLiveNode}
 use Rattle.cb_matrix.specs.Codes.{ArePlaces, bits}
 use Rattle.cb_matrix.proofs.Matched.{code_from}

@@ -1,9 +1,8 @@
 use Rattle.std.proofs.Common.{◌≡◌, ◌<◌, length, slice_index_or, sym, ap, subst, arith}
 use Rattle.std.proofs.lemmas.Option.{slice_get-get_or}
-use Rattle.cb_coding.specs.Groups.{zeros}
 use Rattle.cb_nodes.specs.declared.id.NodeId.{NodeId}
 use Rattle.cb_cache.specs.Numbers.{IsProblemNumber}
-use Rattle.cb_codes.specs.Grouped.{group, IsSound, groups_in}
+use Rattle.cb_codes.specs.Grouped.{IsSound}
 use Rattle.cb_matrix.specs.Coded.{IsProblemAt}
 use Rattle.cb_matrix.proofs.Held.{none_held, one_more_held, all_held}
 use Rattle.cb_matrix.proofs.coded.grouped.Goals as goal

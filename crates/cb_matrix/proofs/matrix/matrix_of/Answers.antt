@@ -1,6 +1,5 @@
 use Rattle.std.proofs.Common.{◌≡◌, length, ap, ◌∙◌, arith}
 use Rattle.cb_coding.specs.Groups.{codes_of}
-use Rattle.cb_codes.specs.Groups.{groups_of}
 use Rattle.cb_codes.specs.Codes.{Coded}
 use Rattle.cb_codes.proofs.Fitting.{codes_are, length-groups}
 use Rattle.cb_matrix.specs.Parts.{problems_with}

@@ -1,4 +1,4 @@
-use Rattle.std.proofs.Common.{length, sym, ap, subst, ◌∙◌}
+use Rattle.std.proofs.Common.{length, count_by, sym, ap, subst, ◌∙◌}
 use Rattle.cb_compact.specs.Compact.{Keeps, values_of}
 use Rattle.cb_compact.proofs.Ones.{kept_values}
 use Rattle.cb_compact.proofs.compact.CompactRow.of.Goals as goal
@@ -11,6 +11,7 @@ invariant_of-result c =
     record {
       long = ap length values ∙ sym c.len-len.ensures;
       keeps = subst (λ v. Keeps v kept) (sym values) c.in_ok-kept.ensures;
+      counted = c.ones-weight.ensures ∙ sym (ap (count_by (λ value. value)) values);
     }
 
 pub returns : goal.returns

@@ -1,9 +1,9 @@
-use Rattle.std.proofs.Common.{◌≡◌, ◌*◌, ◌≤◌, List, length, sym, ap, subst, ◌∙◌, arith}
+use Rattle.std.proofs.Common.{◌≡◌, ◌*◌, List, length, ap, subst, ◌∙◌, arith}
 use Rattle.std.specs.List.{All}
 use Rattle.cb_network.specs.Nodes.{AreColumns, AreProblems}
 use Rattle.cb_network.specs.Sound.{Sound}
 use Rattle.cb_nodes.specs.declared.id.NodeId.{NodeId}
-use Rattle.cb_topo.specs.Numbered.{Numbered, topology_of, IsLiveNode, AreNamed, IsWhole}
+use Rattle.cb_topo.specs.Numbered.{Numbered, topology_of, AreNamed, IsWhole}
 use Rattle.cb_bits.specs.Bits.{words_for}
 use Rattle.cb_cache.specs.Numbers.{IsProblemNumber}
 use Rattle.cb_matrix.specs.Coded.{AreGroupedAt}
