@@ -17,7 +17,7 @@ use cb_steps::Steps;
 use std::alloc::Global;
 use std::sync::ledger::Ledger;
 
-/// Checks a span, behind which so many entries stand, and lists its nodes.
+/// Checks a span, before which so many entries stand, and lists its nodes.
 pub fn check_span<L: Ledger>(
     alloc: Global,
     graph: &mut Graph,

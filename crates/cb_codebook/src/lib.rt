@@ -4,8 +4,10 @@
 //! `codebook_of(alloc, topology, wanted, steps)` goes the whole way: what each problem causes (cb_cache), the matrix (cb_matrix), the
 //! codebook or the first close pair (cb_reduce), and the canonical certificate (cb_span). It knows no text, no file and no status.
 //!
-//! Promised: a certificate is the canonical one of the topology's codebook, or of the first pair that is too close; it is of the format, so
-//! that it can be written, and valid (`codebook_is_valid` and `shortfall_is_valid` of cb_claim). Not promised: a bound on steps.
+//! Promised: a certificate is the canonical one of the topology's codebook, or of the first pair that is too close, and that entries are too many
+//! is told only where they are; a certificate is of the format, so that it can be written, and valid (`codebook_is_valid` and
+//! `shortfall_is_valid` of cb_claim). `stated_book` gives the codebook that a certificate states, by the places of its columns. Not promised: a
+//! bound on steps.
 //!
 //! Read `specs/Made.antt` first. All else may be changed freely.
 #![tactic(auto)]

@@ -4,7 +4,7 @@
 //! A list of codes is seen as its width and its rows, each of which has that width.
 //!
 //! Beside the rows it keeps for each column which codes have it (`holders`), so that codes which share a column are found without
-//! comparing all. These lists take 4 bytes a one. They are given up, and `holders` says none, where the codes have too many ones or
+//! comparing all. These lists take 4 bytes a one. They are given up, and `holders` says none, where there are too many columns or ones, or
 //! memory is wanting: who asks for them must do without.
 #![tactic(auto)]
 

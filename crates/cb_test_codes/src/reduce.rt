@@ -37,9 +37,9 @@ fn reduces_the_worked_codes(rt: HostRuntime) -> Result<(), Fail> {
 // Whether the codes are few and narrow.
 fn are_small(codes: &Codes) -> bool
     ensures few { IsTrue result → length codes.now.rows ≤ 100 }
-    ensures narrow { IsTrue result → codes.now.width ≤ 1000 }
+    ensures narrow { IsTrue result → codes.now.width ≤ 3000 }
 {
-    codes.len() <= 100 && codes.width() <= 1000
+    codes.len() <= 100 && codes.width() <= 3000
 }
 
 // Whether the reduction keeps these columns, or names the first close pair.
@@ -107,8 +107,8 @@ fn reduces_as_defined(rt: HostRuntime) -> Result<(), Fail> {
 fn reduces_wide_codes_as_defined(rt: HostRuntime) -> Result<(), Fail> {
     let mut state = 11;
     for turn in 0..6_u32 {
-        // Codes of 640 columns with ten on average: about half of them are kept by their columns, and the others whole.
-        let codes = drawn(rt.alloc(), &mut state, 9, 640, turn % 2 == 0, 64)?;
+        // Codes of 2,048 columns with four on average: nearly half of them are kept by their columns, and the others whole.
+        let codes = drawn(rt.alloc(), &mut state, 6, 2048, turn % 2 == 0, 512)?;
         assert!(rt; agree(rt.alloc(), &codes, 4 + turn)?, "{turn}");
     }
     Ok(())

@@ -58,7 +58,7 @@ pub fn run<F: Files, O: Sink, E: Sink, L: Ledger>(
     // each thin line names two groups that are closer than wanted, too. No distance of 1 is refused so.
     ensures finds { Finds (asked words.now) result (seen F.tells O.tells E.tells files.old files.new out.old out.new err.old err.new) }
     // No step is counted by `model`, nor where no topology comes of the files; by `burst` and `matrix` no more than it costs to search from each
-    // problem of the topology; by `correlate` and `grow` no more than that, and again after each edit of the log for what it makes dirty, of
+    // problem of the topology; by `correlate` and `grow` no more than that, and again after each edit of the log for the problems that it makes dirty or new, of
     // `correlate` as far as the log was read. Of the others nothing is said.
     ensures steps { Counts (asked words.now) (F.tells files.old) (F.tells files.new) steps.old steps.new }
 {
