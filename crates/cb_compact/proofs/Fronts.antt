@@ -1,90 +1,164 @@
--- Two rows whose next ones are known.
-use Rattle.std.proofs.Common.{◌≡◌, ℕ, ◌+◌, ◌<◌, ◌≤◌, min, Bool, true, false, List, slice_index_or, refl, sym, ap, subst, inl, inr, arith, Option, None, Some}
+-- Rows whose next ones are known.
+use Rattle.std.proofs.Common.{◌≡◌, ℕ, ◌+◌, ◌<◌, ◌≤◌, Bool, true, false, not, List, length, slice_index_or, refl, sym, ap, subst, ◌∙◌, inl, inr, arith, Option, None, Some}
+use mathlib.Core.Bool.{beq}
 use Rattle.std.specs.Prelude.{IfSome, IfNone}
-use Rattle.std.proofs.lemmas.Bool.{cases_lt, cases_order}
+use Rattle.std.proofs.lemmas.Bool.{cases_lt, cases_eq, cases_order, both_ways, eq-eqb, ne_eqb}
 use Rattle.cb_bits.specs.Bits.{IsNextOne, HasNoneFrom}
-use Rattle.cb_compact.specs.Compact.{differs, IsNextDiffering, DifferNowhereFrom}
-use Rattle.cb_compact.specs.Fronts.{IsFront, lower_of, AreApart}
+use Rattle.cb_compact.specs.Compact.{ones_of, AreBefore, differs, IsNextDiffering, DifferNowhereFrom}
+use Rattle.cb_compact.specs.Fronts.{IsFront, IsFrontAt, is_at, lower_of}
 use Rattle.cb_compact.proofs.Counting.{both_false}
+use Rattle.cb_compact.proofs.Ones.{one_within, one_at, ones_rise, listed, few_ones}
 
 -- what a search for the next one answers
 pub front_is : (row : List Bool) (from : ℕ) (found : Option ℕ) → IfSome found (IsNextOne row from) → IfNone found (HasNoneFrom row from) → IsFront row from found
 front_is row from None next none = none
 front_is row from (Some k) next none = next
 
-left_alone : (v w : List Bool) (k : ℕ) → slice_index_or v k false ≡ true → slice_index_or w k false ≡ false → differs v w k ≡ true
-left_alone v w k is is' = rw (is, is') refl
+module _ (row : List Bool) where
+  abbrev bit : ℕ → Bool
+  bit k = slice_index_or row k false
 
-right_alone : (v w : List Bool) (k : ℕ) → slice_index_or v k false ≡ false → slice_index_or w k false ≡ true → differs v w k ≡ true
-right_alone v w k is is' = rw (is, is') refl
-
-both_true : (v w : List Bool) (k : ℕ) → slice_index_or v k false ≡ true → slice_index_or w k false ≡ true → differs v w k ≡ false
-both_true v w k is is' = rw (is, is') refl
-
--- no one before the front
-before_front : (row : List Bool) (from : ℕ) (front : Option ℕ) → IsFront row from front → (k : ℕ) → from ≤ k → ((j : ℕ) → front ≡ Some j → k < j)
-    → slice_index_or row k false ≡ false
-before_front row from None none k low below = none k low
-before_front row from (Some j) next k low below = next.first k low (below j refl)
-
--- what was found of two rows so far
-abbrev pub IsFound : List Bool → List Bool → ℕ → Option ℕ → Type 0
-IsFound v w from None = DifferNowhereFrom v w from
-IsFound v w from (Some k) = IsNextDiffering v w from k
-
-pub found_next : (v w : List Bool) (from : ℕ) (found : Option ℕ) → IsFound v w from found → IfSome found (IsNextDiffering v w from)
-found_next v w from None is = tt
-found_next v w from (Some k) is = is
-
-pub found_none : (v w : List Bool) (from : ℕ) (found : Option ℕ) → IsFound v w from found → IfNone found (DifferNowhereFrom v w from)
-found_none v w from None is = is
-found_none v w from (Some k) is = tt
-
-some_below : (j k i : ℕ) → j < k → Some k ≡ Some i → j < i
-some_below j k i lt e = let same : k ≡ i = cc in omega arith
-
-module _ (v w : List Bool) (from start : ℕ) (le : from ≤ start) (none : (k : ℕ) → from ≤ k → k < start → differs v w k ≡ false) where
-  -- both have no one from the start up to there
-  until : (one other : Option ℕ) → IsFront v start one → IsFront w start other → (k : ℕ) → from ≤ k
-      → ((j : ℕ) → one ≡ Some j → k < j) → ((j : ℕ) → other ≡ Some j → k < j) → differs v w k ≡ false
-  until one other left right k low below below' = elim (cases_lt k start) [
-    | inl early ↦ none k low early
-    | inr late ↦ both_false v w k (before_front v start one left k late below) (before_front w start other right k late below')
+  -- a place of a one isn't among places without
+  no_sooner : (from place k : ℕ) → from ≤ k → bit k ≡ true → ((j : ℕ) → from ≤ j → j < place → bit j ≡ false) → place ≤ k
+  no_sooner from place k on is none = elim (cases_lt k place) [
+    | inl lt ↦ absurd (both_ways _ (none k on lt) is)
+    | inr le ↦ le
   ]
 
-  -- where both have a one they don't differ
-  pub none_through : (k : ℕ) → IsNextOne v start k → IsNextOne w start k → (j : ℕ) → from ≤ j → j < k + 1 → differs v w j ≡ false
-  none_through k left right j low high = elim (cases_lt j start) [
-    | inl early ↦ none j low early
-    | inr late ↦ elim (cases_order j k) [
-      | inl e ↦ subst (λ i. differs v w i ≡ false) (sym e) (both_true v w k left.is right.is)
-      | inr (inl lt) ↦ both_false v w j (left.first j late lt) (right.first j late lt)
-      | inr (inr gt) ↦ absurd (omega arith)
+  front_on : (from place : ℕ) (next : Option ℕ) → from ≤ place → ((j : ℕ) → from ≤ j → j < place → bit j ≡ false) → IsFront row from next → IsFront row place next
+  front_on from place None le none has = λ k low. has k (omega arith)
+  front_on from place (Some k) le none next = record {
+    on = no_sooner from place k next.on next.is none;
+    is = next.is;
+    first = λ j low high. next.first j (omega arith) high;
+  }
+
+  -- past places that are no ones a front stays as it is
+  pub stays : (from place before : ℕ) (next : Option ℕ) → from ≤ place → ((j : ℕ) → from ≤ j → j < place → bit j ≡ false)
+      → IsFrontAt row from before next → IsFrontAt row place before next
+  stays from place before next le none at = record {
+    front = front_on from place next le none at.front;
+    passed = record {
+      within = at.passed.within;
+      before = λ k lt. let low = at.passed.before k lt in omega arith;
+      behind = λ k late lt. no_sooner from place (slice_index_or (ones_of row) k 0) (at.passed.behind k late lt) (one_at row k lt) none;
+    };
+  }
+
+  pub only_there : (place : ℕ) → bit place ≡ false → (k : ℕ) → place ≤ k → k < place + 1 → bit k ≡ false
+  only_there place isnt k low high = let same : k ≡ place = omega arith in ap bit same ∙ isnt
+
+  -- a front tells whether the place is a one from which it goes on
+  pub tells : (place : ℕ) (next : Option ℕ) → IsFront row place next → is_at next place ≡ bit place
+  tells place None none = sym (none place (omega arith))
+  tells place (Some k) next = elim (cases_eq k place) [
+    | inl e ↦ eq-eqb k place e ∙ sym (subst (λ j. bit j ≡ true) e next.is)
+    | inr other ↦ ne_eqb k place other ∙ sym (next.first place (omega arith) (let on = next.on in omega arith))
+  ]
+
+  module _ (place before : ℕ) (passed : AreBefore (ones_of row) place before) (is : bit place ≡ true) where
+    index_is : (i : ℕ) → i < length (ones_of row) → slice_index_or (ones_of row) i 0 ≡ place → i ≡ before
+    index_is i inside same = elim (cases_order i before) [
+      | inl e ↦ e
+      | inr (inl lt) ↦ let low = passed.before i lt in absurd (omega arith)
+      | inr (inr gt) ↦
+          let low = passed.behind before (omega arith) (omega arith) in
+          let later = ones_rise row before i 0 gt inside in
+          absurd (omega arith)
     ]
+
+    stands : (before < length (ones_of row)) × (slice_index_or (ones_of row) before 0 ≡ place)
+    stands =
+        let there = listed row place is in
+        let at = index_is there.0 there.1 there.2 in
+        (subst (λ i. i < length (ones_of row)) at there.1, subst (λ i. slice_index_or (ones_of row) i 0 ≡ place) at there.2)
+
+    -- past a one there is one more before
+    pub one_passed : AreBefore (ones_of row) (place + 1) (before + 1)
+    one_passed =
+        let inside = stands.0 in
+        let same = stands.1 in
+        record {
+          within = omega arith;
+          before = λ k lt. elim (cases_eq k before) [
+            | inl e ↦ let here = ap (λ i. slice_index_or (ones_of row) i 0) e in omega arith
+            | inr other ↦ let low = passed.before k (omega arith) in omega arith
+          ];
+          behind = λ k late lt. let later = ones_rise row before k 0 (omega arith) lt in omega arith;
+        }
+
+    pub few_passed : before < length row
+    few_passed = let inside = stands.0 in let few = few_ones row in omega arith
+
+-- the lower of two fronts is the first place at which one of both rows has a one
+pub record IsLowest (v w : List Bool) (start place : ℕ) : Type 0 where
+  pub on : start ≤ place
+  pub within : length v ≡ length w → place < length v
+  pub left : (j : ℕ) → start ≤ j → j < place → slice_index_or v j false ≡ false
+  pub right : (j : ℕ) → start ≤ j → j < place → slice_index_or w j false ≡ false
+
+module _ (v w : List Bool) (start : ℕ) where
+  lowest_of : (one other : Option ℕ) → IsFront v start one → IsFront w start other → IfSome (lower_of one other) (IsLowest v w start)
+  lowest_of None None left right = tt
+  lowest_of None (Some b) left right = record {
+    on = right.on;
+    within = λ same. let lt = one_within w b right.is in omega arith;
+    left = λ j low high. left j low;
+    right = right.first;
+  }
+  lowest_of (Some a) None left right = record {
+    on = left.on;
+    within = λ same. one_within v a left.is;
+    left = left.first;
+    right = λ j low high. right j low;
+  }
+  lowest_of (Some a) (Some b) left right = record {
+    on = let low = left.on in let low' = right.on in omega arith;
+    within = λ same. let lt = one_within v a left.is in omega arith;
+    left = λ j low high. left.first j low (omega arith);
+    right = λ j low high. right.first j low (omega arith);
+  }
+
+  pub lowest : (one other : Option ℕ) (place : ℕ) → IsFront v start one → IsFront w start other → lower_of one other ≡ Some place → IsLowest v w start place
+  lowest one other place left right is = subst (λ found. IfSome found (IsLowest v w start)) is (lowest_of one other left right)
+
+  -- where there is none both rows are gone through
+  pub none_left : (one other : Option ℕ) → IsFront v start one → IsFront w start other → lower_of one other ≡ None → DifferNowhereFrom v w start
+  none_left None None left right is = λ k low. both_false v w k (left k low) (right k low)
+  none_left None (Some b) left right is = absurd (cc)
+  none_left (Some a) None left right is = absurd (cc)
+  none_left (Some a) (Some b) left right is = absurd (cc)
+
+-- whether two rows differ at a place, by what was said of both
+pub differs_by : (v w : List Bool) (place : ℕ) (is too : Bool) → is ≡ slice_index_or v place false → too ≡ slice_index_or w place false
+    → differs v w place ≡ not (beq is too)
+differs_by v w place is too e e' = rw (e, e') refl
+
+module _ (v w : List Bool) (from start place : ℕ) (le : from ≤ start) (none : (k : ℕ) → from ≤ k → k < start → differs v w k ≡ false) (low : IsLowest v w start place) where
+  none_before : (k : ℕ) → from ≤ k → k < place → differs v w k ≡ false
+  none_before k on lt = elim (cases_lt k start) [
+    | inl early ↦ none k on early
+    | inr late ↦ both_false v w k (low.left k late lt) (low.right k late lt)
   ]
 
-  pub found : (one other : Option ℕ) → IsFront v start one → IsFront w start other → AreApart one other → IsFound v w from (lower_of one other)
-  found None None left right apart = λ k low. until None None left right k low (λ j e. absurd (cc)) (λ j e. absurd (cc))
-  found None (Some b) left right apart = record {
-    on = let on = right.on in omega arith;
-    is = right_alone v w b (left b right.on) right.is;
-    first = λ j low high. until None (Some b) left right j low (λ i e. absurd (cc)) (λ i e. some_below j b i high e);
+  -- where one of both has a one they differ
+  pub differ_there : differs v w place ≡ true → IsNextDiffering v w from place
+  differ_there is = record {
+    on = let on = low.on in omega arith;
+    is = is;
+    first = none_before;
   }
-  found (Some a) None left right apart = record {
-    on = let on = left.on in omega arith;
-    is = left_alone v w a left.is (right a left.on);
-    first = λ j low high. until (Some a) None left right j low (λ i e. some_below j a i high e) (λ i e. absurd (cc));
-  }
-  found (Some a) (Some b) left right apart = elim (cases_order a b) [
-    | inl e ↦ absurd (apart a refl (ap Some (sym e)))
-    | inr (inl lt) ↦ subst (IsNextDiffering v w from) (let m : a ≡ min a b = omega arith in m) (record {
-      on = let on = left.on in omega arith;
-      is = left_alone v w a left.is (right.first a left.on lt);
-      first = λ j low high. until (Some a) (Some b) left right j low (λ i e. some_below j a i high e) (λ i e. some_below j b i (omega arith) e);
-    })
-    | inr (inr gt) ↦ subst (IsNextDiffering v w from) (let m : b ≡ min a b = omega arith in m) (record {
-      on = let on = right.on in omega arith;
-      is = right_alone v w b (left.first b right.on gt) right.is;
-      first = λ j low high. until (Some a) (Some b) left right j low (λ i e. some_below j a i (omega arith) e) (λ i e. some_below j b i high e);
-    })
+
+  -- and where both have one they don't
+  pub none_through : differs v w place ≡ false → (k : ℕ) → from ≤ k → k < place + 1 → differs v w k ≡ false
+  none_through isnt k on lt = elim (cases_eq k place) [
+    | inl e ↦ subst (λ j. differs v w j ≡ false) (sym e) isnt
+    | inr other ↦ none_before k on (omega arith)
   ]
+
+-- what holds up to a place and from it on holds throughout
+pub none_further : (v w : List Bool) (from start : ℕ) → ((k : ℕ) → from ≤ k → k < start → differs v w k ≡ false) → DifferNowhereFrom v w start → DifferNowhereFrom v w from
+none_further v w from start none rest k low = elim (cases_lt k start) [
+  | inl early ↦ none k low early
+  | inr late ↦ rest k late
+]

@@ -7,6 +7,7 @@ use Rattle.std.proofs.lemmas.List.Elements.{filter_passes}
 use Rattle.std.proofs.lemmas.List.Folds.{list_any_at}
 use Rattle.std.proofs.lemmas.List.FromFn.{length-range_with_len, get_or-range_with_len, length-map-range_with_len, get_or-map-range_with_len}
 use Rattle.std.proofs.lemmas.List.Kept.{AllPairs-filter}
+use Rattle.std.proofs.lemmas.List.Sums.{length-filter, count_by-le-length}
 use Rattle.std.proofs.lemmas.Map.Views.{Contains-from_any, any-filter_same}
 use Rattle.cb_bits.proofs.Totals.{sum_by-map}
 use Rattle.cb_bits.specs.Bits.{IsNextOne, HasNoneFrom}
@@ -36,6 +37,13 @@ module _ (row : List Bool) where
 
   pub ones_rise : AreRising (ones_of row)
   ones_rise = AllPairs-filter (λ k l. k < l) bit (range_with_len 0 (length row)) (numbers_rise (length row))
+
+  pub few_ones : length (ones_of row) ≤ length row
+  few_ones =
+      let long = length-range_with_len 0 (length row) in
+      let are = length-filter bit (range_with_len 0 (length row)) in
+      let few = count_by-le-length bit (range_with_len 0 (length row)) in
+      omega arith
 
   pub one_at : (i : ℕ) → i < length (ones_of row) → bit (slice_index_or (ones_of row) i 0) ≡ true
   one_at i lt = filter_passes bit (range_with_len 0 (length row)) i 0 lt

@@ -1,18 +1,25 @@
 -- The next ones of two rows.
-use Rattle.std.specs.Prelude.{◌≡◌, ℕ, List, Bool, min, Option, None, Some}
+use Rattle.std.specs.Prelude.{ℕ, ◌==◌, List, Bool, false, min, Option, None, Some}
 use Rattle.cb_bits.specs.Bits.{IsNextOne, HasNoneFrom}
+use Rattle.cb_compact.specs.Compact.{ones_of, AreBefore}
 
 -- the next one of a row from a place on, if there is any
 abbrev pub IsFront : List Bool → ℕ → Option ℕ → Type 0
 IsFront row from None = HasNoneFrom row from
 IsFront row from (Some k) = IsNextOne row from k
 
+-- the same, and so many ones come before that place
+pub record IsFrontAt (row : List Bool) (from before : ℕ) (next : Option ℕ) : Type 0 where
+  pub front : IsFront row from next
+  pub passed : AreBefore (ones_of row) from before
+
+-- whether there is a next one, at that place
+abbrev pub is_at : Option ℕ → ℕ → Bool
+is_at None place = false
+is_at (Some k) place = k == place
+
 -- the lower of two places, or the only one
 abbrev pub lower_of : Option ℕ → Option ℕ → Option ℕ
 lower_of None other = other
 lower_of (Some k) None = Some k
 lower_of (Some k) (Some j) = Some (min k j)
-
--- the two aren't one place
-abbrev pub AreApart : Option ℕ → Option ℕ → Type 0
-AreApart one other = (k : ℕ) → one ≡ Some k → ¬ (other ≡ Some k)

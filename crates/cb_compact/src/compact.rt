@@ -1,10 +1,10 @@
 //! A row of truth values, by the places of its ones where these are few.
 ghost use Rattle.std.specs.Prelude.{◌≡◌, ◌+◌, ◌<◌, ◌≤◌, length, true, false, slice_index_or, count_by, SomeIff, IfSome, IfNone, IfOk};
 ghost use Rattle.cb_bits.specs.Bits.{differing, IsNextOne, HasNoneFrom};
-ghost use Rattle.cb_compact.specs.Compact.{Keeps, differs, differing_before, differing_under};
+ghost use Rattle.cb_compact.specs.Compact.{ones_of, AreBefore, Keeps, differs, differing_before, differing_under};
 
 use crate::counted::{count_below, count_under, nth_place, words_under};
-use crate::places::{has_place, next_place, places_of};
+use crate::places::{has_place, next_place, place_behind, places_of};
 use cb_bits::Row;
 use std::alloc::{AllocError, Global};
 use std::marker::Model;
@@ -84,18 +84,20 @@ impl CompactRow {
         ensures next { IfSome result (IsNextOne self.now from) }
         ensures none { IfNone result (HasNoneFrom self.now from) }
     {
-        let mut at = 0;
-        self.next_one_near(&mut at, from)
+        match &self.kept {
+            Kept::Places(places) => next_place(places, from),
+            Kept::Whole(row) => row.next_one(from),
+        }
     }
 
-    /// The same. Among the places that are kept it is looked for at that index first, which is then where it stands: a wrong index
-    /// only takes longer.
-    pub(crate) fn next_one_near(&self, at: &mut usize, from: usize) -> Option<usize>
+    /// The same, where so many ones come before that place: among places that are kept it stands at that index.
+    pub(crate) fn one_behind(&self, before: usize, from: usize) -> Option<usize>
+        requires { AreBefore (ones_of self.now) from before }
         ensures next { IfSome result (IsNextOne self.now from) }
         ensures none { IfNone result (HasNoneFrom self.now from) }
     {
         match &self.kept {
-            Kept::Places(places) => next_place(places, at, from),
+            Kept::Places(places) => place_behind(places, before, from),
             Kept::Whole(row) => row.next_one(from),
         }
     }

@@ -30,43 +30,24 @@ pub fn has_place(places: &[u32], place: usize) -> bool
     at < places.len() && places[at] as usize == place
 }
 
-/// The first one from a place on of a row that has its ones at these. It is looked for at that index first, which is then where it stands.
-pub fn next_place(places: &[u32], at: &mut usize, from: usize) -> Option<usize>
+/// The first one from a place on of a row that has its ones at these.
+pub fn next_place(places: &[u32], from: usize) -> Option<usize>
     ensures next { IfSome result (λ place. (row : List Bool) → places.now ≡ ones_of row → IsNextOne row from place) }
     ensures none { IfNone result ((row : List Bool) → places.now ≡ ones_of row → HasNoneFrom row from) }
 {
-    *at = first_near(places, *at, from);
-    if *at < places.len() {
-        Some(places[*at] as usize)
+    place_behind(places, first_from(places, from), from)
+}
+
+/// The same, where so many of them come before that place, which then need not be looked at.
+pub fn place_behind(places: &[u32], before: usize, from: usize) -> Option<usize>
+    ensures next { IfSome result (λ place. (row : List Bool) → places.now ≡ ones_of row → AreBefore (ones_of row) from before → IsNextOne row from place) }
+    ensures none { IfNone result ((row : List Bool) → places.now ≡ ones_of row → AreBefore (ones_of row) from before → HasNoneFrom row from) }
+{
+    if before < places.len() {
+        Some(places[before] as usize)
     } else {
         None
     }
-}
-
-// How many places come before one. Two guesses are tried first: so many, and one more.
-fn first_near(places: &[u32], guess: usize, from: usize) -> usize
-    ensures { AreRising places.now → AreBefore places.now from result }
-{
-    if are_before(places, guess, from) {
-        return guess;
-    }
-    if guess < places.len() && are_before(places, guess + 1, from) {
-        return guess + 1;
-    }
-    first_from(places, from)
-}
-
-// Whether so many places come before one, and no more.
-fn are_before(places: &[u32], count: usize, from: usize) -> bool
-    ensures { IsTrue result → AreRising places.now → AreBefore places.now from count }
-{
-    if places.len() < count {
-        return false;
-    }
-    if count > 0 && from <= places[count - 1] as usize {
-        return false;
-    }
-    count == places.len() || from <= places[count] as usize
 }
 
 // How many places come before one, found by halves.

@@ -34,7 +34,7 @@ loop-count-preserved c =
     let lt = differ_within v w c.requires k next.is in
     let more = with_next v w from k next in
     let whole = ap (λ n. differing_before n v w) to in
-    record { left = found.left ∙ was.left; right = found.right ∙ was.right; is = omega arith; few = omega arith; within = omega arith }
+    record { left = found.left ∙ was.left; right = found.right ∙ was.right; course = found.course; is = omega arith; few = omega arith; within = omega arith }
 
 pub returns : goal.returns
 returns c =

@@ -16,7 +16,7 @@ loop-place-preserved-then-get c =
     let lt = differ_within v w c.requires.same c.in-Some.place next.is in
     let more = under_with_one c.args.mask.now v w c.loop-place.places.from c.in-Some.place next (sym c.get.ensures ∙ c.if-get.true) in
     let whole = ap (under_before c.args.mask.now v w) from in
-    record { left = found.left ∙ was.left; right = found.right ∙ was.right; is = omega arith; few = omega arith; within = omega arith }
+    record { left = found.left ∙ was.left; right = found.right ∙ was.right; course = found.course; is = omega arith; few = omega arith; within = omega arith }
 
 pub loop-place-preserved : goal.loop-place-preserved
 loop-place-preserved c =
@@ -32,7 +32,7 @@ loop-place-preserved c =
     let lt = differ_within v w c.requires.same c.in-Some.place next.is in
     let same = under_with_none c.args.mask.now v w c.loop-place.places.from c.in-Some.place next (sym c.get.ensures ∙ c.if-get.false) in
     let whole = ap (under_before c.args.mask.now v w) from in
-    record { left = found.left ∙ was.left; right = found.right ∙ was.right; is = omega arith; few = omega arith; within = omega arith }
+    record { left = found.left ∙ was.left; right = found.right ∙ was.right; course = found.course; is = omega arith; few = omega arith; within = omega arith }
 
 pub returns : goal.returns
 returns c =

@@ -44,7 +44,7 @@ loop-place-preserved c =
     let to = found.from in
     let more = with_next v w from c.in-Some.place next in
     let whole = ap (λ n. differing_before n v w) to in
-    record { left = found.left ∙ was.left; right = found.right ∙ was.right; is = omega arith; fewer = omega arith; before = omega arith }
+    record { left = found.left ∙ was.left; right = found.right ∙ was.right; course = found.course; is = omega arith; fewer = omega arith; before = omega arith }
 
 pub returns-clause-none : goal.returns-clause-none
 returns-clause-none c =

@@ -1,13 +1,26 @@
-use Rattle.std.proofs.Common.{arith}
-use Rattle.cb_compact.proofs.Ones.{places_rise, next_is, none_is}
+use Rattle.std.proofs.Common.{◌≡◌, List, Bool, subst}
+use Rattle.cb_bits.specs.Bits.{IsNextOne, HasNoneFrom}
+use Rattle.cb_compact.specs.Compact.{ones_of, AreBefore}
+use Rattle.cb_compact.proofs.Ones.{places_rise}
+use Rattle.cb_compact.proofs.Words.{wherever, where_none}
 use Rattle.cb_compact.proofs.places.next_place.Goals as goal
 
-pub returns-then-at-places-clause-next : goal.returns-then-at-places-clause-next
-returns-then-at-places-clause-next c = λ row are.
+pub returns-clause-next : goal.returns-clause-next
+returns-clause-next c =
     let places = c.args.places.now in
-    next_is places row are c.args.from c.first_near.result (c.first_near.ensures (places_rise places row are)) c.if-at-places.true
+    let from = c.args.from in
+    let before = c.first_from.result in
+    wherever c.place_behind.result
+    (λ place. (row : List Bool) → places ≡ ones_of row → AreBefore (ones_of row) from before → IsNextOne row from place)
+    (λ place. (row : List Bool) → places ≡ ones_of row → IsNextOne row from place)
+    (λ place has row are. has row are (subst (λ ps. AreBefore ps from before) are (c.first_from.ensures (places_rise places row are)))) c.place_behind.ensures.next
 
-pub returns-else-at-places-clause-none : goal.returns-else-at-places-clause-none
-returns-else-at-places-clause-none c = λ row are.
+pub returns-clause-none : goal.returns-clause-none
+returns-clause-none c =
     let places = c.args.places.now in
-    none_is places row are c.args.from c.first_near.result (c.first_near.ensures (places_rise places row are)) (let past = c.if-at-places.false in omega arith)
+    let from = c.args.from in
+    let before = c.first_from.result in
+    where_none c.place_behind.result
+    ((row : List Bool) → places ≡ ones_of row → AreBefore (ones_of row) from before → HasNoneFrom row from)
+    ((row : List Bool) → places ≡ ones_of row → HasNoneFrom row from)
+    (λ has row are. has row are (subst (λ ps. AreBefore ps from before) are (c.first_from.ensures (places_rise places row are)))) c.place_behind.ensures.none
