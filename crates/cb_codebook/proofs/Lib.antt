@@ -1,2 +1,5 @@
 pub mod Named
 pub mod Places
+pub mod Coded
+pub mod Treed
+pub mod Reduced

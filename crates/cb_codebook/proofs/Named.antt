@@ -10,7 +10,6 @@ use Rattle.cb_model.specs.declared.node.GroupName.TheVariants.{Quiet, Least}
 use Rattle.cb_model.specs.declared.node.NodeName.{NodeName}
 use Rattle.cb_model.specs.declared.node.NamedGroup.{NamedGroup}
 use Rattle.cb_model.proofs.Spread.{map_at, map_there}
-use Rattle.cb_model.proofs.Numbers.{zip_push, take_more}
 use Rattle.cb_coding.specs.declared.group.Group.{Group}
 use Rattle.cb_codes.specs.Groups.{named, named_of}
 use Rattle.cb_network.specs.Topology.{Topology}
@@ -24,7 +23,7 @@ use Rattle.cb_nodes.specs.declared.id.NodeId.{NodeId}
 use Rattle.cb_topo.specs.Numbered.{Numbered, topology_of, IsNodeNamed, AreNamed}
 use Rattle.cb_topo.proofs.Naming.{one_name}
 use Rattle.cb_span.specs.Made.{IsSideAt, IsProblemAt, IsSideNamed, AreColumnsAt as AreSpanColumns}
-use Rattle.cb_codebook.specs.Columns.{HaveNames}
+use Rattle.cb_codebook.specs.Columns.{AreAt, HaveNames}
 use Rattle.cb_codebook.specs.Members.{IsLeastMember, HasMember, IsNameIn}
 use Rattle.cb_claim.specs.Codebooks.{least_of}
 
@@ -109,17 +108,25 @@ name_at n (i ∷ ids) [] zip k id at = absurd zip
 name_at n (i ∷ ids) (x ∷ names) zip zero id at = let same : i ≡ id = cc in (x, refl, subst (λ (j : NodeId). IsNodeNamed n j x) same zip.0)
 name_at n (i ∷ ids) (x ∷ names) zip (suc k) id at = name_at n ids names zip.1 k id at
 
--- one more column by its place
-pub one_more_column : (n : Numbered) (all : List NodeName) (numbers : List NodeId) → AreNamed n numbers all → (places : List ℕ) (k place : ℕ)
-    → slice_get places k ≡ Some place → (id : NodeId) → slice_get numbers place ≡ Some id → (ids : List NodeId) → HaveNames n all (take k places) ids
-    → HaveNames n all (take (k + 1) places) (ids ++ id ∷ [])
-one_more_column n all numbers named places k place at id there ids (columns, are, have) =
-    let (name, stands, its) = name_at n numbers all named place id there in (
-      columns ++ name ∷ [],
-      zip_push (IsNodeNamed n) ids columns id name are its,
-      subst (λ (ps : List ℕ). HavePlaces all (columns ++ name ∷ []) ps) (sym (take_more places k place at))
-          (zip_push (λ (column : NodeName) (p : ℕ). slice_get all p ≡ Some column) columns (take k places) name place have stands),
-    )
+-- the numbers at some places have the names at these places
+pub named_at : (n : Numbered) (all : List NodeId) (names : List NodeName) → AreNamed n all names → (places : List ℕ) (ids : List NodeId) → AreAt all places ids
+    → HaveNames n names places ids
+named_at n all names named [] [] are = ([], tt, tt)
+named_at n all names named [] (id ∷ ids) are = absurd are
+named_at n all names named (place ∷ places) [] are = absurd are
+named_at n all names named (place ∷ places) (id ∷ ids) are =
+    let (name, stands, its) = name_at n all names named place id are.0 in
+    let (columns, rest_named, have) = named_at n all names named places ids are.1 in
+    (name ∷ columns, (its, rest_named), (stands, have))
+
+-- places within a list have names
+pub names_at : (all : List NodeName) (places : List ℕ) → All (λ place. place < length all) places → (columns : List NodeName) × HavePlaces all columns places
+names_at all [] within = ([], tt)
+names_at all (place ∷ places) within =
+    let none : NodeName = record { event = []; instance = [] } in
+    let at = slice_get-get_or all place none (within 0 0 (omega arith)) in
+    let (columns, have) = names_at all places (λ k d lt. within (suc k) d (omega arith)) in
+    (get_or all place none ∷ columns, (at, have))
 
 -- what has a place among columns is a column
 each_column : (t : Topology) (all columns : List NodeName) (places : List ℕ) → AreColumns t all → HavePlaces all columns places → All (IsColumn t) columns

@@ -1,6 +1,6 @@
 -- Columns by their places among all columns.
-use Rattle.std.specs.Prelude.{◌<◌, ℕ, List, length}
-use Rattle.std.specs.List.{All, Contains}
+use Rattle.std.specs.Prelude.{◌≡◌, ℕ, List, Some, length, slice_get}
+use Rattle.std.specs.List.{All, AllZip, Contains}
 use Rattle.cb_model.specs.declared.node.NodeName.{NodeName}
 use Rattle.cb_network.specs.Topology.{Topology}
 use Rattle.cb_network.specs.Nodes.{AreColumns}
@@ -9,18 +9,27 @@ use Rattle.cb_claim.specs.Reading.{ArePlaces}
 use Rattle.cb_claim.specs.Spans.{StandsFor}
 use Rattle.cb_nodes.specs.declared.id.NodeId.{NodeId}
 use Rattle.cb_topo.specs.Numbered.{Numbered, topology_of, AreNamed}
+use Rattle.cb_matrix.specs.Codes.{ArePlaces as AreColumnPlaces}
+use Rattle.cb_matrix.specs.declared.codes.Columns.{Columns}
 
--- the places are those of columns
-abbrev pub AreWithin : Topology → List ℕ → Type 0
-AreWithin t places = (all : List NodeName) → AreColumns t all → All (λ place. place < length all) places
+-- the numbers of all columns, in order
+pub record AreAllColumns (n : Numbered) (ids : List NodeId) : Type 0 where
+  pub names : List NodeName
+  pub are : AreColumns (topology_of n) names
+  pub named : AreNamed n ids names
+
+-- the same, with the place of each by its number
+pub record AreColumnsIn (n : Numbered) (columns : Columns) : Type 0 where
+  pub all : AreAllColumns n columns.nodes
+  pub places : AreColumnPlaces (length n.nodes) columns.nodes columns.places.items
+
+-- the numbers at these places
+abbrev pub AreAt : List NodeId → List ℕ → List NodeId → Type 0
+AreAt all places ids = AllZip (λ place id. slice_get all place ≡ Some id) places ids
 
 -- the columns of these numbers have these places
 abbrev pub HaveNames : Numbered → List NodeName → List ℕ → List NodeId → Type 0
 HaveNames n all places ids = (columns : List NodeName) × AreNamed n ids columns × HavePlaces all columns places
-
--- the numbers of the columns at these places
-abbrev pub AreColumnsAt : Numbered → List ℕ → List NodeId → Type 0
-AreColumnsAt n places ids = (all : List NodeName) → AreColumns (topology_of n) all → HaveNames n all places ids
 
 -- among all columns of the topology, the columns of these numbers have these places
 abbrev pub ArePlacesFor : Topology → List NodeName → List ℕ → List ℕ → Type 0

@@ -1,22 +1,28 @@
 //! The codebook of a topology, certified.
 ghost use Rattle.std.specs.Prelude.{◌≡◌, ◌≤◌, ◌+◌, length, IfOk};
-ghost use Rattle.cb_coding.specs.Groups.{codes_of};
 ghost use Rattle.cb_cert.specs.Format.{IsWanted};
+ghost use Rattle.cb_claim.specs.Totals.{HasManyEntries};
 ghost use Rattle.cb_finding.specs.Matrix.{IsMatrix};
 ghost use Rattle.cb_network.specs.Sound.{problem_limit, symptom_limit};
 ghost use Rattle.cb_topo.specs.Numbered.{topology_of};
+ghost use Rattle.cb_span.specs.Searched.{AreTreesOf};
+ghost use Rattle.cb_codebook.specs.Columns.{AreAllColumns};
+ghost use Rattle.cb_codebook.specs.Groups.{AreGroupsOf};
 ghost use Rattle.cb_codebook.specs.Made.{IsBookOf, IsMadeOf};
 
 use crate::columns::columns_at;
+use crate::groups::{all_columns, groups_of};
 use crate::shortfall::shortfall;
 use cb_cache::Cache;
 use cb_cert::Certificate;
+use cb_codes::Groups;
 use cb_coding::Book;
 use cb_graph::Graph;
 use cb_matrix::Matrix;
-use cb_model::{GroupName, NodeName};
+use cb_model::{GroupName, List, NodeName};
+use cb_nodes::NodeId;
 use cb_reduce::{Refused, reduce};
-use cb_span::{SpanFault, book};
+use cb_span::{SpanFault, Trees};
 use cb_steps::Steps;
 use cb_topo::Topology;
 use std::alloc::{AllocError, Global};
@@ -39,7 +45,8 @@ pub enum Codebook {
     },
 }
 
-/// What is written of the codebook of the topology for a wanted distance.
+/// What is written of the codebook of the topology for a wanted distance. A search from each problem tells the groups and the
+/// certificate; where it would have too many entries, the groups are told by rows, in which searches find what earlier ones found.
 pub fn codebook_of<L: Ledger>(
     alloc: Global,
     topology: Topology,
@@ -49,7 +56,88 @@ pub fn codebook_of<L: Ledger>(
     requires { IsWanted wanted }
     ensures { IfOk result (IsMadeOf (topology_of topology) wanted) }
 {
-    let graph = Graph::new(alloc, topology)?;
+    let mut graph = Graph::new(alloc, topology)?;
+    match Trees::of(alloc, &mut graph, steps) {
+        Ok(trees) => of_trees(alloc, graph, trees, wanted, steps),
+        Err(SpanFault::TooManyEntries) => by_rows(alloc, graph, wanted, steps),
+        Err(SpanFault::NoMemory) => {
+            drop(graph);
+            Err(AllocError)
+        }
+    }
+}
+
+// The same, of a graph and the trees of its topology, which both end here.
+fn of_trees<L: Ledger>(
+    alloc: Global,
+    mut graph: Graph,
+    trees: Trees,
+    wanted: u32,
+    steps: &mut Steps<L>,
+) -> Result<Codebook, AllocError>
+    requires trees { AreTreesOf graph trees }
+    requires wanted { IsWanted wanted }
+    ensures { IfOk result (IsMadeOf (topology_of graph) wanted) }
+{
+    let made = by_trees(alloc, &mut graph, &trees, wanted, steps);
+    drop(trees);
+    drop(graph);
+    made
+}
+
+// The same, by the trees of the graph's topology.
+fn by_trees<L: Ledger>(
+    alloc: Global,
+    graph: &mut Graph,
+    trees: &Trees,
+    wanted: u32,
+    steps: &mut Steps<L>,
+) -> Result<Codebook, AllocError>
+    requires trees { AreTreesOf graph.old trees.now }
+    requires wanted { IsWanted wanted }
+    ensures { IfOk result (IsMadeOf (topology_of graph.old) wanted) }
+{
+    let columns = all_columns(alloc, graph.topology())?;
+    let groups = groups_of(alloc, graph.topology(), trees, &columns)?;
+    match reduce(alloc, groups.codes(), wanted) {
+        Ok(book) => with_book(alloc, graph.topology(), trees, &columns.nodes, &book),
+        Err(Refused::TooClose(pair)) => {
+            shortfall(alloc, graph, groups.named(), pair, wanted, steps)
+        }
+        Err(Refused::NoMemory) => Err(AllocError),
+    }
+}
+
+// The certificate of a codebook of the topology.
+fn with_book(
+    alloc: Global,
+    topology: &Topology,
+    trees: &Trees,
+    all: &List<NodeId>,
+    apart: &Book,
+) -> Result<Codebook, AllocError>
+    requires trees { AreTreesOf topology.now trees.now }
+    requires all { AreAllColumns topology.now all.now }
+    requires book { IsBookOf (topology_of topology.now) apart.now }
+    requires wanted { IsWanted apart.now.distance }
+    ensures { IfOk result (IsMadeOf (topology_of topology.now) apart.now.distance) }
+{
+    let columns = columns_at(alloc, all, &apart.columns)?;
+    let certificate = trees.book(alloc, topology, &columns, apart.distance)?;
+    Ok(Codebook::Certified(certificate))
+}
+
+// What is written where a certificate would have too many entries.
+fn by_rows<L: Ledger>(
+    alloc: Global,
+    graph: Graph,
+    wanted: u32,
+    steps: &mut Steps<L>,
+) -> Result<Codebook, AllocError>
+    requires many { HasManyEntries (topology_of graph) }
+    requires wanted { IsWanted wanted }
+    ensures { IfOk result (IsMadeOf (topology_of graph) wanted) }
+{
     let cache = Cache::open(alloc, graph, steps)?;
     match Matrix::of(alloc, &cache) {
         Ok(matrix) => of_matrix(alloc, cache.into_graph(), matrix, wanted, steps),
@@ -68,56 +156,40 @@ fn of_matrix<L: Ledger>(
     wanted: u32,
     steps: &mut Steps<L>,
 ) -> Result<Codebook, AllocError>
+    requires many { HasManyEntries (topology_of graph) }
     requires matrix { IsMatrix (topology_of graph) matrix.columns matrix.groups }
     requires few_columns { length matrix.columns ≤ symptom_limit }
     requires few_groups { length matrix.groups ≤ problem_limit + 1 }
     requires wanted { IsWanted wanted }
     ensures { IfOk result (IsMadeOf (topology_of graph) wanted) }
 {
-    let made = certified(alloc, &mut graph, &matrix, wanted, steps);
+    let made = by_groups(alloc, &mut graph, matrix.coded_groups(), wanted, steps);
     drop(matrix);
     drop(graph);
     made
 }
 
-// The same, of the graph's topology and its matrix.
-fn certified<L: Ledger>(
+// The same, of the graph's topology and its groups.
+fn by_groups<L: Ledger>(
     alloc: Global,
     graph: &mut Graph,
-    matrix: &Matrix,
+    groups: &Groups,
     wanted: u32,
     steps: &mut Steps<L>,
 ) -> Result<Codebook, AllocError>
-    requires matrix { IsMatrix (topology_of graph.old) matrix.now.columns matrix.now.groups }
-    requires few_columns { length matrix.now.columns ≤ symptom_limit }
-    requires few_groups { length matrix.now.groups ≤ problem_limit + 1 }
+    requires many { HasManyEntries (topology_of graph.old) }
+    requires groups { AreGroupsOf (topology_of graph.old) groups.now }
     requires wanted { IsWanted wanted }
     ensures { IfOk result (IsMadeOf (topology_of graph.old) wanted) }
 {
-    match reduce(alloc, matrix.codes(), wanted) {
-        Ok(book) => with_book(alloc, graph, &book, steps),
+    match reduce(alloc, groups.codes(), wanted) {
+        Ok(book) => {
+            drop(book);
+            Ok(Codebook::TooManyEntries)
+        }
         Err(Refused::TooClose(pair)) => {
-            shortfall(alloc, graph, matrix.groups(), pair, wanted, steps)
+            shortfall(alloc, graph, groups.named(), pair, wanted, steps)
         }
         Err(Refused::NoMemory) => Err(AllocError),
-    }
-}
-
-// The certificate of a codebook of the graph's topology.
-fn with_book<L: Ledger>(
-    alloc: Global,
-    graph: &mut Graph,
-    apart: &Book,
-    steps: &mut Steps<L>,
-) -> Result<Codebook, AllocError>
-    requires book { IsBookOf (topology_of graph.old) apart.now }
-    requires wanted { IsWanted apart.now.distance }
-    ensures { IfOk result (IsMadeOf (topology_of graph.old) apart.now.distance) }
-{
-    let columns = columns_at(alloc, graph.topology(), &apart.columns)?;
-    match book(alloc, graph, &columns, apart.distance, steps) {
-        Ok(certificate) => Ok(Codebook::Certified(certificate)),
-        Err(SpanFault::TooManyEntries) => Ok(Codebook::TooManyEntries),
-        Err(SpanFault::NoMemory) => Err(AllocError),
     }
 }

@@ -1,23 +1,21 @@
 //! Columns by their places.
-ghost use Rattle.std.specs.Prelude.{IfOk};
-ghost use Rattle.cb_topo.specs.Numbered.{topology_of};
-ghost use Rattle.cb_codebook.specs.Columns.{AreWithin, AreColumnsAt};
+ghost use Rattle.std.specs.Prelude.{◌<◌, length, IfOk};
+ghost use Rattle.std.specs.List.{All};
+ghost use Rattle.cb_codebook.specs.Columns.{AreAt};
 
 use cb_model::List;
 use cb_nodes::NodeId;
-use cb_topo::Topology;
 use std::alloc::{AllocError, Global};
 
-/// The numbers of the columns at these places among all columns.
+/// The numbers at these places among all columns.
 pub fn columns_at(
     alloc: Global,
-    topology: &Topology,
+    all: &List<NodeId>,
     places: &List<u32>,
 ) -> Result<List<NodeId>, AllocError>
-    requires { AreWithin (topology_of topology.now) places.now }
-    ensures { IfOk result (AreColumnsAt topology.now places.now) }
+    requires { All (λ place. place < length all.now) places.now }
+    ensures { IfOk result (AreAt all.now places.now) }
 {
-    let all = topology.columns(alloc)?;
     let mut columns = List::new(alloc);
     for k in 0..places.len() {
         let place = places.at(k);

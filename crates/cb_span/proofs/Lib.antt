@@ -3,6 +3,7 @@ pub mod Ordering
 pub mod Ranked
 pub mod Spanning
 pub mod Reaching
+pub mod Led
 pub mod Books
 pub mod Ordered
 pub mod Collected

@@ -1,16 +1,20 @@
 -- Trees of visits from the nodes of a topology.
-use Rattle.std.specs.Prelude.{◌≡◌, ⊤, ℕ, ◌<◌, List, Option, None, Some, length, slice_get}
-use Rattle.std.specs.List.{sum_by}
+use Rattle.std.specs.Prelude.{◌≡◌, ◌↔◌, ⊤, ℕ, ◌<◌, ◌≤◌, List, Option, None, Some, length, slice_get}
+use Rattle.std.specs.List.{AllZip, sum_by}
 use Rattle.std.specs.Global.{Vec}
+use Rattle.cb_model.specs.declared.node.NodeName.{NodeName}
+use Rattle.cb_network.specs.Nodes.{AreProblems}
 use Rattle.cb_nodes.specs.declared.id.NodeId.{NodeId}
+use Rattle.cb_reach.specs.Rows.{Has}
 use Rattle.cb_breadth.specs.declared.visit.Order.{Order}
 use Rattle.cb_breadth.specs.declared.visit.Visit.{Visit}
 use Rattle.cb_breadth.specs.Orders.{Follows}
 use Rattle.cb_breadth.specs.Trees.{IsTree, IsVisited}
 use Rattle.cb_cert.specs.Format.{entry_limit}
-use Rattle.cb_topo.specs.Numbered.{Numbered}
+use Rattle.cb_topo.specs.Numbered.{Numbered, topology_of, AreNamed}
 use Rattle.cb_graph.specs.Edges.{EdgeAt}
-use Rattle.cb_span.specs.Orders.{IsRank}
+use Rattle.cb_span.specs.Orders.{IsRank, IsOrderOf}
+use Rattle.cb_span.specs.declared.problems.Trees.{Trees}
 use Rattle.cb_span.specs.declared.fault.SpanFault.{SpanFault}
 use Rattle.cb_span.specs.declared.fault.SpanFault.TheVariants.{TooManyEntries, NoMemory}
 
@@ -56,3 +60,20 @@ pub record HaveManyVisits (n : Numbered) (order : Order) (ids : List NodeId) : T
 abbrev pub PreventsTrees : Numbered → Order → List NodeId → SpanFault → Type 0
 PreventsTrees n order ids TooManyEntries = HaveManyVisits n order ids
 PreventsTrees n order ids NoMemory = ⊤
+
+-- all that each problem of the topology causes, by trees over all nodes in order, with no more visits than a certificate may have entries
+pub record AreTreesOf (n : Numbered) (made : Trees) : Type 0 where
+  pub order : IsOrderOf n made.order
+  pub names : List NodeName
+  pub problems : AreProblems (topology_of n) names
+  pub named : AreNamed n made.problems names
+  pub each : AllZip (IsTreeOf n made.order) made.problems made.visits
+  pub used : (rank : ℕ) → Has made.used rank ↔ IsVisitedIn made.visits rank
+  pub room : length made.used ≡ length made.order.nodes.items
+  pub few : visits_in made.visits ≤ entry_limit
+
+-- the visits have the node of this number
+pub record HasNode (nodes : List ℕ) (visits : List Visit) (node : ℕ) : Type 0 where
+  pub rank : ℕ
+  pub at : slice_get nodes rank ≡ Some node
+  pub visited : IsVisited visits rank

@@ -1,23 +1,26 @@
 //! Canonical certificates, by a search from each problem.
 //!
-//! `book(alloc, graph, &columns, distance, steps)` makes the one certificate that over these columns the groups are so far apart,
-//! and `thin(alloc, graph, first, second, wanted, distance, steps)` the one that two groups are too close. Whether that is so isn't
+//! `Trees::of(alloc, graph, steps)` searches from each problem. The groups may be told by what it finds (cb_codebook does), and
+//! `trees.book(alloc, topology, &columns, distance)` makes of it the one certificate that over these columns the groups are so far apart.
+//! `thin(alloc, graph, first, second, wanted, distance, steps)` makes the one that two groups are too close. Whether that is so isn't
 //! asked: who checks the certificate finds out.
 //!
 //! Nodes go by their ranks, their places among all nodes in order (`order`). From each problem cb_breadth gives a tree of visits
 //! (`trees`, and `sides` for the group that may be quiet); the trees of one certificate share the successors of nodes, which are asked
 //! for at the first visit. The nodes that are used get numbers (`numbering`), and the visits become entries (`spans`).
 //!
-//! Read `src/made.rt` first, then `specs/Made.antt`. All but these two may be changed freely.
+//! Read `src/problems.rt` and `src/made.rt` first, then `specs/Searched.antt` and `specs/Made.antt`. All but these may be changed freely.
 #![tactic(auto)]
 
 mod fault;
 mod made;
 mod numbering;
 mod order;
+mod problems;
 mod sides;
 mod spans;
 mod trees;
 
 pub use fault::SpanFault;
-pub use made::{book, thin};
+pub use made::thin;
+pub use problems::Trees;

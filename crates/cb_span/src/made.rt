@@ -1,15 +1,16 @@
 //! Canonical certificates.
-ghost use Rattle.std.specs.Prelude.{◌≡◌, IfOk, OnOk, IfErr};
+ghost use Rattle.std.specs.Prelude.{◌≡◌, IfOk, OnOk};
 ghost use Rattle.cb_topo.specs.Numbered.{topology_of};
 ghost use Rattle.cb_claim.specs.Totals.{HasFewEntries};
-ghost use Rattle.cb_span.specs.Made.{AreColumnsAt, IsBookFor, PreventsBook, IsSideAt, IsProblemAt, IsThinFor};
+ghost use Rattle.cb_span.specs.Made.{AreColumnsAt, IsBookFor, IsSideAt, IsProblemAt, IsThinFor};
+ghost use Rattle.cb_span.specs.Searched.{AreTreesOf};
 
-use crate::fault::SpanFault;
 use crate::numbering::numbering_of;
 use crate::order::{order_of, use_all};
+use crate::problems::Trees;
 use crate::sides::{side_of, side_tree};
 use crate::spans::{numbers_of, span_of, spans_of};
-use crate::trees::{tree_from, trees};
+use crate::trees::tree_from;
 use cb_bits::Row;
 use cb_breadth::Searches;
 use cb_cert::Certificate;
@@ -17,37 +18,38 @@ use cb_graph::Graph;
 use cb_model::List;
 use cb_nodes::NodeId;
 use cb_steps::Steps;
+use cb_topo::Topology;
 use std::alloc::{AllocError, Global};
 use std::sync::ledger::Ledger;
 
-/// The canonical book that over these columns the groups are so far apart.
-pub fn book<L: Ledger>(
-    alloc: Global,
-    graph: &mut Graph,
-    columns: &List<NodeId>,
-    distance: u32,
-    steps: &mut Steps<L>,
-) -> Result<Certificate, SpanFault>
-    requires columns { AreColumnsAt graph.old columns.now }
-    ensures same { graph.new ≡ graph.old }
-    ensures made { IfOk result (IsBookFor graph.old columns.now distance) }
-    ensures few { OnOk result (HasFewEntries (topology_of graph.old)) }
-    ensures fault { IfErr result (PreventsBook (topology_of graph.old)) }
-{
-    let order = order_of(alloc, graph.topology())?;
-    let problems = graph.topology().problems(alloc)?;
-    let mut used = Row::zeroed(alloc, order.nodes.len())?;
-    use_all(columns, &order, &mut used);
-    let trees = trees(alloc, graph, &order, &problems, &mut used, steps)?;
-    let numbering = numbering_of(alloc, graph.topology(), &order, &used)?;
-    let spans = spans_of(alloc, &trees, &numbering.numbers)?;
-    let columns = numbers_of(alloc, columns, &order, &numbering.numbers)?;
-    Ok(Certificate::Book {
-        distance,
-        nodes: numbering.names,
-        columns,
-        spans,
-    })
+impl Trees {
+    /// The canonical book that over these columns the groups are so far apart.
+    pub fn book(
+        &self,
+        alloc: Global,
+        topology: &Topology,
+        columns: &List<NodeId>,
+        distance: u32,
+    ) -> Result<Certificate, AllocError>
+        requires trees { AreTreesOf topology.now self.now }
+        requires columns { AreColumnsAt topology.now columns.now }
+        ensures made { IfOk result (IsBookFor topology.now columns.now distance) }
+        ensures few { OnOk result (HasFewEntries (topology_of topology.now)) }
+    {
+        // The topology is sound, and its model well typed.
+        let _model = topology.model();
+        let mut used = self.used.copy(alloc)?;
+        use_all(columns, &self.order, &mut used);
+        let numbering = numbering_of(alloc, topology, &self.order, &used)?;
+        let spans = spans_of(alloc, &self.visits, &numbering.numbers)?;
+        let columns = numbers_of(alloc, columns, &self.order, &numbering.numbers)?;
+        Ok(Certificate::Book {
+            distance,
+            nodes: numbering.names,
+            columns,
+            spans,
+        })
+    }
 }
 
 /// The canonical certificate that the groups of these problems are so far apart, which is less than is wanted. Without a first

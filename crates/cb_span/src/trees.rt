@@ -62,7 +62,7 @@ fn use_visits(visits: &[Visit], used: &mut Row)
 }
 
 /// All that each of the nodes causes, which is marked as used.
-pub fn trees<L: Ledger>(
+pub fn trees_from<L: Ledger>(
     alloc: Global,
     graph: &mut Graph,
     order: &Order,

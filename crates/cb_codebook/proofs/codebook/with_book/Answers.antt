@@ -1,39 +1,43 @@
-use Rattle.std.proofs.Common.{◌<◌, List, length, refl, sym, subst}
+use Rattle.std.proofs.Common.{◌<◌, List, length, refl, ap, subst, arith}
 use Rattle.std.specs.List.{All}
 use Rattle.cb_model.specs.declared.node.NodeName.{NodeName}
 use Rattle.cb_network.proofs.One.{columns_are_one}
 use Rattle.cb_claim.specs.Codebooks.{AreBookColumns}
 use Rattle.cb_claim.specs.Laws.{HavePlaces}
-use Rattle.cb_span.specs.Made.{PreventsBook}
-use Rattle.cb_topo.specs.Numbered.{Numbered, topology_of}
-use Rattle.cb_codebook.specs.Columns.{AreWithin, AreColumnsAt}
-use Rattle.cb_codebook.proofs.Named.{columns_stand, names_are_one}
+use Rattle.cb_claim.proofs.Passing.{zip_lengths}
+use Rattle.cb_topo.specs.Numbered.{topology_of}
+use Rattle.cb_codebook.proofs.Named.{columns_stand, named_at, names_are_one}
 use Rattle.cb_codebook.proofs.codebook.with_book.Goals as goal
 
 pub columns_at-requires : goal.columns_at-requires
-columns_at-requires g c =
+columns_at-requires c = λ k d lt.
     let b = c.requires.book in
-    let places = c.args.apart.now.columns in
-    subst (λ (n : Numbered). AreWithin (topology_of n) places) (sym c.topology.ensures)
-    (λ all are. subst (λ (ns : List NodeName). All (λ k. k < length ns) places) (columns_are_one (topology_of c.args.graph.now) b.columns all b.matrix.columns_are are) b.is.within)
+    let all = c.requires.all in
+    let low = b.is.within k d lt in
+    let same = columns_are_one (topology_of c.args.topology.now) b.columns all.names b.matrix.columns_are all.are in
+    let long = ap length same in
+    let count = zip_lengths _ c.args.all.now all.names all.named in
+    omega arith
 
-pub book-requires : goal.book-requires
-book-requires g c =
-    let b = c.requires.book in
-    let n = c.args.graph.now in
+pub book-requires-clause-columns : goal.book-requires-clause-columns
+book-requires-clause-columns c =
+    let all = c.requires.all in
+    let n = c.args.topology.now in
     let places = c.args.apart.now.columns in
-    let at = subst (λ (m : Numbered). AreColumnsAt m places c.in_ok-columns.columns) c.topology.ensures c.in_ok-columns.ensures in
-    record { columns = columns_stand n b.columns b.matrix.columns_are places b.is.rise c.in_ok-columns.columns (at b.columns b.matrix.columns_are) }
+    let ids = c.in_ok-columns.columns in
+    columns_stand n all.names all.are places c.requires.book.is.rise ids (named_at n c.args.all.now all.names all.named places ids c.in_ok-columns.ensures)
 
-pub returns-in-Ok : goal.returns-in-Ok
-returns-in-Ok g c =
+pub returns : goal.returns
+returns c =
     let b = c.requires.book in
-    let n = c.args.graph.now in
+    let all = c.requires.all in
+    let n = c.args.topology.now in
     let places = c.args.apart.now.columns in
-    let at = subst (λ (m : Numbered). AreColumnsAt m places c.in_ok-columns.columns) c.topology.ensures c.in_ok-columns.ensures in
-    let (columns, named, have) = at b.columns b.matrix.columns_are in
-    let made = c.in-Ok.ensures.made in
-    let same = names_are_one n c.in_ok-columns.columns columns made.columns named made.named in
+    let ids = c.in_ok-columns.columns in
+    let (columns, named, have) = named_at n c.args.all.now all.names all.named places ids c.in_ok-columns.ensures in
+    let made = c.in_ok-certificate.ensures.made in
+    let same = names_are_one n ids columns made.columns named made.named in
+    let all_same = columns_are_one (topology_of n) all.names b.columns all.are b.matrix.columns_are in
     let are_columns : AreBookColumns (topology_of n) c.args.apart.now.distance made.columns = record {
       all = b.columns;
       groups = b.groups;
@@ -41,24 +45,6 @@ returns-in-Ok g c =
       book = c.args.apart.now;
       is_book = b.is;
       distance_is = refl;
-      named = subst (λ (ns : List NodeName). HavePlaces b.columns ns places) same have;
+      named = subst (λ (ns : List NodeName). HavePlaces ns made.columns places) all_same (subst (λ (ns : List NodeName). HavePlaces all.names ns places) same have);
     } in
-    (record { columns = made.columns; are_columns = are_columns; canonical = made.canonical }, c.in-Ok.ensures.few, made.of_format c.requires.wanted)
-
-pub returns-in-Err-TooManyEntries : goal.returns-in-Err-TooManyEntries
-returns-in-Err-TooManyEntries g c =
-    let b = c.requires.book in
-    let n = c.args.graph.now in
-    let places = c.args.apart.now.columns in
-    let at = subst (λ (m : Numbered). AreColumnsAt m places c.in_ok-columns.columns) c.topology.ensures c.in_ok-columns.ensures in
-    let (columns, named, have) = at b.columns b.matrix.columns_are in
-    let are_columns : AreBookColumns (topology_of n) c.args.apart.now.distance columns = record {
-      all = b.columns;
-      groups = b.groups;
-      matrix = b.matrix;
-      book = c.args.apart.now;
-      is_book = b.is;
-      distance_is = refl;
-      named = have;
-    } in
-    ((columns, are_columns), subst (PreventsBook (topology_of n)) c.in-Err-TooManyEntries.field-0-is c.in-Err-TooManyEntries.ensures.fault)
+    (record { columns = made.columns; are_columns = are_columns; canonical = made.canonical }, c.in_ok-certificate.ensures.few, made.of_format c.requires.wanted)

@@ -5,7 +5,7 @@ use Rattle.cb_cert.specs.Format.{entry_limit}
 use Rattle.cb_graph.specs.Edges.{EdgeAt}
 use Rattle.cb_span.specs.Searched.{IsTreeOf, IsVisitedIn, visits_in}
 use Rattle.cb_span.proofs.Zips.{Zipped}
-use Rattle.cb_span.proofs.trees.trees.Given as goal
+use Rattle.cb_span.proofs.trees.trees_from.Given as goal
 
 abbrev pub invariant-loop-place : goal.invariant-loop-place
 invariant-loop-place g l = record {

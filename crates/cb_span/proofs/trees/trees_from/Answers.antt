@@ -6,7 +6,7 @@ use Rattle.cb_topo.specs.Numbered.{Numbered}
 use Rattle.cb_span.specs.Searched.{IsTreeOf, visits_in}
 use Rattle.cb_span.proofs.Zips.{zipped_more, all_zipped}
 use Rattle.cb_span.proofs.Collected.{visits_more, visited_more, many_found}
-use Rattle.cb_span.proofs.trees.trees.Goals as goal
+use Rattle.cb_span.proofs.trees.trees_from.Goals as goal
 
 pub loop-place-init : goal.loop-place-init
 loop-place-init g c = record {

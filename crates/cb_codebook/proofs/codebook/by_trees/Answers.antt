@@ -1,0 +1,70 @@
+use Rattle.std.proofs.Common.{◌∙◌, sym, subst, IfOk, Ok, Err, List}
+use Rattle.cb_reduce.specs.declared.codebook.Refused.{Refused}
+use Rattle.cb_reduce.specs.Reduced.{IsReduced}
+use Rattle.cb_model.specs.declared.node.NamedGroup.{NamedGroup}
+use Rattle.cb_cert.specs.Format.{IsWanted}
+use Rattle.cb_span.specs.Searched.{AreTreesOf}
+use Rattle.cb_topo.specs.Numbered.{Numbered, topology_of}
+use Rattle.cb_codebook.specs.Columns.{AreColumnsIn, AreAllColumns}
+use Rattle.cb_codebook.specs.Groups.{AreGroupsOf}
+use Rattle.cb_codebook.specs.Made.{IsBookOf, IsMadeOf, ArePairOf}
+use Rattle.cb_codebook.proofs.Reduced.{rows_fit, columns_fit, book_of, pair_of, pair_far}
+use Rattle.cb_codebook.proofs.codebook.by_trees.Goals as goal
+
+pub groups_of-requires-clause-trees : goal.groups_of-requires-clause-trees
+groups_of-requires-clause-trees g c = subst (λ (m : Numbered). AreTreesOf m c.args.trees.now) (sym c.topology-2.ensures) c.requires.trees
+
+pub groups_of-requires-clause-columns : goal.groups_of-requires-clause-columns
+groups_of-requires-clause-columns g c = subst (λ (m : Numbered). AreColumnsIn m c.in_ok-columns.columns) (c.topology.ensures ∙ sym c.topology-2.ensures) c.in_ok-columns.ensures
+
+pub reduce-requires-clause-places_fit : goal.reduce-requires-clause-places_fit
+reduce-requires-clause-places_fit g c =
+    let made = c.in_ok-groups.groups in
+    let are = subst (λ (m : Numbered). AreGroupsOf (topology_of m) made) c.topology-2.ensures c.in_ok-groups.ensures in
+    rows_fit (topology_of c.args.graph.now) made are c.codes.result.now c.codes.ensures.width c.codes.ensures.rows
+
+pub reduce-requires-clause-columns_fit : goal.reduce-requires-clause-columns_fit
+reduce-requires-clause-columns_fit g c =
+    let made = c.in_ok-groups.groups in
+    let are = subst (λ (m : Numbered). AreGroupsOf (topology_of m) made) c.topology-2.ensures c.in_ok-groups.ensures in
+    columns_fit (topology_of c.args.graph.now) made are c.codes.result.now c.codes.ensures.width c.codes.ensures.rows
+
+pub with_book-requires-clause-trees : goal.with_book-requires-clause-trees
+with_book-requires-clause-trees g c = subst (λ (m : Numbered). AreTreesOf m c.args.trees.now) (sym c.topology-in-Ok.ensures) c.requires.trees
+
+pub with_book-requires-clause-all : goal.with_book-requires-clause-all
+with_book-requires-clause-all g c =
+    (subst (λ (m : Numbered). AreColumnsIn m c.in_ok-columns.columns) (c.topology.ensures ∙ sym c.topology-in-Ok.ensures) c.in_ok-columns.ensures).all
+
+pub with_book-requires-clause-book : goal.with_book-requires-clause-book
+with_book-requires-clause-book g c =
+    let made = c.in_ok-groups.groups in
+    let are = subst (λ (m : Numbered). AreGroupsOf (topology_of m) made) c.topology-2.ensures c.in_ok-groups.ensures in
+    let book = c.in-Ok.book in
+    subst (λ (m : Numbered). IsBookOf (topology_of m) book) (sym c.topology-in-Ok.ensures)
+    (book_of (topology_of c.args.graph.now) made are c.codes.result.now c.codes.ensures.width c.codes.ensures.rows c.args.wanted book c.in-Ok.ensures)
+
+pub with_book-requires-clause-wanted : goal.with_book-requires-clause-wanted
+with_book-requires-clause-wanted g c = subst IsWanted (sym c.in-Ok.ensures.1) c.requires.wanted
+
+pub returns-in-Ok : goal.returns-in-Ok
+returns-in-Ok g c =
+    subst (λ distance. IfOk c.with_book.result (IsMadeOf (topology_of c.args.graph.now) distance)) c.in-Ok.ensures.1
+    (subst (λ (m : Numbered). IfOk c.with_book.result (IsMadeOf (topology_of m) c.in-Ok.book.distance)) c.topology-in-Ok.ensures c.with_book.ensures)
+
+pub shortfall-requires-clause-pair : goal.shortfall-requires-clause-pair
+shortfall-requires-clause-pair g c =
+    let made = c.in_ok-groups.groups in
+    let are = subst (λ (m : Numbered). AreGroupsOf (topology_of m) made) c.topology-2.ensures c.in_ok-groups.ensures in
+    let pair = c.in-Err-TooClose.pair in
+    let first = subst (λ (why : Refused). IsReduced c.codes.result.now c.args.wanted (Err why)) c.in-Err-TooClose.field-0-is c.in-Err-TooClose.ensures in
+    subst (λ (named : List NamedGroup). ArePairOf (topology_of c.args.graph.now) named c.args.wanted pair) (sym c.named.ensures)
+    (pair_of (topology_of c.args.graph.now) made are c.codes.result.now c.codes.ensures.width c.codes.ensures.rows c.args.wanted pair first)
+
+pub shortfall-requires-clause-far : goal.shortfall-requires-clause-far
+shortfall-requires-clause-far g c =
+    let made = c.in_ok-groups.groups in
+    let are = subst (λ (m : Numbered). AreGroupsOf (topology_of m) made) c.topology-2.ensures c.in_ok-groups.ensures in
+    let pair = c.in-Err-TooClose.pair in
+    let first = subst (λ (why : Refused). IsReduced c.codes.result.now c.args.wanted (Err why)) c.in-Err-TooClose.field-0-is c.in-Err-TooClose.ensures in
+    pair_far (topology_of c.args.graph.now) made are c.codes.result.now c.codes.ensures.width c.codes.ensures.rows c.args.wanted pair first
