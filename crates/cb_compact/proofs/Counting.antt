@@ -118,6 +118,16 @@ module _ (mask v w : List Bool) where
       let rest = none_under_between n from (from + n) refl (λ k late early. none k late (omega arith)) in
       omega arith
 
+  -- before more places there are no fewer
+  pub under_no_fewer : (n from to : ℕ) → from + n ≡ to → under_before from ≤ under_before to
+  under_no_fewer zero from to e = let same : to ≡ from = omega arith in let whole = ap under_before same in omega arith
+  under_no_fewer (suc n) from to e =
+      let last : to ≡ from + n + 1 = omega arith in
+      let whole = ap under_before last in
+      let more = under_more (from + n) in
+      let rest = under_no_fewer n from (from + n) refl in
+      omega arith
+
   pub under_with_one : (from k : ℕ) → IsNextDiffering v w from k → masked k ≡ true → under_before (k + 1) ≡ under_before from + 1
   under_with_one from k next here =
       let on = next.on in

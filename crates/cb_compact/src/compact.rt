@@ -3,7 +3,9 @@ ghost use Rattle.std.specs.Prelude.{◌≡◌, ◌+◌, ◌<◌, ◌≤◌, leng
 ghost use Rattle.cb_bits.specs.Bits.{differing, IsNextOne, HasNoneFrom};
 ghost use Rattle.cb_compact.specs.Compact.{ones_of, AreBefore, Keeps, differs, differing_before, differing_under};
 
-use crate::counted::{count_below, count_under, nth_place, words_under};
+use crate::counted::{
+    count_below, count_under, count_under_below, nth_place, words_under, words_under_below,
+};
 use crate::places::{has_place, next_place, place_behind, places_of};
 use cb_bits::Row;
 use std::alloc::{AllocError, Global};
@@ -144,6 +146,28 @@ impl CompactRow {
             }
         }
         count_under(self, other, mask)
+    }
+
+    /// The same, where these are fewer than the limit. It stops once there are as many, but counts all by the words of two whole rows.
+    pub fn distance_under_below(
+        &self,
+        other: &CompactRow,
+        mask: &Row,
+        limit: usize,
+    ) -> Option<usize>
+        requires same { length self.now ≡ length other.now }
+        requires masked { length self.now ≡ length mask.now }
+        ensures { let distance = differing_under mask.now self.now other.now in
+            SomeIff result (distance < limit) distance }
+    {
+        if self.len() <= MOST_COUNTED {
+            if let Some(one) = self.whole() {
+                if let Some(two) = other.whole() {
+                    return words_under_below(one, two, mask, limit);
+                }
+            }
+        }
+        count_under_below(self, other, mask, limit)
     }
 
     /// The nth place from the first, of those before one, at which the two differ.

@@ -46,7 +46,36 @@ pub fn count_under(left: &CompactRow, right: &CompactRow, mask: &Row) -> usize
     count
 }
 
-/// The same, by the words of two rows.
+/// At how many ones of a mask two rows differ, where these are fewer than the limit.
+pub fn count_under_below(
+    left: &CompactRow,
+    right: &CompactRow,
+    mask: &Row,
+    limit: usize,
+) -> Option<usize>
+    requires same { length left.now ≡ length right.now }
+    requires masked { length left.now ≡ length mask.now }
+    ensures { let distance = differing_under mask.now left.now right.now in
+        SomeIff result (distance < limit) distance }
+{
+    if limit == 0 {
+        return None;
+    }
+    let mut count = 0;
+    let mut places = Differing::of(left, right);
+    while let Some(place) = places.next() {
+        if !mask.get(place) {
+            continue;
+        }
+        count += 1;
+        if count == limit {
+            return None;
+        }
+    }
+    Some(count)
+}
+
+/// At how many ones of a mask two rows differ, by the words of both.
 pub fn words_under(one: &Row, other: &Row, mask: &Row) -> usize
     requires same { length one.now ≡ length other.now }
     requires masked { length one.now ≡ length mask.now }
@@ -54,6 +83,22 @@ pub fn words_under(one: &Row, other: &Row, mask: &Row) -> usize
     ensures { result ≡ differing_under mask.now one.now other.now }
 {
     distance_under(one.words(), other.words(), mask.words()) as usize
+}
+
+/// The same, where these are fewer than the limit.
+pub fn words_under_below(one: &Row, other: &Row, mask: &Row, limit: usize) -> Option<usize>
+    requires same { length one.now ≡ length other.now }
+    requires masked { length one.now ≡ length mask.now }
+    requires few { length one.now ≤ 4294967232 }
+    ensures { let distance = differing_under mask.now one.now other.now in
+        SomeIff result (distance < limit) distance }
+{
+    let distance = words_under(one, other, mask);
+    if distance < limit {
+        Some(distance)
+    } else {
+        None
+    }
 }
 
 /// The nth place from the first, of those before one, at which two rows differ.

@@ -69,10 +69,10 @@ fn book_of_good(
     ensures book { IfOk result (IsBook width codes.now.rows) }
     ensures distance { IfOk result (λ book. book.distance ≡ distance) }
 {
-    let mut kept = Row::zeroed(alloc, width)?;
     let mut waiting = empty_lists(alloc, width)?;
     let quiet = starts_with_zero(codes);
-    wait_all(alloc, codes, quiet, &kept, distance, &mut waiting)?;
+    wait_all(alloc, codes, quiet, width, distance, &mut waiting)?;
+    let mut kept = Row::zeroed(alloc, width)?;
     for column in (0..width).rev() {
         let pairs = replace(&mut waiting[column], List::new(alloc));
         decide(codes, &pairs, &mut kept, column, distance);

@@ -1,5 +1,5 @@
 //! Pairs that wait at columns, and move to earlier ones.
-ghost use Rattle.std.specs.Prelude.{◌≡◌, ◌<◌, ◌≤◌, ◌^◌, false, length, IsTrue, OnOk};
+ghost use Rattle.std.specs.Prelude.{◌≡◌, ◌<◌, ◌≤◌, ◌^◌, [], false, length, IsTrue, OnOk};
 ghost use Rattle.std.specs.List.{Contains};
 ghost use Rattle.cb_coding.specs.Distance.{HaveWidth};
 ghost use Rattle.cb_coding.specs.Pairs.{IsPair};
@@ -7,7 +7,7 @@ ghost use Rattle.cb_reduce.specs.Places.{kept_of};
 ghost use Rattle.cb_reduce.specs.declared.moves.Waiter.{Waiter as W};
 ghost use Rattle.cb_reduce.specs.Moves.{IsSafe, SomeAreClose, IsHeld, Grows, ArePairs, AreSafe, Decides};
 
-use crate::place::{Place, differ_often, place_of};
+use crate::place::{Place, differ_often, first_place, place_of};
 use cb_bits::Row;
 use cb_codes::Codes;
 use cb_model::List;
@@ -40,6 +40,33 @@ pub fn wait(
     let a = codes.row(pair.first as usize);
     let b = codes.row(pair.second as usize);
     match place_of(a, b, kept, before, distance) {
+        Place::Nowhere => Ok(()),
+        Place::At(column) => {
+            waiting[column].push(pair)?;
+            Ok(())
+        }
+        Place::Close => Ok(()),
+    }
+}
+
+/// Lets a pair wait at its place among all columns, as long as none is kept.
+pub fn wait_first(
+    codes: &Codes,
+    pair: Waiter,
+    width: usize,
+    distance: u32,
+    waiting: &mut Vec<List<Waiter>>,
+) -> Result<(), AllocError>
+    requires have_width { HaveWidth width codes.now.rows }
+    requires pair { IsPair codes.now.rows pair.first pair.second }
+    requires safe { IsSafe codes.now.rows [] distance width pair.first pair.second }
+    requires lists { length waiting.old.items ≡ width }
+    ensures grows { OnOk result (Grows codes.now.rows waiting.old.items waiting.new.items) }
+    ensures held { OnOk result (IsHeld codes.now.rows [] distance waiting.new.items width pair.first pair.second) }
+{
+    let a = codes.row(pair.first as usize);
+    let b = codes.row(pair.second as usize);
+    match first_place(a, b, width, distance) {
         Place::Nowhere => Ok(()),
         Place::At(column) => {
             waiting[column].push(pair)?;

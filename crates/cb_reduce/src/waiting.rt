@@ -1,36 +1,35 @@
 //! Which pairs wait at first.
-ghost use Rattle.std.specs.Prelude.{◌≡◌, ◌<◌, ℕ, true, length, OnOk, IsTrue};
+ghost use Rattle.std.specs.Prelude.{◌≡◌, ◌<◌, ℕ, [], true, length, OnOk, IsTrue};
 ghost use Rattle.cb_coding.specs.Distance.{bit};
 ghost use Rattle.cb_coding.specs.Pairs.{IsPair};
 ghost use Rattle.cb_reduce.specs.Pairs.{Counts, MustWait};
-ghost use Rattle.cb_reduce.specs.Places.{kept_of};
 ghost use Rattle.cb_reduce.specs.Moves.{MayWait, IsHeld, Grows};
 
 use crate::marked::mark_sharing;
-use crate::moves::{Waiter, wait};
+use crate::moves::{Waiter, wait_first};
 use cb_bits::Row;
 use cb_codes::Codes;
 use cb_model::List;
 use std::alloc::{AllocError, Global};
 
-/// Lets all pairs wait, from the last column on. Behind a zero code, those with it and those that share a column suffice.
+/// Lets all pairs wait while no column is kept. Behind a zero code, those with it and those that share a column suffice.
 pub fn wait_all(
     alloc: Global,
     codes: &Codes,
     quiet: bool,
-    kept: &Row,
+    width: usize,
     distance: u32,
     waiting: &mut Vec<List<Waiter>>,
 ) -> Result<(), AllocError>
-    requires may { MayWait codes.now.rows kept.now distance }
-    requires lists { length waiting.old.items ≡ length kept.now }
+    requires may { MayWait width codes.now.rows distance }
+    requires lists { length waiting.old.items ≡ width }
     ensures grows { OnOk result (Grows codes.now.rows waiting.old.items waiting.new.items) }
     ensures held { OnOk result ((i j : ℕ) → IsPair codes.now.rows i j → MustWait quiet codes.now.rows i j
-        → IsHeld codes.now.rows (kept_of kept.now) distance waiting.new.items (length kept.now) i j) }
+        → IsHeld codes.now.rows [] distance waiting.new.items width i j) }
 {
     let mut marked = Row::zeroed(alloc, codes.len())?;
     for second in 0..codes.len() {
-        wait_for(codes, quiet, second, kept, distance, &mut marked, waiting)?;
+        wait_for(codes, quiet, second, width, distance, &mut marked, waiting)?;
     }
     Ok(())
 }
@@ -40,24 +39,24 @@ fn wait_for(
     codes: &Codes,
     quiet: bool,
     second: usize,
-    kept: &Row,
+    width: usize,
     distance: u32,
     marked: &mut Row,
     waiting: &mut Vec<List<Waiter>>,
 ) -> Result<(), AllocError>
-    requires may { MayWait codes.now.rows kept.now distance }
+    requires may { MayWait width codes.now.rows distance }
     requires within { second < length codes.now.rows }
     requires long { length marked.old ≡ length codes.now.rows }
-    requires lists { length waiting.old.items ≡ length kept.now }
+    requires lists { length waiting.old.items ≡ width }
     ensures long { length marked.new ≡ length marked.old }
     ensures grows { OnOk result (Grows codes.now.rows waiting.old.items waiting.new.items) }
     ensures held { OnOk result ((i : ℕ) → i < second → MustWait quiet codes.now.rows i second
-        → IsHeld codes.now.rows (kept_of kept.now) distance waiting.new.items (length kept.now) i second) }
+        → IsHeld codes.now.rows [] distance waiting.new.items width i second) }
 {
     if quiet && mark_counting(codes, second, marked) {
-        wait_with_marked(codes, second, marked, kept, distance, waiting)
+        wait_with_marked(codes, second, marked, width, distance, waiting)
     } else {
-        wait_with_earlier(codes, second, kept, distance, waiting)
+        wait_with_earlier(codes, second, width, distance, waiting)
     }
 }
 
@@ -78,22 +77,22 @@ fn wait_with_marked(
     codes: &Codes,
     second: usize,
     marked: &Row,
-    kept: &Row,
+    width: usize,
     distance: u32,
     waiting: &mut Vec<List<Waiter>>,
 ) -> Result<(), AllocError>
-    requires may { MayWait codes.now.rows kept.now distance }
+    requires may { MayWait width codes.now.rows distance }
     requires within { second < length codes.now.rows }
-    requires lists { length waiting.old.items ≡ length kept.now }
+    requires lists { length waiting.old.items ≡ width }
     ensures grows { OnOk result (Grows codes.now.rows waiting.old.items waiting.new.items) }
     ensures held { OnOk result ((i : ℕ) → bit marked.now i ≡ true → i < second
-        → IsHeld codes.now.rows (kept_of kept.now) distance waiting.new.items (length kept.now) i second) }
+        → IsHeld codes.now.rows [] distance waiting.new.items width i second) }
 {
     // A length fits its type, and so does the place behind a code.
     let _count = marked.len();
     let mut from = 0;
     while let Some(first) = marked.next_one(from) {
-        wait_before(codes, first, second, kept, distance, waiting)?;
+        wait_before(codes, first, second, width, distance, waiting)?;
         from = first + 1;
     }
     Ok(())
@@ -103,19 +102,19 @@ fn wait_with_marked(
 fn wait_with_earlier(
     codes: &Codes,
     second: usize,
-    kept: &Row,
+    width: usize,
     distance: u32,
     waiting: &mut Vec<List<Waiter>>,
 ) -> Result<(), AllocError>
-    requires may { MayWait codes.now.rows kept.now distance }
+    requires may { MayWait width codes.now.rows distance }
     requires within { second < length codes.now.rows }
-    requires lists { length waiting.old.items ≡ length kept.now }
+    requires lists { length waiting.old.items ≡ width }
     ensures grows { OnOk result (Grows codes.now.rows waiting.old.items waiting.new.items) }
     ensures held { OnOk result ((i : ℕ) → i < second
-        → IsHeld codes.now.rows (kept_of kept.now) distance waiting.new.items (length kept.now) i second) }
+        → IsHeld codes.now.rows [] distance waiting.new.items width i second) }
 {
     for first in 0..second {
-        wait_before(codes, first, second, kept, distance, waiting)?;
+        wait_before(codes, first, second, width, distance, waiting)?;
     }
     Ok(())
 }
@@ -125,16 +124,16 @@ fn wait_before(
     codes: &Codes,
     first: usize,
     second: usize,
-    kept: &Row,
+    width: usize,
     distance: u32,
     waiting: &mut Vec<List<Waiter>>,
 ) -> Result<(), AllocError>
-    requires may { MayWait codes.now.rows kept.now distance }
+    requires may { MayWait width codes.now.rows distance }
     requires within { second < length codes.now.rows }
-    requires lists { length waiting.old.items ≡ length kept.now }
+    requires lists { length waiting.old.items ≡ width }
     ensures grows { OnOk result (Grows codes.now.rows waiting.old.items waiting.new.items) }
     ensures held { OnOk result (first < second
-        → IsHeld codes.now.rows (kept_of kept.now) distance waiting.new.items (length kept.now) first second) }
+        → IsHeld codes.now.rows [] distance waiting.new.items width first second) }
 {
     if second <= first {
         return Ok(());
@@ -143,5 +142,5 @@ fn wait_before(
         first: first as u16,
         second: second as u16,
     };
-    wait(codes, pair, kept, kept.len(), distance, waiting)
+    wait_first(codes, pair, width, distance, waiting)
 }

@@ -3,13 +3,8 @@ use Rattle.std.specs.List.{Contains}
 use Rattle.cb_coding.specs.Books.{IsBook}
 use Rattle.cb_coding.specs.declared.book.Book.{Book}
 use Rattle.cb_reduce.proofs.Held.{list_is}
-use Rattle.cb_reduce.proofs.Reducing.{IsReducing, may_wait, none_decided, all_decided, are_safe, next}
+use Rattle.cb_reduce.proofs.Reducing.{IsReducing, none_decided, all_decided, are_safe, next}
 use Rattle.cb_reduce.proofs.codebook.book_of_good.Goals as goal
-
-pub wait_all-requires-clause-may : goal.wait_all-requires-clause-may
-wait_all-requires-clause-may c =
-    may_wait c.args.width c.starts_with_zero-quiet.result c.args.codes.now.rows c.args.distance c.in_ok-kept.kept c.requires.have_width
-    c.requires.places_fit c.requires.good c.in_ok-kept.ensures
 
 pub loop-column-init : goal.loop-column-init
 loop-column-init c =

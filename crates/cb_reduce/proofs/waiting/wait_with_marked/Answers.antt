@@ -1,7 +1,6 @@
-use Rattle.std.proofs.Common.{◌<◌, length, subst, sym, inl, inr, arith}
+use Rattle.std.proofs.Common.{[], ◌<◌, subst, sym, inl, inr, arith}
 use Rattle.std.proofs.lemmas.Bool.{cases_lt, cases_eq, both_ways}
 use Rattle.cb_codes.proofs.ByColumn.{had_within}
-use Rattle.cb_reduce.specs.Places.{kept_of}
 use Rattle.cb_reduce.specs.Moves.{IsHeld}
 use Rattle.cb_reduce.proofs.Held.{grows_on, still_held}
 use Rattle.cb_reduce.proofs.Sharers.{all_below}
@@ -17,7 +16,6 @@ overflow_add-from c =
 pub loop-first-preserved : goal.loop-first-preserved
 loop-first-preserved c =
     let codes = c.args.codes.now.rows in
-    let kept = kept_of c.args.kept.now in
     let first = c.in-Some.first in
     let next = c.in-Some.ensures.next in
     let was = c.loop-first.invariant in
@@ -28,9 +26,9 @@ loop-first-preserved c =
       within = let lt = had_within c.args.marked.now first next.is in omega arith;
       grows = grows_on codes c.args.waiting.now.items old new was.grows now.grows;
       held = λ i lt marked below. elim (cases_lt i c.loop-first.from) [
-        | inl early ↦ still_held codes kept c.args.distance old new now.grows (length c.args.kept.now) i c.args.second (was.held i early marked below)
+        | inl early ↦ still_held codes [] c.args.distance old new now.grows c.args.width i c.args.second (was.held i early marked below)
         | inr late ↦ elim (cases_eq i first) [
-          | inl e ↦ subst (λ n. n < c.args.second → IsHeld codes kept c.args.distance new (length c.args.kept.now) n c.args.second) (sym e) now.held below
+          | inl e ↦ subst (λ n. n < c.args.second → IsHeld codes [] c.args.distance new c.args.width n c.args.second) (sym e) now.held below
           | inr other ↦ absurd (both_ways _ (next.first i late (omega arith)) marked)
         ]
       ];
