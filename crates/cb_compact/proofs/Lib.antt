@@ -4,3 +4,4 @@ pub mod Counting
 pub mod Words
 pub mod Fronts
 pub mod Weights
+pub mod Nth

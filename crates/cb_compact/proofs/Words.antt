@@ -29,7 +29,7 @@ pub where_none : (o : Option ℕ) (P Q : Type 0) → (P → Q) → IfNone o P �
 where_none None P Q to h = to h
 where_none (Some c) P Q to h = h
 
-bit_is : (row : List Bool) (words : List ℕ) → Packs row words → (k : ℕ) → bit_of words k ≡ slice_index_or row k false
+pub bit_is : (row : List Bool) (words : List ℕ) → Packs row words → (k : ℕ) → bit_of words k ≡ slice_index_or row k false
 bit_is row words packs k = elim (cases_lt k (length row)) [
   | inl lt ↦ packs.bits k lt
   | inr past ↦ packs.holds.rest k past ∙ sym (get_or_past row k false past)

@@ -1,3 +1,4 @@
 pub mod Compact
 pub mod Course
 pub mod Fronts
+pub mod Nth

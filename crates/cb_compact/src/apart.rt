@@ -1,9 +1,10 @@
 //! At which places two whole rows differ, by the words of both.
-ghost use Rattle.std.specs.Prelude.{◌≡◌, ◌≤◌, ◌*◌, ◌^◌, [], length, bit_xor, IfSome, IfNone};
+ghost use Rattle.std.specs.Prelude.{◌≡◌, ◌+◌, ◌<◌, ◌≤◌, ◌*◌, ◌^◌, [], true, length, bit_xor, count_ones, IfSome, IfNone};
 ghost use Rattle.std.specs.Simd.Lanes.{zip2};
 ghost use Rattle.std.specs.Slice.Scan.{HoldsNowhere};
 ghost use Rattle.cb_lanes.specs.Words.{in_not, IsNextBit};
-ghost use Rattle.cb_compact.specs.Compact.{IsNextDiffering, DifferNowhereFrom};
+ghost use Rattle.cb_compact.specs.Compact.{differs, differing_before, IsNextDiffering, DifferNowhereFrom};
+ghost use Rattle.cb_compact.specs.Nth.{IsNthOne};
 
 use cb_bits::Row;
 
@@ -31,4 +32,45 @@ fn next_difference(a: &[u64], b: &[u64], from: usize) -> Option<usize>
         }
     }
     None
+}
+
+/// The nth place from the first, of those before one, at which two rows differ. Words before the one that has it are only counted.
+pub fn nth_apart(one: &Row, other: &Row, before: usize, n: usize) -> Option<usize>
+    requires same { length one.now ≡ length other.now }
+    requires some { 0 < n }
+    ensures before { IfSome result (λ k. k < before) }
+    ensures differ { IfSome result (λ k. differs one.now other.now k ≡ true) }
+    ensures nth { IfSome result (λ k. differing_before k one.now other.now + 1 ≡ n) }
+    ensures none { IfNone result (differing_before before one.now other.now < n) }
+{
+    let a = one.words();
+    let b = other.words();
+    let mut left = n;
+    for i in 0..a.len() {
+        if before <= 64 * i {
+            return None;
+        }
+        let word = a[i] ^ b[i];
+        let ones = word.count_ones() as usize;
+        if left <= ones {
+            let place = 64 * i + nth_one(word, left);
+            return if place < before { Some(place) } else { None };
+        }
+        left -= ones;
+    }
+    None
+}
+
+// The nth one of a word, from the least bit, where it has as many.
+fn nth_one(word: u64, n: usize) -> usize
+    requires some { 0 < n }
+    requires enough { n ≤ count_ones word }
+    ensures { IsNthOne word n result }
+{
+    let mut place = word.trailing_zeros() as usize;
+    for found in 1..n {
+        let next = place + 1;
+        place = next + (word >> next).trailing_zeros() as usize;
+    }
+    place
 }

@@ -3,6 +3,7 @@ ghost use Rattle.std.specs.Prelude.{◌≡◌, ◌+◌, ◌<◌, ◌≤◌, leng
 ghost use Rattle.cb_bits.specs.Bits.{differing, IsNextOne, HasNoneFrom};
 ghost use Rattle.cb_compact.specs.Compact.{ones_of, AreBefore, Keeps, differs, differing_before, differing_under};
 
+use crate::apart::nth_apart;
 use crate::counted::{
     count_below, count_under, count_under_below, nth_place, words_under, words_under_below,
 };
@@ -179,6 +180,11 @@ impl CompactRow {
         ensures nth { IfSome result (λ k. differing_before k self.now other.now + 1 ≡ n) }
         ensures none { IfNone result (differing_before before self.now other.now < n) }
     {
+        if let Some(one) = self.whole() {
+            if let Some(two) = other.whole() {
+                return nth_apart(one, two, before, n);
+            }
+        }
         nth_place(self, other, before, n)
     }
 }

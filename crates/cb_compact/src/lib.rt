@@ -15,12 +15,12 @@
 //!   `ones_of`, the places of the ones; `differs`, whether two rows differ at a place; `differing_before` and `differing_under`, at how
 //!   many places before one, or how many ones of a mask.
 //! - **Promised:** `of` is the same list, or memory is wanting. `len`, `get`, `ones`, `next_one` and `distance_below` say of it what those of
-//!   `Row` do; `nth_differing` says where two rows differ, `distance_under` at how many ones of a mask, and `distance_under_below` the same where
-//!   these are fewer than a limit.
+//!   `Row` do; `nth_differing` says where two rows differ, `distance_under` at how many ones of a mask, and `distance_under_below` the same
+//!   where these are fewer than a limit.
 //! - **Not promised:** which of the two is kept, and that a loop stops as early as it might. A row doesn't change: what is to be set, cleared
 //!   or united is a `Row`.
 //! - **Read first:** `src/compact.rt`, then `specs/Compact.antt`. Two rows are gone through together in `src/differing.rt`, each from one of
-//!   its ones to the next (`src/front.rt`). Stands on cb_bits.
+//!   its ones to the next (`src/front.rt`); two whole ones go by their words (`src/apart.rt`). Stands on cb_bits.
 //! - **Free to change:** when places are kept, and how they are gone through (`src/places.rt`, `src/front.rt`). **Dear:** the list as a
 //!   row's value.
 #![tactic(auto)]
