@@ -36,7 +36,6 @@ begun edge order searches new =
         counted = none.count ∙ sym (ap (λ items. sum_by kept_in items) none.none ∙ none_in (length order.nodes.items));
         few = let e = none.count in omega arith;
         places = ap length none.none ∙ length-replicate (length order.nodes.items) nothing;
-        row = none.row;
       };
       found = new.found;
     }

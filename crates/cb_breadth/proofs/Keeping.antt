@@ -37,8 +37,8 @@ module _ (edge : ℕ → ℕ → Type 0) (order : Order) (s new : Successors) (n
       sym (ap (λ found. list_or found new.last.items) (ap (λ items. get_or items node None) kept ∙ get_or-set_same s.kept.items node (Some list) None low))
 
   pub one_kept : (there : Option (Vec ℕ)) → slice_get s.kept.items node ≡ Some there → is_some there ≡ false → AreSuccessors edge order s
-      → AreSuccessorsOf edge order node list.items → new.count ≡ s.count + length list.items → new.count ≤ kept_limit → length new.row ≡ length s.row → AreSuccessors edge order new
-  one_kept there at none are good count few row = record {
+      → AreSuccessorsOf edge order node list.items → new.count ≡ s.count + length list.items → new.count ≤ kept_limit → AreSuccessors edge order new
+  one_kept there at none are good count few = record {
     each = λ rank other here.
         let found : slice_get (slice_set s.kept.items node (Some list)) rank ≡ Some (Some other) = subst (λ items. slice_get items rank ≡ Some (Some other)) kept here in
         let is = get_or_from_slice_get (slice_set s.kept.items node (Some list)) rank (Some other) None found in
@@ -62,5 +62,4 @@ module _ (edge : ℕ → ℕ → Type 0) (order : Order) (s new : Successors) (n
         omega arith;
     few = few;
     places = ap length kept ∙ (length-set s.kept.items node (Some list) ∙ are.places);
-    row = row ∙ are.row;
   }

@@ -20,19 +20,17 @@ kept_in (Some list) = length list.items
 abbrev pub kept_limit : ℕ
 kept_limit = 4194304
 
--- what is kept are successors, few enough, and there is room to ask for more
+-- what is kept are successors, few enough
 pub record AreSuccessors (edge : ℕ → ℕ → Type 0) (order : Order) (s : Successors) : Type 0 where
   pub each : (rank : ℕ) (list : Vec ℕ) → slice_get s.kept.items rank ≡ Some (Some list) → AreSuccessorsOf edge order rank list.items
   pub counted : s.count ≡ sum_by kept_in s.kept.items
   pub few : s.count ≤ kept_limit
   pub places : length s.kept.items ≡ length order.nodes.items
-  pub row : length s.row ≡ length order.ranks.items
 
--- none are kept, and there is room to ask for them
+-- none are kept
 pub record AreNone (order : Order) (s : Successors) : Type 0 where
   pub none : s.kept.items ≡ replicate (length order.nodes.items) None
   pub count : s.count ≡ 0
-  pub row : length s.row ≡ length order.ranks.items
 
 -- the list that may be there, or else the other
 abbrev pub list_or : Option (Vec ℕ) → List ℕ → List ℕ

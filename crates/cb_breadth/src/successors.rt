@@ -1,11 +1,10 @@
 //! What edges lead to from each node, asked for once.
-ghost use Rattle.std.specs.Prelude.{◌≡◌, ◌<◌, ◌≤◌, ◌+◌, ◌^◌, None, length, replicate, IfOk, OnOk};
-ghost use Rattle.cb_breadth.specs.Lists.{IsSetOf};
-ghost use Rattle.cb_breadth.specs.Orders.{IsOrder, AreApart, IsRankBelow};
+ghost use Rattle.std.specs.Prelude.{◌≡◌, ◌<◌, ◌≤◌, ◌+◌, ◌^◌, None, length, map, replicate, IfOk, OnOk};
+ghost use Rattle.std.specs.List.{All};
+ghost use Rattle.cb_breadth.specs.Orders.{IsOrder, rank_at};
 ghost use Rattle.cb_breadth.specs.Successors.{AreNone, AreSuccessors, AreSuccessorsOf, list_at};
 
 use crate::visit::Order;
-use cb_bits::Row;
 use cb_reach::Edges;
 use cb_steps::Steps;
 use std::alloc::{AllocError, Global};
@@ -24,7 +23,7 @@ pub struct Successors {
     // Those that were asked for last.
     last: Vec<u32>,
     // Room for the successors of one node, by their numbers.
-    row: Row,
+    numbers: Vec<usize>,
 }
 
 impl Successors {
@@ -36,7 +35,7 @@ impl Successors {
             kept: none_kept(alloc, order.nodes.len())?,
             count: 0,
             last: Vec::new(alloc),
-            row: Row::zeroed(alloc, order.ranks.len())?,
+            numbers: Vec::new(alloc),
         })
     }
 
@@ -61,7 +60,7 @@ impl Successors {
         if self.kept[node as usize].is_some() {
             return Ok(());
         }
-        follow(graph, order, node, &mut self.row, &mut self.last, steps)?;
+        follow(graph, order, node, &mut self.numbers, &mut self.last, steps)?;
         if MOST_KEPT - self.count < self.last.len() {
             return Ok(());
         }
@@ -94,41 +93,36 @@ fn none_kept(alloc: Global, count: usize) -> Result<Vec<Option<Vec<u32>>>, Alloc
     Ok(kept)
 }
 
-// Makes the list that of the ranks that edges lead to from the node of a rank, in order. The row is room for their numbers.
+// Makes the list that of the ranks that edges lead to from the node of a rank, in order. The other list is room for their numbers.
 fn follow<L: Ledger, G: Edges>(
     graph: &mut G,
     order: &Order,
     node: u32,
-    row: &mut Row,
+    numbers: &mut Vec<usize>,
     list: &mut Vec<u32>,
     steps: &mut Steps<L>,
 ) -> Result<(), AllocError>
     requires order { IsOrder (G.edge graph.old) (G.count graph.old) order.now.nodes.items order.now.ranks.items }
     requires node { node < length order.now.nodes.items }
-    requires row { length row.old ≡ G.count graph.old }
     ensures same { graph.new ≡ graph.old }
-    ensures row { length row.new ≡ length row.old }
     ensures list { OnOk result (AreSuccessorsOf (G.edge graph.old) order.now node list.new.items) }
     ensures step { steps.new ≡ steps.old + 1 }
 {
-    row.wipe();
-    graph.add_successors(order.nodes[node as usize] as usize, row, steps);
-    list_ranks(&order.ranks, row, list)?;
+    graph.list_successors(order.nodes[node as usize] as usize, numbers, steps)?;
+    list_ranks(&order.ranks, numbers, list)?;
     list.sort_unstable();
+    list.dedup();
     Ok(())
 }
 
-// Makes the list that of the ranks of the row's nodes, in the order of the nodes.
-fn list_ranks(ranks: &[u32], row: &Row, list: &mut Vec<u32>) -> Result<(), AllocError>
-    requires ranks { AreApart ranks.now row.now }
-    requires row { length row.now ≤ length ranks.now }
-    ensures { OnOk result (IsSetOf (IsRankBelow ranks.now row.now (length row.now)) list.new.items) }
+// Makes the list that of the ranks of these nodes, one by one.
+fn list_ranks(ranks: &[u32], numbers: &[usize], list: &mut Vec<u32>) -> Result<(), AllocError>
+    requires { All (λ number. number < length ranks.now) numbers.now }
+    ensures { OnOk result (list.new.items ≡ map (rank_at ranks.now) numbers.now) }
 {
     list.clear();
-    let mut from = 0;
-    while let Some(node) = row.next_one(from) {
-        list.push(ranks[node])?;
-        from = node + 1;
+    for number in numbers {
+        list.push(ranks[*number])?;
     }
     Ok(())
 }

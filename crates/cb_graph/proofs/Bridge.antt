@@ -1,7 +1,8 @@
 -- Edges between numbers are what the rules of a class bring about.
-use Rattle.std.proofs.Common.{◌≡◌, ◌↔◌, ◌⊎◌, inl, inr, ℕ, zero, suc, ◌<◌, ◌≤◌, Bool, true, List, [], ◌∷◌, length, Some, None, slice_set, sym, ap, subst, ◌∙◌, arith}
+use Rattle.std.proofs.Common.{◌≡◌, ◌↔◌, ◌⊎◌, inl, inr, ℕ, zero, suc, ◌<◌, ◌≤◌, Bool, true, List, [], ◌∷◌, ◌++◌, length, Some, None, slice_set, sym, ap, subst, ◌∙◌, arith}
 use Rattle.std.specs.List.{AllZip, Contains}
 use Rattle.std.proofs.lemmas.Bool.{cases_lt}
+use Rattle.std.proofs.lemmas.List.Elements.{Contains-append_left, Contains-push, Contains-push_cases}
 use Rattle.std.proofs.lemmas.Option.{slice_get_within, slice_get_past, get_or_from_slice_get}
 use Rattle.cb_model.specs.declared.id.ClassId.{ClassId}
 use Rattle.cb_model.specs.declared.id.EventId.{EventId}
@@ -27,7 +28,7 @@ use Rattle.cb_nodes.specs.Table.{IsNode, node_of}
 use Rattle.cb_reach.specs.Rows.{Has}
 use Rattle.cb_topo.specs.Numbered.{Numbered, topology_of, IsNodeNamed, IsWhole}
 use Rattle.cb_graph.specs.Edges.{EdgeAt, number}
-use Rattle.cb_graph.specs.Instances.{Gains}
+use Rattle.cb_graph.specs.Instances.{Adds}
 use Rattle.cb_graph.specs.Walks.{LeadsAt, IsWhereLeads, IsEventNumber, BringsAbout}
 use Rattle.cb_graph.proofs.Listing.{set_gains}
 use Rattle.cb_graph.proofs.Walking.{one_name, leads_are_leads}
@@ -82,11 +83,11 @@ pub one_event : (t : Tables) → WellTyped t → (c : ClassId) (name : List ℕ)
 one_event t typed c name e f a b =
     event_told t typed c e f a.0 b.0 (ap name_in_row a.0.is ∙ (a.1 ∙ (sym b.1 ∙ sym (ap name_in_row b.0.is))))
 
--- a row gains what a rule brings about
+-- what a rule brings about is added
 pub effects_gained : (n : Numbered) (i : InstanceId) (cause : EventId) (rule : Rule) → rule.cause ≡ cause → (path : List RelId) → path ≡ rule.path → (here : List Bool) → IsWhereLeads n.net i path here
-    → (members : List InstanceId) → ((id : InstanceId) → Contains members id ↔ Has here id.0) → (old new : List Bool) → Gains old new members (IsEventNumber n rule.effect)
-    → (k : ℕ) → Has new k ↔ (Has old k ⊎ BringsAbout n i cause rule k)
-effects_gained n i cause rule caused path same here at members are old new gains k = (
+    → (members : List InstanceId) → ((id : InstanceId) → Contains members id ↔ Has here id.0) → (before now : ℕ → Type 0) → Adds before now members (IsEventNumber n rule.effect)
+    → (k : ℕ) → now k ↔ (before k ⊎ BringsAbout n i cause rule k)
+effects_gained n i cause rule caused path same here at members are before now gains k = (
   λ h. elim ((gains k).0 h) [
     | inl g ↦ inl g
     | inr g ↦ inr (record {
@@ -129,6 +130,20 @@ module _ (n : Numbered) (whole : IsWhole n) where
         λ h. elim (s.0 h) [ inl g ↦ inl g | inr same ↦ inr (subst (λ m. IsNode n.nodes (number m) (node_of i e)) same is) ],
         λ g. s.1 (elim g [ inl h ↦ inl h | inr there ↦ inr (ap (λ (z : NodeId). z.0) (node_told id (number k) (node_of i e) is there)) ]),
       )
+
+  -- a list with the number of the event at the instance behind it
+  pub number_listed : (list : List ℕ) (id : NodeId) (i : InstanceId) (e : EventId) → IsNode n.nodes id (node_of i e)
+      → (k : ℕ) → Contains (list ++ id.0 ∷ []) k ↔ (Contains list k ⊎ IsEventNumber n e i k)
+  number_listed list id i e is k = (
+    λ h. elim (Contains-push_cases list id.0 k h) [
+      | inl early ↦ inl early
+      | inr same ↦ inr (subst (λ m. IsNode n.nodes (number m) (node_of i e)) same is)
+    ],
+    λ g. elim g [
+      | inl h ↦ Contains-append_left list (id.0 ∷ []) k h
+      | inr there ↦ subst (Contains (list ++ id.0 ∷ [])) (ap (λ (z : NodeId). z.0) (node_told id (number k) (node_of i e) is there)) (Contains-push list id.0)
+    ],
+  )
 
   -- the event of a node, at its name
   pub event_at : (id : NodeId) (node : Node) (name : NodeName) → IsNode n.nodes id node → IsNamed n.net node.instance name.instance → event_name tables node.event ≡ name.event
@@ -214,12 +229,12 @@ module _ (n : Numbered) (whole : IsWhole n) where
             },
           )
 
-      -- a row that gains what the rules bring about gains the edges
-      pub edges_gained : (i : InstanceId) (e : EventId) → named.node.instance ≡ i → named.node.event ≡ e → (old new : List Bool) → Gains old new rules (BringsAbout n i e)
-          → (k : ℕ) → Has new k ↔ (Has old k ⊎ EdgeAt n node.0 k)
-      edges_gained i e at_i at_e old new gains k =
+      -- where what the rules bring about is added, the edges are
+      pub edges_gained : (i : InstanceId) (e : EventId) → named.node.instance ≡ i → named.node.event ≡ e → (before now : ℕ → Type 0) → Adds before now rules (BringsAbout n i e)
+          → (k : ℕ) → now k ↔ (before k ⊎ EdgeAt n node.0 k)
+      edges_gained i e at_i at_e before now gains k =
           let to : BringsAbout n i e ≡ BringsAbout n named.node.instance named.node.event = λ j. BringsAbout n (sym at_i j) (sym at_e j) in
-          let own : Gains old new rules (BringsAbout n named.node.instance named.node.event) = subst (λ P. Gains old new rules P) to gains in (
+          let own : Adds before now rules (BringsAbout n named.node.instance named.node.event) = subst (λ P. Adds before now rules P) to gains in (
             λ h. elim ((own k).0 h) [ inl g ↦ inl g | inr g ↦ inr (edge_to k g.0 g.1 g.2) ],
             λ s. (own k).1 (elim s [ inl g ↦ inl g | inr at ↦ inr (edge_by k at) ]),
           )

@@ -9,9 +9,17 @@ pub record IsListed (list : List InstanceId) (row : List Bool) : Type 0 where
   pub each : (id : InstanceId) → Contains list id ↔ Has row id.0
   pub once : length list ≡ ones row
 
+-- what holds now held before, or is so for some item of the list
+abbrev pub Adds : {X : Type 0} → (ℕ → Type 0) → (ℕ → Type 0) → List X → (X → ℕ → Type 0) → Type 0
+Adds {X} before now items P = (k : ℕ) → now k ↔ (before k ⊎ ((x : X) × Contains items x × P x k))
+
 -- the row has what it had, and what is so for some item of the list
 abbrev pub Gains : {X : Type 0} → List Bool → List Bool → List X → (X → ℕ → Type 0) → Type 0
-Gains {X} old new items P = (k : ℕ) → Has new k ↔ (Has old k ⊎ ((x : X) × Contains items x × P x k))
+Gains old new items P = Adds (Has old) (Has new) items P
+
+-- the list of numbers has what it had, and what is so for some item of the other
+abbrev pub Lists : {X : Type 0} → List ℕ → List ℕ → List X → (X → ℕ → Type 0) → Type 0
+Lists old new items P = Adds (Contains old) (Contains new) items P
 
 -- the instance has this number
 abbrev pub IsNumber : InstanceId → ℕ → Type 0

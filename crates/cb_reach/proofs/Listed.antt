@@ -1,10 +1,11 @@
--- A row to which the first numbers of a list are added, where they are in range.
-use Rattle.std.proofs.Common.{◌≡◌, ◌↔◌, ◌⊎◌, inl, inr, ◌+◌, ◌<◌, ◌≤◌, ℕ, List, Bool, true, false, length, Some, slice_get, slice_index_or, slice_set, refl, sym, ap, subst, ◌∙◌, arith}
+-- A row, or a list, to which the first numbers of a list are added, where they are in range.
+use Rattle.std.proofs.Common.{◌≡◌, ◌↔◌, ◌⊎◌, inl, inr, ◌+◌, ◌<◌, ◌≤◌, ℕ, List, [], ◌∷◌, ◌++◌, Bool, true, false, length, Some, slice_get, slice_index_or, slice_set, refl, sym, ap, subst, ◌∙◌, arith}
 use Rattle.std.specs.declared.vec.Vec.{Vec}
 use Rattle.std.specs.Global.{Global}
 use Rattle.std.specs.List.{Contains}
 use Rattle.std.proofs.lemmas.Bool.{cases_eq, cases_lt}
 use Rattle.std.proofs.lemmas.List.{get_or_default, get_or-set_other, length-set}
+use Rattle.std.proofs.lemmas.List.Elements.{Contains-append_left, Contains-push, Contains-push_cases}
 use Rattle.cb_reach.specs.Rows.{Has}
 use Rattle.cb_reach.proofs.Marks.{has_set, set_cases}
 
@@ -99,4 +100,53 @@ added lists node list row0 row is room marked k = (
         let same : e.1.0 ≡ list = cc in
         (marked.each k).1 (inr (let lt = e.0 in omega arith, in_listed list.items k (subst (λ (v : Vec ℕ Global). Contains v.items k) same e.1.2)))
   ],
+)
+
+-- the list has those of the first numbers that are in range
+abbrev pub ArePicked : ℕ → List ℕ → ℕ → List ℕ → Type 0
+ArePicked n items i list = (k : ℕ) → Contains list k ↔ ((k < n) × Listed items i k)
+
+pub none_picked : (n : ℕ) (items : List ℕ) → ArePicked n items 0 []
+none_picked n items k = (λ has. absurd (let lt = has.1 in omega arith), λ listed. absurd (let lt = listed.1.1 in omega arith))
+
+module _ (n : ℕ) (items : List ℕ) (i : ℕ) (list : List ℕ) (old : ArePicked n items i list) where
+  pub picked_more : slice_index_or items i 0 < n → ArePicked n items (i + 1) (list ++ slice_index_or items i 0 ∷ [])
+  picked_more lt k = (
+    λ has. elim (Contains-push_cases list (slice_index_or items i 0) k has) [
+      | inl early ↦ let was = (old k).0 early in (was.0, (was.1.0, let low = was.1.1 in omega arith, was.1.2))
+      | inr same ↦ (subst (λ m. m < n) same lt, (i, omega arith, same))
+    ],
+    λ listed. elim (cases_lt listed.1.0 i) [
+      | inl before ↦ Contains-append_left list (slice_index_or items i 0 ∷ []) k ((old k).1 (listed.0, (listed.1.0, before, listed.1.2)))
+      | inr le ↦
+          let last : listed.1.0 ≡ i = let e = listed.1.1 in omega arith in
+          let is = sym (ap (λ j. slice_index_or items j 0) last) ∙ listed.1.2 in
+          subst (Contains (list ++ slice_index_or items i 0 ∷ [])) is (Contains-push list (slice_index_or items i 0))
+    ],
+  )
+
+  pub unpicked_more : n ≤ slice_index_or items i 0 → ArePicked n items (i + 1) list
+  unpicked_more high k = (
+    λ has. let was = (old k).0 has in (was.0, (was.1.0, let low = was.1.1 in omega arith, was.1.2)),
+    λ listed. elim (cases_lt listed.1.0 i) [
+      | inl before ↦ (old k).1 (listed.0, (listed.1.0, before, listed.1.2))
+      | inr le ↦ absurd (
+          let last : listed.1.0 ≡ i = let e = listed.1.1 in omega arith in
+          let at = ap (λ j. slice_index_or items j 0) last in
+          let is = listed.1.2 in
+          let lt = listed.0 in
+          omega arith)
+    ],
+  )
+
+-- once all numbers are read, the list has the successors
+pub picked : (lists : List (Vec ℕ Global)) (node : ℕ) (list : Vec ℕ Global) (found : List ℕ) → slice_get lists node ≡ Some list
+    → ArePicked (length lists) list.items (length list.items) found
+    → (k : ℕ) → Contains found k ↔ ((k < length lists) × ((x : Vec ℕ Global) × (slice_get lists node ≡ Some x) × Contains x.items k))
+picked lists node list found is are k = (
+  λ has. let listed = (are k).0 has in (listed.0, (list, is, listed_in list.items k listed.1)),
+  λ e.
+      let one : Some e.1.0 ≡ Some list = sym e.1.1 ∙ is in
+      let same : e.1.0 ≡ list = cc in
+      (are k).1 (e.0, in_listed list.items k (subst (λ (v : Vec ℕ Global). Contains v.items k) same e.1.2)),
 )

@@ -18,7 +18,7 @@ returns-then-self-len-clause-list g c =
     let s = c.args.self.now in
     let low : c.args.node < length s.kept.items = let places = c.requires.known.places in let within = c.requires.node in omega arith in
     let at = slice_get_read s.kept.items (length s.kept.items) c.args.node c.index.result.now refl low c.index.ensures in
-    let now : Successors = record { kept = s.kept; count = s.count; last = c.follow.new.list; row = c.follow.new.row } in
+    let now : Successors = record { kept = s.kept; count = s.count; last = c.follow.new.list; numbers = c.follow.new.numbers } in
     subst (AreSuccessorsOf (g.G.Edges.edge c.args.graph.now) c.args.order.now c.args.node)
     (last_known now c.args.node c.index.result.now at (sym c.is_some.ensures ∙ c.if-is_some.false)) c.in_ok-follow.ensures.list
 
@@ -32,7 +32,7 @@ returns-clause-known g c =
     let at = slice_get_read s.kept.items (length s.kept.items) c.args.node c.index.result.now refl low c.index.ensures in
     let copied : list.items ≡ c.follow.new.list.items = c.in_ok-list.ensures.items ∙ c.deref.ensures.value in
     let good = subst (AreSuccessorsOf edge order c.args.node) (sym copied) c.in_ok-follow.ensures.list in
-    let new : Successors = record { kept = with_item s.kept c.args.node (Some list); count = s.count + c.len-2.result; last = c.follow.new.list; row = c.follow.new.row } in
+    let new : Successors = record { kept = with_item s.kept c.args.node (Some list); count = s.count + c.len-2.result; last = c.follow.new.list; numbers = c.follow.new.numbers } in
     let size : c.len-2.result ≡ length list.items = search rules in
     let few : s.count + c.len-2.result ≤ kept_limit =
     let most = c.requires.known.few in
@@ -42,7 +42,7 @@ returns-clause-known g c =
     omega arith
     in
     one_kept edge order s new c.args.node list low refl c.index.result.now at (sym c.is_some.ensures ∙ c.if-is_some.false) c.requires.known good
-    (ap (λ n. s.count + n) size) few c.follow.ensures.row
+    (ap (λ n. s.count + n) size) few
 
 pub returns-clause-list : goal.returns-clause-list
 returns-clause-list g c =
@@ -53,5 +53,5 @@ returns-clause-list g c =
     let low : c.args.node < length s.kept.items = let places = c.requires.known.places in let within = c.requires.node in omega arith in
     let copied : list.items ≡ c.follow.new.list.items = c.in_ok-list.ensures.items ∙ c.deref.ensures.value in
     let good = subst (AreSuccessorsOf edge order c.args.node) (sym copied) c.in_ok-follow.ensures.list in
-    let new : Successors = record { kept = with_item s.kept c.args.node (Some list); count = s.count + c.len-2.result; last = c.follow.new.list; row = c.follow.new.row } in
+    let new : Successors = record { kept = with_item s.kept c.args.node (Some list); count = s.count + c.len-2.result; last = c.follow.new.list; numbers = c.follow.new.numbers } in
     subst (AreSuccessorsOf edge order c.args.node) (set_known edge order s new c.args.node list low refl) good
