@@ -54,7 +54,9 @@ fn are_apart(
     }
     let counted = one.distance_below(&other, far + 1) == Some(far)
         && one.distance_below(&other, far).is_none()
-        && one.distance_under(&other, &mask) == under;
+        && one.distance_under(&other, &mask) == under
+        && one.distance_under_below(&other, &mask, 6401) == Some(under)
+        && one.distance_under_below(&other, &mask, under).is_none();
     let beyond = one.nth_differing(&other, 6400, far + 1).is_none();
     match ends {
         None => Ok(counted && beyond && far == 0),
