@@ -1,6 +1,7 @@
 pub mod Zips
 pub mod Ordering
 pub mod Ranked
+pub mod Filtered
 pub mod Spanning
 pub mod Reaching
 pub mod Led

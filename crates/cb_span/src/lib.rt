@@ -5,7 +5,8 @@
 //! `thin(alloc, graph, first, second, wanted, distance, steps)` makes the one that two groups are too close. Whether that is so isn't
 //! asked: who checks the certificate finds out.
 //!
-//! Nodes go by their ranks, their places among all nodes in order (`order`). From each problem cb_breadth gives a tree of visits
+//! Nodes go by their ranks, their places among all nodes in order (`order`), out of which the problems and `columns_in` are taken in
+//! order (`kinds`), so that names are sorted once. From each problem cb_breadth gives a tree of visits
 //! (`trees`, and `sides` for the group that may be quiet); the trees of one certificate share the successors of nodes, which are asked
 //! for at the first visit. The nodes that are used get numbers (`numbering`), and the visits become entries (`spans`).
 //!
@@ -13,6 +14,7 @@
 #![tactic(auto)]
 
 mod fault;
+mod kinds;
 mod made;
 mod numbering;
 mod order;
@@ -22,5 +24,6 @@ mod spans;
 mod trees;
 
 pub use fault::SpanFault;
+pub use kinds::columns_in;
 pub use made::thin;
 pub use problems::Trees;

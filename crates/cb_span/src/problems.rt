@@ -5,6 +5,7 @@ ghost use Rattle.cb_span.specs.Made.{PreventsBook};
 ghost use Rattle.cb_span.specs.Searched.{AreTreesOf};
 
 use crate::fault::SpanFault;
+use crate::kinds::problems_in;
 use crate::order::order_of;
 use crate::trees::trees_from;
 use cb_bits::Row;
@@ -41,7 +42,7 @@ impl Trees {
         ensures fault { IfErr result (PreventsBook (topology_of graph.old)) }
     {
         let order = order_of(alloc, graph.topology())?;
-        let problems = graph.topology().problems(alloc)?;
+        let problems = problems_in(alloc, graph.topology(), &order)?;
         let mut used = Row::zeroed(alloc, order.nodes.len())?;
         let visits = trees_from(alloc, graph, &order, &problems, &mut used, steps)?;
         Ok(Trees {

@@ -1,4 +1,4 @@
-use Rattle.std.proofs.Common.{rules, ◌≡◌, List, false, length, ap, subst, ◌∙◌}
+use Rattle.std.proofs.Common.{rules, ◌≡◌, List, false, length, sym, ap, subst, ◌∙◌}
 use Rattle.std.proofs.lemmas.List.{length-replicate}
 use Rattle.cb_model.specs.declared.node.NodeName.{NodeName}
 use Rattle.cb_network.specs.Nodes.{AreProblems}
@@ -8,6 +8,10 @@ use Rattle.cb_span.specs.Orders.{IsOrderOf}
 use Rattle.cb_span.specs.Searched.{IsVisitedIn}
 use Rattle.cb_span.proofs.Books.{named_ranked, used_alone, prevented, passed_on}
 use Rattle.cb_span.proofs.problems.Trees.of.Goals as goal
+
+pub problems_in-requires : goal.problems_in-requires
+problems_in-requires g c =
+    subst (λ (m : Numbered). IsOrderOf m c.in_ok-order.order) (c.topology.ensures ∙ sym c.topology-2.ensures) c.in_ok-order.ensures.order
 
 pub trees_from-requires-clause-order : goal.trees_from-requires-clause-order
 trees_from-requires-clause-order g c =
