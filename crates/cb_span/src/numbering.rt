@@ -31,25 +31,30 @@ pub fn numbering_of(
     requires used { length used.now ≡ length order.now.nodes.items }
     ensures { IfOk result (IsNumbering topology.now order.now used.now) }
 {
-    let mut names = List::new(alloc);
-    let mut numbers = Vec::new(alloc);
+    // Both have their exact room: by doubling, the names of many nodes would take half as much again.
+    let mut names = Vec::with_capacity(alloc, used.ones())?;
+    let mut numbers = Vec::with_capacity(alloc, order.nodes.len())?;
     for rank in 0..order.nodes.len() {
         if used.get(rank) {
             push_name(alloc, topology, NodeId(order.nodes[rank]), &mut names)?;
         }
         numbers.push(names.len() as u32)?;
     }
-    Ok(Numbering { names, numbers })
+    Ok(Numbering {
+        names: List::of(names),
+        numbers,
+    })
 }
 
 fn push_name(
     alloc: Global,
     topology: &Topology,
     node: NodeId,
-    names: &mut List<NodeName>,
+    names: &mut Vec<NodeName>,
 ) -> Result<(), AllocError>
     requires { IsLiveNode topology.now node }
-    ensures { OnOk result ((name : Name) × IsNodeNamed topology.now node name × (names.new ≡ names.old ++ name ∷ [])) }
+    ensures { OnOk result ((name : Name) × IsNodeNamed topology.now node name × (names.new.items ≡ names.old.items ++ name ∷ [])) }
 {
-    names.push(topology.copy_name(alloc, node)?)
+    names.push(topology.copy_name(alloc, node)?)?;
+    Ok(())
 }
