@@ -97,7 +97,7 @@ fn by_trees<L: Ledger>(
     requires wanted { IsWanted wanted }
     ensures { IfOk result (IsMadeOf (topology_of graph.old) wanted) }
 {
-    let columns = all_columns(alloc, graph.topology())?;
+    let columns = all_columns(alloc, graph.topology(), &trees.order)?;
     let groups = groups_of(alloc, graph.topology(), trees, &columns)?;
     match reduce(alloc, groups.codes(), wanted) {
         Ok(book) => with_book(alloc, graph.topology(), trees, &columns.nodes, &book),

@@ -5,6 +5,7 @@ ghost use Rattle.cb_matrix.specs.Codes.{ArePlaces};
 ghost use Rattle.cb_matrix.specs.Coded.{IsProblemAt, AreGroupedAt};
 ghost use Rattle.cb_nodes.specs.declared.id.NodeId.{NodeId as Number};
 ghost use Rattle.cb_span.specs.Numberings.{AreBelow as AreVisitsBelow};
+ghost use Rattle.cb_span.specs.Orders.{IsOrderOf};
 ghost use Rattle.cb_span.specs.Searched.{AreTreesOf};
 ghost use Rattle.cb_topo.specs.Numbered.{topology_of};
 ghost use Rattle.cb_codebook.specs.Columns.{AreColumnsIn};
@@ -15,16 +16,17 @@ use cb_breadth::{Order, Visit};
 use cb_codes::{Grouping, Groups};
 use cb_coding::Problem;
 use cb_matrix::{Columns, indexed};
-use cb_span::Trees;
+use cb_span::{Trees, columns_in};
 use cb_topo::Topology;
 use std::alloc::{AllocError, Global};
 
 /// All columns of the topology, with their places.
-pub fn all_columns(alloc: Global, topology: &Topology) -> Result<Columns, AllocError>
+pub fn all_columns(alloc: Global, topology: &Topology, order: &Order) -> Result<Columns, AllocError>
+    requires { IsOrderOf topology.now order.now }
     ensures { IfOk result (AreColumnsIn topology.now) }
 {
     let room = topology.node_room();
-    let nodes = topology.columns(alloc)?;
+    let nodes = columns_in(alloc, topology, order)?;
     let columns = indexed(alloc, nodes, room)?;
     Ok(columns)
 }

@@ -3,6 +3,7 @@ use Rattle.cb_reduce.specs.declared.codebook.Refused.{Refused}
 use Rattle.cb_reduce.specs.Reduced.{IsReduced}
 use Rattle.cb_model.specs.declared.node.NamedGroup.{NamedGroup}
 use Rattle.cb_cert.specs.Format.{IsWanted}
+use Rattle.cb_span.specs.Orders.{IsOrderOf}
 use Rattle.cb_span.specs.Searched.{AreTreesOf}
 use Rattle.cb_topo.specs.Numbered.{Numbered, topology_of}
 use Rattle.cb_codebook.specs.Columns.{AreColumnsIn, AreAllColumns}
@@ -10,6 +11,9 @@ use Rattle.cb_codebook.specs.Groups.{AreGroupsOf}
 use Rattle.cb_codebook.specs.Made.{IsBookOf, IsMadeOf, ArePairOf}
 use Rattle.cb_codebook.proofs.Reduced.{rows_fit, columns_fit, book_of, pair_of, pair_far}
 use Rattle.cb_codebook.proofs.codebook.by_trees.Goals as goal
+
+pub all_columns-requires : goal.all_columns-requires
+all_columns-requires g c = subst (λ (m : Numbered). IsOrderOf m c.args.trees.now.order) (sym c.topology.ensures) c.requires.trees.order
 
 pub groups_of-requires-clause-trees : goal.groups_of-requires-clause-trees
 groups_of-requires-clause-trees g c = subst (λ (m : Numbered). AreTreesOf m c.args.trees.now) (sym c.topology-2.ensures) c.requires.trees
