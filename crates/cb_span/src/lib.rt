@@ -1,7 +1,8 @@
 //! Canonical certificates, by a search from each problem.
 //!
 //! `Trees::of(alloc, graph, steps)` searches from each problem. The groups may be told by what it finds (cb_codebook does), and
-//! `trees.book(alloc, topology, &columns, distance)` makes of it the one certificate that over these columns the groups are so far apart.
+//! `trees.book(alloc, topology, &columns, distance)` makes of it the one certificate that over these columns the groups are so far apart; each
+//! tree is let go once it is written down, so that trees and spans aren't in memory together.
 //! `thin(alloc, graph, first, second, wanted, distance, steps)` makes the one that two groups are too close. Whether that is so isn't
 //! asked: who checks the certificate finds out.
 //!

@@ -16,7 +16,7 @@ pub fn span_of(alloc: Global, visits: &[Visit], numbers: &[u32]) -> Result<Span,
     requires { AreBelow (length numbers.now) visits.now }
     ensures { IfOk result (λ span. AllZip (IsEntryOf numbers.now) visits.now span.entries) }
 {
-    let mut entries = List::new(alloc);
+    let mut entries = Vec::with_capacity(alloc, visits.len())?;
     for place in 0..visits.len() {
         let visit = visits[place];
         entries.push(Entry {
@@ -24,23 +24,25 @@ pub fn span_of(alloc: Global, visits: &[Visit], numbers: &[u32]) -> Result<Span,
             parent: visit.parent,
         })?;
     }
-    Ok(Span { entries })
+    Ok(Span {
+        entries: List::of(entries),
+    })
 }
 
-/// The spans of these trees, one by one.
+/// The spans of these trees, one by one. Each tree is let go once its span is made, so that both aren't in memory together.
 pub fn spans_of(
     alloc: Global,
-    trees: &List<Vec<Visit>>,
+    trees: Vec<Vec<Visit>>,
     numbers: &[u32],
 ) -> Result<List<Span>, AllocError>
-    requires { AreAllBelow (length numbers.now) trees.now }
-    ensures { IfOk result (AllZip (IsSpanFor numbers.now) trees.now) }
+    requires { AreAllBelow (length numbers.now) trees.items }
+    ensures { IfOk result (AllZip (IsSpanFor numbers.now) trees.items) }
 {
-    let mut spans = List::new(alloc);
-    for place in 0..trees.len() {
-        spans.push(span_of(alloc, trees.at(place), numbers)?)?;
+    let mut spans = Vec::with_capacity(alloc, trees.len())?;
+    for visits in trees {
+        spans.push(span_of(alloc, &visits, numbers)?)?;
     }
-    Ok(spans)
+    Ok(List::of(spans))
 }
 
 /// The numbers of columns, by the numbers that stand at their ranks.

@@ -1,5 +1,5 @@
 //! A tree of visits from each problem.
-ghost use Rattle.std.specs.Prelude.{◌≡◌, ◌≤◌, ◌↔◌, ◌⊎◌, ℕ, length, IfOk, OnOk, IfErr};
+ghost use Rattle.std.specs.Prelude.{◌≡◌, ◌≤◌, ◌↔◌, ◌⊎◌, ◌++◌, [], ◌∷◌, ℕ, length, IfOk, OnOk, IfErr};
 ghost use Rattle.std.specs.List.{AllZip};
 ghost use Rattle.cb_reach.specs.Rows.{Has};
 ghost use Rattle.cb_breadth.specs.Trees.{IsVisited};
@@ -69,19 +69,19 @@ pub fn trees_from<L: Ledger>(
     nodes: &List<NodeId>,
     used: &mut Row,
     steps: &mut Steps<L>,
-) -> Result<List<Vec<Visit>>, SpanFault>
+) -> Result<Vec<Vec<Visit>>, SpanFault>
     requires order { IsOrderOf graph.old order.now }
     requires nodes { AreRanked order.now nodes.now }
     requires used { length used.old ≡ length order.now.nodes.items }
     ensures same { graph.new ≡ graph.old }
-    ensures trees { IfOk result (AllZip (IsTreeOf graph.old order.now) nodes.now) }
-    ensures used { IfOk result (λ trees. (rank : ℕ) → Has used.new rank ↔ (Has used.old rank ⊎ IsVisitedIn trees rank)) }
-    ensures few { IfOk result (λ trees. visits_in trees ≤ entry_limit) }
+    ensures trees { IfOk result (λ trees. AllZip (IsTreeOf graph.old order.now) nodes.now trees.items) }
+    ensures used { IfOk result (λ trees. (rank : ℕ) → Has used.new rank ↔ (Has used.old rank ⊎ IsVisitedIn trees.items rank)) }
+    ensures few { IfOk result (λ trees. visits_in trees.items ≤ entry_limit) }
     ensures room { length used.new ≡ length used.old }
     ensures fault { IfErr result (PreventsTrees graph.old order.now nodes.now) }
 {
     let mut searches = Searches::new(alloc, order)?;
-    let mut trees = List::new(alloc);
+    let mut trees = Vec::with_capacity(alloc, nodes.len())?;
     let mut left = MOST_ENTRIES;
     for place in 0..nodes.len() {
         let node = *nodes.at(place);
@@ -90,7 +90,14 @@ pub fn trees_from<L: Ledger>(
             return Err(SpanFault::TooManyEntries);
         }
         left -= visits.len();
-        trees.push(visits)?;
+        add_tree(visits, &mut trees)?;
     }
     Ok(trees)
+}
+
+fn add_tree(visits: Vec<Visit>, trees: &mut Vec<Vec<Visit>>) -> Result<(), AllocError>
+    ensures { OnOk result (trees.new.items ≡ trees.old.items ++ visits ∷ []) }
+{
+    trees.push(visits)?;
+    Ok(())
 }
