@@ -1,7 +1,7 @@
 -- Problems by their trees.
-use Rattle.std.proofs.Common.{◌≡◌, ◌+◌, ◌≤◌, ℕ, List, Bool, Some, length, slice_get, sym, ap, subst, ◌∙◌, arith}
+use Rattle.std.proofs.Common.{◌≡◌, ◌+◌, ◌≤◌, ℕ, List, Bool, Some, length, slice_get, get_or, sym, ap, subst, ◌∙◌, arith}
 use Rattle.std.specs.Global.{Vec}
-use Rattle.std.proofs.lemmas.Option.{same_Some, slice_get_within}
+use Rattle.std.proofs.lemmas.Option.{slice_get_within, get_or_from_slice_get}
 use Rattle.cb_model.specs.declared.node.NodeName.{NodeName}
 use Rattle.cb_nodes.specs.declared.id.NodeId.{NodeId}
 use Rattle.cb_breadth.specs.declared.visit.Visit.{Visit}
@@ -38,11 +38,11 @@ module _ (n : Numbered) (trees : Trees) (are : AreTreesOf n trees) where
     pub problem_live : IsLiveNode n id
     problem_live = let (name, there, named) = name_at n trees.problems are.names are.named place id at in (name, named)
 
-    module _ (visits : Vec Visit) (there : slice_get trees.visits place ≡ Some visits) where
+    module _ (visits : Vec Visit) (there : visits ≡ get_or trees.visits.items place visits) where
       tree : IsTreeOf n trees.order id visits
       tree =
-          let (found, is, has) = zip_right (IsTreeOf n trees.order) trees.problems trees.visits are.each place id at in
-          subst (IsTreeOf n trees.order id) (same_Some found visits (sym is ∙ there)) has
+          let (found, is, has) = zip_right (IsTreeOf n trees.order) trees.problems trees.visits.items are.each place id at in
+          subst (IsTreeOf n trees.order id) (sym (get_or_from_slice_get trees.visits.items place found visits is) ∙ sym there) has
 
       pub visits_below : AreVisitsBelow (length nodes) visits.items
       visits_below = tree_ranked (EdgeAt n) nodes tree.rank visits.items tree.is (slice_get_within nodes tree.rank id.0 tree.ranked.node_is)

@@ -79,26 +79,25 @@ fn of_trees<L: Ledger>(
     requires wanted { IsWanted wanted }
     ensures { IfOk result (IsMadeOf (topology_of graph) wanted) }
 {
-    let made = by_trees(alloc, &mut graph, &trees, wanted, steps);
-    drop(trees);
+    let made = by_trees(alloc, &mut graph, trees, wanted, steps);
     drop(graph);
     made
 }
 
-// The same, by the trees of the graph's topology.
+// The same, by the trees of the graph's topology. They tell the groups, and then become the certificate.
 fn by_trees<L: Ledger>(
     alloc: Global,
     graph: &mut Graph,
-    trees: &Trees,
+    trees: Trees,
     wanted: u32,
     steps: &mut Steps<L>,
 ) -> Result<Codebook, AllocError>
-    requires trees { AreTreesOf graph.old trees.now }
+    requires trees { AreTreesOf graph.old trees }
     requires wanted { IsWanted wanted }
     ensures { IfOk result (IsMadeOf (topology_of graph.old) wanted) }
 {
     let columns = all_columns(alloc, graph.topology(), &trees.order)?;
-    let groups = groups_of(alloc, graph.topology(), trees, &columns)?;
+    let groups = groups_of(alloc, graph.topology(), &trees, &columns)?;
     match reduce(alloc, groups.codes(), wanted) {
         Ok(book) => with_book(alloc, graph.topology(), trees, &columns.nodes, &book),
         Err(Refused::TooClose(pair)) => {
@@ -112,11 +111,11 @@ fn by_trees<L: Ledger>(
 fn with_book(
     alloc: Global,
     topology: &Topology,
-    trees: &Trees,
+    trees: Trees,
     all: &List<NodeId>,
     apart: &Book,
 ) -> Result<Codebook, AllocError>
-    requires trees { AreTreesOf topology.now trees.now }
+    requires trees { AreTreesOf topology.now trees }
     requires all { AreAllColumns topology.now all.now }
     requires book { IsBookOf (topology_of topology.now) apart.now }
     requires wanted { IsWanted apart.now.distance }

@@ -81,7 +81,7 @@ fn coded_problem(
     ensures { IfOk result (λ problem. (id : Number) → slice_get trees.now.problems place ≡ Some id → IsProblemAt topology.now columns.now.nodes id problem) }
 {
     let node = *trees.problems.at(place);
-    let visits = trees.visits.at(place);
+    let visits = &trees.visits[place];
     let name = topology.copy_name(alloc, node)?;
     let code = code_of(alloc, columns, &trees.order, visits)?;
     Ok(Problem { name, code })

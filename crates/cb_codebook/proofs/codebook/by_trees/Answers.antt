@@ -13,10 +13,10 @@ use Rattle.cb_codebook.proofs.Reduced.{rows_fit, columns_fit, book_of, pair_of, 
 use Rattle.cb_codebook.proofs.codebook.by_trees.Goals as goal
 
 pub all_columns-requires : goal.all_columns-requires
-all_columns-requires g c = subst (λ (m : Numbered). IsOrderOf m c.args.trees.now.order) (sym c.topology.ensures) c.requires.trees.order
+all_columns-requires g c = subst (λ (m : Numbered). IsOrderOf m c.args.trees.order) (sym c.topology.ensures) c.requires.trees.order
 
 pub groups_of-requires-clause-trees : goal.groups_of-requires-clause-trees
-groups_of-requires-clause-trees g c = subst (λ (m : Numbered). AreTreesOf m c.args.trees.now) (sym c.topology-2.ensures) c.requires.trees
+groups_of-requires-clause-trees g c = subst (λ (m : Numbered). AreTreesOf m c.args.trees) (sym c.topology-2.ensures) c.requires.trees
 
 pub groups_of-requires-clause-columns : goal.groups_of-requires-clause-columns
 groups_of-requires-clause-columns g c = subst (λ (m : Numbered). AreColumnsIn m c.in_ok-columns.columns) (c.topology.ensures ∙ sym c.topology-2.ensures) c.in_ok-columns.ensures
@@ -34,7 +34,7 @@ reduce-requires-clause-columns_fit g c =
     columns_fit (topology_of c.args.graph.now) made are c.codes.result.now c.codes.ensures.width c.codes.ensures.rows
 
 pub with_book-requires-clause-trees : goal.with_book-requires-clause-trees
-with_book-requires-clause-trees g c = subst (λ (m : Numbered). AreTreesOf m c.args.trees.now) (sym c.topology-in-Ok.ensures) c.requires.trees
+with_book-requires-clause-trees g c = subst (λ (m : Numbered). AreTreesOf m c.args.trees) (sym c.topology-in-Ok.ensures) c.requires.trees
 
 pub with_book-requires-clause-all : goal.with_book-requires-clause-all
 with_book-requires-clause-all g c =

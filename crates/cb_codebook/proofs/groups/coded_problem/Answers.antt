@@ -11,10 +11,10 @@ use Rattle.cb_codebook.specs.Groups.{IsCodeBy}
 use Rattle.cb_codebook.proofs.Treed.{nodes_below, problem_live, visits_below, code_from}
 use Rattle.cb_codebook.proofs.groups.coded_problem.Goals as goal
 
-pub at-visits-requires : goal.at-visits-requires
-at-visits-requires c =
+pub index-visits-requires : goal.index-visits-requires
+index-visits-requires c =
     let are = c.requires.trees in
-    let same = zip_count (IsTreeOf c.args.topology.now c.args.trees.now.order) c.args.trees.now.problems c.args.trees.now.visits are.each in
+    let same = zip_count (IsTreeOf c.args.topology.now c.args.trees.now.order) c.args.trees.now.problems c.args.trees.now.visits.items are.each in
     let within = c.requires.within in
     omega arith
 
@@ -35,7 +35,7 @@ code_of-requires-clause-nodes c = λ i node at.
 pub code_of-requires-clause-visits : goal.code_of-requires-clause-visits
 code_of-requires-clause-visits c =
     subst (λ (visits : List Visit). AreVisitsBelow (length c.args.trees.now.order.nodes.items) visits) (sym c.deref.ensures.value)
-    (visits_below c.args.topology.now c.args.trees.now c.requires.trees c.args.place c.at-node.result.now c.at-node.ensures c.at-visits.result.now c.at-visits.ensures)
+    (visits_below c.args.topology.now c.args.trees.now c.requires.trees c.args.place c.at-node.result.now c.at-node.ensures c.index-visits.result.now c.index-visits.ensures)
 
 pub returns : goal.returns
 returns c = λ id at.
@@ -44,6 +44,6 @@ returns c = λ id at.
     let columns = c.args.columns.now.nodes in
     let node = c.at-node.result.now in
     let by = subst (λ (visits : List Visit). IsCodeBy trees.order.nodes.items columns visits c.in_ok-code.code) c.deref.ensures.value c.in_ok-code.ensures in
-    let coded = code_from n trees c.requires.trees c.args.place node c.at-node.ensures c.at-visits.result.now c.at-visits.ensures columns c.in_ok-code.code by in
+    let coded = code_from n trees c.requires.trees c.args.place node c.at-node.ensures c.index-visits.result.now c.index-visits.ensures columns c.in_ok-code.code by in
     subst (λ (k : NodeId). IsProblemAt n columns k (record { name = c.in_ok-name.name; code = c.in_ok-code.code })) (same_Some node id (sym c.at-node.ensures ∙ at))
     (record { named = c.in_ok-name.ensures; coded = coded })
