@@ -99,7 +99,11 @@ fn by_trees<L: Ledger>(
     let columns = all_columns(alloc, graph.topology(), &trees.order)?;
     let groups = groups_of(alloc, graph.topology(), &trees, &columns)?;
     match reduce(alloc, groups.codes(), wanted) {
-        Ok(book) => with_book(alloc, graph.topology(), trees, &columns.nodes, &book),
+        Ok(book) => {
+            // The codes are of no more use, and take as much memory as the certificate.
+            drop(groups);
+            with_book(alloc, graph.topology(), trees, &columns.nodes, &book)
+        }
         Err(Refused::TooClose(pair)) => {
             shortfall(alloc, graph, groups.named(), pair, wanted, steps)
         }
