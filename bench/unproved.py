@@ -17,8 +17,8 @@ import tempfile
 
 ROOT = pathlib.Path(__file__).resolve().parent.parent
 KEEPING_CLANG = """#!/bin/sh
-for word in "$@"; do case "$word" in *.bc) cp "$word" "$KEPT/$$.bc";; esac; done
-exec "$CLANG" "$@"
+for word in "$@"; do case "$word" in *.bc) cp "$word" {kept}/$$.bc;; esac; done
+exec {clang} "$@"
 """
 
 
@@ -31,7 +31,7 @@ def linked(folder, target, own):
     return folder
 
 
-def keeping_kit(kit, place):
+def keeping_kit(kit, place, kept):
     """The kit with a clang that keeps what it compiles."""
     copy = linked(place / "kit", kit, ["bin", "toolchain"])
     tools = linked(copy / "bin", kit / "bin", ["rt", "rtlib.py"])
@@ -39,7 +39,7 @@ def keeping_kit(kit, place):
         shutil.copy(kit / "bin" / name, tools / name)
     toolchain = linked(copy / "toolchain", kit / "toolchain", ["bin"])
     clang = linked(toolchain / "bin", kit / "toolchain" / "bin", ["clang"]) / "clang"
-    clang.write_text(KEEPING_CLANG)
+    clang.write_text(KEEPING_CLANG.format(kept=kept, clang=kit / "toolchain" / "bin" / "clang"))
     clang.chmod(0o755)
     return copy
 
@@ -54,11 +54,10 @@ def main():
         place = pathlib.Path(name)
         kept = place / "kept"
         kept.mkdir()
-        copy = keeping_kit(kit, place)
+        copy = keeping_kit(kit, place, kept)
         tried = subprocess.run(
             [sys.executable, copy / "bin" / "rt", "try", "--", "model"],
             cwd=ROOT / "crates" / "cb_cli",
-            env={**os.environ, "KEPT": str(kept), "CLANG": str(clang)},
             capture_output=True,
             text=True,
         )
