@@ -5,11 +5,12 @@
 
 FOLDER is a clone at its top, this checkout if none is named. The gate's own lines go to the file gate.log beside the clone. Every second or two it looks at the
 prover's processes and keeps the processor time that each has taken, so that the last second of each is missing, and edits that several runs try at a time are
-counted together: let no other run of rt stand beside it.
+counted together: let no other run of rt stand beside it. Ended by `kill`, it ends the gate, whose processes may want a `pkill -f "rt ci"`, and prints what was seen so far.
 """
 import collections
 import os
 import pathlib
+import signal
 import subprocess
 import sys
 import time
@@ -36,7 +37,8 @@ def prover(pid, top):
 
 
 def watched(gate, top):
-    """The processor seconds of each process of the prover until the gate ends."""
+    """The processor seconds of each process of the prover until the gate ends, or this program is told to: then it ends the gate."""
+    signal.signal(signal.SIGTERM, lambda number, frame: gate.terminate())
     taken = {}
     while gate.poll() is None:
         for pid in filter(str.isdigit, os.listdir("/proc")):
