@@ -5,7 +5,7 @@
 
 Each run makes a model text (some of them with a fault in their spelling or in their types), a topology with edits of all
 six kinds, some of them refused, a symptom file, a certificate (of the other program, mostly damaged, and now and then of another topology) and a log, hands them to both
-programs by one command line or by as many as are asked for, and compares the status, the output and the line on standard error. It ends with status 1 where two answers differ, and says
+programs by one command line or by as many as are asked for, and compares the status, the output and the line on standard error. The seeds are N and those behind it, one a run: space two calls by their RUNS. It ends with status 1 where two answers differ, and says
 nothing but a word where the other program isn't there. The program is built by the gate, or by `rt run` in crates/cb_cli, which leave it
 in out/.
 """
