@@ -56,14 +56,18 @@ pub fn zero_words(alloc: Global, n: usize) -> Result<Vec<u64>, AllocError>
     vec![in alloc; 0; n.div_ceil(64)]
 }
 
-/// How many bits are one.
+/// How many bits are one. Most words of a sparse row have none, and a look is cheaper than a count.
 pub fn count_ones(words: &[u64]) -> usize
     requires { count_bits words.now < 2 ^ 64 }
     ensures { result ≡ count_bits words.now }
 {
     let mut count = 0;
     for i in 0..words.len() {
-        count += words[i].count_ones() as usize;
+        let word = words[i];
+        if word == 0 {
+            continue;
+        }
+        count += word.count_ones() as usize;
     }
     count
 }
@@ -99,15 +103,19 @@ pub fn count_differing_below(words: &[u64], other: &[u64], limit: usize) -> Opti
     if count < limit { Some(count) } else { None }
 }
 
-/// The first bit, from a place on, that is one.
+/// The first bit, from a place on, that is one. Words without a bit are passed at a look.
 pub fn next_bit(words: &[u64], from: usize) -> Option<usize>
     requires { 64 * length words.now ≤ 2 ^ 64 }
     ensures next { IfSome result (IsNextBit words.now [] from) }
     ensures none { IfNone result (HoldsNowhere (in_not words.now []) from (64 * length words.now)) }
 {
     for i in from / 64..words.len() {
+        let word = words[i];
+        if word == 0 {
+            continue;
+        }
         let start = from.max(64 * i);
-        let left = words[i] >> (start % 64);
+        let left = word >> (start % 64);
         if left != 0 {
             return Some(start + left.trailing_zeros() as usize);
         }
