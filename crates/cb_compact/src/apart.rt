@@ -34,7 +34,7 @@ fn next_difference(a: &[u64], b: &[u64], from: usize) -> Option<usize>
     None
 }
 
-/// The nth place from the first, of those before one, at which two rows differ. Words before the one that has it are only counted.
+/// The nth place at which two rows differ, counted from the first, where it comes before the given one. Words before the one that has it are only counted.
 pub fn nth_apart(one: &Row, other: &Row, before: usize, n: usize) -> Option<usize>
     requires same { length one.now ≡ length other.now }
     requires some { 0 < n }

@@ -15,7 +15,7 @@ use std::marker::Model;
 // The places of as many values fit 32 bits.
 const MOST_PLACES: usize = 4_294_967_296;
 
-// As many values have at most so many words as `distance_under` takes.
+// As many values have at most so many words as `distance_under` of cb_lanes takes.
 const MOST_COUNTED: usize = 4_294_967_232;
 
 /// What is kept of a row: the places of its ones, in order, or all of it.
@@ -26,7 +26,7 @@ enum Kept {
 }
 
 /// Truth values in order. Contracts see the list of them. It keeps the places of those that are true, where these are fewer than
-/// an eighth of the words that all would take, and how many they are.
+/// a sixth of the words that all would take, rounded down, and how many they are.
 #[derive(Debug, Drop)]
 pub struct CompactRow {
     len: usize,
@@ -149,7 +149,7 @@ impl CompactRow {
         count_under(self, other, mask)
     }
 
-    /// The same, where these are fewer than the limit. It stops once there are as many, but counts all by the words of two whole rows.
+    /// The same, where these are fewer than the limit. It stops once there are as many; of two whole rows it counts all words.
     pub fn distance_under_below(
         &self,
         other: &CompactRow,
@@ -171,7 +171,7 @@ impl CompactRow {
         count_under_below(self, other, mask, limit)
     }
 
-    /// The nth place from the first, of those before one, at which the two differ.
+    /// The nth place at which the two differ, counted from the first, where it comes before the given one.
     pub fn nth_differing(&self, other: &CompactRow, before: usize, n: usize) -> Option<usize>
         requires same { length self.now ≡ length other.now }
         requires some { 0 < n }
@@ -189,12 +189,12 @@ impl CompactRow {
     }
 }
 
-// The places of so many ones, where these are fewer than an eighth of the words of the row, and else a copy: eight words are compared as
-// quickly as one place is.
+// The places of so many ones, where these are fewer than a sixth of the words of the row, and else a copy: to go through one place takes as
+// long as some six words.
 fn kept_of(alloc: Global, row: &Row, ones: usize) -> Result<Kept, AllocError>
     ensures { IfOk result (Keeps row.now) }
 {
-    if row.len() <= MOST_PLACES && ones < row.words().len() / 8 {
+    if row.len() <= MOST_PLACES && ones < row.words().len() / 6 {
         let places = places_of(alloc, row, ones)?;
         Ok(Kept::Places(places))
     } else {

@@ -101,7 +101,7 @@ pub fn words_under_below(one: &Row, other: &Row, mask: &Row, limit: usize) -> Op
     }
 }
 
-/// The nth place from the first, of those before one, at which two rows differ.
+/// The nth place at which two rows differ, counted from the first, where it comes before the given one.
 pub fn nth_place(left: &CompactRow, right: &CompactRow, before: usize, n: usize) -> Option<usize>
     requires same { length left.now ≡ length right.now }
     requires some { 0 < n }

@@ -1,8 +1,8 @@
 //! Rows of truth values of which few are true.
 //!
 //! A `CompactRow` is the same list of values as a `Row` of cb_bits. It keeps the places of the values that are true, in order, where
-//! these are fewer than an eighth of the words of the row, and else the row. So a code of five columns takes 20 bytes where there are 3,009
-//! columns or more, and two such codes are compared by going through ten places, with a step for each. It knows how many values are true,
+//! these are fewer than a sixth of the words of the row, rounded down, and else the row. So a code of five columns takes 20 bytes where there are
+//! 2,241 columns or more, and two such codes are compared by going through ten places, with a step for each. It knows how many values are true,
 //! so that a code is told from a much heavier one without a look at either.
 //!
 //! ```rust
@@ -20,7 +20,7 @@
 //! - **Not promised:** which of the two is kept, and that a loop stops as early as it might. A row doesn't change: what is to be set, cleared
 //!   or united is a `Row`.
 //! - **Read first:** `src/compact.rt`, then `specs/Compact.antt`. Two rows are gone through together in `src/differing.rt`, each from one of
-//!   its ones to the next (`src/front.rt`); two whole ones go by their words (`src/apart.rt`). Stands on cb_bits.
+//!   its ones to the next (`src/front.rt`); two whole ones go by their words (`src/apart.rt`). Stands on cb_bits and cb_lanes.
 //! - **Free to change:** when places are kept, and how they are gone through (`src/places.rt`, `src/front.rt`). **Dear:** the list as a
 //!   row's value.
 #![tactic(auto)]

@@ -4,12 +4,14 @@ use cb_compact::CompactRow;
 use std::alloc::{AllocError, Global};
 use std::test::Fail;
 
-// Too many ones to be kept by their places.
+// Too many ones to be kept by their places, both.
 const FORTIES: [usize; 16] = [
     0, 40, 80, 120, 160, 200, 240, 280, 320, 360, 400, 440, 480, 520, 560, 600,
 ];
 
-const FIFTIES: [usize; 13] = [0, 50, 100, 150, 200, 250, 300, 350, 400, 450, 500, 550, 600];
+const FIFTIES: [usize; 17] = [
+    0, 50, 100, 150, 200, 250, 300, 350, 400, 450, 500, 550, 600, 650, 700, 750, 800,
+];
 
 // A row of which the values at the places are true.
 fn row_of(alloc: Global, places: &[usize]) -> Result<Row, AllocError> {
@@ -96,8 +98,8 @@ fn rows_differ(rt: HostRuntime) -> Result<(), Fail> {
         (&[5, 100, 6399], &[100], 2, 2, Some((5, 6399))),
         (&[63, 64], &[64, 128], 2, 0, Some((63, 128))),
         (&[0, 40, 6399], &FORTIES, 15, 2, Some((80, 6399))),
-        (&FORTIES, &FIFTIES, 21, 2, Some((40, 560))),
-        (&[], &FIFTIES, 13, 2, Some((0, 600))),
+        (&FORTIES, &FIFTIES, 25, 2, Some((40, 800))),
+        (&[], &FIFTIES, 17, 2, Some((0, 800))),
     ];
     for (one, other, far, under, ends) in table {
         let forth = are_apart(rt.alloc(), one, other, far, under, ends)?;

@@ -107,7 +107,7 @@ fn reduces_as_defined(rt: HostRuntime) -> Result<(), Fail> {
 fn reduces_wide_codes_as_defined(rt: HostRuntime) -> Result<(), Fail> {
     let mut state = 11;
     for turn in 0..6_u32 {
-        // Codes of 2,048 columns with four on average: nearly half of them are kept by their columns, and the others whole.
+        // Codes of 2,048 columns with four on average: more than half of them are kept by their columns, and the others whole.
         let codes = drawn(rt.alloc(), &mut state, 6, 2048, turn % 2 == 0, 512)?;
         assert!(rt; agree(rt.alloc(), &codes, 1 + turn % 3)?, "{turn}");
     }
