@@ -1,6 +1,6 @@
 -- The numbers below one that pass a test.
-use Rattle.std.proofs.Common.{◌≡◌, ℕ, zero, suc, ◌+◌, ◌<◌, ◌≤◌, List, [], ◌∷◌, ◌++◌, filter, Bool, true, false, cond, sym, ap, ◌∙◌, refl, arith}
-use Rattle.std.proofs.lemmas.List.{append-nil}
+use Rattle.std.proofs.Common.{◌≡◌, ℕ, zero, suc, ◌+◌, ◌<◌, ◌≤◌, List, [], ◌∷◌, ◌++◌, filter, length, Bool, true, false, cond, sym, ap, ◌∙◌, refl, arith}
+use Rattle.std.proofs.lemmas.List.{append-nil, length-append}
 use Rattle.std.proofs.lemmas.List.Elements.{filter-append}
 use Rattle.cb_coding.specs.Distance.{all_columns}
 use Rattle.cb_coding.proofs.Distances.{all_columns_more}
@@ -37,3 +37,14 @@ module _ (passes : ℕ → Bool) where
       let last : to ≡ from + n + 1 = omega arith in
       ap passing last ∙ sym (one_more_fails (from + n) (none (from + n) (omega arith) (omega arith)))
       ∙ none_further from n (from + n) refl (λ k le lt. none k le (omega arith))
+
+  -- below a greater number no fewer pass
+  pub passing_grow : (from n to : ℕ) → from + n ≡ to → length (passing from) ≤ length (passing to)
+  passing_grow from zero to e = let same : from ≡ to = omega arith in let size = ap (λ k. length (passing k)) same in omega arith
+  passing_grow from (suc n) to e =
+      let last : to ≡ from + n + 1 = omega arith in
+      let size = ap (λ k. length (passing k)) last in
+      let more = ap length (passing_more (from + n)) in
+      let parts = length-append (passing (from + n)) (filter passes ((from + n) ∷ [])) in
+      let so_far = passing_grow from n (from + n) refl in
+      omega arith

@@ -54,8 +54,8 @@ impl Codes {
         ensures err { OnErr result (self.new ≡ self.old) }
     {
         let place = self.rows.len();
-        let ones = row.ones();
         let compact = CompactRow::of(alloc, &row)?;
+        let ones = compact.ones();
         self.rows.push(compact)?;
         self.ones = self.ones.saturating_add(ones);
         hold(&mut self.holders, &self.rows[place], place, self.ones);
