@@ -98,7 +98,7 @@ fn grow<L: Ledger, G: Edges>(
     let mut place = 0;
     while place < visits.len() {
         let node = visits[place].node;
-        successors.learn(alloc, graph, order, node, steps)?;
+        successors.learn(graph, order, node, steps)?;
         place += 1;
         visit_all(&mut visits, found, successors.of(node), place as u32)?;
     }
