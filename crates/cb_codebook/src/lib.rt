@@ -10,7 +10,8 @@
 //! `shortfall_is_valid` of cb_claim). `stated_book` gives the codebook that a certificate states, by the places of its columns. Not promised: a
 //! bound on steps.
 //!
-//! Read `specs/Made.antt` first. All else may be changed freely.
+//! Read `specs/Made.antt` first. All but that, `Codebook` and `specs/Columns.antt`, by which cb_follow says where columns stand, may be changed
+//! freely.
 #![tactic(auto)]
 
 mod codebook;

@@ -1,4 +1,4 @@
--- Sets of instances, and what a row gains.
+-- Sets of instances, and what a row or a list gains.
 use Rattle.std.specs.Prelude.{◌≡◌, ◌↔◌, ◌⊎◌, ℕ, Bool, List, length}
 use Rattle.std.specs.List.{Contains}
 use Rattle.cb_instances.specs.declared.id.InstanceId.{InstanceId}
@@ -9,7 +9,7 @@ pub record IsListed (list : List InstanceId) (row : List Bool) : Type 0 where
   pub each : (id : InstanceId) → Contains list id ↔ Has row id.0
   pub once : length list ≡ ones row
 
--- what holds now held before, or is so for some item of the list
+-- what holds of a number now held before, or the relation P has it with some item of the list
 abbrev pub Adds : {X : Type 0} → (ℕ → Type 0) → (ℕ → Type 0) → List X → (X → ℕ → Type 0) → Type 0
 Adds {X} before now items P = (k : ℕ) → now k ↔ (before k ⊎ ((x : X) × Contains items x × P x k))
 

@@ -26,7 +26,7 @@ pub trait Edges {
         ensures row { (k : ℕ) → Has row.new k ↔ (Has row.old k ⊎ edge self.old node k) }
         ensures step { steps.new ≡ steps.old + 1 };
 
-    /// Makes the list that of the successors of a node, in any order, some perhaps more than once, and counts one step: one who asks for
+    /// Makes the list, whatever it had, exactly that of the successors of a node, in any order, some perhaps more than once, and counts one step: one who asks for
     /// many nodes then goes over no row of all. The graph's value stays as it is.
     fn list_successors<L: Ledger>(
         &mut self,

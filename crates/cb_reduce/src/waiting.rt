@@ -72,7 +72,7 @@ fn mark_counting(codes: &Codes, place: usize, marked: &mut Row) -> bool
     mark_sharing(codes, codes.row(place), marked)
 }
 
-// Lets its pairs with the marked codes before it wait.
+// Lets the pairs of the second code and the marked codes before it wait.
 fn wait_with_marked(
     codes: &Codes,
     second: usize,
@@ -98,7 +98,7 @@ fn wait_with_marked(
     Ok(())
 }
 
-// Lets its pairs with all codes before it wait.
+// Lets the pairs of the second code and all codes before it wait.
 fn wait_with_earlier(
     codes: &Codes,
     second: usize,
