@@ -1,5 +1,5 @@
 -- The code of the first of some visits.
-use Rattle.std.proofs.Common.{◌≡◌, ◌↔◌, ◌⊎◌, inl, inr, ℕ, ◌+◌, ◌<◌, ◌≤◌, List, Bool, false, true, length, replicate, Option, None, Some, slice_get, sym, ap, subst, ◌∙◌, arith}
+use Rattle.std.proofs.Common.{◌≡◌, ◌↔◌, ◌⊎◌, inl, inr, ℕ, ◌+◌, ◌<◌, ◌≤◌, List, Bool, false, true, length, replicate, Option, None, Some, slice_get, sym, subst, ◌∙◌, arith}
 use Rattle.std.specs.Prelude.{slice_set, IfSome}
 use Rattle.std.proofs.lemmas.Bool.{cases_lt}
 use Rattle.std.proofs.lemmas.List.{length-set, length-replicate}
@@ -11,7 +11,6 @@ use Rattle.cb_breadth.specs.declared.visit.Visit.{Visit}
 use Rattle.cb_graph.specs.Edges.{number}
 use Rattle.cb_matrix.specs.Codes.{ArePlaces}
 use Rattle.cb_matrix.proofs.Passed.{same_number, still}
-use Rattle.cb_span.specs.Searched.{HasNode}
 use Rattle.cb_codebook.specs.Groups.{IsCodeBy, with_one}
 
 -- one of the first visits has the node of this number

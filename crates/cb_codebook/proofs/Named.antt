@@ -1,5 +1,5 @@
 -- Groups and columns by names and by numbers.
-use Rattle.std.proofs.Common.{◌≡◌, ◌≢◌, ℕ, zero, suc, ◌+◌, ◌<◌, List, [], ◌∷◌, ◌++◌, length, take, get_or, refl, sym, ap, subst, arith, Some, false}
+use Rattle.std.proofs.Common.{◌≡◌, ◌≢◌, ℕ, zero, suc, ◌<◌, List, [], ◌∷◌, length, get_or, refl, sym, ap, subst, arith, Some, false}
 use Rattle.std.specs.Prelude.{slice_get, Option, None}
 use Rattle.std.specs.List.{All}
 use Rattle.std.specs.List.Sorted.{IsStrictlyIncreasing}
@@ -17,14 +17,14 @@ use Rattle.cb_network.specs.Nodes.{IsColumn, AreColumns}
 use Rattle.cb_finding.specs.Finding.{IsCalled}
 use Rattle.cb_finding.specs.Matrix.{IsMatrix}
 use Rattle.cb_claim.specs.Laws.{HavePlaces}
-use Rattle.cb_claim.proofs.Canonicals.{problem_is_node, contains_from_get}
+use Rattle.cb_claim.proofs.Canonicals.{contains_from_get}
 use Rattle.cb_claim.proofs.Codebooks.{group_at, called_by, places_rise}
 use Rattle.cb_nodes.specs.declared.id.NodeId.{NodeId}
 use Rattle.cb_topo.specs.Numbered.{Numbered, topology_of, IsNodeNamed, AreNamed}
 use Rattle.cb_topo.proofs.Naming.{one_name}
-use Rattle.cb_span.specs.Made.{IsSideAt, IsProblemAt, IsSideNamed, AreColumnsAt as AreSpanColumns}
+use Rattle.cb_span.specs.Made.{IsSideAt, IsSideNamed, AreColumnsAt as AreSpanColumns}
 use Rattle.cb_codebook.specs.Columns.{AreAt, HaveNames}
-use Rattle.cb_codebook.specs.Members.{IsLeastMember, HasMember, IsNameIn}
+use Rattle.cb_codebook.specs.Members.{IsLeastMember, HasMember, IsCalledBy, IsSideLive}
 use Rattle.cb_claim.specs.Codebooks.{least_of}
 
 -- the group of a name at a place behind the first
@@ -62,21 +62,25 @@ module _ (t : Topology) (columns : List NodeName) (groups : List Group) (matrix 
       let (node, first) = first_of group.members is.some in
       (node, record { group = named false group; at = named_there groups i group later at; first = first })
 
-  -- what a group is called by is a node
-  pub name_in : (i : ℕ) (name : GroupName) → IsCalled groups i name → IsNameIn t name
-  name_in i Quiet is = tt
-  name_in i (Least node) is = problem_is_node t node ((called_by t columns groups matrix i node is).problem)
-
--- the numbers of what groups are called by are those of problems
+-- the numbers of what groups are called by
 module _ (n : Numbered) (columns : List NodeName) (groups : List Group) (matrix : IsMatrix (topology_of n) columns groups) where
-  pub problem_at : (i : ℕ) (node : NodeName) (id : NodeId) → IsCalled groups i (Least node) → IsNodeNamed n id node → IsProblemAt n id
-  problem_at i node id is at = record { name = node; named = at; problem = (called_by (topology_of n) columns groups matrix i node is).problem }
+  -- are those of nodes
+  pub side_live : (i : ℕ) (id : Option NodeId) → IsCalledBy n groups i id → IsSideLive n id
+  side_live i None is = tt
+  side_live i (Some id) (node, named, called) = (node, named)
 
-  pub side_at : (i : ℕ) (name : GroupName) (id : Option NodeId) → IsCalled groups i name → IsSideNamed n id (least_of name) → IsSideAt n id
-  side_at i Quiet None is at = tt
-  side_at i Quiet (Some id) is at = absurd at
-  side_at i (Least node) None is at = absurd at
-  side_at i (Least node) (Some id) is at = problem_at i node id is at
+  -- and of problems
+  pub side_called : (i : ℕ) (id : Option NodeId) → IsCalledBy n groups i id → IsSideAt n id
+  side_called i None is = tt
+  side_called i (Some id) (node, named, called) = record { name = node; named = named; problem = (called_by (topology_of n) columns groups matrix i node called).problem }
+
+  -- what has such a number the group is called by
+  pub name_called : (i : ℕ) (id : Option NodeId) (name : GroupName) → IsCalledBy n groups i id → IsSideNamed n id (least_of name) → IsCalled groups i name
+  name_called i None Quiet is named = is
+  name_called i None (Least node) is named = absurd named
+  name_called i (Some id) Quiet is named = absurd named
+  name_called i (Some id) (Least other) (node, its, called) named =
+      subst (λ (x : NodeName). IsCalled groups i (Least x)) (one_name n id node other its named) called
 
 -- a number that may be there has one name
 pub one_side : (n : Numbered) (id : Option NodeId) (a b : Option NodeName) → IsSideNamed n id a → IsSideNamed n id b → a ≡ b

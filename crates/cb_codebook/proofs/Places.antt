@@ -1,5 +1,5 @@
 -- Where a search finds an item of a list in order.
-use Rattle.std.proofs.Common.{◌≡◌, ℕ, ◌+◌, ◌-◌, ◌^◌, ◌<◌, ◌≤◌, List, ◌++◌, ◌∷◌, take, length, slice_index_or, get_or, Some, [], Result, Ok, Err, sym, ap, subst, ◌∙◌, inl, inr, arith}
+use Rattle.std.proofs.Common.{◌≡◌, ℕ, ◌+◌, ◌-◌, ◌^◌, ◌<◌, List, ◌++◌, ◌∷◌, take, length, slice_index_or, get_or, Some, [], Err, sym, ap, subst, ◌∙◌, inl, inr, arith}
 use Rattle.std.specs.Cmp.{IsTotalOrder}
 use Rattle.std.specs.Prelude.{slice_get}
 use Rattle.std.specs.List.{All, Contains}

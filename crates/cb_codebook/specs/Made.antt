@@ -1,7 +1,6 @@
 -- What is made of a topology for a wanted distance.
-use Rattle.std.specs.Prelude.{◌≡◌, ℕ, List, length}
+use Rattle.std.specs.Prelude.{ℕ, List, length}
 use Rattle.cb_model.specs.declared.node.NodeName.{NodeName}
-use Rattle.cb_model.specs.declared.node.NamedGroup.{NamedGroup}
 use Rattle.cb_coding.specs.declared.book.Book.{Book}
 use Rattle.cb_coding.specs.declared.book.Pair.{Pair}
 use Rattle.cb_coding.specs.declared.group.Group.{Group}
@@ -9,14 +8,16 @@ use Rattle.cb_coding.specs.Books.{IsBook}
 use Rattle.cb_coding.specs.Distance.{all_columns}
 use Rattle.cb_coding.specs.Groups.{codes_of}
 use Rattle.cb_coding.specs.Pairs.{IsFirstClose}
-use Rattle.cb_codes.specs.Groups.{named_of}
 use Rattle.cb_network.specs.Topology.{Topology}
 use Rattle.cb_finding.specs.Matrix.{IsMatrix}
 use Rattle.cb_cert.specs.Format.{IsCertificate}
 use Rattle.cb_claim.specs.Codebooks.{AreBookColumns, IsCodebook, IsShortfall}
 use Rattle.cb_claim.specs.Totals.{HasFewEntries, HasManyEntries}
+use Rattle.cb_topo.specs.Numbered.{Numbered, topology_of}
 use Rattle.cb_codebook.specs.declared.codebook.Codebook.{Codebook}
 use Rattle.cb_codebook.specs.declared.codebook.Codebook.TheVariants.{Certified, TooManyEntries, TooClose}
+use Rattle.cb_codebook.specs.declared.shortfall.ClosePair.{ClosePair}
+use Rattle.cb_codebook.specs.Members.{IsCalledBy, IsPairOf}
 
 -- there is a codebook for the distance
 abbrev pub HasCodebook : Topology → ℕ → Type 0
@@ -36,10 +37,11 @@ pub record IsBookOf (t : Topology) (book : Book) : Type 0 where
   pub matrix : IsMatrix t columns groups
   pub is : IsBook (length columns) (codes_of groups) book
 
--- these are the topology's groups by their members, and the pair is the first of them that is closer than wanted
-pub record ArePairOf (t : Topology) (named : List NamedGroup) (wanted : ℕ) (pair : Pair) : Type 0 where
+-- the first two groups of the topology that are closer than wanted
+pub record IsFirstPair (n : Numbered) (wanted : ℕ) (close : ClosePair) : Type 0 where
   pub columns : List NodeName
   pub groups : List Group
-  pub matrix : IsMatrix t columns groups
-  pub named_are : named ≡ named_of groups
+  pub matrix : IsMatrix (topology_of n) columns groups
+  pub pair : Pair
   pub first : IsFirstClose (all_columns (length columns)) (codes_of groups) wanted pair
+  pub is : IsPairOf (IsCalledBy n groups) pair close

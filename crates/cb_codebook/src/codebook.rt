@@ -11,8 +11,8 @@ ghost use Rattle.cb_codebook.specs.Groups.{AreGroupsOf};
 ghost use Rattle.cb_codebook.specs.Made.{IsBookOf, IsMadeOf};
 
 use crate::columns::columns_at;
-use crate::groups::{all_columns, groups_of};
-use crate::shortfall::shortfall;
+use crate::groups::{all_columns, close_groups, groups_of};
+use crate::shortfall::{close_named, shortfall};
 use cb_cache::Cache;
 use cb_cert::Certificate;
 use cb_codes::Groups;
@@ -98,14 +98,15 @@ fn by_trees<L: Ledger>(
 {
     let columns = all_columns(alloc, graph.topology(), &trees.order)?;
     let groups = groups_of(alloc, graph.topology(), &trees, &columns)?;
-    match reduce(alloc, groups.codes(), wanted) {
+    match reduce(alloc, &groups.codes, wanted) {
         Ok(book) => {
             // The codes are of no more use, and take as much memory as the certificate.
             drop(groups);
             with_book(alloc, graph.topology(), trees, &columns.nodes, &book)
         }
         Err(Refused::TooClose(pair)) => {
-            shortfall(alloc, graph, groups.named(), pair, wanted, steps)
+            let close = close_groups(&groups, pair);
+            shortfall(alloc, graph, close, wanted, steps)
         }
         Err(Refused::NoMemory) => Err(AllocError),
     }
@@ -191,7 +192,8 @@ fn by_groups<L: Ledger>(
             Ok(Codebook::TooManyEntries)
         }
         Err(Refused::TooClose(pair)) => {
-            shortfall(alloc, graph, groups.named(), pair, wanted, steps)
+            let close = close_named(graph.topology(), groups.named(), pair);
+            shortfall(alloc, graph, close, wanted, steps)
         }
         Err(Refused::NoMemory) => Err(AllocError),
     }

@@ -1,21 +1,22 @@
 //! The groups of a topology's problems, by their trees.
-ghost use Rattle.std.specs.Prelude.{◌≡◌, ◌<◌, ℕ, length, IfOk, IfSome, Some, slice_get};
+ghost use Rattle.std.specs.Prelude.{◌≡◌, ◌<◌, ◌≤◌, ℕ, length, IfOk, OnOk, IfSome, Some, slice_get};
 ghost use Rattle.cb_breadth.specs.Lists.{AreBelow};
 ghost use Rattle.cb_matrix.specs.Codes.{ArePlaces};
-ghost use Rattle.cb_matrix.specs.Coded.{IsProblemAt, AreGroupedAt};
-ghost use Rattle.cb_nodes.specs.declared.id.NodeId.{NodeId as Number};
 ghost use Rattle.cb_span.specs.Numberings.{AreBelow as AreVisitsBelow};
 ghost use Rattle.cb_span.specs.Orders.{IsOrderOf};
 ghost use Rattle.cb_span.specs.Searched.{AreTreesOf};
-ghost use Rattle.cb_topo.specs.Numbered.{topology_of};
 ghost use Rattle.cb_codebook.specs.Columns.{AreColumnsIn};
-ghost use Rattle.cb_codebook.specs.Groups.{IsCodeBy, with_one, AreGroupsOf};
+ghost use Rattle.cb_codebook.specs.Groups.{IsCodeBy, with_one, AreGroupsIn, IsLeastAt, IsQuietAlone, TakesLeast};
+ghost use Rattle.cb_codebook.specs.Members.{IsPairOf};
 
+use crate::shortfall::ClosePair;
 use cb_bits::Row;
 use cb_breadth::{Order, Visit};
-use cb_codes::{Grouping, Groups};
-use cb_coding::Problem;
+use cb_codes::{Codes, EachOnce};
+use cb_coding::Pair;
 use cb_matrix::{Columns, indexed};
+use cb_model::List;
+use cb_nodes::NodeId;
 use cb_span::{Trees, columns_in};
 use cb_topo::Topology;
 use std::alloc::{AllocError, Global};
@@ -31,60 +32,57 @@ pub fn all_columns(alloc: Global, topology: &Topology, order: &Order) -> Result<
     Ok(columns)
 }
 
+/// The codes of groups, the first of which is the quiet one, and whom the others are called by.
+#[derive(Drop)]
+pub struct CodedGroups {
+    pub codes: Codes,
+    /// The least member of each group but the quiet one.
+    pub least: List<NodeId>,
+}
+
 /// The groups of the topology's problems by the columns that their trees have.
 pub fn groups_of(
     alloc: Global,
     topology: &Topology,
     trees: &Trees,
     columns: &Columns,
-) -> Result<Groups, AllocError>
+) -> Result<CodedGroups, AllocError>
     requires trees { AreTreesOf topology.now trees.now }
     requires columns { AreColumnsIn topology.now columns.now }
-    ensures { IfOk result (AreGroupsOf (topology_of topology.now)) }
+    ensures { IfOk result (AreGroupsIn topology.now) }
 {
     // The topology is sound.
     let _model = topology.model();
-    let grouping = grouped(alloc, topology, trees, columns)?;
-    Ok(grouping.into_groups())
-}
-
-// The problems in their groups, one added after the other.
-fn grouped(
-    alloc: Global,
-    topology: &Topology,
-    trees: &Trees,
-    columns: &Columns,
-) -> Result<Grouping, AllocError>
-    requires trees { AreTreesOf topology.now trees.now }
-    requires columns { AreColumnsIn topology.now columns.now }
-    ensures { IfOk result (AreGroupedAt topology.now columns.now.nodes trees.now.problems) }
-{
-    let mut grouping = Grouping::quiet(alloc, columns.nodes.len())?;
+    let mut codes = quiet_code(alloc, columns.nodes.len())?;
+    let mut least = List::new(alloc);
     for place in 0..trees.problems.len() {
-        let problem = coded_problem(alloc, topology, trees, columns, place)?;
-        grouping.add(alloc, problem)?;
+        let code = code_of(alloc, columns, &trees.order, &trees.visits[place])?;
+        let group = codes.place_of(alloc, code)?;
+        add_least(&mut least, group, *trees.problems.at(place))?;
     }
-    Ok(grouping)
+    Ok(CodedGroups {
+        codes: codes.into_codes(),
+        least,
+    })
 }
 
-// The problem at a place, with its code.
-fn coded_problem(
-    alloc: Global,
-    topology: &Topology,
-    trees: &Trees,
-    columns: &Columns,
-    place: usize,
-) -> Result<Problem, AllocError>
-    requires trees { AreTreesOf topology.now trees.now }
-    requires columns { AreColumnsIn topology.now columns.now }
-    requires within { place < length trees.now.problems }
-    ensures { IfOk result (λ problem. (id : Number) → slice_get trees.now.problems place ≡ Some id → IsProblemAt topology.now columns.now.nodes id problem) }
+// The code of the quiet group alone.
+fn quiet_code(alloc: Global, width: usize) -> Result<EachOnce, AllocError>
+    ensures { IfOk result (IsQuietAlone width) }
 {
-    let node = *trees.problems.at(place);
-    let visits = &trees.visits[place];
-    let name = topology.copy_name(alloc, node)?;
-    let code = code_of(alloc, columns, &trees.order, visits)?;
-    Ok(Problem { name, code })
+    let mut codes = EachOnce::new(alloc, width);
+    codes.place_of(alloc, Row::zeroed(alloc, width)?)?;
+    Ok(codes)
+}
+
+// Of a group that is new the problem is the least member, since problems come in order.
+fn add_least(least: &mut List<NodeId>, group: usize, problem: NodeId) -> Result<(), AllocError>
+    ensures { OnOk result (TakesLeast group problem least.old least.new) }
+{
+    if least.len() < group {
+        least.push(problem)?;
+    }
+    Ok(())
 }
 
 // For each column, whether the visits have it.
@@ -125,4 +123,29 @@ fn place_of(columns: &Columns, order: &Order, rank: u32) -> Option<usize>
 {
     let node = order.nodes[rank as usize];
     columns.places[node as usize]
+}
+
+/// The two groups at the places of a pair.
+pub fn close_groups(groups: &CodedGroups, pair: Pair) -> ClosePair
+    requires first { pair.first ≤ length groups.now.least }
+    requires second { pair.second ≤ length groups.now.least }
+    requires later { 0 < pair.second }
+    ensures { IsPairOf (IsLeastAt groups.now.least) pair result }
+{
+    ClosePair {
+        first: least_at(&groups.least, pair.first),
+        second: *groups.least.at(pair.second as usize - 1),
+        distance: pair.distance,
+    }
+}
+
+// The least member of the group at a place; the quiet one has none.
+fn least_at(least: &List<NodeId>, place: u32) -> Option<NodeId>
+    requires { place ≤ length least.now }
+    ensures { IsLeastAt least.now place result }
+{
+    if place == 0 {
+        return None;
+    }
+    Some(*least.at(place as usize - 1))
 }

@@ -5,8 +5,8 @@ ghost use Rattle.cb_claim.specs.Codebooks.{least_of};
 ghost use Rattle.cb_network.specs.Nodes.{IsNodeOf};
 ghost use Rattle.cb_topo.specs.Numbered.{topology_of, IsNodeNamed};
 ghost use Rattle.cb_span.specs.Made.{IsSideNamed};
-ghost use Rattle.cb_codebook.specs.Made.{ArePairOf, IsMadeOf};
-ghost use Rattle.cb_codebook.specs.Members.{HasMember, IsLeastMember, IsNameAt, IsNameIn};
+ghost use Rattle.cb_codebook.specs.Made.{IsFirstPair, IsMadeOf};
+ghost use Rattle.cb_codebook.specs.Members.{HasMember, HasNode, IsLeastMember, IsMemberAt, IsPairOf, IsSideLive};
 
 use crate::codebook::Codebook;
 use cb_coding::Pair;
@@ -19,65 +19,89 @@ use cb_topo::Topology;
 use std::alloc::{AllocError, Global};
 use std::sync::ledger::Ledger;
 
+/// Two groups that are closer than wanted, each by the number of its least member; the quiet one has none.
+#[derive(Clone, Copy)]
+pub struct ClosePair {
+    pub first: Option<NodeId>,
+    pub second: NodeId,
+    pub distance: u32,
+}
+
 /// The certificate that these two groups of the graph's topology are too close.
 pub fn shortfall<L: Ledger>(
     alloc: Global,
     graph: &mut Graph,
-    groups: &List<NamedGroup>,
-    pair: Pair,
+    close: ClosePair,
     wanted: u32,
     steps: &mut Steps<L>,
 ) -> Result<Codebook, AllocError>
-    requires pair { ArePairOf (topology_of graph.old) groups.now wanted pair }
+    requires pair { IsFirstPair graph.old wanted close }
     requires wanted { IsWanted wanted }
-    requires far { pair.distance ≤ column_limit }
+    requires far { close.distance ≤ column_limit }
     ensures { IfOk result (IsMadeOf (topology_of graph.old) wanted) }
 {
-    let first = called(alloc, groups, pair.first)?;
-    let second = least_member(alloc, groups, pair.second)?;
-    let one = number_at(graph.topology(), &first);
-    let other = number_of(graph.topology(), &second);
-    let certificate = thin(alloc, graph, one, other, wanted, pair.distance, steps)?;
+    let ClosePair {
+        first: one,
+        second: other,
+        distance,
+    } = close;
+    let first = called(alloc, graph.topology(), one)?;
+    let second = graph.topology().copy_name(alloc, other)?;
+    let certificate = thin(alloc, graph, one, other, wanted, distance, steps)?;
     Ok(Codebook::TooClose {
         first,
         second,
-        distance: pair.distance,
+        distance,
         certificate,
     })
 }
 
-// What the group at a place is called.
-fn called(alloc: Global, groups: &List<NamedGroup>, place: u32) -> Result<GroupName, AllocError>
-    requires { 0 < place → HasMember groups.now place }
-    ensures { IfOk result (IsNameAt groups.now place) }
+// What the group of that least member is called.
+fn called(
+    alloc: Global,
+    topology: &Topology,
+    least: Option<NodeId>,
+) -> Result<GroupName, AllocError>
+    requires { IsSideLive topology.now least }
+    ensures { IfOk result (λ name. IsSideNamed topology.now least (least_of name)) }
+{
+    match least {
+        Some(node) => Ok(GroupName::Least(topology.copy_name(alloc, node)?)),
+        None => Ok(GroupName::Quiet),
+    }
+}
+
+/// The two groups at the places of a pair.
+pub fn close_named(topology: &Topology, groups: &List<NamedGroup>, pair: Pair) -> ClosePair
+    requires first { 0 < pair.first → HasNode topology.now groups.now pair.first }
+    requires second { HasNode topology.now groups.now pair.second }
+    requires later { 0 < pair.second }
+    ensures { IsPairOf (IsMemberAt topology.now groups.now) pair result }
+{
+    ClosePair {
+        first: number_at(topology, groups, pair.first),
+        second: number_of(topology, least_member(groups, pair.second)),
+        distance: pair.distance,
+    }
+}
+
+// The number of the least member of the group at a place; the quiet one has none.
+fn number_at(topology: &Topology, groups: &List<NamedGroup>, place: u32) -> Option<NodeId>
+    requires { 0 < place → HasNode topology.now groups.now place }
+    ensures { IsMemberAt topology.now groups.now place result }
 {
     if place == 0 {
-        return Ok(GroupName::Quiet);
+        return None;
     }
-    Ok(GroupName::Least(least_member(alloc, groups, place)?))
+    Some(number_of(topology, least_member(groups, place)))
 }
 
 // The least member of the group at a place.
-fn least_member(
-    alloc: Global,
-    groups: &List<NamedGroup>,
-    place: u32,
-) -> Result<NodeName, AllocError>
+fn least_member(groups: &List<NamedGroup>, place: u32) -> &NodeName
     requires { HasMember groups.now place }
-    ensures { IfOk result (IsLeastMember groups.now place) }
+    ensures { IsLeastMember groups.now place result.now }
 {
-    groups.at(place as usize).members.at(0).copy(alloc)
-}
-
-// The number of the node that a group is called by; the quiet one has none.
-fn number_at(topology: &Topology, name: &GroupName) -> Option<NodeId>
-    requires { IsNameIn (topology_of topology.now) name.now }
-    ensures { IsSideNamed topology.now result (least_of name.now) }
-{
-    match name {
-        GroupName::Quiet => None,
-        GroupName::Least(node) => Some(number_of(topology, node)),
-    }
+    groups.at(place as usize).members.at(0)
 }
 
 // The number of a node.

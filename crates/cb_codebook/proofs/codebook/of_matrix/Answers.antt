@@ -1,4 +1,3 @@
-use Rattle.std.proofs.Common.{◌∙◌, subst}
 use Rattle.cb_codebook.proofs.codebook.of_matrix.Goals as goal
 
 pub by_groups-made-requires-clause-groups : goal.by_groups-made-requires-clause-groups

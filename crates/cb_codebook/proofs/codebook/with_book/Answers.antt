@@ -1,5 +1,4 @@
-use Rattle.std.proofs.Common.{◌<◌, List, length, refl, ap, subst, arith}
-use Rattle.std.specs.List.{All}
+use Rattle.std.proofs.Common.{List, length, refl, ap, subst, arith}
 use Rattle.cb_model.specs.declared.node.NodeName.{NodeName}
 use Rattle.cb_network.proofs.One.{columns_are_one}
 use Rattle.cb_claim.specs.Codebooks.{AreBookColumns}

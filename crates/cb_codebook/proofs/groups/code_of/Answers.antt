@@ -1,7 +1,7 @@
-use Rattle.std.proofs.Common.{ℕ, ◌<◌, ◌≤◌, length, get_or, refl, sym, subst, arith}
+use Rattle.std.proofs.Common.{◌<◌, ◌≤◌, length, get_or, arith}
 use Rattle.std.proofs.lemmas.Option.{slice_get-get_or}
 use Rattle.cb_breadth.specs.Trees.{visit}
-use Rattle.cb_codebook.proofs.Coded.{IsCodedTo, none_coded, next_coded, place_fits, all_coded}
+use Rattle.cb_codebook.proofs.Coded.{none_coded, next_coded, place_fits, all_coded}
 use Rattle.cb_codebook.proofs.groups.code_of.Goals as goal
 
 pub loop-at-init : goal.loop-at-init

@@ -1,4 +1,4 @@
-use Rattle.std.proofs.Common.{◌<◌, ◌+◌, List, ℕ, take, sym, subst, arith}
+use Rattle.std.proofs.Common.{◌+◌, List, ℕ, take, sym, subst, arith}
 use Rattle.cb_claim.specs.Reading.{ArePlaces}
 use Rattle.cb_codebook.proofs.Places.{counted, within, column_is, one_more_place}
 use Rattle.cb_codebook.proofs.stated.places_of.Goals as goal
