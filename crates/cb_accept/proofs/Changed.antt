@@ -8,20 +8,20 @@ use Rattle.cb_model.specs.declared.node.NodeName.{NodeName}
 use Rattle.cb_model.specs.declared.tables.Tables.{Tables}
 use Rattle.cb_model.specs.Order.{name_cmp}
 use Rattle.cb_model.proofs.Rising.{name_cmp_total, name_cmp_exact}
-use Rattle.cb_network.specs.Topology.{Topology, empty_topology, IsLive, IsOf}
+use Rattle.cb_network.specs.Topology.{Topology, empty_topology, IsLive, HasClass}
 use Rattle.cb_network.specs.Nodes.{IsNodeOf, IsProblem, IsSymptomNode, IsCount, IsWithin}
 use Rattle.cb_network.specs.Sound.{Sound, node_limit, problem_limit, symptom_limit}
 use Rattle.cb_network.specs.Edits.{with_instance, without_instance}
 use Rattle.cb_network.proofs.Sets.{got_insert, got_remove, decide_key}
 use Rattle.cb_network.proofs.Kept.{live_of}
 use Rattle.cb_network.proofs.Counts.{Kind, IsAt, of_nodes, of_problems, of_symptoms, nodes_are, problems_are, symptoms_are, same_count, turned, count_is_one, within_deleted}
-use Rattle.cb_accept.specs.declared.counts.Counts.{Counts}
+use Rattle.cb_accept.specs.declared.counts.NodeCounts.{NodeCounts}
 use Rattle.cb_accept.specs.Counts.{AreCounts, AreWithin, AreOwn, CountWith, CountWithout}
 use Rattle.cb_accept.proofs.Apart.{count_of_either, count_of_none}
 use Rattle.cb_accept.proofs.Own.{IsOwn}
 
 -- an instance is of one class
-pub one_class_of : (t : Topology) (name : List ℕ) (c d : ClassId) → IsOf t name c → IsOf t name d → c ≡ d
+pub one_class_of : (t : Topology) (name : List ℕ) (c d : ClassId) → HasClass t name c → HasClass t name d → c ≡ d
 one_class_of t name c d is is' =
     let e : Some c ≡ Some d = sym is ∙ is' in
     cc
@@ -36,27 +36,27 @@ module _ (M : Kind) (t : Topology) (name : List ℕ) (class : ClassId) where
           | inr (other, old) ↦ inl (d, old, em)
         ],
         λ h. elim h [
-          | inl (d, is, em) ↦ (d, (got d).1 (inr (λ here. fresh (live_of t name d (subst (λ q. IsOf t q d) here is)), is)), em)
+          | inl (d, is, em) ↦ (d, (got d).1 (inr (λ here. fresh (live_of t name d (subst (λ q. HasClass t q d) here is)), is)), em)
           | inr (here, em) ↦ (class, (got class).1 (inl (here, refl)), em)
         ],
       )
 
   new_apart : ¬ IsLive t name → (n : NodeName) → IsAt t M n → IsOwn M class name n → ⊥
-  new_apart fresh n (d, is, em) (here, _) = fresh (live_of t name d (subst (λ q. IsOf t q d) here is))
+  new_apart fresh n (d, is, em) (here, _) = fresh (live_of t name d (subst (λ q. HasClass t q d) here is))
 
   -- an instance that goes takes its own nodes along
-  without_own : IsOf t name class → (n : NodeName) → IsAt t M n ↔ (IsAt (without_instance t name) M n ⊎ IsOwn M class name n)
+  without_own : HasClass t name class → (n : NodeName) → IsAt t M n ↔ (IsAt (without_instance t name) M n ⊎ IsOwn M class name n)
   without_own of n =
       let got = λ (d : ClassId). got_remove name_cmp_total name_cmp_exact t.instances name n.instance d in (
         λ (d, is, em). elim (decide_key name_cmp_total name_cmp_exact n.instance name) [
           | inl here ↦
-              let same = one_class_of t name d class (subst (λ q. IsOf t q d) here is) of in
+              let same = one_class_of t name d class (subst (λ q. HasClass t q d) here is) of in
               inr (here, subst (λ (b : ClassId). (e : EventId) × M b e n.event) same em)
           | inr other ↦ inl (d, (got d).1 (other, is), em)
         ],
         λ h. elim h [
           | inl (d, is, em) ↦ (d, ((got d).0 is).1, em)
-          | inr (here, em) ↦ (class, subst (λ q. IsOf t q class) (sym here) of, em)
+          | inr (here, em) ↦ (class, subst (λ q. HasClass t q class) (sym here) of, em)
         ],
       )
 
@@ -66,7 +66,7 @@ module _ (M : Kind) (t : Topology) (name : List ℕ) (class : ClassId) where
   count_with : (m k : ℕ) → ¬ IsLive t name → IsCount (IsAt t M) m → IsCount (IsOwn M class name) k → IsCount (IsAt (with_instance t name class) M) (m + k)
   count_with m k fresh = count_of_either (IsAt t M) (IsOwn M class name) (IsAt (with_instance t name class) M) m k (with_own fresh) (new_apart fresh)
 
-  count_without : (m k : ℕ) → IsOf t name class → IsCount (IsAt t M) m → IsCount (IsOwn M class name) k → IsCount (IsAt (without_instance t name) M) (m - k)
+  count_without : (m k : ℕ) → HasClass t name class → IsCount (IsAt t M) m → IsCount (IsOwn M class name) k → IsCount (IsAt (without_instance t name) M) (m - k)
   count_without m k of count own =
       let (left, is_left, less) = within_deleted M t name m (m, count, omega arith) in
       let both = count_of_either (IsAt (without_instance t name) M) (IsOwn M class name) (IsAt t M) left k (without_own of) old_apart is_left own in
@@ -114,18 +114,18 @@ module _ (IsSuch : Topology → NodeName → Type 0) (M : Tables → Kind)
       let at = same_count _ (IsAt t (M t.model)) (same t) m count in
       same_count _ (IsSuch u) (turned _ _ (same u)) (m + k) (count_with (M t.model) t name class m k fresh at (own_of t.model name class k own))
 
-  pub shrunk : (t : Topology) (name : List ℕ) (class : ClassId) (m k : ℕ) → IsOf t name class → IsCount (IsSuch t) m
+  pub shrunk : (t : Topology) (name : List ℕ) (class : ClassId) (m k : ℕ) → HasClass t name class → IsCount (IsSuch t) m
       → IsCount (IsSuch (with_instance (empty_topology t.model) name class)) k → IsCount (IsSuch (without_instance t name)) (m - k)
   shrunk t name class m k of count own =
       let u = without_instance t name in
       let at = same_count _ (IsAt t (M t.model)) (same t) m count in
       same_count _ (IsSuch u) (turned _ _ (same u)) (m - k) (count_without (M t.model) t name class m k of at (own_of t.model name class k own))
 
-module _ (tables : Tables) (class : ClassId) (old own : Counts) (are_own : AreOwn tables class own) where
+module _ (tables : Tables) (class : ClassId) (old own : NodeCounts) (are_own : AreOwn tables class own) where
   moved : (t : Topology) (name : List ℕ) → t.model ≡ tables → AreCounts (with_instance (empty_topology t.model) name class) own
   moved t name same = subst (λ (m : Tables). AreCounts (with_instance (empty_topology m) name class) own) (sym same) (are_own name)
 
-  pub counts_with : (new : Counts) → new.nodes ≡ old.nodes + own.nodes → new.problems ≡ old.problems + own.problems → new.symptoms ≡ old.symptoms + own.symptoms
+  pub counts_with : (new : NodeCounts) → new.nodes ≡ old.nodes + own.nodes → new.problems ≡ old.problems + own.problems → new.symptoms ≡ old.symptoms + own.symptoms
       → CountWith tables old class new
   counts_with new nodes problems symptoms = λ t name same fresh counts.
       let one = moved t name same in
@@ -136,7 +136,7 @@ module _ (tables : Tables) (class : ClassId) (old own : Counts) (are_own : AreOw
         symptoms = subst (IsCount (IsSymptomNode u)) (sym symptoms) (grown IsSymptomNode of_symptoms symptoms_are t name class old.symptoms own.symptoms fresh counts.symptoms one.symptoms);
       }
 
-  pub counts_without : (new : Counts) → new.nodes ≡ old.nodes - own.nodes → new.problems ≡ old.problems - own.problems → new.symptoms ≡ old.symptoms - own.symptoms
+  pub counts_without : (new : NodeCounts) → new.nodes ≡ old.nodes - own.nodes → new.problems ≡ old.problems - own.problems → new.symptoms ≡ old.symptoms - own.symptoms
       → CountWithout tables old class new
   counts_without new nodes problems symptoms = λ t name same of counts.
       let one = moved t name same in
@@ -148,7 +148,7 @@ module _ (tables : Tables) (class : ClassId) (old own : Counts) (are_own : AreOw
       }
 
 -- the topology without instances has no node
-pub counts_of_none : (tables : Tables) (none : Counts) → none.nodes ≡ 0 → none.problems ≡ 0 → none.symptoms ≡ 0 → AreCounts (empty_topology tables) none
+pub counts_of_none : (tables : Tables) (none : NodeCounts) → none.nodes ≡ 0 → none.problems ≡ 0 → none.symptoms ≡ 0 → AreCounts (empty_topology tables) none
 counts_of_none tables none nodes problems symptoms =
     let t = empty_topology tables in
     record {
@@ -161,7 +161,7 @@ counts_of_none tables none nodes problems symptoms =
     nothing_at M n (c, is, em) = let none = map.get-empty {X = ClassId} name_cmp n.instance in cc
 
 -- links and mutes are no nodes
-pub counts_stay : (t u : Topology) (counts : Counts) → u.model ≡ t.model → u.instances ≡ t.instances → AreCounts t counts → AreCounts u counts
+pub counts_stay : (t u : Topology) (counts : NodeCounts) → u.model ≡ t.model → u.instances ≡ t.instances → AreCounts t counts → AreCounts u counts
 counts_stay t u counts model instances are = record {
   nodes = same_count (IsNodeOf t) (IsNodeOf u) (same IsNodeOf of_nodes nodes_are) counts.nodes are.nodes;
   problems = same_count (IsProblem t) (IsProblem u) (same IsProblem of_problems problems_are) counts.problems are.problems;
@@ -179,7 +179,7 @@ counts_stay t u counts model instances are = record {
     )
 
 -- a sound topology has no more than the limits
-pub within_of_sound : (t : Topology) (counts : Counts) → Sound t → AreCounts t counts → AreWithin counts
+pub within_of_sound : (t : Topology) (counts : NodeCounts) → Sound t → AreCounts t counts → AreWithin counts
 within_of_sound t counts sound are = record {
   nodes = small (IsNodeOf t) node_limit counts.nodes sound.few_nodes are.nodes;
   problems = small (IsProblem t) problem_limit counts.problems sound.few_problems are.problems;

@@ -17,12 +17,12 @@ use Rattle.cb_network.specs.declared.edit.EditRefusal.TheVariants.{NoClass, Exis
 use Rattle.cb_network.specs.Topology.{Topology, IsLive, HasLink, IsMuted}
 use Rattle.cb_network.specs.Nodes.{IsNodeOf, IsProblem, IsSymptomNode, IsCount, IsBeyond}
 use Rattle.cb_network.specs.Sound.{IsInverse, instance_limit, node_limit, problem_limit, symptom_limit}
-use Rattle.cb_network.specs.Edits.{number_of, with_instance, node_of, IsRelationAt, HasRelationAt, HasNamedLink, IsWrongKind, IsTaken, IsOccupied, ChangedIs, Refuses, IsAccepted, IsRefused}
+use Rattle.cb_network.specs.Edits.{number_of, with_instance, node_of, IsRelationAt, HasRelationAt, HasNamedLink, IsWrongKind, IsOneUsedUp, IsOccupied, ChangedIs, Refuses, IsAccepted, IsRefused}
 use Rattle.cb_network.proofs.Counts.{count_is_one}
 use Rattle.cb_network.proofs.Kept.{class_of}
 use Rattle.cb_network.proofs.Links.{one_inverse}
 use Rattle.cb_instances.specs.Net.{Net, LinkAt, IsMutedAt, IsWhole}
-use Rattle.cb_accept.specs.declared.counts.Counts.{Counts}
+use Rattle.cb_accept.specs.declared.counts.NodeCounts.{NodeCounts}
 use Rattle.cb_accept.specs.declared.link.Ends.{Ends}
 use Rattle.cb_accept.specs.declared.mute.Symptom.{Symptom}
 use Rattle.cb_accept.specs.Counts.{AreCounts, AreWithin}
@@ -164,14 +164,14 @@ module _ (n : Net) (typed : WellTyped n.topology.model) (whole : IsWhole n) (a r
     )
 
     module _ (absent : ¬ LinkAt n ends.from ends.rel ends.to) (row : RelRow) (row_is : slice_get n.topology.model.relations ends.rel.0 ≡ Some row) where
-      pub occupied : IsTaken n.topology a ends.rel ⊎ IsTaken n.topology b row.inverse → IsRefused n.topology (Link a rel b) Occupied
+      pub occupied : IsOneUsedUp n.topology a ends.rel ⊎ IsOneUsedUp n.topology b row.inverse → IsRefused n.topology (Link a rel b) Occupied
       occupied taken = (
         record { rel = ends.rel; back = row.inverse; names = record { at_a = are.at_a; inverse = (row, row_is, refl) }; taken = taken },
         link_below n.topology a rel b 7 (λ _. both_live) (λ _. (ends.rel, are.at_a)) (λ _. fits_not_wrong fits) (λ _. stands_not absent)
             (later _ 7 7 (omega arith)),
       )
 
-      pub link_allowed : ¬ IsTaken n.topology a ends.rel → ¬ IsTaken n.topology b row.inverse → IsAccepted n.topology (Link a rel b)
+      pub link_allowed : ¬ IsOneUsedUp n.topology a ends.rel → ¬ IsOneUsedUp n.topology b row.inverse → IsAccepted n.topology (Link a rel b)
       link_allowed free_a free_b =
           accepted n.topology (Link a rel b)
           (link_below n.topology a rel b 16 (λ _. both_live) (λ _. (ends.rel, are.at_a)) (λ _. fits_not_wrong fits) (λ _. stands_not absent)
@@ -180,8 +180,8 @@ module _ (n : Net) (typed : WellTyped n.topology.model) (whole : IsWhole n) (a r
           let inverse : IsInverse n.topology.model ends.rel occupied.back = subst (λ k. IsInverse n.topology.model k occupied.back) r occupied.names.inverse in
           let back = one_inverse n.topology.model ends.rel occupied.back row.inverse inverse (row, row_is, refl) in
           elim occupied.taken [
-            | inl taken ↦ free_a (subst (IsTaken n.topology a) r taken)
-            | inr taken ↦ free_b (subst (IsTaken n.topology b) back taken)
+            | inl taken ↦ free_a (subst (IsOneUsedUp n.topology a) r taken)
+            | inr taken ↦ free_b (subst (IsOneUsedUp n.topology b) back taken)
           ]))
 
 -- new instances
@@ -240,7 +240,7 @@ module _ (t : Topology) (name class : List ℕ) where
                 (later _ 14 12 (omega arith)) (later _ 15 12 (omega arith)),
           )
 
-      module _ (room : map.len t.instances < instance_limit) (new : Counts) (are : AreCounts (with_instance t name c) new) where
+      module _ (room : map.len t.instances < instance_limit) (new : NodeCounts) (are : AreCounts (with_instance t name c) new) where
         enough_instances : ¬ Refuses t (Create name class) InstanceLimit
         enough_instances many =
             let more = one_more in

@@ -14,9 +14,9 @@ use Rattle.cb_model.specs.Classes.{IsA, ancestor, parent_of, parent_of_some, par
 use Rattle.cb_model.specs.WellTyped.{WellTyped, IsClass, IsRelation}
 use Rattle.cb_model.proofs.Numbers.{all_at}
 use Rattle.cb_model.proofs.Rising.{nothing_in_empty, contains_head}
-use Rattle.cb_network.specs.Topology.{IsOf, HasLink}
+use Rattle.cb_network.specs.Topology.{HasClass, HasLink}
 use Rattle.cb_network.specs.Nodes.{IsSymptomNode}
-use Rattle.cb_network.specs.Edits.{node_of, IsRelationAt, HasRelationAt, IsTaken}
+use Rattle.cb_network.specs.Edits.{node_of, IsRelationAt, HasRelationAt, IsOneUsedUp}
 use Rattle.cb_instances.specs.declared.id.InstanceId.{InstanceId}
 use Rattle.cb_instances.specs.Net.{Net, IsNamed, LinkAt, IsWhole, name_at, name_or, name_in_row, event_name}
 use Rattle.cb_accept.specs.Refusals.{IsClassAt, FitsTarget, IsSymptomAt}
@@ -66,10 +66,10 @@ module _ (n : Net) (id : InstanceId) where
   pub name_is : (a : List ℕ) → IsNamed n id a → name_at n id ≡ a
   name_is a named = ap name_or named
 
-  pub of_class : (class : ClassId) (a : List ℕ) → IsClassAt n id class → IsNamed n id a → IsOf n.topology a class
-  of_class class a at named = subst (λ b. IsOf n.topology b class) (one_name at.name a at.named named) at.of_class
+  pub of_class : (class : ClassId) (a : List ℕ) → IsClassAt n id class → IsNamed n id a → HasClass n.topology a class
+  of_class class a at named = subst (λ b. HasClass n.topology b class) (one_name at.name a at.named named) at.of_class
 
-  pub one_class_at : (class : ClassId) (a : List ℕ) (c : ClassId) → IsClassAt n id class → IsNamed n id a → IsOf n.topology a c → c ≡ class
+  pub one_class_at : (class : ClassId) (a : List ℕ) (c : ClassId) → IsClassAt n id class → IsNamed n id a → HasClass n.topology a c → c ≡ class
   one_class_at class a c at named is = one_class_of n.topology a c class is (of_class class a at named)
 
   module _ (tables : Tables) (same : tables ≡ n.topology.model) where
@@ -102,7 +102,7 @@ module _ (n : Net) (id : InstanceId) where
         let at_event : event_name n.topology.model e ≡ name = ap name_in_row has.is ∙ is in
         record {
           symptom = record { class = class; of_class = here; event = e; symptom = symptom; named = ap (λ (r : EventRow). r.name) row ∙ is };
-          has = (class, subst (λ b. IsOf n.topology b class) (sym at_name) here, has);
+          has = (class, subst (λ b. HasClass n.topology b class) (sym at_name) here, has);
           node = λ i. node_of (at_event i) (at_name i);
         }
 
@@ -123,7 +123,7 @@ module _ (n : Net) (id : InstanceId) where
 
   -- a class that the model lacks has nothing
   module _ (typed : WellTyped n.topology.model) (lacks : (class : ClassId) → ¬ IsClassAt n id class) (a : List ℕ) (named : IsNamed n id a) where
-    lacking : (c : ClassId) → IsOf n.topology a c → ¬ IsClass n.topology.model c
+    lacking : (c : ClassId) → HasClass n.topology a c → ¬ IsClass n.topology.model c
     lacking c is within = lacks c (record { name = a; named = named; of_class = is; within = within })
 
     pub lacks_relation : (name : List ℕ) → ¬ HasRelationAt n.topology a name
@@ -149,7 +149,7 @@ module _ (n : Net) (id : InstanceId) where
   -- one link is enough where one is allowed
   pub taken_is : IsWhole n → (rel : RelId) (row : RelRow) → slice_get n.topology.model.relations rel.0 ≡ Some row → row.many ≡ false → (links : List InstanceId)
       → ((to : InstanceId) → Contains links to ↔ LinkAt n id rel to) → (b : Bool) → b ≡ (length links == 0) → (a : List ℕ) → IsNamed n id a
-      → IsTrue (not b) ↔ IsTaken n.topology a rel
+      → IsTrue (not b) ↔ IsOneUsedUp n.topology a rel
   taken_is whole rel row is one [] exactly b empty a named = (
     λ yes. let e = sym yes ∙ ap not empty in absurd (cc),
     λ (_, (to, link)).

@@ -8,25 +8,25 @@ use Rattle.cb_model.specs.Classes.{IsA}
 use Rattle.cb_model.specs.WellTyped.{IsClass}
 use Rattle.cb_network.specs.declared.edit.EditRefusal.{EditRefusal}
 use Rattle.cb_network.specs.declared.edit.EditRefusal.TheVariants.{NodeLimit, ProblemLimit, SymptomLimit}
-use Rattle.cb_network.specs.Topology.{Topology, IsOf}
+use Rattle.cb_network.specs.Topology.{Topology, HasClass}
 use Rattle.cb_network.specs.Nodes.{IsSymptomNode}
 use Rattle.cb_network.specs.Sound.{node_limit, problem_limit, symptom_limit}
 use Rattle.cb_network.specs.Edits.{number_of, node_of, IsRelationAt}
 use Rattle.cb_instances.specs.declared.id.InstanceId.{InstanceId}
 use Rattle.cb_instances.specs.Net.{Net, IsNamed, HasEventAt, node_at}
-use Rattle.cb_accept.specs.declared.counts.Counts.{Counts}
+use Rattle.cb_accept.specs.declared.counts.NodeCounts.{NodeCounts}
 use Rattle.cb_accept.specs.declared.link.Ends.{Ends}
 use Rattle.cb_accept.specs.declared.mute.Symptom.{Symptom}
 
 -- a number is above the limit that this refusal speaks of
-abbrev pub IsAbove : Counts → EditRefusal → Type 0
+abbrev pub IsAbove : NodeCounts → EditRefusal → Type 0
 IsAbove counts NodeLimit = node_limit < counts.nodes
 IsAbove counts ProblemLimit = problem_limit < counts.problems
 IsAbove counts SymptomLimit = symptom_limit < counts.symptoms
 IsAbove counts why = ⊥
 
 -- a number is above this limit, and none is above a limit that comes before it
-pub record IsFirstLimit (counts : Counts) (why : EditRefusal) : Type 0 where
+pub record IsFirstLimit (counts : NodeCounts) (why : EditRefusal) : Type 0 where
   pub above : IsAbove counts why
   pub first : (other : EditRefusal) → number_of other < number_of why → ¬ IsAbove counts other
 
@@ -34,13 +34,13 @@ pub record IsFirstLimit (counts : Counts) (why : EditRefusal) : Type 0 where
 pub record IsClassAt (n : Net) (id : InstanceId) (class : ClassId) : Type 0 where
   pub name : List ℕ
   pub named : IsNamed n id name
-  pub of_class : IsOf n.topology name class
+  pub of_class : HasClass n.topology name class
   pub within : IsClass n.topology.model class
 
 -- b's class is the target of the relation, or a descendant of that
 pub record FitsTarget (t : Topology) (b : List ℕ) (rel : RelId) : Type 0 where
   pub class : ClassId
-  pub of_class : IsOf t b class
+  pub of_class : HasClass t b class
   pub row : RelRow
   pub is : slice_get t.model.relations rel.0 ≡ Some row
   pub kind : IsA t.model class row.target

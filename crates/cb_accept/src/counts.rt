@@ -7,19 +7,19 @@ ghost use Rattle.cb_accept.specs.Counts.{AreCounts, AreWithin, AreOwn, AreOfOneC
 use cb_model::{ClassId, Model};
 
 /// How many nodes, problems and symptom nodes there are, the muted ones among them.
-#[derive(Clone, Copy, Debug, PartialEq, Eq)]
-pub struct Counts {
+#[derive(Clone, Copy, PartialEq, Eq)]
+pub struct NodeCounts {
     pub nodes: usize,
     pub problems: usize,
     pub symptoms: usize,
 }
 
-impl Counts {
+impl NodeCounts {
     /// Those of a topology without instances.
-    pub fn none() -> Counts
+    pub fn none() -> NodeCounts
         ensures { (tables : Tables) → AreCounts (empty_topology tables) result }
     {
-        Counts {
+        NodeCounts {
             nodes: 0,
             problems: 0,
             symptoms: 0,
@@ -27,7 +27,7 @@ impl Counts {
     }
 
     // What one instance of the class has.
-    fn of_class(model: &Model, class: ClassId) -> Counts
+    fn of_class(model: &Model, class: ClassId) -> NodeCounts
         requires { IsClass model.now class }
         ensures own { AreOwn model.now class result }
         ensures few { AreOfOneClass result }
@@ -41,7 +41,7 @@ impl Counts {
             problems += usize::from(marks.problem);
             symptoms += usize::from(marks.symptom);
         }
-        Counts {
+        NodeCounts {
             nodes: events.len(),
             problems,
             symptoms,
@@ -49,13 +49,13 @@ impl Counts {
     }
 
     /// The counts once there is a further instance of the class.
-    pub fn with(self, model: &Model, class: ClassId) -> Counts
+    pub fn with(self, model: &Model, class: ClassId) -> NodeCounts
         requires class { IsClass model.now class }
         requires few { AreWithin self }
         ensures { CountWith model.now self class result }
     {
-        let own = Counts::of_class(model, class);
-        Counts {
+        let own = NodeCounts::of_class(model, class);
+        NodeCounts {
             nodes: self.nodes + own.nodes,
             problems: self.problems + own.problems,
             symptoms: self.symptoms + own.symptoms,
@@ -63,12 +63,12 @@ impl Counts {
     }
 
     /// The counts once an instance of the class is gone.
-    pub fn without(self, model: &Model, class: ClassId) -> Counts
+    pub fn without(self, model: &Model, class: ClassId) -> NodeCounts
         requires class { IsClass model.now class }
         ensures { CountWithout model.now self class result }
     {
-        let own = Counts::of_class(model, class);
-        Counts {
+        let own = NodeCounts::of_class(model, class);
+        NodeCounts {
             nodes: self.nodes.saturating_sub(own.nodes),
             problems: self.problems.saturating_sub(own.problems),
             symptoms: self.symptoms.saturating_sub(own.symptoms),

@@ -6,14 +6,14 @@ ghost use Rattle.cb_network.specs.Edits.{IsAccepted, IsRefused};
 ghost use Rattle.cb_accept.specs.Refusals.{IsFirstLimit};
 ghost use Rattle.cb_accept.specs.Steps.{IsStepOf};
 
-use crate::counts::Counts;
+use crate::counts::NodeCounts;
 use crate::limits::{MOST_INSTANCES, MOST_NODES, MOST_PROBLEMS, MOST_SYMPTOMS};
 use crate::step::Step;
 use cb_instances::Net;
 use cb_network::EditRefusal;
 
 /// Whether no number is above its limit, and else the first one that is.
-pub fn are_within(counts: Counts) -> Result<(), EditRefusal>
+pub(crate) fn are_within(counts: NodeCounts) -> Result<(), EditRefusal>
     ensures within { OnOk result (AreWithin counts) }
     ensures beyond { IfErr result (IsFirstLimit counts) }
 {
@@ -29,7 +29,12 @@ pub fn are_within(counts: Counts) -> Result<(), EditRefusal>
 }
 
 /// Whether an instance of this name and class may be created.
-pub fn may_create(net: &Net, counts: Counts, name: &[u8], class: &[u8]) -> Result<Step, EditRefusal>
+pub(crate) fn may_create(
+    net: &Net,
+    counts: NodeCounts,
+    name: &[u8],
+    class: &[u8],
+) -> Result<Step, EditRefusal>
     requires counts { AreCounts net.now.topology counts }
     requires few { AreWithin counts }
     ensures allowed { OnOk result (IsAccepted net.now.topology (Create name.now class.now)) }
@@ -50,7 +55,7 @@ pub fn may_create(net: &Net, counts: Counts, name: &[u8], class: &[u8]) -> Resul
 }
 
 /// Whether the instance may be deleted.
-pub fn may_delete(net: &Net, name: &[u8]) -> Result<Step, EditRefusal>
+pub(crate) fn may_delete(net: &Net, name: &[u8]) -> Result<Step, EditRefusal>
     ensures allowed { OnOk result (IsAccepted net.now.topology (Delete name.now)) }
     ensures step { IfOk result (IsStepOf net.now (Delete name.now)) }
     ensures refused { IfErr result (IsRefused net.now.topology (Delete name.now)) }

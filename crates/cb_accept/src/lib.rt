@@ -4,7 +4,7 @@
 //! the net without a further look-up, or else the refusal that stands first among those that hold.
 //!
 //! What accepted and refused mean is said in cb_network (`IsAccepted`, `IsRefused`); `IsStepOf` ties a step to its edit.
-//! `Counts` are the numbers of nodes, problems and symptom nodes, which `with` and `without` keep under edits, so that the
+//! `NodeCounts` are the numbers of nodes, problems and symptom nodes, which `with` and `without` keep under edits, so that the
 //! limits are tested without going through the topology.
 //!
 //! Promised: one of the two answers, and each refusal by its cause. Nothing is changed here, and no memory is taken.
@@ -22,7 +22,7 @@ mod mute;
 mod refusal;
 mod step;
 
-pub use counts::Counts;
+pub use counts::NodeCounts;
 pub use refusal::decide;
 pub use step::Step;
 

@@ -15,7 +15,7 @@ use cb_model::RelId;
 use cb_network::EditRefusal;
 
 // A link, by numbers.
-#[derive(Clone, Copy, Debug)]
+#[derive(Clone, Copy)]
 struct Ends {
     from: InstanceId,
     rel: RelId,
@@ -40,7 +40,7 @@ impl Ends {
 }
 
 /// Whether the link may be added.
-pub fn may_link(net: &Net, a: &[u8], rel: &[u8], b: &[u8]) -> Result<Step, EditRefusal>
+pub(crate) fn may_link(net: &Net, a: &[u8], rel: &[u8], b: &[u8]) -> Result<Step, EditRefusal>
     ensures allowed { OnOk result (IsAccepted net.now.topology (Link a.now rel.now b.now)) }
     ensures step { IfOk result (IsStepOf net.now (Link a.now rel.now b.now)) }
     ensures refused { IfErr result (IsRefused net.now.topology (Link a.now rel.now b.now)) }
@@ -59,7 +59,7 @@ pub fn may_link(net: &Net, a: &[u8], rel: &[u8], b: &[u8]) -> Result<Step, EditR
 }
 
 /// Whether the link may be removed.
-pub fn may_unlink(net: &Net, a: &[u8], rel: &[u8], b: &[u8]) -> Result<Step, EditRefusal>
+pub(crate) fn may_unlink(net: &Net, a: &[u8], rel: &[u8], b: &[u8]) -> Result<Step, EditRefusal>
     ensures allowed { OnOk result (IsAccepted net.now.topology (Unlink a.now rel.now b.now)) }
     ensures step { IfOk result (IsStepOf net.now (Unlink a.now rel.now b.now)) }
     ensures refused { IfErr result (IsRefused net.now.topology (Unlink a.now rel.now b.now)) }

@@ -5,7 +5,7 @@ ghost use Rattle.cb_model.specs.declared.id.EventId.{EventId as Event};
 ghost use Rattle.cb_model.specs.declared.id.RelId.{RelId as Relation};
 ghost use Rattle.cb_model.specs.WellTyped.{IsRelation, WellTyped};
 ghost use Rattle.cb_network.specs.Nodes.{IsSymptomNode};
-ghost use Rattle.cb_network.specs.Edits.{IsRelationAt, HasRelationAt, IsTaken, node_of};
+ghost use Rattle.cb_network.specs.Edits.{IsRelationAt, HasRelationAt, IsOneUsedUp, node_of};
 ghost use Rattle.cb_instances.specs.Net.{IsLive, IsNamed};
 ghost use Rattle.cb_accept.specs.Refusals.{IsClassAt, FitsTarget, IsSymptomAt};
 
@@ -28,7 +28,7 @@ fn class_at(net: &Net, id: InstanceId) -> Option<ClassId>
 }
 
 /// The relation of this name that the instance's class has.
-pub fn relation_at(net: &Net, id: InstanceId, name: &[u8]) -> Option<RelId>
+pub(crate) fn relation_at(net: &Net, id: InstanceId, name: &[u8]) -> Option<RelId>
     requires { IsLive net.now id }
     ensures found { IfSome result (λ (rel : Relation). (a : List ℕ) → IsNamed net.now id a → IsRelationAt net.now.topology a name.now rel) }
     ensures absent { IfNone result ((a : List ℕ) → IsNamed net.now id a → ¬ HasRelationAt net.now.topology a name.now) }
@@ -38,7 +38,7 @@ pub fn relation_at(net: &Net, id: InstanceId, name: &[u8]) -> Option<RelId>
 }
 
 /// Whether the instance's class is the target of the relation, or a descendant of that.
-pub fn is_of_kind(net: &Net, id: InstanceId, rel: RelId) -> bool
+pub(crate) fn is_of_kind(net: &Net, id: InstanceId, rel: RelId) -> bool
     requires live { IsLive net.now id }
     requires rel { IsRelation net.now.topology.model rel }
     ensures { (b : List ℕ) → IsNamed net.now id b → IsTrue result ↔ FitsTarget net.now.topology b rel }
@@ -51,17 +51,17 @@ pub fn is_of_kind(net: &Net, id: InstanceId, rel: RelId) -> bool
 }
 
 /// Whether the instance may have one link alone by this relation, and has it.
-pub fn is_taken(net: &Net, id: InstanceId, rel: RelId) -> bool
+pub(crate) fn is_taken(net: &Net, id: InstanceId, rel: RelId) -> bool
     requires live { IsLive net.now id }
     requires rel { IsRelation net.now.topology.model rel }
-    ensures { (a : List ℕ) → IsNamed net.now id a → IsTrue result ↔ IsTaken net.now.topology a rel }
+    ensures { (a : List ℕ) → IsNamed net.now id a → IsTrue result ↔ IsOneUsedUp net.now.topology a rel }
 {
     let row = net.model().tables().relations.at(rel.0 as usize);
     !row.many && !net.links(id, rel).is_empty()
 }
 
 /// The event of this name that is a symptom of the instance's class.
-pub fn symptom_at(net: &Net, id: InstanceId, name: &[u8]) -> Option<EventId>
+pub(crate) fn symptom_at(net: &Net, id: InstanceId, name: &[u8]) -> Option<EventId>
     requires { IsLive net.now id }
     ensures found { IfSome result (λ (event : Event). (a : List ℕ) → IsNamed net.now id a → IsSymptomAt net.now id name.now a event) }
     ensures absent { IfNone result ((a : List ℕ) → IsNamed net.now id a → ¬ IsSymptomNode net.now.topology (node_of name.now a)) }

@@ -13,7 +13,7 @@ use cb_model::EventId;
 use cb_network::EditRefusal;
 
 // A symptom of an instance, by numbers.
-#[derive(Clone, Copy, Debug)]
+#[derive(Clone, Copy)]
 struct Symptom {
     id: InstanceId,
     event: EventId,
@@ -34,7 +34,7 @@ impl Symptom {
 }
 
 /// Whether the symptom may be muted.
-pub fn may_mute(net: &Net, event: &[u8], name: &[u8]) -> Result<Step, EditRefusal>
+pub(crate) fn may_mute(net: &Net, event: &[u8], name: &[u8]) -> Result<Step, EditRefusal>
     ensures allowed { OnOk result (IsAccepted net.now.topology (Mute event.now name.now)) }
     ensures step { IfOk result (IsStepOf net.now (Mute event.now name.now)) }
     ensures refused { IfErr result (IsRefused net.now.topology (Mute event.now name.now)) }
@@ -48,7 +48,7 @@ pub fn may_mute(net: &Net, event: &[u8], name: &[u8]) -> Result<Step, EditRefusa
 }
 
 /// Whether the symptom may be observed again.
-pub fn may_unmute(net: &Net, event: &[u8], name: &[u8]) -> Result<Step, EditRefusal>
+pub(crate) fn may_unmute(net: &Net, event: &[u8], name: &[u8]) -> Result<Step, EditRefusal>
     ensures allowed { OnOk result (IsAccepted net.now.topology (Unmute event.now name.now)) }
     ensures step { IfOk result (IsStepOf net.now (Unmute event.now name.now)) }
     ensures refused { IfErr result (IsRefused net.now.topology (Unmute event.now name.now)) }

@@ -4,7 +4,7 @@ ghost use Rattle.cb_network.specs.Edits.{IsAccepted, IsRefused};
 ghost use Rattle.cb_accept.specs.Counts.{AreCounts, AreWithin};
 ghost use Rattle.cb_accept.specs.Steps.{IsStepOf};
 
-use crate::counts::Counts;
+use crate::counts::NodeCounts;
 use crate::create::{may_create, may_delete};
 use crate::link::{may_link, may_unlink};
 use crate::mute::{may_mute, may_unmute};
@@ -13,7 +13,7 @@ use cb_instances::Net;
 use cb_network::{Edit, EditRefusal};
 
 /// What was found of an edit that is accepted, and else the refusal that stands first among those that hold.
-pub fn decide(net: &Net, counts: Counts, edit: &Edit) -> Result<Step, EditRefusal>
+pub fn decide(net: &Net, counts: NodeCounts, edit: &Edit) -> Result<Step, EditRefusal>
     requires counts { AreCounts net.now.topology counts }
     requires few { AreWithin counts }
     ensures accepted { OnOk result (IsAccepted net.now.topology edit.now) }

@@ -3,7 +3,7 @@ use cb_instances::InstanceId;
 use cb_model::{ClassId, EventId, RelId};
 
 /// An edit by the numbers of what it names. What a new instance is called stands in the edit alone.
-#[derive(Clone, Copy, Debug)]
+#[derive(Clone, Copy)]
 pub enum Step {
     Create {
         class: ClassId,

@@ -9,7 +9,7 @@ use Rattle.cb_alarm.specs.declared.skip.Skip.{Skip}
 use Rattle.cb_alarm.specs.declared.skip.Skip.TheVariants.{Bad, NoMemory}
 use Rattle.cb_alarm.specs.Faults.{OnBad, OnSkip, HasSource, IsAlarmFault, IsEditFault, IsFirstFault, IsValueFault}
 use Rattle.cb_alarm.specs.Skips.{number_of, Has, IsFaulty, Fails, IsSkipped}
-use Rattle.cb_alarm.specs.Spelled.{Reads, ReadsObject, time_of, kinds_in}
+use Rattle.cb_alarm.specs.Spelled.{ReadsJson, ReadsObject, time_of, kinds_in}
 use Rattle.cb_alarm.proofs.OneRecord.{value_is_one, object_is_one, has, has_text, kinds_apart, Apart}
 use Rattle.cb_alarm.proofs.OneSkip.{some_true}
 
@@ -154,9 +154,9 @@ module _ (ms : Members) (time : time_of ms ≢ None) where
         source (inr c, _) = apart.bd (is_there (codes "clear") c) (is_there (codes "tick") h)
 
 -- what is wrong with the value that a line reads as is why the line is skipped
-module _ (line : List ℕ) (value : Data) (reads : Reads line value) where
+module _ (line : List ℕ) (value : Data) (reads : ReadsJson line value) where
   members_are : (ms n : Members) → value ≡ object ms → ReadsObject line n → n ≡ ms
-  members_are ms n is other = object_is_one line n ms other (subst (Reads line) is reads)
+  members_are ms n is other = object_is_one line n ms other (subst (ReadsJson line) is reads)
 
   object_skipped : (ms : Members) → value ≡ object ms → (kind : SkipKind) → IsFirstFault ms kind
       → (IsFaulty ms kind → Fails line kind) → IsSkipped line kind
@@ -186,8 +186,8 @@ module _ (line : List ℕ) (value : Data) (reads : Reads line value) where
       before BadBody lt f = absurd (omega arith)
       before BadName lt f = absurd (omega arith)
       before BadEdit lt f = absurd (omega arith)
-  value_skipped BadAt (ms, is, first) = object_skipped ms is BadAt first (λ f. (ms, subst (Reads line) is reads, f))
-  value_skipped BadSource (ms, is, first) = object_skipped ms is BadSource first (λ f. (ms, subst (Reads line) is reads, f))
-  value_skipped BadBody (ms, is, first) = object_skipped ms is BadBody first (λ f. (ms, subst (Reads line) is reads, f))
-  value_skipped BadName (ms, is, first) = object_skipped ms is BadName first (λ f. (ms, subst (Reads line) is reads, f))
-  value_skipped BadEdit (ms, is, first) = object_skipped ms is BadEdit first (λ f. (ms, subst (Reads line) is reads, f))
+  value_skipped BadAt (ms, is, first) = object_skipped ms is BadAt first (λ f. (ms, subst (ReadsJson line) is reads, f))
+  value_skipped BadSource (ms, is, first) = object_skipped ms is BadSource first (λ f. (ms, subst (ReadsJson line) is reads, f))
+  value_skipped BadBody (ms, is, first) = object_skipped ms is BadBody first (λ f. (ms, subst (ReadsJson line) is reads, f))
+  value_skipped BadName (ms, is, first) = object_skipped ms is BadName first (λ f. (ms, subst (ReadsJson line) is reads, f))
+  value_skipped BadEdit (ms, is, first) = object_skipped ms is BadEdit first (λ f. (ms, subst (ReadsJson line) is reads, f))

@@ -13,16 +13,16 @@ use Rattle.cb_log.specs.declared.event.SkipWhy.TheVariants.{Bad}
 use Rattle.cb_log.specs.declared.record.Body.{Body}
 use Rattle.cb_log.specs.declared.record.Body.TheVariants.{Raise, Clear, Change, Tick}
 use Rattle.cb_log.specs.declared.record.Record.{Record}
-use Rattle.cb_log.specs.Entries.{Entry, said, skipped, records_of}
+use Rattle.cb_log.specs.Entries.{LogEntry, said, skipped, records_of}
 use Rattle.cb_log.specs.declared.event.Event.{Event}
 use Rattle.cb_log.specs.Basis.{Mode}
 use Rattle.cb_log.specs.Events.{EntriesGive, EndGives}
 use Rattle.cb_log.proofs.EventsOne.{entries_give_one, closing_gives_one}
 use Rattle.cb_network.specs.Regular.{IsRegular}
 use Rattle.cb_network.specs.Topology.{Topology}
-use Rattle.cb_alarm.specs.Lines.{Line, text, long, IsTaken, ComesTo, ComeTo, log_lines, LogGives}
+use Rattle.cb_alarm.specs.Lines.{NumberedLine, text, long, IsTaken, ComesTo, ComeTo, log_lines, LogGives}
 use Rattle.cb_alarm.specs.Skips.{number_of, IsFaulty, Fails, IsSkipped}
-use Rattle.cb_alarm.specs.Spelled.{ReadsObject, time_of, kinds_in, SaysBody, Spells}
+use Rattle.cb_alarm.specs.Spelled.{ReadsObject, time_of, kinds_in, SaysBody, SpellsRecord}
 use Rattle.cb_alarm.proofs.OneRecord.{value_is_one, object_is_one, has, has_text, text_is_one, kinds_apart, Apart, record_is_one}
 
 by_number : ℕ → SkipKind
@@ -106,7 +106,7 @@ module _ (m : Members) (one : kinds_in m ≡ 1) where
         let it = at_edit (has_text m (codes "edit") s is) in
         none it.0 (subst (λ (u : List ℕ). SpellsEdit u it.0) (text_is_one m (codes "edit") it.1.0 s it.1.1 is) it.1.2)
 
-module _ (line : List ℕ) (r : Record) (spells : Spells line r) where
+module _ (line : List ℕ) (r : Record) (spells : SpellsRecord line r) where
   at_fault : (n : Members) → ReadsObject line n → (kind : SkipKind) → IsFaulty n kind → ⊥
   at_fault n reads kind f =
       let same : n ≡ spells.members = object_is_one line n spells.members reads spells.reads in
@@ -121,20 +121,20 @@ module _ (line : List ℕ) (r : Record) (spells : Spells line r) where
   spelled_passes BadName (n, reads, f) = at_fault n reads BadName f
   spelled_passes BadEdit (n, reads, f) = at_fault n reads BadEdit f
 
-taken_is_one : (number : ℕ) (bytes : List ℕ) (x y : Entry) → IsTaken number bytes x → IsTaken number bytes y → x ≡ y
+taken_is_one : (number : ℕ) (bytes : List ℕ) (x y : LogEntry) → IsTaken number bytes x → IsTaken number bytes y → x ≡ y
 taken_is_one number bytes x y (inl (r, p, e)) (inl (s, q, f)) = e ∙ (ap (said number) (record_is_one bytes r s p q) ∙ sym f)
 taken_is_one number bytes x y (inl (r, p, e)) (inr (k, q, f)) = absurd (spelled_passes bytes r p k q.0)
 taken_is_one number bytes x y (inr (k, q, f)) (inl (r, p, e)) = absurd (spelled_passes bytes r p k q.0)
 taken_is_one number bytes x y (inr (j, p, e)) (inr (k, q, f)) = e ∙ (ap (λ (w : SkipKind). skipped number (Bad w)) (skip_is_one bytes j k p q) ∙ sym f)
 
-pub comes_to_one : (line : Line) (x y : Entry) → ComesTo line x → ComesTo line y → x ≡ y
+pub comes_to_one : (line : NumberedLine) (x y : LogEntry) → ComesTo line x → ComesTo line y → x ≡ y
 comes_to_one (long number) x y p q = p ∙ sym q
 comes_to_one (text number bytes) x y (inl p) (inl q) = p.1 ∙ sym q.1
 comes_to_one (text number bytes) x y (inl p) (inr q) = absurd (q.0 p.0)
 comes_to_one (text number bytes) x y (inr p) (inl q) = absurd (p.0 q.0)
 comes_to_one (text number bytes) x y (inr p) (inr q) = taken_is_one number bytes x y p.1 q.1
 
-pub come_to_one : (lines : List Line) (xs ys : List Entry) → ComeTo lines xs → ComeTo lines ys → xs ≡ ys
+pub come_to_one : (lines : List NumberedLine) (xs ys : List LogEntry) → ComeTo lines xs → ComeTo lines ys → xs ≡ ys
 come_to_one [] [] [] p q = refl
 come_to_one [] [] (y ∷ ys) p q = absurd q
 come_to_one [] (x ∷ xs) ys p q = absurd p
@@ -148,8 +148,8 @@ come_to_one (line ∷ lines) (x ∷ xs) (y ∷ ys) p q =
 pub log_gives_one : (t : Topology) (mode : Mode) (w : ℕ) (log : List ℕ) (xs ys : List Event) → IsRegular t.model → LogGives t mode w log xs → LogGives t mode w log ys → xs ≡ ys
 log_gives_one t mode w log xs ys regular a b =
     let entries : b.entries ≡ a.entries = come_to_one (log_lines log) b.entries a.entries b.come a.come in
-    let body_b : EntriesGive t mode w [] a.entries b.body = subst (λ (es : List Entry). EntriesGive t mode w [] es b.body) entries b.body_is in
-    let ends_b : EndGives t mode w (records_of a.entries) b.ends = subst (λ (es : List Entry). EndGives t mode w (records_of es) b.ends) entries b.ends_are in
+    let body_b : EntriesGive t mode w [] a.entries b.body = subst (λ (es : List LogEntry). EntriesGive t mode w [] es b.body) entries b.body_is in
+    let ends_b : EndGives t mode w (records_of a.entries) b.ends = subst (λ (es : List LogEntry). EndGives t mode w (records_of es) b.ends) entries b.ends_are in
     let body : a.body ≡ b.body = entries_give_one t regular mode w [] a.entries a.body b.body a.body_is body_b in
     let ends : a.ends ≡ b.ends = closing_gives_one t regular mode w (records_of a.entries) [] a.ends b.ends a.ends_are ends_b in
     a.events_are ∙ ((λ i. body i ++ ends i) ∙ sym b.events_are)

@@ -8,8 +8,8 @@ use Rattle.cb_edits.specs.Spelled.{SpellsEdit}
 use Rattle.cb_log.specs.declared.event.SkipKind.{SkipKind}
 use Rattle.cb_log.specs.declared.event.SkipKind.TheVariants.{NotObject, BadSource, BadBody, BadName, BadEdit}
 use Rattle.cb_log.specs.declared.record.Record.{Record}
-use Rattle.cb_alarm.specs.declared.body.Kind.{Kind}
-use Rattle.cb_alarm.specs.declared.body.Kind.TheVariants.{Raise, Clear, Edit as Change, Tick}
+use Rattle.cb_alarm.specs.declared.body.BodyKind.{BodyKind}
+use Rattle.cb_alarm.specs.declared.body.BodyKind.TheVariants.{Raise, Clear, Edit as Change, Tick}
 use Rattle.cb_alarm.specs.declared.skip.Skip.{Skip}
 use Rattle.cb_alarm.specs.declared.skip.Skip.TheVariants.{Bad, NoMemory}
 use Rattle.cb_alarm.specs.Skips.{number_of, IsFaulty, HasNoNode}
@@ -30,7 +30,7 @@ abbrev pub InObject : Data → (Members → Type 0) → Type 0
 InObject value P = (members : Members) → value ≡ object members → P members
 
 -- the name under which an object says something
-abbrev pub name_of : Kind → List ℕ
+abbrev pub name_of : BodyKind → List ℕ
 name_of Raise = codes "raise"
 name_of Clear = codes "clear"
 name_of Change = codes "edit"

@@ -18,7 +18,7 @@ use std::alloc::Global;
 
 // What an object may say.
 #[derive(Clone, Copy)]
-pub(crate) enum Kind {
+pub(crate) enum BodyKind {
     Raise,
     Clear,
     Edit,
@@ -33,7 +33,7 @@ pub(crate) struct Alarm {
 }
 
 // The one thing that is said.
-fn kind_in(value: &Value) -> Option<Kind>
+fn kind_in(value: &Value) -> Option<BodyKind>
     ensures one { IfSome result (λ kind. InObject (view value.now) (λ ms. kinds_in ms ≡ 1)) }
     ensures some { IfSome result (λ kind. InObject (view value.now) (λ ms. Has ms (name_of kind))) }
     ensures none { IfNone result (InObject (view value.now) (λ ms. kinds_in ms ≢ 1)) }
@@ -46,18 +46,18 @@ fn kind_in(value: &Value) -> Option<Kind>
         if clear || edit || tick {
             None
         } else {
-            Some(Kind::Raise)
+            Some(BodyKind::Raise)
         }
     } else if clear {
         if edit || tick {
             None
         } else {
-            Some(Kind::Clear)
+            Some(BodyKind::Clear)
         }
     } else if edit {
-        if tick { None } else { Some(Kind::Edit) }
+        if tick { None } else { Some(BodyKind::Edit) }
     } else if tick {
-        Some(Kind::Tick)
+        Some(BodyKind::Tick)
     } else {
         None
     }
@@ -116,25 +116,25 @@ pub(crate) fn body_in(alloc: Global, value: &Value) -> Result<Body, Skip>
 {
     match kind_in(value) {
         None => Err(Skip::Bad(why_not_one(value))),
-        Some(Kind::Raise) => {
+        Some(BodyKind::Raise) => {
             let alarm = alarm_in(alloc, value, "raise")?;
             Ok(Body::Raise {
                 from: alarm.from,
                 node: alarm.node,
             })
         }
-        Some(Kind::Clear) => {
+        Some(BodyKind::Clear) => {
             let alarm = alarm_in(alloc, value, "clear")?;
             Ok(Body::Clear {
                 from: alarm.from,
                 node: alarm.node,
             })
         }
-        Some(Kind::Edit) => {
+        Some(BodyKind::Edit) => {
             let edit = edit_in(alloc, value)?;
             Ok(Body::Change { edit })
         }
-        Some(Kind::Tick) => {
+        Some(BodyKind::Tick) => {
             if is_tick(value) {
                 Ok(Body::Tick)
             } else {

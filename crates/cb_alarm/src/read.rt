@@ -4,7 +4,7 @@ ghost use Rattle.serde_json.specs.Data.{Members, object};
 ghost use Rattle.serde_json.specs.View.{view};
 ghost use Rattle.cb_alarm.specs.Faults.{OnSkip, IsRecordOf, IsValueFault};
 ghost use Rattle.cb_alarm.specs.Skips.{IsSkipped};
-ghost use Rattle.cb_alarm.specs.Spelled.{Spells};
+ghost use Rattle.cb_alarm.specs.Spelled.{SpellsRecord};
 
 use crate::body::body_in;
 use crate::parts::time_in;
@@ -16,7 +16,7 @@ use std::alloc::Global;
 /// The record that a line of a log spells. The line is first read into a value, which copies its strings; the names that the
 /// record keeps are copied out of it once more.
 pub fn read_record(alloc: Global, line: &[u8]) -> Result<Record, Skip>
-    ensures record { IfOk result (Spells line.now) }
+    ensures record { IfOk result (SpellsRecord line.now) }
     ensures skip { OnSkip result (IsSkipped line.now) }
 {
     match Value::from_slice(alloc, line) {

@@ -9,7 +9,7 @@ ghost use Rattle.cb_bits.specs.Bits.{words_for};
 use std::alloc::{AllocError, Global};
 
 /// The words as they are, which contracts see to be of 64 bits.
-pub fn as_words(words: &[u64]) -> &[u64]
+pub(crate) fn as_words(words: &[u64]) -> &[u64]
     ensures same { result.now ≡ words.now }
     ensures small { All (λ word. word < 2 ^ 64) result.now }
 {
@@ -17,7 +17,7 @@ pub fn as_words(words: &[u64]) -> &[u64]
 }
 
 /// The bit at a place.
-pub fn is_set(words: &[u64], k: usize) -> bool
+pub(crate) fn is_set(words: &[u64], k: usize) -> bool
     requires { k < 64 * length words.now }
     ensures { result ≡ bit_of words.now k }
 {
@@ -25,7 +25,7 @@ pub fn is_set(words: &[u64], k: usize) -> bool
 }
 
 /// Makes the bit at a place one.
-pub fn set_bit(words: &mut [u64], k: usize)
+pub(crate) fn set_bit(words: &mut [u64], k: usize)
     requires { k < 64 * length words.old }
     ensures one { bit_of words.new k ≡ true }
     ensures others { (i : ℕ) → i ≢ k → bit_of words.new i ≡ bit_of words.old i }
@@ -34,7 +34,7 @@ pub fn set_bit(words: &mut [u64], k: usize)
 }
 
 /// Makes the bit at a place zero.
-pub fn clear_bit(words: &mut [u64], k: usize)
+pub(crate) fn clear_bit(words: &mut [u64], k: usize)
     requires { k < 64 * length words.old }
     ensures zero { bit_of words.new k ≡ false }
     ensures others { (i : ℕ) → i ≢ k → bit_of words.new i ≡ bit_of words.old i }
@@ -43,21 +43,21 @@ pub fn clear_bit(words: &mut [u64], k: usize)
 }
 
 /// Makes all bits zero.
-pub fn clear_all(words: &mut [u64])
+pub(crate) fn clear_all(words: &mut [u64])
     ensures { words.new ≡ replicate (length words.old) 0 }
 {
     words.fill(0);
 }
 
 /// As many zeros as `n` bits need words.
-pub fn zero_words(alloc: Global, n: usize) -> Result<Vec<u64>, AllocError>
+pub(crate) fn zero_words(alloc: Global, n: usize) -> Result<Vec<u64>, AllocError>
     ensures { IfOk result (λ words. words.items ≡ replicate (words_for n) 0) }
 {
     vec![in alloc; 0; n.div_ceil(64)]
 }
 
 /// How many bits are one. Most words of a sparse row have none, and a look is cheaper than a count.
-pub fn count_ones(words: &[u64]) -> usize
+pub(crate) fn count_ones(words: &[u64]) -> usize
     requires { count_bits words.now < 2 ^ 64 }
     ensures { result ≡ count_bits words.now }
 {
@@ -73,7 +73,7 @@ pub fn count_ones(words: &[u64]) -> usize
 }
 
 /// How many bits differ.
-pub fn count_differing(words: &[u64], other: &[u64]) -> usize
+pub(crate) fn count_differing(words: &[u64], other: &[u64]) -> usize
     requires same { length words.now ≡ length other.now }
     requires few { count_bits (zip2 bit_xor words.now other.now) < 2 ^ 64 }
     ensures { result ≡ count_bits (zip2 bit_xor words.now other.now) }
@@ -86,7 +86,7 @@ pub fn count_differing(words: &[u64], other: &[u64]) -> usize
 }
 
 /// How many bits differ, where these are fewer than the limit.
-pub fn count_differing_below(words: &[u64], other: &[u64], limit: usize) -> Option<usize>
+pub(crate) fn count_differing_below(words: &[u64], other: &[u64], limit: usize) -> Option<usize>
     requires same { length words.now ≡ length other.now }
     requires few { count_bits (zip2 bit_xor words.now other.now) < 2 ^ 64 }
     ensures { let count = count_bits (zip2 bit_xor words.now other.now) in
@@ -104,7 +104,7 @@ pub fn count_differing_below(words: &[u64], other: &[u64], limit: usize) -> Opti
 }
 
 /// The first bit, from a place on, that is one. Words without a bit are passed at a look.
-pub fn next_bit(words: &[u64], from: usize) -> Option<usize>
+pub(crate) fn next_bit(words: &[u64], from: usize) -> Option<usize>
     requires { 64 * length words.now ≤ 2 ^ 64 }
     ensures next { IfSome result (IsNextBit words.now [] from) }
     ensures none { IfNone result (HoldsNowhere (in_not words.now []) from (64 * length words.now)) }

@@ -1,18 +1,20 @@
 //! The search in breadth. The list of visits is its queue.
 ghost use Rattle.std.specs.Prelude.{◌≡◌, ◌<◌, ◌≤◌, ◌+◌, ◌^◌, ◌↔◌, ℕ, length, replicate, false, IfOk, OnOk};
-ghost use Rattle.cb_reach.specs.Rows.{Has};
+ghost use Rattle.cb_successors.specs.Rows.{Has};
 ghost use Rattle.cb_breadth.specs.Lists.{AreBelow, AreRising};
 ghost use Rattle.cb_breadth.specs.Trees.{IsTree, IsVisited};
+ghost use Rattle.cb_breadth.specs.Levels.{IsLevelTree};
 ghost use Rattle.cb_breadth.specs.Orders.{IsOrder, Follows};
 ghost use Rattle.cb_breadth.specs.Successors.{AreSuccessors};
 ghost use Rattle.cb_breadth.specs.Searches.{IsNewSearch, IsSearchOf};
 ghost use Rattle.cb_breadth.specs.Visiting.{AreVisited};
 
+use crate::levels::grow_levels;
 use crate::successors::Successors;
-use crate::visit::{Order, Visit};
+use crate::visit::{LevelVisit, Order, Visit};
 use cb_bits::Row;
-use cb_reach::Edges;
 use cb_steps::Steps;
+use cb_successors::Edges;
 use std::alloc::{AllocError, Global};
 use std::sync::ledger::Ledger;
 
@@ -64,6 +66,37 @@ pub fn tree<L: Ledger, G: Edges>(
         steps,
     )?;
     forget(&mut searches.found, &visits);
+    Ok(visits)
+}
+
+/// Visits the node of a rank and all that it leads to, level by level, each in order. The graph's value stays as it is.
+pub fn level_tree<L: Ledger, G: Edges>(
+    alloc: Global,
+    graph: &mut G,
+    order: &Order,
+    searches: &mut Searches,
+    root: u32,
+    steps: &mut Steps<L>,
+) -> Result<Vec<LevelVisit>, AllocError>
+    requires order { IsOrder (G.edge graph.old) (G.count graph.old) order.now.nodes.items order.now.ranks.items }
+    requires few { length order.now.nodes.items < 2 ^ 32 }
+    requires root { root < length order.now.nodes.items }
+    requires known { IsSearchOf (G.edge graph.old) order.now searches.old }
+    ensures same { graph.new ≡ graph.old }
+    ensures tree { IfOk result (λ visits. IsLevelTree (Follows (G.edge graph.old) order.now.nodes.items) root visits.items) }
+    ensures known { OnOk result (IsSearchOf (G.edge graph.old) order.now searches.new) }
+    ensures asked { IfOk result (λ visits. steps.new ≤ steps.old + length visits.items) }
+{
+    let visits = grow_levels(
+        alloc,
+        graph,
+        order,
+        &mut searches.successors,
+        &mut searches.found,
+        root,
+        steps,
+    )?;
+    searches.found.wipe();
     Ok(visits)
 }
 

@@ -1,7 +1,7 @@
 //! Nodes in an order, and the visits to them.
 
 /// Numbers of nodes in an order. A node's rank is its place among them.
-#[derive(Debug, Drop)]
+#[derive(Drop)]
 pub struct Order {
     /// For each rank the number of the node.
     pub nodes: Vec<u32>,
@@ -11,8 +11,17 @@ pub struct Order {
 
 /// A node, by its rank; and the place among the visits, counted from 1, of the one that it was found from. The parent of the
 /// root is 0.
-#[derive(Clone, Copy, Debug, PartialEq, Eq)]
+#[derive(Clone, Copy, PartialEq, Eq)]
 pub struct Visit {
     pub node: u32,
+    pub parent: u32,
+}
+
+/// A node, by its rank; the least number of edges of a chain to it from the root; and the place among the visits, counted from 1, of the
+/// least node one level below that has an edge to it. The parent of the root is 0.
+#[derive(Clone, Copy, PartialEq, Eq)]
+pub struct LevelVisit {
+    pub node: u32,
+    pub level: u32,
     pub parent: u32,
 }

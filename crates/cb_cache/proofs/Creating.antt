@@ -24,7 +24,7 @@ use Rattle.cb_network.specs.declared.edit.Edit.TheVariants.{Create, Delete, Link
 use Rattle.cb_network.specs.declared.edit.EditRefusal.TheVariants.{Exists}
 use Rattle.cb_network.specs.Causes.{Causes}
 use Rattle.cb_network.specs.Nodes.{IsNodeOf, IsProblem}
-use Rattle.cb_network.specs.Topology.{Topology, IsLive as IsLiveName, IsOf}
+use Rattle.cb_network.specs.Topology.{Topology, IsLive as IsLiveName, HasClass}
 use Rattle.cb_network.proofs.Sets.{got_insert}
 use Rattle.cb_change.specs.Costs.{IsEditCost, IsTotal}
 use Rattle.cb_change.specs.Touched.{CausesTouched}
@@ -52,7 +52,7 @@ use Rattle.cb_cache.specs.declared.rows.Rows.{Rows}
 use Rattle.cb_cache.specs.declared.scratch.Scratch.{Scratch}
 use Rattle.cb_cache.specs.Created.{Creates, IsNewProblem, IsProblemAmong, IsPoolFor, IsFurtherFor, pool_or}
 use Rattle.cb_cache.specs.Filled.{AddsRows, HaveNoSlots, CostAtMost}
-use Rattle.cb_cache.specs.Kept.{AreApart, AreOwned, AreRight, IsKept}
+use Rattle.cb_cache.specs.Kept.{OwnSlots, AreOwned, AreRight, IsCacheOf}
 use Rattle.cb_cache.specs.Laws.{IsEdited}
 use Rattle.cb_cache.specs.Most.{HasEventsWithin}
 use Rattle.cb_cache.specs.Numbers.{AreOnce, IsProblemNumber}
@@ -190,7 +190,7 @@ module _ (old new : Numbered) (name class : List ℕ) (edited : IsEdited old (Cr
         let (q, named, problem) = right.only i slot ((moved.slots_are i slot).0 has) in
         (q, edited.applies.nodes (number i) q named (stays q (node_of_problem t q problem)), problem)
 
-    pub moved_apart : AreApart new_slots
+    pub moved_apart : OwnSlots new_slots
     moved_apart i j slot has_i has_j = right.apart i j slot ((moved.slots_are i slot).0 has_i) ((moved.slots_are j slot).0 has_j)
 
     pub none_new : HaveNoSlots new_slots ids
@@ -241,13 +241,13 @@ module _ (old new : Numbered) (name class : List ℕ) (edited : IsEdited old (Cr
 module _ (old new : Numbered) (name class : List ℕ) (applies : Applies old (Create name class) new) (whole : IsWhole new) (typed : WellTyped (topology_of new).model)
     (instance : InstanceId) (called : IsNamed new.net instance name) (c : ClassId) (names : NamesClass (topology_of new).model class c) (events : List EventId)
     (are : AreEventsOf (topology_of new).model c events) where
-  of_class : IsOf (topology_of new) name c
+  of_class : HasClass (topology_of new) name c
   of_class =
       let (d, own, is) = applies.after.1 in
       let model : (topology_of old).model ≡ (topology_of new).model = (near (topology_of old) (topology_of new) (Create name class) applies.after).model in
       let same : d ≡ c = named_class (topology_of new).model typed class d c (subst (λ (m : Tables). NamesClass m class d) model own) names in
-      subst (λ (k : ClassId). IsOf (topology_of new) name k) same
-      (subst (λ (w : Topology). IsOf w name d) (sym is) ((got_insert name_cmp_total name_cmp_exact (topology_of old).instances name d name d).1 (inl (refl, refl))))
+      subst (λ (k : ClassId). HasClass (topology_of new) name k) same
+      (subst (λ (w : Topology). HasClass w name d) (sym is) ((got_insert name_cmp_total name_cmp_exact (topology_of old).instances name d name d).1 (inl (refl, refl))))
 
   one_name : (q : List ℕ) → IsNamed new.net instance q → q ≡ name
   one_name q is = let e : Some q ≡ Some name = sym is ∙ called in cc
@@ -259,7 +259,7 @@ module _ (old new : Numbered) (name class : List ℕ) (applies : Applies old (Cr
         let at : named.node.instance ≡ instance = whole.net.one named.node.instance instance name (subst (IsNamed new.net named.node.instance) here named.instance) called in
         let event = whole.had id named.node named.is in
         let own : name_at new.net named.node.instance ≡ name = ap name_or named.instance ∙ here in
-        let class_is : event.0 ≡ c = one_class (topology_of new) name event.0 c (subst (λ (x : List ℕ). IsOf (topology_of new) x event.0) own event.1) of_class in
+        let class_is : event.0 ≡ c = one_class (topology_of new) name event.0 c (subst (λ (x : List ℕ). HasClass (topology_of new) x event.0) own event.1) of_class in
         let has = subst (λ (k : ClassId). HasEvent (topology_of new).model k named.node.event) class_is event.2 in
         let node : named.node ≡ node_of instance named.node.event = λ k. record { instance = at k; event = named.node.event } in
         (named.node.event, event_is_listed (topology_of new).model c events are named.node.event has, subst (IsNode new.nodes id) node named.is, (q, named, problem)),
@@ -281,7 +281,7 @@ zero_read n j = elim (cases_lt j n) [
   | inr le ↦ get_or_past (zeros n) j 0 (let e : length (zeros n) ≡ n = length-replicate n 0 in omega arith)
 ]
 
--- places behind that have no slot change nothing
+-- places after that have no slot change nothing
 more_slots : (slots : List (Option Slot)) (k i : ℕ) (slot : Slot) → HasSlot (slots ++ replicate k None) i slot ↔ HasSlot slots i slot
 more_slots [] k i slot = (λ has. let e = slice_get-replicate k i None (Some slot) has in absurd (cc), λ has. absurd (cc))
 more_slots (x ∷ slots) k zero slot = (λ has. has, λ has. has)
@@ -293,7 +293,7 @@ zeros_behind row n j = elim (cases_lt j (length row)) [
   | inr le ↦ get_or-append_right row (zeros n) (length row) j 0 refl le ∙ zero_read n (j - length row) ∙ sym (get_or_past row j 0 le)
 ]
 
--- neither do zeros behind a row
+-- neither do zeros after a row
 bit_behind : (row : List ℕ) (n k : ℕ) → bit_of (row ++ zeros n) k ≡ bit_of row k
 bit_behind row n k = ap (λ (word : ℕ). bit_at word (k % 64) == 1) (zeros_behind row n (k / 64))
 
@@ -342,7 +342,7 @@ events_fit old typed (Unmute event name) room none is = absurd none
 -- what is known of rows in their new places, with the list of new problems
 pub record FitsIn (old new : Numbered) (edit : Edit) (slots : List (Option Slot)) (mid : Pool) (ids : List NodeId) : Type 0 where
   pub rows : AreRows new slots mid
-  pub apart : AreApart slots
+  pub apart : OwnSlots slots
   pub none : HaveNoSlots slots ids
   pub live : All (IsLiveNode new) ids
   pub right : (after_slots : List (Option Slot)) (after : Pool) → AddsRows new ids slots after_slots mid after → AreRight new after_slots after
@@ -382,7 +382,7 @@ right_spared n slots p q same right =
     record { rows = there; only = right.only; all = right.all; apart = right.apart; owned = owned_there }
 
 -- rows that are as they were but for what there is to spare are kept as well
-pub kept_spared : (n : Numbered) (rows now : Rows) (agenda : Agenda) → AreButSpare rows now → IsKept n record { rows = rows; agenda = agenda } → IsKept n record { rows = now; agenda = agenda }
+pub kept_spared : (n : Numbered) (rows now : Rows) (agenda : Agenda) → AreButSpare rows now → IsCacheOf n record { rows = rows; agenda = agenda } → IsCacheOf n record { rows = now; agenda = agenda }
 kept_spared n rows now agenda same kept =
     record {
       whole = kept.whole;

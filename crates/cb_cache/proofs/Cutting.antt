@@ -10,7 +10,7 @@ use Rattle.cb_model.specs.declared.tables.Tables.{Tables}
 use Rattle.cb_model.specs.Classes.{IsProblemOf}
 use Rattle.cb_network.specs.declared.edit.Edit.{Edit}
 use Rattle.cb_network.specs.declared.edit.Edit.TheVariants.{Create, Delete, Link, Unlink, Mute, Unmute}
-use Rattle.cb_network.specs.Topology.{Topology, IsOf}
+use Rattle.cb_network.specs.Topology.{Topology, HasClass}
 use Rattle.cb_network.specs.Causes.{Causes}
 use Rattle.cb_network.specs.Edits.{IsAfter}
 use Rattle.cb_network.specs.Nodes.{IsNodeOf, IsProblem}
@@ -30,7 +30,7 @@ use Rattle.cb_graph.proofs.Chains.{lead_to_caused, named_once}
 use Rattle.cb_cache.specs.Cached.{IsReachedRow, AreRows}
 use Rattle.cb_cache.specs.Extended.{HasTouched}
 use Rattle.cb_cache.specs.Filled.{AddsRows, HaveNoSlots, CostAtMost}
-use Rattle.cb_cache.specs.Kept.{AreApart, AreRight}
+use Rattle.cb_cache.specs.Kept.{OwnSlots, AreRight}
 use Rattle.cb_cache.specs.Laws.{IsEdited}
 use Rattle.cb_cache.specs.Numbers.{IsProblemNumber}
 use Rattle.cb_cache.specs.Reached.{HasSlot}
@@ -91,7 +91,7 @@ still_problem t u near p x (event, at) =
     subst (λ (m : Tables). (e : EventId) × (q : IsProblemOf m x.class e) × (q.has.row.name ≡ p.event)) near.model (x.event, x.problem, x.named) in
     record {
       class = x.class;
-      of_class = subst (λ (c : ClassId). IsOf u p.instance c) (sym class) at.of_class;
+      of_class = subst (λ (c : ClassId). HasClass u p.instance c) (sym class) at.of_class;
       event = moved.0;
       problem = moved.1;
       named = moved.2;
@@ -174,7 +174,7 @@ module _ (old : Numbered) (edit : Edit) (new : Numbered) (touched : List Bool) (
             row_clean old new edit edited i name named words stays (λ causes. was.1.1 ((touches i slot name was.0 named).1 causes)) reached,
           )
 
-      pub kept_apart : AreApart kept_slots
+      pub kept_apart : OwnSlots kept_slots
       kept_apart i j slot own other = follows.right.apart i j slot (takes.clean i slot own).0 (takes.clean j slot other).0
 
       pub listed_live : All (IsLiveNode new) ids

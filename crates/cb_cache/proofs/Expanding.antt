@@ -3,7 +3,7 @@ use Rattle.std.proofs.Common.{◌≡◌, ◌⊎◌, ◌↔◌, inl, inr, ◌+◌
 use Rattle.std.proofs.lemmas.Bool.{cases_lt, cases_eq, cases_Bool}
 use Rattle.cb_lanes.specs.Words.{bit_of}
 use Rattle.cb_bits.specs.Bits.{IsNextOne, HasNoneFrom}
-use Rattle.cb_reach.specs.Rows.{Has}
+use Rattle.cb_successors.specs.Rows.{Has}
 use Rattle.cb_cache.specs.Reached.{CountsOnly}
 use Rattle.cb_cache.specs.Extended.{AddsBelow}
 use Rattle.cb_cache.proofs.Spreading.{counts_more, counts_weaker}

@@ -15,12 +15,12 @@ use Rattle.cb_network.specs.Nodes.{IsCount}
 use Rattle.cb_nodes.specs.declared.id.NodeId.{NodeId}
 use Rattle.cb_pool.specs.declared.slot.Slot.{Slot}
 use Rattle.cb_pool.specs.Pool.{Pool, IsTaken, SameOthers, row_of}
-use Rattle.cb_reach.specs.Rows.{Has, ones}
+use Rattle.cb_successors.specs.Rows.{Has, ones}
 use Rattle.cb_topo.specs.Numbered.{Numbered, topology_of, IsNodeNamed, IsWhole}
 use Rattle.cb_graph.specs.Edges.{EdgeAt, number}
 use Rattle.cb_graph.proofs.Chains.{named_once}
 use Rattle.cb_cache.specs.Extended.{IsLinked, IsExpanded, HasLed, HasTouched, CountsExpanded}
-use Rattle.cb_cache.specs.Kept.{AreApart}
+use Rattle.cb_cache.specs.Kept.{OwnSlots}
 use Rattle.cb_cache.specs.Reached.{HasSlot, CountsOnly}
 use Rattle.cb_cache.proofs.Linked.{link_total, sum_within, who_later, is_dirty, expanded_few}
 use Rattle.cb_cache.proofs.Slots.{one_slot}
@@ -108,7 +108,7 @@ module _ (n : Numbered) (touched : List Bool) (slots : List (Option Slot)) (p : 
     cost = costs_past end first now old.cost;
   }
 
-  module _ (whole : IsWhole n) (apart : AreApart slots) (end : ℕ) (slot : Slot) (has : HasSlot slots end slot) (name : NodeName) (named : IsNodeNamed n (number end) name) where
+  module _ (whole : IsWhole n) (apart : OwnSlots slots) (end : ℕ) (slot : Slot) (has : HasSlot slots end slot) (name : NodeName) (named : IsNodeNamed n (number end) name) where
     costs_more : (first now next count : ℕ) → CostsUpto n touched slots p end first now → HasTouched touched (row_of p slot)
         → CountsOnly (IsExpanded (EdgeAt n) touched (row_of p slot)) count now next → CostsUpto n touched slots p (end + 1) first next
     costs_more first now next count costs stale counts =

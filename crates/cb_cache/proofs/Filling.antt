@@ -12,7 +12,7 @@ use Rattle.cb_pool.specs.Pool.{Pool, IsTaken}
 use Rattle.cb_topo.specs.Numbered.{Numbered}
 use Rattle.cb_graph.specs.Edges.{number}
 use Rattle.cb_cache.specs.Cached.{IsRowOf, AreRows}
-use Rattle.cb_cache.specs.Kept.{AreApart}
+use Rattle.cb_cache.specs.Kept.{OwnSlots}
 use Rattle.cb_cache.specs.Reached.{HasSlot}
 use Rattle.cb_cache.specs.Filled.{AddsRow, AddsRows, HasSize, CostAtMost}
 use Rattle.cb_cache.proofs.Pooled.{was_taken}
@@ -27,7 +27,7 @@ row_kept n i j slots new_slots p new adds slot (words, has, reached) =
     (words, (adds.others slot (λ same. adds.free (subst (λ (s : Slot). IsTaken p s) same has.0)) words).1 has, reached)
 
 -- before a row is added
-pub none_added : (n : Numbered) (slots : List (Option Slot)) (p : Pool) → AreRows n slots p → AreApart slots → AddsRows n [] slots slots p p
+pub none_added : (n : Numbered) (slots : List (Option Slot)) (p : Pool) → AreRows n slots p → OwnSlots slots → AddsRows n [] slots slots p p
 none_added n slots p rows apart = record {
   rows = rows;
   kept = λ i slot has. has;

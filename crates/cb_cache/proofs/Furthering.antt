@@ -6,8 +6,8 @@ use Rattle.std.proofs.lemmas.List.{get_or_past}
 use Rattle.std.proofs.lemmas.List.Sums.{sum_by-cons}
 use Rattle.std.proofs.lemmas.Simd.{length-zip2}
 use Rattle.cb_lanes.specs.Words.{bit_of}
-use Rattle.cb_reach.specs.Rows.{Has, ones}
-use Rattle.cb_reach.proofs.Marks.{nothing, or_cases}
+use Rattle.cb_successors.specs.Rows.{Has, ones}
+use Rattle.cb_successors.proofs.Marks.{nothing, or_cases}
 use Rattle.cb_cache.specs.Reached.{AreFollowed, IsMet, IsLedByMet, CountsOnly}
 use Rattle.cb_cache.specs.Extended.{AddsBelow, IsSettledBut, IsLedByWords, IsExpanded}
 

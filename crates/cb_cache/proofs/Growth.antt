@@ -3,7 +3,7 @@ use Rattle.std.proofs.Common.{◌≡◌, ◌↔◌, ℕ, List, [], ◌∷◌, Bo
 use Rattle.std.specs.Simd.Lanes.{zip2}
 use Rattle.cb_lanes.specs.Words.{bit_of, HaveCommonBit}
 use Rattle.cb_bits.specs.Bits.{Packs}
-use Rattle.cb_reach.specs.Graphs.{Chain}
+use Rattle.cb_successors.specs.Graphs.{Chain}
 use Rattle.cb_cache.specs.Reached.{IsMet}
 use Rattle.cb_cache.specs.Extended.{IsLedByWords, IsSettledBut, HasTouched}
 use Rattle.cb_cache.proofs.United.{united_cases}

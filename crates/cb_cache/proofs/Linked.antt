@@ -22,9 +22,9 @@ use Rattle.cb_change.proofs.Totals.{taken_out}
 use Rattle.cb_nodes.specs.declared.id.NodeId.{NodeId}
 use Rattle.cb_pool.specs.declared.slot.Slot.{Slot}
 use Rattle.cb_pool.specs.Pool.{Pool, row_of}
-use Rattle.cb_reach.specs.Rows.{Has, ones}
-use Rattle.cb_reach.specs.Graphs.{LeadsTo}
-use Rattle.cb_reach.proofs.Chains.{chains_joined}
+use Rattle.cb_successors.specs.Rows.{Has, ones}
+use Rattle.cb_successors.specs.Graphs.{LeadsTo}
+use Rattle.cb_successors.proofs.Chains.{chains_joined}
 use Rattle.cb_topo.specs.Numbered.{Numbered, topology_of, IsNodeNamed}
 use Rattle.cb_graph.specs.Edges.{EdgeAt, number}
 use Rattle.cb_graph.proofs.Chains.{lead_to_caused, named_once}

@@ -17,7 +17,7 @@ use Rattle.cb_topo.specs.Applied.{IsNodeRoomAfter}
 use Rattle.cb_topo.specs.Numbered.{Numbered, topology_of}
 use Rattle.cb_graph.specs.Edges.{number}
 use Rattle.cb_cache.specs.declared.rows.Store.{Store}
-use Rattle.cb_cache.specs.Kept.{AreRight, IsKept}
+use Rattle.cb_cache.specs.Kept.{AreRight, IsCacheOf}
 use Rattle.cb_cache.specs.Laws.{IsEdited}
 use Rattle.cb_cache.specs.Marks.{ChangesMarks}
 use Rattle.cb_cache.specs.Room.{HasRoomFor, HasAgendaFor}
@@ -82,7 +82,7 @@ module _ (old new : Numbered) (edit : Edit) (edited : IsEdited old edit new) (ma
   }
 
 module _ (old new : Numbered) (edit : Edit) (edited : IsEdited old edit new) (marks : ChangesMarks edit) (store : Store) where
-  pub kept_marked : IsKept old store → IsKept new store
+  pub kept_marked : IsCacheOf old store → IsCacheOf new store
   kept_marked kept =
       let same = sym (same_room old edit (length new.nodes) marks edited.applies.node_room) in
       record {

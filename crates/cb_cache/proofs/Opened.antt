@@ -24,7 +24,7 @@ use Rattle.cb_cache.specs.Reached.{HasSlot}
 use Rattle.cb_cache.specs.Filled.{AddsRows, HaveNoSlots, HasSize, CostAtMost}
 use Rattle.cb_cache.specs.Cached.{AreRows}
 use Rattle.cb_cache.specs.Numbers.{AreOnce, AreProblemNumbers}
-use Rattle.cb_cache.specs.Kept.{AreApart, AreRight}
+use Rattle.cb_cache.specs.Kept.{OwnSlots, AreRight}
 
 -- the name of a listed number, and the number of a listed name
 name_of : (n : Numbered) (ids : List NodeId) (names : List NodeName) → AreNamed n ids names → (id : NodeId) → Contains ids id → (name : NodeName) × Contains names name × IsNodeNamed n id name
@@ -63,7 +63,7 @@ module _ (room : ℕ) (slots : List (Option Slot)) (is : slots ≡ replicate roo
   pub no_rows : (n : Numbered) (p : Pool) → AreRows n slots p
   no_rows n p i slot has = absurd (no_slot room slots is i slot has)
 
-  pub none_apart : AreApart slots
+  pub none_apart : OwnSlots slots
   none_apart i j slot has _ = absurd (no_slot room slots is i slot has)
 
 -- the names of numbers of nodes

@@ -12,13 +12,13 @@ use Rattle.cb_network.specs.Nodes.{IsCount, IsNodeOf}
 use Rattle.cb_change.proofs.Kept.{caused_is_node}
 use Rattle.cb_network.proofs.Sets.{in_insert}
 use Rattle.cb_nodes.specs.declared.id.NodeId.{NodeId}
-use Rattle.cb_reach.specs.Rows.{Has, ones}
-use Rattle.cb_reach.specs.Graphs.{Chain, LeadsTo}
+use Rattle.cb_successors.specs.Rows.{Has, ones}
+use Rattle.cb_successors.specs.Graphs.{Chain, LeadsTo}
 use Rattle.cb_topo.specs.Numbered.{Numbered, topology_of, IsNodeNamed, IsWhole}
 use Rattle.cb_graph.specs.Edges.{EdgeAt, number}
 use Rattle.cb_graph.proofs.Chains.{lead_to_caused, named_once}
 use Rattle.cb_instances.proofs.Showing.{slot_within}
-use Rattle.cb_reach.proofs.Marks.{ones_within}
+use Rattle.cb_successors.proofs.Marks.{ones_within}
 use Rattle.cb_cache.specs.Cached.{IsReachedRow, IsCausedRow}
 use Rattle.cb_cache.specs.Filled.{CostsAtMost}
 use Rattle.cb_cache.specs.Reached.{IsMet, IsAllMet}

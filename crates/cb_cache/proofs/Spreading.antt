@@ -4,10 +4,10 @@ use Rattle.std.proofs.lemmas.Bool.{cases_lt, cases_eq, cases_Bool}
 use Rattle.std.proofs.lemmas.List.{get_or_past, get_or-set_other, length-set, length-replicate}
 use Rattle.cb_lanes.specs.Words.{bit_of}
 use Rattle.cb_bits.proofs.Zeros.{zero_bit}
-use Rattle.cb_reach.specs.Rows.{Has, IsLeft, HasAllOf, ones}
-use Rattle.cb_reach.specs.Graphs.{LeadsTo, Chain}
-use Rattle.cb_reach.proofs.Chains.{chains_joined}
-use Rattle.cb_reach.proofs.Marks.{ones-set, ones_within, set_cases, has_set, nothing, no_ones}
+use Rattle.cb_successors.specs.Rows.{Has, IsLeft, HasAllOf, ones}
+use Rattle.cb_successors.specs.Graphs.{LeadsTo, Chain}
+use Rattle.cb_successors.proofs.Chains.{chains_joined}
+use Rattle.cb_successors.proofs.Marks.{ones-set, ones_within, set_cases, has_set, nothing, no_ones}
 use Rattle.cb_cache.specs.Reached.{IsMet, AreFollowed, IsLedByMet, Visits, CountsOnly}
 
 -- what a search keeps, which began with this row and these words and has made so many steps

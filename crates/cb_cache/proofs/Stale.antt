@@ -14,7 +14,7 @@ use Rattle.cb_pool.specs.Pool.{Pool, HasRow, IsTaken, row_of}
 use Rattle.cb_topo.specs.Numbered.{Numbered, IsLiveNode}
 use Rattle.cb_graph.specs.Edges.{number}
 use Rattle.cb_cache.specs.Extended.{HasTouched}
-use Rattle.cb_cache.specs.Kept.{AreApart}
+use Rattle.cb_cache.specs.Kept.{OwnSlots}
 use Rattle.cb_cache.specs.Numbers.{AreOnce}
 use Rattle.cb_cache.specs.Reached.{HasSlot}
 use Rattle.cb_cache.specs.Stale.{IsClean, IsStale, AreTaken, Leaves, GivesBack, TakesBackOne, TakesBack}
@@ -60,7 +60,7 @@ same_id id other e = λ k. record { 0 = e k }
 same_row : (p new : Pool) (slot : Slot) (row : List ℕ) → ((r : List ℕ) → HasRow new slot r ↔ HasRow p slot r) → IsTaken new slot → row_of new slot ≡ row_of p slot
 same_row p new slot row same taken = let h = (same (row_of new slot)).0 (taken, refl) in h.1
 
-module _ (n : Numbered) (touched : List Bool) (place : ℕ) (id : NodeId) (here : id.0 ≡ place) (first : List (Option Slot)) (p : Pool) (apart : AreApart first) (taken : AreTaken first p)
+module _ (n : Numbered) (touched : List Bool) (place : ℕ) (id : NodeId) (here : id.0 ≡ place) (first : List (Option Slot)) (p : Pool) (apart : OwnSlots first) (taken : AreTaken first p)
     (slots : List (Option Slot)) (mid : Pool) (ids : List NodeId) (back : BackUpTo n touched place first p slots mid ids) where
   -- between a slot's row now and at first there's no difference
   now_row : (i : ℕ) (slot : Slot) → HasSlot slots i slot → row_of mid slot ≡ row_of p slot

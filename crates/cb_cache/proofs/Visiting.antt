@@ -3,8 +3,8 @@ use Rattle.std.proofs.Common.{◌≡◌, ◌↔◌, ◌⊎◌, inl, inr, ℕ, Li
 use Rattle.cb_lanes.specs.Words.{bit_of}
 use Rattle.cb_pool.specs.declared.slot.Slot.{Slot}
 use Rattle.cb_pool.specs.Pool.{Pool, HasRow}
-use Rattle.cb_reach.specs.Rows.{Has}
-use Rattle.cb_reach.proofs.Chains.{chain_more}
+use Rattle.cb_successors.specs.Rows.{Has}
+use Rattle.cb_successors.proofs.Chains.{chain_more}
 use Rattle.cb_cache.specs.Reached.{IsReached, HoldsReached, AreFollowed, Visits}
 
 -- a slot has one row

@@ -7,8 +7,8 @@ use Rattle.std.proofs.lemmas.Simd.{length-zip2}
 use Rattle.cb_lanes.specs.Words.{bit_of}
 use Rattle.cb_bits.specs.Bits.{Packs, values, words_for}
 use Rattle.cb_bits.proofs.Values.{length-values, value-at}
-use Rattle.cb_reach.specs.Rows.{Has}
-use Rattle.cb_reach.proofs.Marks.{or_left, or_right, or_cases}
+use Rattle.cb_successors.specs.Rows.{Has}
+use Rattle.cb_successors.proofs.Marks.{or_left, or_right, or_cases}
 use Rattle.cb_cache.specs.Reached.{IsReached, IsMet, IsAllMet}
 use Rattle.cb_cache.proofs.United.{united_cases}
 

@@ -5,8 +5,8 @@ use Rattle.cb_network.specs.declared.edit.Edit.{Edit}
 use Rattle.cb_network.specs.declared.edit.Edit.TheVariants.{Link}
 use Rattle.cb_pool.specs.declared.slot.Slot.{Slot}
 use Rattle.cb_pool.specs.Pool.{Pool, HasRow}
-use Rattle.cb_reach.specs.Rows.{Has}
-use Rattle.cb_reach.specs.Graphs.{LeadsTo}
+use Rattle.cb_successors.specs.Rows.{Has}
+use Rattle.cb_successors.specs.Graphs.{LeadsTo}
 use Rattle.cb_topo.specs.Numbered.{Numbered, topology_of}
 use Rattle.cb_cache.specs.Kept.{AreRight}
 use Rattle.cb_cache.specs.Laws.{IsEdited}

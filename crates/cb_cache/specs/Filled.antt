@@ -11,7 +11,7 @@ use Rattle.cb_topo.specs.Numbered.{Numbered, topology_of, IsNodeNamed}
 use Rattle.cb_graph.specs.Edges.{number}
 use Rattle.cb_cache.specs.Cached.{IsRowOf, AreRows}
 use Rattle.cb_cache.specs.Reached.{HasSlot}
-use Rattle.cb_cache.specs.Kept.{AreApart}
+use Rattle.cb_cache.specs.Kept.{OwnSlots}
 
 -- this number has a slot that was free, with its row, and nothing else changed
 pub record AddsRow (n : Numbered) (i : ℕ) (slots new_slots : List (Option Slot)) (p new : Pool) : Type 0 where
@@ -33,7 +33,7 @@ pub record AddsRows (n : Numbered) (ids : List NodeId) (slots new_slots : List (
   pub kept : (i : ℕ) (slot : Slot) → HasSlot slots i slot → HasSlot new_slots i slot
   pub only : (i : ℕ) (slot : Slot) → HasSlot new_slots i slot → HasSlot slots i slot ⊎ Contains ids (number i)
   pub all : (id : NodeId) → Contains ids id → (slot : Slot) × HasSlot new_slots id.0 slot
-  pub apart : AreApart new_slots
+  pub apart : OwnSlots new_slots
   pub taken : (slot : Slot) → IsTaken new slot → IsTaken p slot ⊎ ((i : ℕ) × HasSlot new_slots i slot)
 
 -- the node of this number causes so many nodes

@@ -14,8 +14,8 @@ use Rattle.cb_cache.specs.Numbers.{IsProblemNumber}
 use Rattle.cb_cache.specs.Reached.{HasSlot}
 
 -- no two numbers have one slot
-abbrev pub AreApart : List (Option Slot) → Type 0
-AreApart slots = (i j : ℕ) (slot : Slot) → HasSlot slots i slot → HasSlot slots j slot → i ≡ j
+abbrev pub OwnSlots : List (Option Slot) → Type 0
+OwnSlots slots = (i j : ℕ) (slot : Slot) → HasSlot slots i slot → HasSlot slots j slot → i ≡ j
 
 -- each slot that is taken is some number's
 abbrev pub AreOwned : List (Option Slot) → Pool → Type 0
@@ -26,7 +26,7 @@ pub record AreRight (n : Numbered) (slots : List (Option Slot)) (p : Pool) : Typ
   pub rows : AreRows n slots p
   pub only : (i : ℕ) (slot : Slot) → HasSlot slots i slot → IsProblemNumber n (number i)
   pub all : (i : ℕ) → IsProblemNumber n (number i) → (slot : Slot) × HasSlot slots i slot
-  pub apart : AreApart slots
+  pub apart : OwnSlots slots
   pub owned : AreOwned slots p
 
 -- a search has places for all numbers of nodes
@@ -40,7 +40,7 @@ pub record HaveRoom (n : Numbered) (rows : Rows) : Type 0 where
   pub scratch : HasRoom n rows.scratch
 
 -- the topology is whole, the rows are right, and there is room for searches and for edits
-pub record IsKept (n : Numbered) (store : Store) : Type 0 where
+pub record IsCacheOf (n : Numbered) (store : Store) : Type 0 where
   pub whole : IsWhole n
   pub right : AreRight n store.rows.slots.items store.rows.pool
   pub room : HaveRoom n store.rows

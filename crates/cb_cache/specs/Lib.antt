@@ -1,7 +1,7 @@
 pub mod Reached
 pub mod Numbers
 pub mod Cached
-pub mod Codes
+pub mod Encoding
 pub mod Room
 pub mod Kept
 pub mod Filled

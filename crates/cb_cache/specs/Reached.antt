@@ -3,8 +3,8 @@ use Rattle.std.specs.Prelude.{◌≡◌, ◌↔◌, ◌⊎◌, ◌+◌, ◌≤�
 use Rattle.cb_lanes.specs.Words.{bit_of}
 use Rattle.cb_pool.specs.declared.slot.Slot.{Slot}
 use Rattle.cb_pool.specs.Pool.{Pool, HasRow}
-use Rattle.cb_reach.specs.Rows.{Has, ones}
-use Rattle.cb_reach.specs.Graphs.{LeadsTo}
+use Rattle.cb_successors.specs.Rows.{Has, ones}
+use Rattle.cb_successors.specs.Graphs.{LeadsTo}
 
 -- the row of this number is in this slot
 abbrev pub HasSlot : List (Option Slot) → ℕ → Slot → Type 0

@@ -6,7 +6,7 @@ use Rattle.cb_network.specs.declared.edit.Edit.TheVariants.{Delete, Unlink}
 use Rattle.cb_nodes.specs.declared.id.NodeId.{NodeId}
 use Rattle.cb_pool.specs.declared.slot.Slot.{Slot}
 use Rattle.cb_pool.specs.Pool.{Pool, HasRow, IsTaken, SameOthers, row_of}
-use Rattle.cb_reach.specs.Rows.{Has}
+use Rattle.cb_successors.specs.Rows.{Has}
 use Rattle.cb_topo.specs.Numbered.{Numbered, topology_of, IsLiveNode}
 use Rattle.cb_graph.specs.Edges.{number}
 use Rattle.cb_cache.specs.Extended.{HasTouched}

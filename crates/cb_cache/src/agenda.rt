@@ -15,8 +15,8 @@ pub struct Agenda {
     pub problems: Vec<NodeId>,
 }
 
-/// Room for so many nodes.
-pub fn agenda_for(alloc: Global, room: usize) -> Result<Agenda, AllocError>
+/// Room for `room` nodes.
+pub(crate) fn agenda_for(alloc: Global, room: usize) -> Result<Agenda, AllocError>
     ensures room { IfOk result (HasAgendaFor room) }
     ensures none { IfOk result (λ agenda. agenda.problems.items ≡ []) }
 {

@@ -35,21 +35,21 @@ pub struct Cache {
 
 impl std::marker::Model for Cache {
     ghost use Rattle.cb_cache.specs.Cached.{Cached, but_spare};
-    ghost use Rattle.cb_cache.specs.Codes.{cached_code};
+    ghost use Rattle.cb_cache.specs.Encoding.{cached_encoding};
 
     ghost Value = { Cached };
 
-    ghost coded = { cached_code };
+    ghost coded = { cached_encoding };
 
     ghost view = { λ c. record { graph = c.graph; slots = c.store.rows.slots.items; pool = but_spare c.store.rows.pool } };
 
-    ghost use Rattle.cb_cache.specs.Kept.{IsKept};
+    ghost use Rattle.cb_cache.specs.Kept.{IsCacheOf};
 
-    ghost invariant = { λ c. IsKept c.graph c.store };
+    ghost invariant = { λ c. IsCacheOf c.graph c.store };
 }
 
 impl Cache {
-    /// The graph with the rows of its problems, each of which is searched from once. Where memory is wanting, the graph is
+    /// The graph with the rows of its problems, each of which is searched from once. Where memory runs out, the graph is
     /// dropped, and some steps may have been counted.
     pub fn open<L: Ledger>(
         alloc: Global,
@@ -101,7 +101,7 @@ impl Cache {
         self.store.rows.pool.row(self.slot(problem))
     }
 
-    /// Makes the edit: the topology is the one after it, and every row is right again. Where the edit is refused, or memory is wanting,
+    /// Makes the edit: the topology is the one after it, and every row is right again. Where the edit is refused, or memory runs out,
     /// nothing is changed, and no step is counted.
     pub fn apply<L: Ledger>(
         &mut self,

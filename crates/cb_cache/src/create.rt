@@ -11,7 +11,7 @@ ghost use Rattle.cb_topo.specs.Applied.{Applies, Prevents};
 ghost use Rattle.cb_topo.specs.Numbered.{Numbered, topology_of, IsWhole};
 ghost use Rattle.cb_cache.specs.Cached.{but_spare};
 ghost use Rattle.cb_cache.specs.Created.{Creates, IsNewProblem, IsPoolFor, IsProblemAmong, IsRoomWith, pool_or};
-ghost use Rattle.cb_cache.specs.Kept.{HaveRoom, IsKept};
+ghost use Rattle.cb_cache.specs.Kept.{HaveRoom, IsCacheOf};
 ghost use Rattle.cb_cache.specs.Most.{HasEventsWithin};
 ghost use Rattle.cb_cache.specs.Numbers.{AreOnce, IsProblemNumber};
 ghost use Rattle.cb_cache.specs.Spare.{AreButSpare, IsButSpare};
@@ -42,7 +42,7 @@ pub struct Further {
 }
 
 /// Makes an edit that brings an instance, and searches from its problems. All memory is taken before the edit is made.
-pub fn create<L: Ledger>(
+pub(crate) fn create<L: Ledger>(
     alloc: Global,
     graph: &mut Graph,
     edit: &Edit,
@@ -51,9 +51,9 @@ pub fn create<L: Ledger>(
 ) -> Result<(), EditFault>
     requires name { HasGoodName edit.now }
     requires creates { Creates edit.now }
-    requires kept { IsKept graph.old store.old }
+    requires kept { IsCacheOf graph.old store.old }
     ensures made { OnOk result (Applies graph.old edit.now graph.new) }
-    ensures kept { IsKept graph.new store.new }
+    ensures kept { IsCacheOf graph.new store.new }
     ensures cost { OnOk result ((cost : ℕ) → IsEditCost (topology_of graph.old) edit.now (topology_of graph.new) cost → steps.new ≤ steps.old + cost) }
     ensures fault { IfErr result (Prevents graph.old edit.now) }
     ensures graph { OnErr result (graph.new ≡ graph.old) }
@@ -76,10 +76,10 @@ fn create_in<L: Ledger>(
 ) -> Result<(), EditFault>
     requires name { HasGoodName edit.now }
     requires creates { Creates edit.now }
-    requires kept { IsKept graph.old store.old }
+    requires kept { IsCacheOf graph.old store.old }
     requires further { IsRoomWith graph.old edit.now store.old.rows further.old }
     ensures made { OnOk result (Applies graph.old edit.now graph.new) }
-    ensures kept { IsKept graph.new store.new }
+    ensures kept { IsCacheOf graph.new store.new }
     ensures cost { OnOk result ((cost : ℕ) → IsEditCost (topology_of graph.old) edit.now (topology_of graph.new) cost → steps.new ≤ steps.old + cost) }
     ensures fault { IfErr result (Prevents graph.old edit.now) }
     ensures graph { OnErr result (graph.new ≡ graph.old) }

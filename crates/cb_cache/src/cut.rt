@@ -8,7 +8,7 @@ ghost use Rattle.cb_topo.specs.Applied.{Applies, Prevents};
 ghost use Rattle.cb_topo.specs.Numbered.{Numbered, topology_of};
 ghost use Rattle.cb_pool.specs.declared.slot.Slot.{Slot as SlotOf};
 ghost use Rattle.cb_pool.specs.Pool.{IsTaken};
-ghost use Rattle.cb_cache.specs.Kept.{IsKept, HaveRoom, AreRight, AreApart};
+ghost use Rattle.cb_cache.specs.Kept.{IsCacheOf, HaveRoom, AreRight, OwnSlots};
 ghost use Rattle.cb_cache.specs.Reached.{HasSlot};
 ghost use Rattle.cb_cache.specs.Stale.{TakesAway, FollowsEdit, AreTaken, TakesBack, TakesBackOne};
 
@@ -25,8 +25,8 @@ use cb_topo::{Edit, EditFault, Topology};
 use std::alloc::Global;
 use std::sync::ledger::Ledger;
 
-/// Makes an edit that takes links away. Memory is never wanting.
-pub fn cut<L: Ledger>(
+/// Makes an edit that takes links away. Memory never runs out.
+pub(crate) fn cut<L: Ledger>(
     alloc: Global,
     graph: &mut Graph,
     edit: &Edit,
@@ -35,9 +35,9 @@ pub fn cut<L: Ledger>(
 ) -> Result<(), EditFault>
     requires name { HasGoodName edit.now }
     requires takes { TakesAway edit.now }
-    requires kept { IsKept graph.old store.old }
+    requires kept { IsCacheOf graph.old store.old }
     ensures made { OnOk result (Applies graph.old edit.now graph.new) }
-    ensures kept { IsKept graph.new store.new }
+    ensures kept { IsCacheOf graph.new store.new }
     ensures cost { OnOk result ((cost : ℕ) → IsEditCost (topology_of graph.old) edit.now (topology_of graph.new) cost → steps.new ≤ steps.old + cost) }
     ensures fault { IfErr result (Prevents graph.old edit.now) }
     ensures graph { OnErr result (graph.new ≡ graph.old) }
@@ -86,7 +86,7 @@ fn search_again<L: Ledger>(
 // Takes back the row of each problem that is gone, and of each whose row has a touched node, and lists these.
 fn take_back(topology: &Topology, touched: &Row, rows: &mut Rows, problems: &mut Vec<NodeId>)
     requires taken { AreTaken rows.old.slots.items rows.old.pool }
-    requires apart { AreApart rows.old.slots.items }
+    requires apart { OwnSlots rows.old.slots.items }
     requires width { rows.old.pool.width ≡ words_for (length touched.now) }
     requires few { length rows.old.slots.items ≤ 2 ^ 32 }
     requires listed { length rows.old.slots.items ≤ vec_capacity problems.old }

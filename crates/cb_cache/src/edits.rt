@@ -2,7 +2,7 @@
 ghost use Rattle.std.specs.Prelude.{◌≡◌, OnOk, OnErr, IfErr};
 ghost use Rattle.cb_network.specs.Laws.{HasGoodName};
 ghost use Rattle.cb_topo.specs.Applied.{Applies, Prevents};
-ghost use Rattle.cb_cache.specs.Kept.{IsKept};
+ghost use Rattle.cb_cache.specs.Kept.{IsCacheOf};
 ghost use Rattle.cb_cache.specs.Laws.{IsEdited};
 ghost use Rattle.cb_cache.specs.Marks.{ChangesMarks};
 
@@ -11,8 +11,8 @@ use cb_graph::Graph;
 use cb_topo::{Edit, EditFault};
 use std::alloc::Global;
 
-/// Makes the edit. Where it is refused, or memory is wanting, nothing is changed.
-pub fn edit_graph(alloc: Global, graph: &mut Graph, edit: &Edit) -> Result<(), EditFault>
+/// Makes the edit. Where it is refused, or memory runs out, nothing is changed.
+pub(crate) fn edit_graph(alloc: Global, graph: &mut Graph, edit: &Edit) -> Result<(), EditFault>
     requires { HasGoodName edit.now }
     ensures made { OnOk result (IsEdited graph.old edit.now graph.new) }
     ensures fault { IfErr result (Prevents graph.old edit.now) }
@@ -26,12 +26,17 @@ pub fn edit_graph(alloc: Global, graph: &mut Graph, edit: &Edit) -> Result<(), E
 }
 
 /// Makes an edit that mutes or unmutes a symptom: it touches no row.
-pub fn mark(alloc: Global, graph: &mut Graph, edit: &Edit, store: &Store) -> Result<(), EditFault>
+pub(crate) fn mark(
+    alloc: Global,
+    graph: &mut Graph,
+    edit: &Edit,
+    store: &Store,
+) -> Result<(), EditFault>
     requires name { HasGoodName edit.now }
     requires marks { ChangesMarks edit.now }
-    requires kept { IsKept graph.old store.now }
+    requires kept { IsCacheOf graph.old store.now }
     ensures made { OnOk result (Applies graph.old edit.now graph.new) }
-    ensures kept { IsKept graph.new store.now }
+    ensures kept { IsCacheOf graph.new store.now }
     ensures fault { IfErr result (Prevents graph.old edit.now) }
     ensures graph { OnErr result (graph.new ≡ graph.old) }
 {

@@ -5,7 +5,7 @@ ghost use Rattle.std.specs.Simd.Lanes.{zip2};
 ghost use Rattle.cb_topo.specs.Numbered.{IsLiveNode, IsWhole};
 ghost use Rattle.cb_pool.specs.Pool.{IsTaken, with_row};
 ghost use Rattle.cb_cache.specs.Cached.{AreRows};
-ghost use Rattle.cb_cache.specs.Kept.{HaveRoom, AreApart};
+ghost use Rattle.cb_cache.specs.Kept.{HaveRoom, OwnSlots};
 ghost use Rattle.cb_cache.specs.Filled.{AddsRow, AddsRows, HaveNoSlots, CostsAtMost, CostAtMost};
 ghost use Rattle.cb_cache.specs.Numbers.{AreOnce};
 
@@ -20,7 +20,7 @@ use std::sync::ledger::Ledger;
 
 /// Searches from each of these nodes, none of which has a row yet, and gives it one. The rows that are there are taken over where a search
 /// meets their nodes.
-pub fn add_rows<L: Ledger>(
+pub(crate) fn add_rows<L: Ledger>(
     graph: &mut Graph,
     nodes: &[NodeId],
     rows: &mut Rows,
@@ -31,7 +31,7 @@ pub fn add_rows<L: Ledger>(
     requires once { AreOnce nodes.now }
     requires none { HaveNoSlots rows.old.slots.items nodes.now }
     requires rows { AreRows graph.old rows.old.slots.items rows.old.pool }
-    requires apart { AreApart rows.old.slots.items }
+    requires apart { OwnSlots rows.old.slots.items }
     requires room { HaveRoom graph.old rows.old }
     requires spare { length nodes.now ≤ rows.old.pool.spare }
     ensures same { graph.new ≡ graph.old }
@@ -75,7 +75,7 @@ fn add_row<L: Ledger>(graph: &mut Graph, node: NodeId, rows: &mut Rows, steps: &
 }
 
 /// Writes both rows, united, into a slot.
-pub fn write_row(pool: &mut RowPool, slot: Slot, row: &[u64], other: &[u64])
+pub(crate) fn write_row(pool: &mut RowPool, slot: Slot, row: &[u64], other: &[u64])
     requires taken { IsTaken pool.old slot }
     requires row { length row.now ≡ pool.old.width }
     requires other { length other.now ≡ pool.old.width }

@@ -8,7 +8,7 @@ ghost use Rattle.cb_network.specs.Laws.{HasGoodName};
 ghost use Rattle.cb_topo.specs.Applied.{Applies, Prevents};
 ghost use Rattle.cb_topo.specs.Numbered.{Numbered, topology_of};
 ghost use Rattle.cb_graph.specs.Edges.{EdgeAt};
-ghost use Rattle.cb_cache.specs.Kept.{AreRight, HasRoom, IsKept};
+ghost use Rattle.cb_cache.specs.Kept.{AreRight, HasRoom, IsCacheOf};
 ghost use Rattle.cb_cache.specs.Extended.{MakesLink, IsLinked, IsSettledBut, HasLed, CountsExpanded};
 
 use crate::edits::edit_graph;
@@ -26,7 +26,7 @@ use std::alloc::Global;
 use std::sync::ledger::Ledger;
 
 /// Makes an edit that links two instances.
-pub fn link<L: Ledger>(
+pub(crate) fn link<L: Ledger>(
     alloc: Global,
     graph: &mut Graph,
     edit: &Edit,
@@ -35,9 +35,9 @@ pub fn link<L: Ledger>(
 ) -> Result<(), EditFault>
     requires name { HasGoodName edit.now }
     requires link { MakesLink edit.now }
-    requires kept { IsKept graph.old store.old }
+    requires kept { IsCacheOf graph.old store.old }
     ensures made { OnOk result (Applies graph.old edit.now graph.new) }
-    ensures kept { IsKept graph.new store.new }
+    ensures kept { IsCacheOf graph.new store.new }
     ensures cost { OnOk result ((cost : ℕ) → IsEditCost (topology_of graph.old) edit.now (topology_of graph.new) cost → steps.new ≤ steps.old + cost) }
     ensures fault { IfErr result (Prevents graph.old edit.now) }
     ensures graph { OnErr result (graph.new ≡ graph.old) }

@@ -2,8 +2,8 @@
 ghost use Rattle.std.specs.Prelude.{◌≡◌, vec_capacity};
 ghost use Rattle.std.specs.List.Sorted.{IsPermutation};
 
-/// Brings the items into an order that leaps to and fro: each changes places with the one whose place has the same bits backwards.
-pub fn scatter<T: Copy>(items: &mut Vec<T>)
+/// Exchanges each two items whose positions are each other's bits reversed, where both are there.
+pub(crate) fn scatter<T: Copy>(items: &mut Vec<T>)
     ensures items { IsPermutation items.old.items items.new.items }
     ensures room { vec_capacity items.new ≡ vec_capacity items.old }
 {
@@ -23,7 +23,7 @@ fn trade<T: Copy>(items: &mut Vec<T>, place: usize, other: usize)
     }
 }
 
-// The place with its bits backwards, behind so many bits that no place has.
+// The place with its bits backwards, after so many bits that no place has.
 fn mirrored(place: usize, idle: u32) -> usize {
     place.reverse_bits() >> idle.min(63)
 }

@@ -14,7 +14,7 @@ use cb_nodes::NodeId;
 use cb_topo::Topology;
 
 /// How many problems there are. Each number of a node is looked at.
-pub fn problem_count(topology: &Topology) -> usize
+pub(crate) fn problem_count(topology: &Topology) -> usize
     ensures count { IsCount (IsProblem (topology_of topology.now)) result }
     ensures few { result ≤ problem_limit }
 {
@@ -28,7 +28,7 @@ pub fn problem_count(topology: &Topology) -> usize
 }
 
 /// How many events the class of a further instance has.
-pub fn events_within(model: &Model, edit: &Edit) -> usize
+pub(crate) fn events_within(model: &Model, edit: &Edit) -> usize
     requires { WellTyped model.now }
     ensures events { HasEventsWithin model.now edit.now result }
     ensures few { result ≤ 256 }
@@ -44,7 +44,7 @@ pub fn events_within(model: &Model, edit: &Edit) -> usize
 
 /// Lists the numbers of all problems, in an order in which a search along a chain, whichever way it runs, soon meets a node that
 /// was searched from before. It takes no memory.
-pub fn list_problems(topology: &Topology, list: &mut Vec<NodeId>)
+pub(crate) fn list_problems(topology: &Topology, list: &mut Vec<NodeId>)
     requires empty { list.old.items ≡ [] }
     requires room { length topology.now.nodes ≤ vec_capacity list.old }
     ensures problems { AreProblemNumbers topology.now list.new.items }

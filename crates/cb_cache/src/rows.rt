@@ -2,7 +2,7 @@
 ghost use Rattle.std.specs.Prelude.{◌≡◌, ◌≤◌, ◌+◌, ℕ, IfOk, None, replicate};
 ghost use Rattle.cb_change.specs.Costs.{IsOpenCost};
 ghost use Rattle.cb_topo.specs.Numbered.{topology_of};
-ghost use Rattle.cb_cache.specs.Kept.{IsKept};
+ghost use Rattle.cb_cache.specs.Kept.{IsCacheOf};
 ghost use Rattle.cb_cache.specs.Prepared.{IsEmptyFor, IsRoomFor};
 ghost use Rattle.cb_cache.specs.Room.{HasRoomFor};
 
@@ -34,13 +34,13 @@ pub struct Store {
 }
 
 /// The rows of the graph's problems, each of which is searched from once.
-pub fn search_all<L: Ledger>(
+pub(crate) fn search_all<L: Ledger>(
     alloc: Global,
     graph: &mut Graph,
     steps: &mut Steps<L>,
 ) -> Result<Store, AllocError>
     ensures same { graph.new ≡ graph.old }
-    ensures kept { IfOk result (IsKept graph.old) }
+    ensures kept { IfOk result (IsCacheOf graph.old) }
     ensures cost { (cost : ℕ) → IsOpenCost (topology_of graph.old) cost → steps.new ≤ steps.old + cost }
 {
     let mut store = room_now(alloc, graph.topology())?;
@@ -52,7 +52,7 @@ pub fn search_all<L: Ledger>(
 fn search_each<L: Ledger>(graph: &mut Graph, store: &mut Store, steps: &mut Steps<L>)
     requires { IsRoomFor graph.old store.old }
     ensures same { graph.new ≡ graph.old }
-    ensures kept { IsKept graph.old store.new }
+    ensures kept { IsCacheOf graph.old store.new }
     ensures cost { (cost : ℕ) → IsOpenCost (topology_of graph.old) cost → steps.new ≤ steps.old + cost }
 {
     list_problems(graph.topology(), &mut store.agenda.problems);
@@ -90,8 +90,8 @@ fn no_slots(alloc: Global, room: usize) -> Result<Vec<Option<Slot>>, AllocError>
     vec![in alloc; None; room]
 }
 
-/// Room for searches among so many nodes.
-pub fn scratch_for(alloc: Global, room: usize) -> Result<Scratch, AllocError>
+/// Buffers for searches among `room` nodes.
+pub(crate) fn scratch_for(alloc: Global, room: usize) -> Result<Scratch, AllocError>
     ensures { IfOk result (HasRoomFor room) }
 {
     Ok(Scratch {

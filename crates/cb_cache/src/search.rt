@@ -2,7 +2,7 @@
 ghost use Rattle.std.specs.Prelude.{◌≡◌, ◌<◌, ◌≤◌, ◌+◌, ◌*◌, ◌↔◌, ◌⊎◌, ℕ, [], length, replicate, true, false, IfSome, IfNone};
 ghost use Rattle.cb_lanes.specs.Words.{bit_of};
 ghost use Rattle.cb_bits.specs.Bits.{words_for};
-ghost use Rattle.cb_reach.specs.Rows.{Has, HasAllOf, IsLeft, ones};
+ghost use Rattle.cb_successors.specs.Rows.{Has, HasAllOf, IsLeft, ones};
 ghost use Rattle.cb_pool.specs.Pool.{IsTaken, row_of};
 ghost use Rattle.cb_cache.specs.Room.{HasRoomFor};
 ghost use Rattle.cb_cache.specs.Reached.{HasSlot, AreReached, AreFollowed, IsMet, IsLedByMet, Visits, IsAllMet, CountsOnly};
@@ -12,13 +12,13 @@ use crate::scratch::Scratch;
 use cb_bits::Row;
 use cb_lanes::or_into;
 use cb_pool::{RowPool, Slot};
-use cb_reach::Edges;
 use cb_steps::Steps;
+use cb_successors::Edges;
 use std::sync::ledger::Ledger;
 
 /// Meets all that the node leads to. A node that is met and has a row is not searched from again: its row is taken over as a
 /// whole, and its nodes cost nothing.
-pub fn search<L: Ledger, G: Edges>(
+pub(crate) fn search<L: Ledger, G: Edges>(
     graph: &mut G,
     node: usize,
     slots: &[Option<Slot>],
@@ -53,7 +53,7 @@ pub fn search<L: Ledger, G: Edges>(
 
 /// Meets all that the nodes of a slot's row lead to. Of these only the touched ones may have successors outside the row, and only
 /// they and the nodes outside it cost something.
-pub fn search_further<L: Ledger, G: Edges>(
+pub(crate) fn search_further<L: Ledger, G: Edges>(
     graph: &mut G,
     pool: &RowPool,
     slot: Slot,
@@ -113,7 +113,7 @@ fn expand<L: Ledger, G: Edges>(
     ensures adds { AddsBelow (G.edge graph.old) nodes.now words.now (G.count graph.old) found.old found.new }
     ensures cost { CountsOnly (λ k. Has nodes.now k × (bit_of words.now k ≡ true)) (G.count graph.old) steps.old steps.new }
 {
-    // A length fits its type, and so does the place behind a node.
+    // A length fits its type, and so does the place after a node.
     let _room = nodes.len();
     let mut from = 0;
     while let Some(node) = nodes.next_one(from) {

@@ -10,23 +10,23 @@ use Rattle.cb_cert.specs.declared.certificate.Side.{Side}
 use Rattle.cb_cert.specs.declared.certificate.Side.TheVariants as side
 use Rattle.cb_cert.specs.declared.certificate.Certificate.{Certificate}
 use Rattle.cb_cert.specs.declared.certificate.Certificate.TheVariants as certificate
-use Rattle.cb_cert.specs.declared.line.Line.{Line}
-use Rattle.cb_cert.specs.declared.line.Line.TheVariants as line
-use Rattle.cb_cert.specs.Ahead.{Place, at_header, at_kind, at_wanted, at_distance, at_thin_distance, at_nodes, at_node, at_columns, at_column, at_spans, at_span, at_side, at_entry, at_end, MayStand, MayCome, opened, nodes_after, all_places}
+use Rattle.cb_cert.specs.declared.line.CertificateLine.{CertificateLine}
+use Rattle.cb_cert.specs.declared.line.CertificateLine.TheVariants as line
+use Rattle.cb_cert.specs.Ahead.{TextPlace, at_header, at_kind, at_wanted, at_distance, at_thin_distance, at_nodes, at_node, at_columns, at_column, at_spans, at_span, at_side, at_entry, at_end, MayStand, MayCome, opened, nodes_after, all_places}
 use Rattle.cb_cert.specs.Format.{Fits, nodes_of}
 use Rattle.cb_cert.specs.Fronts.{Begins}
 use Rattle.cb_cert.specs.Lines.{certificate_lines, span_lines, node_lines, column_lines, all_span_lines, side_lines}
 use Rattle.cb_cert.proofs.Uniques.{three_parts}
 
 -- the lines at the front of these that fit the certificate may come
-abbrev Goes : Certificate → ℕ → List Place → List Line → Type 0
-Goes c n ahead whole = (ls more : List Line) → whole ≡ ls ++ more → All (Fits c) ls → MayCome n ahead ls
+abbrev Goes : Certificate → ℕ → List TextPlace → List CertificateLine → Type 0
+Goes c n ahead whole = (ls more : List CertificateLine) → whole ≡ ls ++ more → All (Fits c) ls → MayCome n ahead ls
 
 goes_end : (c : Certificate) (n : ℕ) → Goes c n [] []
 goes_end c n [] more e fit = tt
 goes_end c n (l ∷ ls) more e fit = absurd (cc)
 
-goes_cons : (c : Certificate) (n : ℕ) (place : Place) (ahead : List Place) (l : Line) (rest : List Line) → (Fits c l → MayStand n place l)
+goes_cons : (c : Certificate) (n : ℕ) (place : TextPlace) (ahead : List TextPlace) (l : CertificateLine) (rest : List CertificateLine) → (Fits c l → MayStand n place l)
     → Goes c (nodes_after n l) (opened l ++ ahead) rest → Goes c n (place ∷ ahead) (l ∷ rest)
 goes_cons c n place ahead l rest may later [] more e fit = tt
 goes_cons c n place ahead l rest may later (m ∷ ls) more e fit =
@@ -36,41 +36,41 @@ goes_cons c n place ahead l rest may later (m ∷ ls) more e fit =
     subst (λ k. MayStand n place k × MayCome (nodes_after n k) (opened k ++ ahead) ls) (sym same)
     (may here, later ls more tails (All-tail (Fits c) m ls fit))
 
-goes_nodes : (c : Certificate) (n : ℕ) (ahead : List Place) (rest : List Line) (xs : List NodeName) → Goes c n ahead rest
+goes_nodes : (c : Certificate) (n : ℕ) (ahead : List TextPlace) (rest : List CertificateLine) (xs : List NodeName) → Goes c n ahead rest
     → Goes c n (replicate (length xs) at_node ++ ahead) (map line.Node xs ++ rest)
 goes_nodes c n ahead rest [] later = later
 goes_nodes c n ahead rest (x ∷ xs) later =
     goes_cons c n at_node (replicate (length xs) at_node ++ ahead) (line.Node x) (map line.Node xs ++ rest) (λ fits. fits) (goes_nodes c n ahead rest xs later)
 
 module _ (c : Certificate) where
-  goes_columns : (ahead : List Place) (rest : List Line) (xs : List ℕ) → Goes c (length (nodes_of c)) ahead rest
+  goes_columns : (ahead : List TextPlace) (rest : List CertificateLine) (xs : List ℕ) → Goes c (length (nodes_of c)) ahead rest
       → Goes c (length (nodes_of c)) (replicate (length xs) at_column ++ ahead) (map line.Column xs ++ rest)
   goes_columns ahead rest [] later = later
   goes_columns ahead rest (x ∷ xs) later =
       goes_cons c (length (nodes_of c)) at_column (replicate (length xs) at_column ++ ahead) (line.Column x) (map line.Column xs ++ rest) (λ fits. fits)
       (goes_columns ahead rest xs later)
 
-  goes_entries : (ahead : List Place) (rest : List Line) (xs : List Entry) → Goes c (length (nodes_of c)) ahead rest
+  goes_entries : (ahead : List TextPlace) (rest : List CertificateLine) (xs : List Entry) → Goes c (length (nodes_of c)) ahead rest
       → Goes c (length (nodes_of c)) (replicate (length xs) at_entry ++ ahead) (map line.Entry xs ++ rest)
   goes_entries ahead rest [] later = later
   goes_entries ahead rest (x ∷ xs) later =
       goes_cons c (length (nodes_of c)) at_entry (replicate (length xs) at_entry ++ ahead) (line.Entry x) (map line.Entry xs ++ rest) (λ fits. fits)
       (goes_entries ahead rest xs later)
 
-  goes_span : (ahead : List Place) (rest : List Line) (s : Span) → Goes c (length (nodes_of c)) ahead rest
+  goes_span : (ahead : List TextPlace) (rest : List CertificateLine) (s : Span) → Goes c (length (nodes_of c)) ahead rest
       → Goes c (length (nodes_of c)) (at_span ∷ ahead) (span_lines s ++ rest)
   goes_span ahead rest s later =
       goes_cons c (length (nodes_of c)) at_span ahead (line.Span (length s.entries)) (map line.Entry s.entries ++ rest) (λ fits. fits)
       (goes_entries ahead rest s.entries later)
 
-  goes_spans : (ahead : List Place) (rest : List Line) (ss : List Span) → Goes c (length (nodes_of c)) ahead rest
+  goes_spans : (ahead : List TextPlace) (rest : List CertificateLine) (ss : List Span) → Goes c (length (nodes_of c)) ahead rest
       → Goes c (length (nodes_of c)) (replicate (length ss) at_span ++ ahead) (flat_map span_lines ss ++ rest)
   goes_spans ahead rest [] later = later
   goes_spans ahead rest (s ∷ ss) later =
       subst (Goes c (length (nodes_of c)) (replicate (length (s ∷ ss)) at_span ++ ahead)) (sym (append_assoc (span_lines s) (flat_map span_lines ss) rest))
       (goes_span (replicate (length ss) at_span ++ ahead) (flat_map span_lines ss ++ rest) s (goes_spans ahead rest ss later))
 
-  goes_side : (ahead : List Place) (rest : List Line) (s : Side) → Goes c (length (nodes_of c)) ahead rest
+  goes_side : (ahead : List TextPlace) (rest : List CertificateLine) (s : Side) → Goes c (length (nodes_of c)) ahead rest
       → Goes c (length (nodes_of c)) (at_side ∷ ahead) (side_lines s ++ rest)
   goes_side ahead rest side.Quiet later = goes_cons c (length (nodes_of c)) at_side ahead line.Quiet rest (λ fits. tt) later
   goes_side ahead rest (side.Root s) later =
@@ -124,5 +124,5 @@ goes_whole (certificate.Thin w d nodes first second) =
     (goes_cons c 0 at_thin_distance (at_nodes ∷ ahead) (line.Distance d) rest (λ fits. fits) moved)))
 
 -- what a certificate begins with may come
-pub fronts_may_come : (ls : List Line) → Begins ls → MayCome 0 all_places ls
+pub fronts_may_come : (ls : List CertificateLine) → Begins ls → MayCome 0 all_places ls
 fronts_may_come ls front = goes_whole front.of ls front.more front.are front.fit

@@ -7,17 +7,17 @@ use Rattle.cb_cert.specs.declared.certificate.Span.{Span}
 use Rattle.cb_cert.specs.declared.certificate.Side.TheVariants as side
 use Rattle.cb_cert.specs.declared.certificate.Certificate.{Certificate}
 use Rattle.cb_cert.specs.declared.certificate.Certificate.TheVariants as certificate
-use Rattle.cb_cert.specs.declared.line.Line.{Line}
-use Rattle.cb_cert.specs.declared.line.Line.TheVariants as line
-use Rattle.cb_cert.specs.Ahead.{Place, at_kind, at_wanted, at_distance, at_thin_distance, at_nodes, at_node, at_columns, at_column, at_spans, at_span, at_side, at_entry, at_end, MayStand, MayCome, opened, nodes_after, all_places}
+use Rattle.cb_cert.specs.declared.line.CertificateLine.{CertificateLine}
+use Rattle.cb_cert.specs.declared.line.CertificateLine.TheVariants as line
+use Rattle.cb_cert.specs.Ahead.{TextPlace, at_kind, at_wanted, at_distance, at_thin_distance, at_nodes, at_node, at_columns, at_column, at_spans, at_span, at_side, at_entry, at_end, MayStand, MayCome, opened, nodes_after, all_places}
 use Rattle.cb_cert.specs.Format.{Fits, IsNode, IsEntry, IsWanted, nodes_of, node_limit, column_limit}
 use Rattle.cb_cert.specs.Fronts.{Begins}
 use Rattle.cb_cert.specs.Lines.{certificate_lines, span_lines, node_lines, column_lines, all_span_lines, side_lines}
 use Rattle.cb_cert.proofs.Uniques.{three_parts}
 use Rattle.cb_cert.proofs.Readings.{front_part}
 
--- what fits behind the number of nodes, in a certificate with n nodes
-abbrev Later : ℕ → Line → Type 0
+-- what fits after the number of nodes, in a certificate with n nodes
+abbrev Later : ℕ → CertificateLine → Type 0
 Later n (line.Node x) = IsNode x
 Later n (line.Columns m) = m ≤ column_limit
 Later n (line.Column i) = (0 < i) × (i ≤ n)
@@ -28,7 +28,7 @@ Later n line.Quiet = Unit {0}
 Later n line.End = Unit {0}
 Later n l = ⊥
 
-later_fits : (c : Certificate) (n : ℕ) → length (nodes_of c) ≡ n → (l : Line) → Later n l → Fits c l
+later_fits : (c : Certificate) (n : ℕ) → length (nodes_of c) ≡ n → (l : CertificateLine) → Later n l → Fits c l
 later_fits c n e (line.Node x) p = p
 later_fits c n e (line.Columns m) p = p
 later_fits c n e (line.Column i) p = subst (λ k. (0 < i) × (i ≤ k)) (sym e) p
@@ -39,48 +39,48 @@ later_fits c n e line.Quiet p = tt
 later_fits c n e line.End p = tt
 later_fits c n e l p = absurd p
 
--- the lines, which fit, are the front of a whole such that T
-record Fills (n : ℕ) (T : List Line → Type 0) (ls : List Line) : Type 0 where
-  whole : List Line
+-- the lines, which fit, are the prefix of a whole such that T
+record Fills (n : ℕ) (T : List CertificateLine → Type 0) (ls : List CertificateLine) : Type 0 where
+  whole : List CertificateLine
   is : T whole
-  more : List Line
+  more : List CertificateLine
   are : whole ≡ ls ++ more
   fit : All (Later n) ls
 
 -- whatever may come can be completed
-abbrev Can : ℕ → List Place → (List Line → Type 0) → Type 0
-Can n ahead T = (ls : List Line) → MayCome n ahead ls → Fills n T ls
+abbrev Can : ℕ → List TextPlace → (List CertificateLine → Type 0) → Type 0
+Can n ahead T = (ls : List CertificateLine) → MayCome n ahead ls → Fills n T ls
 
-refill : (n : ℕ) (T U : List Line → Type 0) (ls : List Line) → ((whole : List Line) → T whole → U whole) → Fills n T ls → Fills n U ls
+refill : (n : ℕ) (T U : List CertificateLine → Type 0) (ls : List CertificateLine) → ((whole : List CertificateLine) → T whole → U whole) → Fills n T ls → Fills n U ls
 refill n T U ls change r = record { whole = r.whole; is = change r.whole r.is; more = r.more; are = r.are; fit = r.fit }
 
--- one line, and a whole behind it
-record Behind {X : Type 0} (f : X → Line) (T : X → List Line → Type 0) (whole : List Line) : Type 0 where
+-- one line, and a whole after it
+record Behind {X : Type 0} (f : X → CertificateLine) (T : X → List CertificateLine → Type 0) (whole : List CertificateLine) : Type 0 where
   of : X
-  rest : List Line
+  rest : List CertificateLine
   is : T of rest
   whole_is : whole ≡ f of ∷ rest
 
--- items, a line each, and a whole behind them
-record Items {X : Type 0} (f : X → Line) (k : ℕ) (T : List Line → Type 0) (whole : List Line) : Type 0 where
+-- items, a line each, and a whole after them
+record Items {X : Type 0} (f : X → CertificateLine) (k : ℕ) (T : List CertificateLine → Type 0) (whole : List CertificateLine) : Type 0 where
   of : List X
-  rest : List Line
+  rest : List CertificateLine
   many : length of ≡ k
   is : T rest
   whole_is : whole ≡ map f of ++ rest
 
 -- what stands at a place is a line that f makes
-abbrev Back : {X : Type 0} → ℕ → Place → (X → Line) → Type 0
-Back {X} n place f = (l : Line) → MayStand n place l → (x : X) × (l ≡ f x)
+abbrev Back : {X : Type 0} → ℕ → TextPlace → (X → CertificateLine) → Type 0
+Back {X} n place f = (l : CertificateLine) → MayStand n place l → (x : X) × (l ≡ f x)
 
 -- lines that f makes stay within the certificate's nodes, fit, and open such places
-record Made {X : Type 0} (n : ℕ) (place : Place) (f : X → Line) (places : X → List Place) : Type 0 where
+record Made {X : Type 0} (n : ℕ) (place : TextPlace) (f : X → CertificateLine) (places : X → List TextPlace) : Type 0 where
   back : Back n place f
   keeps : (x : X) → nodes_after n (f x) ≡ n
   opens : (x : X) → opened (f x) ≡ places x
   fits : (x : X) → MayStand n place (f x) → Later n (f x)
 
-can_one : {X : Type 0} (n : ℕ) (place : Place) (f : X → Line) (places : X → List Place) (ahead : List Place) (T : X → List Line → Type 0) (some : X)
+can_one : {X : Type 0} (n : ℕ) (place : TextPlace) (f : X → CertificateLine) (places : X → List TextPlace) (ahead : List TextPlace) (T : X → List CertificateLine → Type 0) (some : X)
     → Made n place f places → ((x : X) → Can n (places x ++ ahead) (T x)) → Can n (place ∷ ahead) (Behind f T)
 can_one n place f places ahead T some made later [] p =
     let r = later some [] tt in
@@ -92,7 +92,7 @@ can_one n place f places ahead T some made later (l ∷ ls) p =
     let here : MayStand n place (f x) = subst (MayStand n place) e p.0 in
     let moved : MayCome (nodes_after n (f x)) (opened (f x) ++ ahead) ls = subst (λ m. MayCome (nodes_after n m) (opened m ++ ahead) ls) e p.1 in
     let kept : MayCome n (opened (f x) ++ ahead) ls = subst (λ m. MayCome m (opened (f x) ++ ahead) ls) (made.keeps x) moved in
-    let r = later x ls (subst (λ (ps : List Place). MayCome n (ps ++ ahead) ls) (made.opens x) kept) in
+    let r = later x ls (subst (λ (ps : List TextPlace). MayCome n (ps ++ ahead) ls) (made.opens x) kept) in
     let tail = r.are in
     let whole : f x ∷ r.whole ≡ l ∷ (ls ++ r.more) = cc in
     record {
@@ -103,7 +103,7 @@ can_one n place f places ahead T some made later (l ∷ ls) p =
       fit = All-cons (Later n) l ls (subst (Later n) (sym e) (made.fits x here)) r.fit;
     }
 
-can_items : {X : Type 0} (n : ℕ) (place : Place) (f : X → Line) (ahead : List Place) (T : List Line → Type 0) (some : X) (k : ℕ)
+can_items : {X : Type 0} (n : ℕ) (place : TextPlace) (f : X → CertificateLine) (ahead : List TextPlace) (T : List CertificateLine → Type 0) (some : X) (k : ℕ)
     → Made n place f (λ x. []) → Can n ahead T → Can n (replicate k place ++ ahead) (Items f k T)
 can_items n place f ahead T some zero made later ls p =
     refill n T (Items f zero T) ls (λ whole is. record { of = []; rest = whole; many = refl; is = is; whole_is = refl }) (later ls p)
@@ -171,22 +171,22 @@ made_end n = record { back = back_end n; keeps = λ x. refl; opens = λ x. refl;
 
 -- nodes, columns and spans, and what follows them
 
--- the lines that f makes of something, and a whole behind them
-record Parts {X : Type 0} (f : X → List Line) (T : List Line → Type 0) (whole : List Line) : Type 0 where
+-- the lines that f makes of something, and a whole after them
+record Parts {X : Type 0} (f : X → List CertificateLine) (T : List CertificateLine → Type 0) (whole : List CertificateLine) : Type 0 where
   of : X
-  rest : List Line
+  rest : List CertificateLine
   is : T rest
   whole_is : whole ≡ f of ++ rest
 
--- so many spans, and a whole behind them
-record Spans (k : ℕ) (T : List Line → Type 0) (whole : List Line) : Type 0 where
+-- so many spans, and a whole after them
+record Spans (k : ℕ) (T : List CertificateLine → Type 0) (whole : List CertificateLine) : Type 0 where
   of : List Span
-  rest : List Line
+  rest : List CertificateLine
   many : length of ≡ k
   is : T rest
   whole_is : whole ≡ flat_map span_lines of ++ rest
 
-abbrev Last : List Line → Type 0
+abbrev Last : List CertificateLine → Type 0
 Last whole = whole ≡ line.End ∷ []
 
 can_last : (n : ℕ) → Can n (at_end ∷ []) Last
@@ -194,7 +194,7 @@ can_last n ls p =
     refill n (Behind (λ (x : Unit {0}). line.End) (λ x whole. whole ≡ [])) Last ls (λ whole b. let none = b.is in let is = b.whole_is in cc)
     (can_one n at_end (λ (x : Unit {0}). line.End) (λ x. []) [] (λ x whole. whole ≡ []) tt (made_end n) (λ x. can_end n) ls p)
 
-module _ (n : ℕ) (ahead : List Place) (T : List Line → Type 0) (later : Can n ahead T) where
+module _ (n : ℕ) (ahead : List TextPlace) (T : List CertificateLine → Type 0) (later : Can n ahead T) where
   can_entries : (k : ℕ) → Can n (replicate k at_entry ++ ahead) (Items line.Entry k T)
   can_entries k = can_items n at_entry line.Entry ahead T (record { node = 1; parent = 0 }) k (made_entry n) later
 
@@ -239,7 +239,7 @@ module _ (n : ℕ) (ahead : List Place) (T : List Line → Type 0) (later : Can 
       (can_one n at_columns line.Columns (λ k. replicate k at_column) ahead (λ k. Items line.Column k T) 0 (made_columns n)
       (λ k. can_items n at_column line.Column ahead T 1 k (made_column n) later) ls p)
 
-can_many_spans : (n : ℕ) (ahead : List Place) (T : List Line → Type 0) → Can n ahead T → (k : ℕ) → Can n (replicate k at_span ++ ahead) (Spans k T)
+can_many_spans : (n : ℕ) (ahead : List TextPlace) (T : List CertificateLine → Type 0) → Can n ahead T → (k : ℕ) → Can n (replicate k at_span ++ ahead) (Spans k T)
 can_many_spans n ahead T later zero ls p =
     refill n T (Spans zero T) ls (λ whole is. record { of = []; rest = whole; many = refl; is = is; whole_is = refl }) (later ls p)
 can_many_spans n ahead T later (suc k) ls p =
@@ -249,22 +249,22 @@ can_many_spans n ahead T later (suc k) ls p =
     record { of = b.of ∷ i.of; rest = i.rest; many = ap suc many; is = i.is; whole_is = first ∙ (ap (λ ls. span_lines b.of ++ ls) rest ∙ sym together) })
     (can_span n (replicate k at_span ++ ahead) (Spans k T) (can_many_spans n ahead T later k) ls p)
 
-can_all_spans : (n : ℕ) (ahead : List Place) (T : List Line → Type 0) → Can n ahead T → Can n (at_spans ∷ ahead) (Parts all_span_lines T)
+can_all_spans : (n : ℕ) (ahead : List TextPlace) (T : List CertificateLine → Type 0) → Can n ahead T → Can n (at_spans ∷ ahead) (Parts all_span_lines T)
 can_all_spans n ahead T later ls p =
     refill n (Behind line.Spans (λ k. Spans k T)) (Parts all_span_lines T) ls
     (λ whole b. let i = b.is in let first = b.whole_is in let rest = i.whole_is in let many = i.many in
     record { of = i.of; rest = i.rest; is = i.is; whole_is = cc })
     (can_one n at_spans line.Spans (λ k. replicate k at_span) ahead (λ k. Spans k T) 0 (made_spans n) (can_many_spans n ahead T later) ls p)
 
-can_nodes : (n : ℕ) (ahead : List Place) (T : List Line → Type 0) → Can n ahead T → (k : ℕ) → Can n (replicate k at_node ++ ahead) (Items line.Node k T)
+can_nodes : (n : ℕ) (ahead : List TextPlace) (T : List CertificateLine → Type 0) → Can n ahead T → (k : ℕ) → Can n (replicate k at_node ++ ahead) (Items line.Node k T)
 can_nodes n ahead T later k = can_items n at_node line.Node ahead T (record { event = []; instance = [] }) k (made_node n) later
 
 -- the lines of a whole certificate
 
-fitting : (c : Certificate) (l : Line) (ls : List Line) → Fits c l → All (Fits c) ls → All (Fits c) (l ∷ ls)
+fitting : (c : Certificate) (l : CertificateLine) (ls : List CertificateLine) → Fits c l → All (Fits c) ls → All (Fits c) (l ∷ ls)
 fitting c l ls = All-cons (Fits c) l ls
 
-book_goes_on : (d m : ℕ) → IsWanted d → m ≤ node_limit → (ls : List Line) → MayCome m (replicate m at_node ++ at_columns ∷ at_spans ∷ at_end ∷ []) ls
+book_goes_on : (d m : ℕ) → IsWanted d → m ≤ node_limit → (ls : List CertificateLine) → MayCome m (replicate m at_node ++ at_columns ∷ at_spans ∷ at_end ∷ []) ls
     → Begins (line.Header ∷ line.Book ∷ line.Distance d ∷ line.Nodes m ∷ ls)
 book_goes_on d m wanted low ls p =
     let spans = can_all_spans m (at_end ∷ []) Last (can_last m) in
@@ -293,7 +293,7 @@ book_goes_on d m wanted low ls p =
           (fitting c (line.Nodes m) ls low (All-weaker (Later m) (Fits c) (later_fits c m many) ls r.fit))));
     }
 
-thin_goes_on : (w d m : ℕ) → IsWanted w → d ≤ column_limit → m ≤ node_limit → (ls : List Line)
+thin_goes_on : (w d m : ℕ) → IsWanted w → d ≤ column_limit → m ≤ node_limit → (ls : List CertificateLine)
     → MayCome m (replicate m at_node ++ at_side ∷ at_span ∷ at_end ∷ []) ls
     → Begins (line.Header ∷ line.Thin ∷ line.Wanted w ∷ line.Distance d ∷ line.Nodes m ∷ ls)
 thin_goes_on w d m wanted far low ls p =
@@ -327,46 +327,46 @@ thin_goes_on w d m wanted far low ls p =
 one_wanted : IsWanted 1
 one_wanted = ((omega arith), (omega arith))
 
-book_nodes : (d : ℕ) → IsWanted d → (ls : List Line) → MayCome 0 (at_nodes ∷ at_columns ∷ at_spans ∷ at_end ∷ []) ls
+book_nodes : (d : ℕ) → IsWanted d → (ls : List CertificateLine) → MayCome 0 (at_nodes ∷ at_columns ∷ at_spans ∷ at_end ∷ []) ls
     → Begins (line.Header ∷ line.Book ∷ line.Distance d ∷ ls)
 book_nodes d wanted [] p =
     front_part (line.Header ∷ line.Book ∷ line.Distance d ∷ []) (line.Nodes 0 ∷ []) (book_goes_on d 0 wanted (omega arith) [] tt)
 book_nodes d wanted (line.Nodes m ∷ ls) p = book_goes_on d m wanted p.0 ls p.1
 book_nodes d wanted (l ∷ ls) p = absurd p.0
 
-book_distance : (ls : List Line) → MayCome 0 (at_distance ∷ at_nodes ∷ at_columns ∷ at_spans ∷ at_end ∷ []) ls → Begins (line.Header ∷ line.Book ∷ ls)
+book_distance : (ls : List CertificateLine) → MayCome 0 (at_distance ∷ at_nodes ∷ at_columns ∷ at_spans ∷ at_end ∷ []) ls → Begins (line.Header ∷ line.Book ∷ ls)
 book_distance [] p = front_part (line.Header ∷ line.Book ∷ []) (line.Distance 1 ∷ []) (book_nodes 1 one_wanted [] tt)
 book_distance (line.Distance d ∷ ls) p = book_nodes d p.0 ls p.1
 book_distance (l ∷ ls) p = absurd p.0
 
-thin_nodes : (w d : ℕ) → IsWanted w → d ≤ column_limit → (ls : List Line) → MayCome 0 (at_nodes ∷ at_side ∷ at_span ∷ at_end ∷ []) ls
+thin_nodes : (w d : ℕ) → IsWanted w → d ≤ column_limit → (ls : List CertificateLine) → MayCome 0 (at_nodes ∷ at_side ∷ at_span ∷ at_end ∷ []) ls
     → Begins (line.Header ∷ line.Thin ∷ line.Wanted w ∷ line.Distance d ∷ ls)
 thin_nodes w d wanted far [] p =
     front_part (line.Header ∷ line.Thin ∷ line.Wanted w ∷ line.Distance d ∷ []) (line.Nodes 0 ∷ []) (thin_goes_on w d 0 wanted far (omega arith) [] tt)
 thin_nodes w d wanted far (line.Nodes m ∷ ls) p = thin_goes_on w d m wanted far p.0 ls p.1
 thin_nodes w d wanted far (l ∷ ls) p = absurd p.0
 
-thin_distance : (w : ℕ) → IsWanted w → (ls : List Line) → MayCome 0 (at_thin_distance ∷ at_nodes ∷ at_side ∷ at_span ∷ at_end ∷ []) ls
+thin_distance : (w : ℕ) → IsWanted w → (ls : List CertificateLine) → MayCome 0 (at_thin_distance ∷ at_nodes ∷ at_side ∷ at_span ∷ at_end ∷ []) ls
     → Begins (line.Header ∷ line.Thin ∷ line.Wanted w ∷ ls)
 thin_distance w wanted [] p =
     front_part (line.Header ∷ line.Thin ∷ line.Wanted w ∷ []) (line.Distance 0 ∷ []) (thin_nodes w 0 wanted (omega arith) [] tt)
 thin_distance w wanted (line.Distance d ∷ ls) p = thin_nodes w d wanted p.0 ls p.1
 thin_distance w wanted (l ∷ ls) p = absurd p.0
 
-thin_wanted : (ls : List Line) → MayCome 0 (at_wanted ∷ at_thin_distance ∷ at_nodes ∷ at_side ∷ at_span ∷ at_end ∷ []) ls
+thin_wanted : (ls : List CertificateLine) → MayCome 0 (at_wanted ∷ at_thin_distance ∷ at_nodes ∷ at_side ∷ at_span ∷ at_end ∷ []) ls
     → Begins (line.Header ∷ line.Thin ∷ ls)
 thin_wanted [] p = front_part (line.Header ∷ line.Thin ∷ []) (line.Wanted 1 ∷ []) (thin_distance 1 one_wanted [] tt)
 thin_wanted (line.Wanted w ∷ ls) p = thin_distance w p.0 ls p.1
 thin_wanted (l ∷ ls) p = absurd p.0
 
-kind_goes_on : (ls : List Line) → MayCome 0 (at_kind ∷ at_end ∷ []) ls → Begins (line.Header ∷ ls)
+kind_goes_on : (ls : List CertificateLine) → MayCome 0 (at_kind ∷ at_end ∷ []) ls → Begins (line.Header ∷ ls)
 kind_goes_on [] p = front_part (line.Header ∷ []) (line.Book ∷ []) (book_distance [] tt)
 kind_goes_on (line.Book ∷ ls) p = book_distance ls p.1
 kind_goes_on (line.Thin ∷ ls) p = thin_wanted ls p.1
 kind_goes_on (l ∷ ls) p = absurd p.0
 
 -- what may come is what some certificate begins with
-pub may_come_begins : (ls : List Line) → MayCome 0 all_places ls → Begins ls
+pub may_come_begins : (ls : List CertificateLine) → MayCome 0 all_places ls → Begins ls
 may_come_begins [] p = front_part [] (line.Header ∷ []) (kind_goes_on [] tt)
 may_come_begins (line.Header ∷ ls) p = kind_goes_on ls p.1
 may_come_begins (l ∷ ls) p = absurd p.0

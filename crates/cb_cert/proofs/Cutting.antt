@@ -5,7 +5,7 @@ use Rattle.std.proofs.lemmas.Bool.{eqb-true, eq-eqb, false_from_ne_true}
 use Rattle.memchr.specs.Find.{IsFirstByte, is_byte}
 use Rattle.cb_text.proofs.Cuts.{Lacks}
 use Rattle.cb_cert.specs.declared.certificate.Entry.{Entry}
-use Rattle.cb_cert.specs.declared.line.Line.TheVariants as line
+use Rattle.cb_cert.specs.declared.line.CertificateLine.TheVariants as line
 use Rattle.cb_cert.specs.Lines.{line_text}
 use Rattle.cb_cert.specs.LineForms.{IsShort, IsNoPair, IsNoEntry, numbers_text}
 use Rattle.cb_cert.specs.Format.{IsBetween, IsEntry}
@@ -13,7 +13,7 @@ use Rattle.cb_cert.proofs.LineTexts.{cut_once, digits_lack_space, same_entry}
 use Rattle.std.proofs.lemmas.List.{append_assoc, take_at, take_rest, drop_more, length-take, get_or-take, get_or_default, get_or_at, take-append-drop, length-append, append_cancel_left}
 use Rattle.std.proofs.lemmas.Fmt.{decimal_injective}
 
--- what does not begin with the word has no rest behind it
+-- what does not begin with the word has no rest after it
 pub no_rest_short : (bytes word : List ℕ) → length bytes < length word → (rest : List ℕ) → bytes ≢ word ++ rest
 no_rest_short bytes word short rest e = let l = ap length e in let m = length-append word rest in omega arith
 
@@ -46,7 +46,7 @@ front_lacks_space bytes at first k d inside =
     let here : get_or (take at bytes) k d ≡ get_or bytes k 0 = get_or-take at bytes k d below ∙ get_or_default bytes k d 0 (omega arith) in
     ap (λ b. nat_eq b 32) here ∙ false_from_ne_true _ (first.0.before k (omega arith) below)
 
--- an entry's numbers stand before and behind the first space
+-- an entry's numbers stand before and after the first space
 pub pair_parts : (bytes : List ℕ) (at : ℕ) (e : Entry) → IsFirstByte (is_byte 32) bytes (Some at) → IsShort e → bytes ≡ numbers_text e
     → (take at bytes ≡ decimal e.node) × (drop (at + 1) bytes ≡ decimal e.parent)
 pair_parts bytes at e first short is =
@@ -90,7 +90,7 @@ entry_behind bytes rest e is numbers =
     let back = append_assoc (codes "entry " ++ decimal e.node) (codes " ") (decimal e.parent) ∙ append_assoc (codes "entry ") (decimal e.node) (32 ∷ decimal e.parent) in
     is ∙ (ap (λ (r : List ℕ). codes "entry " ++ r) (numbers ∙ append_assoc (decimal e.node) (codes " ") (decimal e.parent)) ∙ sym back)
 
--- behind the word there is a number, and it is out of range
+-- after the word there is a number, and it is out of range
 pub other_number : (word met : List ℕ) (k least most : ℕ) → k < 2 ^ 32 → most < 2 ^ 32 → met ≡ word ++ decimal k → ¬ IsBetween least most k
     → (x : ℕ) → IsBetween least most x → met ≢ word ++ decimal x
 other_number word met k least most small_k small_most is out x within e =

@@ -8,11 +8,11 @@ use Rattle.cb_text.specs.Lines.{lines_of}
 use Rattle.cb_cert.specs.declared.certificate.Certificate.{Certificate}
 use Rattle.cb_cert.specs.declared.fault.CertText.{CertText}
 use Rattle.cb_cert.specs.declared.fault.CertText.TheVariants as fault
-use Rattle.cb_cert.specs.declared.line.Line.{Line}
-use Rattle.cb_cert.specs.declared.line.Line.TheVariants as line
+use Rattle.cb_cert.specs.declared.line.CertificateLine.{CertificateLine}
+use Rattle.cb_cert.specs.declared.line.CertificateLine.TheVariants as line
 use Rattle.cb_cert.specs.declared.reader.Reader.{Reader}
 use Rattle.cb_cert.specs.Ahead.{at_kind, at_end, MayStand}
-use Rattle.cb_cert.specs.Format.{Fits, IsCertificate, Spells, entries_in}
+use Rattle.cb_cert.specs.Format.{Fits, IsCertificate, SpellsCertificate, entries_in}
 use Rattle.cb_cert.specs.Fronts.{IsFault}
 use Rattle.cb_cert.specs.Lines.{certificate_lines, claim_lines, line_text}
 use Rattle.cb_cert.specs.Steps.{HasRead, Moves}
@@ -41,12 +41,12 @@ begun text reader lines number entries small = record {
   no_other = λ ls begins. (fronts_may_come (line.Header ∷ ls) begins).1;
 }
 
--- a fault that isn't want of memory
+-- a fault that isn't out of memory
 sure : (text : List ℕ) (why : CertText) → why ≢ fault.NoMemory → (why ≡ fault.NoMemory) ⊎ IsFault text why → IsFault text why
 sure text why other (inl none) = absurd (other none)
 sure text why other (inr is) = is
 
-only_end : (n : ℕ) (l : Line) → MayStand n at_end l → l ≡ line.End
+only_end : (n : ℕ) (l : CertificateLine) → MayStand n at_end l → l ≡ line.End
 only_end n line.End p = refl
 only_end n l p = absurd p
 
@@ -86,7 +86,7 @@ module _ (text : List ℕ) (c : Certificate) (n : ℕ) (old : Reader) (read : Ha
         ∙ append_assoc (map line_text (line.Header ∷ claim_lines c)) (line_text line.End ∷ []) rest))
 
     -- nothing follows
-    pub spelt : new.lines ≡ [] → Spells text c
+    pub spelt : new.lines ≡ [] → SpellsCertificate text c
     spelt none = record { is = whole; lines = lines [] none ∙ append-nil (map line_text (certificate_lines c)) }
 
     -- something follows

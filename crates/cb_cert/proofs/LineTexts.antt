@@ -13,8 +13,8 @@ use Rattle.cb_model.specs.declared.node.NodeName.{NodeName}
 use Rattle.cb_cert.specs.declared.certificate.Entry.{Entry}
 use Rattle.cb_cert.specs.declared.certificate.Certificate.{Certificate}
 use Rattle.cb_cert.specs.declared.certificate.Certificate.TheVariants as certificate
-use Rattle.cb_cert.specs.declared.line.Line.{Line}
-use Rattle.cb_cert.specs.declared.line.Line.TheVariants as line
+use Rattle.cb_cert.specs.declared.line.CertificateLine.{CertificateLine}
+use Rattle.cb_cert.specs.declared.line.CertificateLine.TheVariants as line
 use Rattle.cb_cert.specs.Lines.{line_text}
 use Rattle.cb_cert.specs.Format.{Fits, IsDistance, nodes_of, node_limit}
 
@@ -39,7 +39,7 @@ digits_lack_space n small =
     (λ m ds low lacks. All-append (λ b. nat_eq b 32 ≡ false) ds ((48 + m % 10) ∷ []) lacks (digit (m % 10))) n small
 
 -- the numbers of a line have at most 64 bits, and the event of a node is a name
-abbrev pub IsSmall : Line → Type 0
+abbrev pub IsSmall : CertificateLine → Type 0
 IsSmall (line.Wanted w) = w < 2 ^ 64
 IsSmall (line.Distance d) = d < 2 ^ 64
 IsSmall (line.Nodes n) = n < 2 ^ 64
@@ -55,7 +55,7 @@ small_distance : (c : Certificate) (d : ℕ) → IsDistance c d → d < 2 ^ 64
 small_distance (certificate.Book e nodes columns spans) d is = let most = is.1 in omega arith
 small_distance (certificate.Thin w e nodes first second) d is = omega arith
 
-pub fitting_is_small : (c : Certificate) → length (nodes_of c) ≤ node_limit → (l : Line) → Fits c l → IsSmall l
+pub fitting_is_small : (c : Certificate) → length (nodes_of c) ≤ node_limit → (l : CertificateLine) → Fits c l → IsSmall l
 fitting_is_small c few line.Header fits = tt
 fitting_is_small c few line.Book fits = tt
 fitting_is_small c few line.Thin fits = tt
@@ -78,7 +78,7 @@ clash k xs ys differ same =
     let at : nat_eq (get_or ys k 0) (get_or ys k 0) ≡ false = subst (λ (zs : List ℕ). nat_eq (get_or zs k 0) (get_or ys k 0) ≡ false) same differ in
     cc
 
--- a number behind a word
+-- a number after a word
 numbers : (word : List ℕ) (m n : ℕ) → m < 2 ^ 64 → n < 2 ^ 64 → word ++ decimal m ≡ word ++ decimal n → m ≡ n
 numbers word m n small_m small_n e = decimal_injective m n small_m small_n (append_cancel_left word (decimal m) (decimal n) e)
 
@@ -105,7 +105,7 @@ same_entry x y small_x small_y e =
     λ i. record { node = node i; parent = parent i }
 
 -- lines of one text are one
-pub line_text_one : (l m : Line) → IsSmall l → IsSmall m → line_text l ≡ line_text m → l ≡ m
+pub line_text_one : (l m : CertificateLine) → IsSmall l → IsSmall m → line_text l ≡ line_text m → l ≡ m
 line_text_one line.Header line.Header s u same = refl
 line_text_one line.Header line.Book s u same = absurd (clash 0 (line_text line.Header) (line_text line.Book) refl same)
 line_text_one line.Header line.Thin s u same = absurd (clash 0 (line_text line.Header) (line_text line.Thin) refl same)

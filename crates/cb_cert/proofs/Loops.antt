@@ -7,9 +7,9 @@ use Rattle.std.proofs.lemmas.List.{append_assoc, append-nil, map-append, length-
 use Rattle.std.proofs.lemmas.List.Concat.{flat_map-append}
 use Rattle.cb_cert.specs.declared.certificate.Span.{Span}
 use Rattle.cb_cert.specs.declared.fault.CertText.{CertText}
-use Rattle.cb_cert.specs.declared.line.Line.{Line}
+use Rattle.cb_cert.specs.declared.line.CertificateLine.{CertificateLine}
 use Rattle.cb_cert.specs.declared.reader.Reader.{Reader}
-use Rattle.cb_cert.specs.Ahead.{Place}
+use Rattle.cb_cert.specs.Ahead.{TextPlace}
 use Rattle.cb_cert.specs.Lines.{span_lines}
 use Rattle.cb_cert.specs.Steps.{HasRead}
 
@@ -19,16 +19,16 @@ exit P (Ok x) err is p = absurd is
 exit P (Err y) err is p = subst (λ e. P (Err e)) (sym is) p
 
 -- of the items of a list so many are read
-pub record Looped {X : Type 0} (Given : List ℕ → List Line → List Place → Type 0) (lines : List X → List Line) (place : Place) (n count i : ℕ)
+pub record Looped {X : Type 0} (Given : List ℕ → List CertificateLine → List TextPlace → Type 0) (lines : List X → List CertificateLine) (place : TextPlace) (n count i : ℕ)
     (now : Reader) (xs : List X) : Type 0 where
   pub many : length xs ≡ i
-  pub read : (text : List ℕ) (before : List Line) (ahead : List Place) → Given text before ahead
+  pub read : (text : List ℕ) (before : List CertificateLine) (ahead : List TextPlace) → Given text before ahead
       → HasRead text now (before ++ lines xs) n (replicate (count - i) place ++ ahead)
 
-module _ {X : Type 0} (Given : List ℕ → List Line → List Place → Type 0) (lines : List X → List Line) (place : Place) (n count : ℕ) where
+module _ {X : Type 0} (Given : List ℕ → List CertificateLine → List TextPlace → Type 0) (lines : List X → List CertificateLine) (place : TextPlace) (n count : ℕ) where
   -- none is read yet
   pub looped_none : (now : Reader)
-      → ((text : List ℕ) (before : List Line) (ahead : List Place) → Given text before ahead
+      → ((text : List ℕ) (before : List CertificateLine) (ahead : List TextPlace) → Given text before ahead
       → HasRead text now (before ++ lines []) n (replicate count place ++ ahead))
       → Looped Given lines place n count 0 now []
   looped_none now read = record {
@@ -40,35 +40,35 @@ module _ {X : Type 0} (Given : List ℕ → List Line → List Place → Type 0)
 
   module _ (i : ℕ) (now : Reader) (xs : List X) (looped : Looped Given lines place n count i now xs) where
     -- another one comes
-    pub looped_at : i < count → (text : List ℕ) (before : List Line) (ahead : List Place) → Given text before ahead
+    pub looped_at : i < count → (text : List ℕ) (before : List CertificateLine) (ahead : List TextPlace) → Given text before ahead
         → HasRead text now (before ++ lines xs) n (place ∷ (replicate (count - (i + 1)) place ++ ahead))
     looped_at low text before ahead given =
         let k : count - i ≡ suc (count - (i + 1)) = omega arith in
         subst (λ m. HasRead text now (before ++ lines xs) n (replicate m place ++ ahead)) k (looped.read text before ahead given)
 
     -- it is read
-    pub looped_more : i < count → (new : Reader) (x : X) (more : List Line)
-        → ((text : List ℕ) (before : List Line) (ahead : List Place) → HasRead text now before n (place ∷ ahead) → HasRead text new (before ++ more) n ahead)
+    pub looped_more : i < count → (new : Reader) (x : X) (more : List CertificateLine)
+        → ((text : List ℕ) (before : List CertificateLine) (ahead : List TextPlace) → HasRead text now before n (place ∷ ahead) → HasRead text new (before ++ more) n ahead)
         → lines (xs ++ x ∷ []) ≡ lines xs ++ more → Looped Given lines place n count (i + 1) new (xs ++ x ∷ [])
     looped_more low new x more item grown = record {
       many = omega (arith, looped.many, length-append xs (x ∷ []));
       read = λ text before ahead given.
           let rest = replicate (count - (i + 1)) place ++ ahead in
           let next = item text (before ++ lines xs) rest (looped_at low text before ahead given) in
-          subst (λ ls. HasRead text new ls n rest) (append_assoc before (lines xs) more ∙ ap (λ (ls : List Line). before ++ ls) (sym grown)) next;
+          subst (λ ls. HasRead text new ls n rest) (append_assoc before (lines xs) more ∙ ap (λ (ls : List CertificateLine). before ++ ls) (sym grown)) next;
     }
 
     -- all are read
-    pub looped_all : i ≡ count → (text : List ℕ) (before : List Line) (ahead : List Place) → Given text before ahead
+    pub looped_all : i ≡ count → (text : List ℕ) (before : List CertificateLine) (ahead : List TextPlace) → Given text before ahead
         → HasRead text now (before ++ lines xs) n ahead
     looped_all all text before ahead given =
         let k : count - i ≡ 0 = omega arith in
         subst (λ m. HasRead text now (before ++ lines xs) n (replicate m place ++ ahead)) k (looped.read text before ahead given)
 
 -- the lines of one item more
-pub one_more : {X : Type 0} (f : X → Line) (first : Line) (xs : List X) (x : X) → first ∷ map f (xs ++ x ∷ []) ≡ (first ∷ map f xs) ++ f x ∷ []
-one_more f first xs x = ap (λ (ls : List Line). first ∷ ls) (map-append f xs (x ∷ []))
+pub one_more : {X : Type 0} (f : X → CertificateLine) (first : CertificateLine) (xs : List X) (x : X) → first ∷ map f (xs ++ x ∷ []) ≡ (first ∷ map f xs) ++ f x ∷ []
+one_more f first xs x = ap (λ (ls : List CertificateLine). first ∷ ls) (map-append f xs (x ∷ []))
 
-pub one_span_more : (first : Line) (xs : List Span) (x : Span) → first ∷ flat_map span_lines (xs ++ x ∷ []) ≡ (first ∷ flat_map span_lines xs) ++ span_lines x
+pub one_span_more : (first : CertificateLine) (xs : List Span) (x : Span) → first ∷ flat_map span_lines (xs ++ x ∷ []) ≡ (first ∷ flat_map span_lines xs) ++ span_lines x
 one_span_more first xs x =
-    ap (λ (ls : List Line). first ∷ ls) (flat_map-append span_lines xs (x ∷ []) ∙ ap (λ (ls : List Line). flat_map span_lines xs ++ ls) (append-nil (span_lines x)))
+    ap (λ (ls : List CertificateLine). first ∷ ls) (flat_map-append span_lines xs (x ∷ []) ∙ ap (λ (ls : List CertificateLine). flat_map span_lines xs ++ ls) (append-nil (span_lines x)))

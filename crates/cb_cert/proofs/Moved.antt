@@ -7,10 +7,10 @@ use Rattle.std.proofs.lemmas.List.Elements.{All-push, All-tail}
 use Rattle.cb_text.specs.Lines.{lines_of}
 use Rattle.cb_cert.specs.declared.fault.CertText.{CertText}
 use Rattle.cb_cert.specs.declared.fault.CertText.TheVariants as fault
-use Rattle.cb_cert.specs.declared.line.Line.{Line}
-use Rattle.cb_cert.specs.declared.line.Line.TheVariants as line
+use Rattle.cb_cert.specs.declared.line.CertificateLine.{CertificateLine}
+use Rattle.cb_cert.specs.declared.line.CertificateLine.TheVariants as line
 use Rattle.cb_cert.specs.declared.reader.Reader.{Reader}
-use Rattle.cb_cert.specs.Ahead.{Place, MayStand, opened, nodes_after}
+use Rattle.cb_cert.specs.Ahead.{TextPlace, MayStand, opened, nodes_after}
 use Rattle.cb_cert.specs.Format.{entries_in, entry_limit}
 use Rattle.cb_cert.specs.Fronts.{Begins, IsFront, IsWhole, IsFault}
 use Rattle.cb_cert.specs.Lines.{claim_lines, line_text}
@@ -18,21 +18,21 @@ use Rattle.cb_cert.specs.Steps.{HasRead, Moves, Misses}
 use Rattle.cb_cert.proofs.Readings.{all_last}
 
 -- the reader has read one line more, and its entries are counted
-pub record Passes (old new : Reader) (l : Line) : Type 0 where
+pub record Passes (old new : Reader) (l : CertificateLine) : Type 0 where
   pub lines_are : old.lines ≡ line_text l ∷ new.lines
   pub number_is : new.number ≡ min (old.number + 1) (2 ^ 64 - 1)
   pub entries_are : new.entries ≡ old.entries + entries_in l
   pub few : new.entries ≤ entry_limit
 
 -- the number of the line after those that were read
-pub next_number : (text : List ℕ) (reader : Reader) (before : List Line) (n : ℕ) (ahead : List Place) (met : List ℕ) (after : List (List ℕ)) (k : ℕ)
+pub next_number : (text : List ℕ) (reader : Reader) (before : List CertificateLine) (n : ℕ) (ahead : List TextPlace) (met : List ℕ) (after : List (List ℕ)) (k : ℕ)
     → HasRead text reader before n ahead → reader.lines ≡ met ∷ after → k ≡ min (reader.number + 1) (2 ^ 64 - 1) → k ≡ length before + 1
 next_number text reader before n ahead met after k read lines number =
     let all : length (lines_of text) ≡ length (map line_text before) + length reader.lines = ap length read.lines_are ∙ length-append (map line_text before) reader.lines in
     let some : length reader.lines ≡ length after + 1 = omega (arith, ap length lines) in
     omega (arith, all, some, length-map before line_text, read.small, read.number_is, number)
 
-pub taken : (text : List ℕ) (old new : Reader) (before : List Line) (n : ℕ) (place : Place) (ahead : List Place) (l : Line)
+pub taken : (text : List ℕ) (old new : Reader) (before : List CertificateLine) (n : ℕ) (place : TextPlace) (ahead : List TextPlace) (l : CertificateLine)
     → HasRead text old before n (place ∷ ahead) → Passes old new l → MayStand n place l → l ≢ line.End
     → HasRead text new (before ++ l ∷ []) (nodes_after n l) (opened l ++ ahead)
 taken text old new before n place ahead l read next stands going =
@@ -53,14 +53,14 @@ taken text old new before n place ahead l read next stands going =
     }
 
 -- what was read is as it should be
-pub front : (text : List ℕ) (reader : Reader) (before : List Line) (n : ℕ) (ahead : List Place) → HasRead text reader before n ahead → IsFront before
+pub front : (text : List ℕ) (reader : Reader) (before : List CertificateLine) (n : ℕ) (ahead : List TextPlace) → HasRead text reader before n ahead → IsFront before
 front text reader before n ahead read = record {
   begins = subst Begins (append-nil before) (read.goes_on [] tt);
   few = omega (arith, read.few, read.entries_are);
 }
 
 -- and it isn't all
-pub going : (text : List ℕ) (reader : Reader) (before : List Line) (n : ℕ) (ahead : List Place) → HasRead text reader before n ahead → ¬ IsWhole before
+pub going : (text : List ℕ) (reader : Reader) (before : List CertificateLine) (n : ℕ) (ahead : List TextPlace) → HasRead text reader before n ahead → ¬ IsWhole before
 going text reader before n ahead read whole =
     let c = whole.0 in
     let over = subst (All (λ k. k ≢ line.End)) (whole.2) read.unended in
@@ -68,9 +68,9 @@ going text reader before n ahead read whole =
     all_last (λ k. k ≢ line.End) (claim_lines c) line.End behind refl
 
 -- why the next line isn't read is why the text is no certificate
-pub missed : (text : List ℕ) (reader : Reader) (before : List Line) (n : ℕ) (place : Place) (ahead : List Place) (Wrong : List ℕ → Type 0)
+pub missed : (text : List ℕ) (reader : Reader) (before : List CertificateLine) (n : ℕ) (place : TextPlace) (ahead : List TextPlace) (Wrong : List ℕ → Type 0)
     → HasRead text reader before n (place ∷ ahead)
-    → ((l : Line) (met : List ℕ) → Wrong met → met ≡ line_text l → MayStand n place l → ⊥)
+    → ((l : CertificateLine) (met : List ℕ) → Wrong met → met ≡ line_text l → MayStand n place l → ⊥)
     → (why : CertText) → Misses reader Wrong why → (why ≡ fault.NoMemory) ⊎ IsFault text why
 missed text reader before n place ahead Wrong read never fault.BadHeader miss = absurd miss
 missed text reader before n place ahead Wrong read never (fault.BadLine k) miss = inr (record {
@@ -97,15 +97,15 @@ missed text reader before n place ahead Wrong read never (fault.TooManyEntries k
 missed text reader before n place ahead Wrong read never fault.NoMemory miss = inl refl
 
 -- the lines of one form, whose entries don't count, stand at a place
-pub record Stand {X : Type 0} (n : ℕ) (place : Place) (f : X → Line) (P : X → Type 0) : Type 0 where
+pub record Stand {X : Type 0} (n : ℕ) (place : TextPlace) (f : X → CertificateLine) (P : X → Type 0) : Type 0 where
   pub may : (x : X) → P x → MayStand n place (f x)
-  pub only : (l : Line) → MayStand n place l → (x : X) × (l ≡ f x) × P x
+  pub only : (l : CertificateLine) → MayStand n place l → (x : X) × (l ≡ f x) × P x
   pub light : (x : X) → entries_in (f x) ≡ 0
   pub inside : (x : X) → f x ≢ line.End
 
 -- one line of this form is read
-pub took : {X : Type 0} (n : ℕ) (place : Place) (f : X → Line) (P : X → Type 0) → Stand n place f P → (text : List ℕ) (old new : Reader) (before : List Line)
-    (ahead : List Place) → HasRead text old before n (place ∷ ahead) → (x : X) → Moves old new (line_text (f x)) × P x
+pub took : {X : Type 0} (n : ℕ) (place : TextPlace) (f : X → CertificateLine) (P : X → Type 0) → Stand n place f P → (text : List ℕ) (old new : Reader) (before : List CertificateLine)
+    (ahead : List TextPlace) → HasRead text old before n (place ∷ ahead) → (x : X) → Moves old new (line_text (f x)) × P x
     → HasRead text new (before ++ f x ∷ []) (nodes_after n (f x)) (opened (f x) ++ ahead)
 took n place f P stand text old new before ahead read x takes =
     let moves = takes.0 in
@@ -120,8 +120,8 @@ took n place f P stand text old new before ahead read x takes =
     (stand.may x takes.1) (stand.inside x)
 
 -- or it is missing or wrong
-pub took_not : {X : Type 0} (n : ℕ) (place : Place) (f : X → Line) (P : X → Type 0) → Stand n place f P → (text : List ℕ) (old : Reader) (before : List Line)
-    (ahead : List Place) → HasRead text old before n (place ∷ ahead) → (why : CertText)
+pub took_not : {X : Type 0} (n : ℕ) (place : TextPlace) (f : X → CertificateLine) (P : X → Type 0) → Stand n place f P → (text : List ℕ) (old : Reader) (before : List CertificateLine)
+    (ahead : List TextPlace) → HasRead text old before n (place ∷ ahead) → (why : CertText)
     → Misses old (λ met. (x : X) → P x → met ≢ line_text (f x)) why → (why ≡ fault.NoMemory) ⊎ IsFault text why
 took_not {X} n place f P stand text old before ahead read why miss =
     missed text old before n place ahead (λ met. (x : X) → P x → met ≢ line_text (f x)) read

@@ -5,10 +5,10 @@ use Rattle.std.proofs.lemmas.List.{append_assoc}
 use Rattle.std.proofs.lemmas.List.Sums.{sum_by-append}
 use Rattle.cb_cert.specs.declared.fault.CertText.{CertText}
 use Rattle.cb_cert.specs.declared.fault.CertText.TheVariants as fault
-use Rattle.cb_cert.specs.declared.line.Line.{Line}
-use Rattle.cb_cert.specs.declared.line.Line.TheVariants as line
+use Rattle.cb_cert.specs.declared.line.CertificateLine.{CertificateLine}
+use Rattle.cb_cert.specs.declared.line.CertificateLine.TheVariants as line
 use Rattle.cb_cert.specs.declared.reader.Reader.{Reader}
-use Rattle.cb_cert.specs.Ahead.{Place, at_kind, at_span, at_side, at_entry, MayStand, opened, nodes_after}
+use Rattle.cb_cert.specs.Ahead.{TextPlace, at_kind, at_span, at_side, at_entry, MayStand, opened, nodes_after}
 use Rattle.cb_cert.specs.Format.{entries_in}
 use Rattle.cb_cert.specs.Fronts.{IsFault}
 use Rattle.cb_cert.specs.Lines.{line_text}
@@ -16,22 +16,22 @@ use Rattle.cb_cert.specs.Steps.{HasRead, Moves, IsLength, CountsSpan}
 use Rattle.cb_cert.proofs.Moved.{next_number, taken, front, missed}
 
 -- the text ends before a line that is wanted
-pub no_line : (text : List ℕ) (reader : Reader) (before : List Line) (n : ℕ) (place : Place) (ahead : List Place) → HasRead text reader before n (place ∷ ahead)
+pub no_line : (text : List ℕ) (reader : Reader) (before : List CertificateLine) (n : ℕ) (place : TextPlace) (ahead : List TextPlace) → HasRead text reader before n (place ∷ ahead)
     → (why : CertText) → (why ≡ fault.Truncated) × (reader.lines ≡ []) → (why ≡ fault.NoMemory) ⊎ IsFault text why
 no_line text reader before n place ahead read why none =
     subst (λ w. (w ≡ fault.NoMemory) ⊎ IsFault text w) (sym none.0)
     (missed text reader before n place ahead (λ met. ⊥) read (λ l met wrong is stands. wrong) fault.Truncated none.1)
 
-pub only_span : (n : ℕ) (l : Line) → MayStand n at_span l → (k : ℕ) × (l ≡ line.Span k) × IsLength k
+pub only_span : (n : ℕ) (l : CertificateLine) → MayStand n at_span l → (k : ℕ) × (l ≡ line.Span k) × IsLength k
 only_span n (line.Span k) p = (k, refl, p)
 only_span n l p = absurd p
 
-pub only_side : (n : ℕ) (l : Line) → MayStand n at_side l → l ≢ line.Quiet → (k : ℕ) × (l ≡ line.Span k) × IsLength k
+pub only_side : (n : ℕ) (l : CertificateLine) → MayStand n at_side l → l ≢ line.Quiet → (k : ℕ) × (l ≡ line.Span k) × IsLength k
 only_side n (line.Span k) p other = (k, refl, p)
 only_side n line.Quiet p other = absurd (other refl)
 only_side n l p other = absurd p
 
-module _ (text : List ℕ) (old mid new : Reader) (met : List ℕ) (before : List Line) (n : ℕ) (place : Place) (ahead : List Place)
+module _ (text : List ℕ) (old mid new : Reader) (met : List ℕ) (before : List CertificateLine) (n : ℕ) (place : TextPlace) (ahead : List TextPlace)
     (read : HasRead text old before n (place ∷ ahead)) (moves : Moves old mid met) where
   -- the line of a span is read
   pub counted : (k : ℕ) → CountsSpan met mid new (Ok k) → ((m : ℕ) → IsLength m → MayStand n place (line.Span m))
@@ -50,11 +50,11 @@ module _ (text : List ℕ) (old mid new : Reader) (met : List ℕ) (before : Lis
       (may k (counts.0).length_is) (λ e. cc)
 
   -- it isn't the line of a span, or there are too many entries
-  pub counted_not : ((l : Line) → MayStand n place l → met ≡ line_text l → (k : ℕ) × (l ≡ line.Span k) × IsLength k)
+  pub counted_not : ((l : CertificateLine) → MayStand n place l → met ≡ line_text l → (k : ℕ) × (l ≡ line.Span k) × IsLength k)
       → ((m : ℕ) → IsLength m → MayStand n place (line.Span m)) → (why : CertText) → CountsSpan met mid new (Err why)
       → (why ≡ fault.NoMemory) ⊎ IsFault text why
   counted_not only may (fault.BadLine k) p =
-      missed text old before n place ahead (λ m. (l : Line) → m ≡ line_text l → MayStand n place l → ⊥) read
+      missed text old before n place ahead (λ m. (l : CertificateLine) → m ≡ line_text l → MayStand n place l → ⊥) read
       (λ l m wrong is stands. wrong l is stands) (fault.BadLine k)
       (record {
         met = met;
@@ -87,7 +87,7 @@ module _ (text : List ℕ) (old mid new : Reader) (met : List ℕ) (before : Lis
   counted_not only may fault.NoMemory p = absurd p
 
   -- a line that is always the same is read
-  pub fixed : (l : Line) → met ≡ line_text l → entries_in l ≡ 0 → l ≢ line.End → MayStand n place l
+  pub fixed : (l : CertificateLine) → met ≡ line_text l → entries_in l ≡ 0 → l ≢ line.End → MayStand n place l
       → HasRead text mid (before ++ l ∷ []) (nodes_after n l) (opened l ++ ahead)
   fixed l is light inside may =
       let lines = moves.lines_are in
@@ -101,13 +101,13 @@ module _ (text : List ℕ) (old mid new : Reader) (met : List ℕ) (before : Lis
       may inside
 
 -- neither kind of certificate
-pub other_kind : (n : ℕ) (l : Line) (met : List ℕ) → (met ≢ line_text line.Book) × (met ≢ line_text line.Thin) → met ≡ line_text l → MayStand n at_kind l → ⊥
+pub other_kind : (n : ℕ) (l : CertificateLine) (met : List ℕ) → (met ≢ line_text line.Book) × (met ≢ line_text line.Thin) → met ≡ line_text l → MayStand n at_kind l → ⊥
 other_kind n line.Book met other is stands = other.0 is
 other_kind n line.Thin met other is stands = other.1 is
 other_kind n l met other is stands = absurd stands
 
 -- lines that were read one after another
-pub regroup_book : (before : List Line) (a b : Line) (xs ys zs : List Line)
+pub regroup_book : (before : List CertificateLine) (a b : CertificateLine) (xs ys zs : List CertificateLine)
     → ((((before ++ a ∷ []) ++ b ∷ []) ++ xs) ++ ys) ++ zs ≡ before ++ a ∷ b ∷ (xs ++ (ys ++ zs))
 regroup_book before a b xs ys zs =
     let two = (before ++ a ∷ []) ++ b ∷ [] in
@@ -115,7 +115,7 @@ regroup_book before a b xs ys zs =
     append_assoc (two ++ xs) ys zs
     ∙ (append_assoc two xs (ys ++ zs) ∙ (append_assoc (before ++ a ∷ []) (b ∷ []) rest ∙ append_assoc before (a ∷ []) (b ∷ rest)))
 
-pub regroup_thin : (before : List Line) (a b d : Line) (xs ys zs : List Line)
+pub regroup_thin : (before : List CertificateLine) (a b d : CertificateLine) (xs ys zs : List CertificateLine)
     → (((((before ++ a ∷ []) ++ b ∷ []) ++ d ∷ []) ++ xs) ++ ys) ++ zs ≡ before ++ a ∷ b ∷ d ∷ (xs ++ (ys ++ zs))
 regroup_thin before a b d xs ys zs =
     let two = (before ++ a ∷ []) ++ b ∷ [] in

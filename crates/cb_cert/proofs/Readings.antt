@@ -10,8 +10,8 @@ use Rattle.cb_cert.specs.declared.certificate.Certificate.{Certificate}
 use Rattle.cb_cert.specs.declared.certificate.Certificate.TheVariants as certificate
 use Rattle.cb_cert.specs.declared.fault.CertText.{CertText}
 use Rattle.cb_cert.specs.declared.fault.CertText.TheVariants as fault
-use Rattle.cb_cert.specs.declared.line.Line.{Line}
-use Rattle.cb_cert.specs.declared.line.Line.TheVariants as line
+use Rattle.cb_cert.specs.declared.line.CertificateLine.{CertificateLine}
+use Rattle.cb_cert.specs.declared.line.CertificateLine.TheVariants as line
 use Rattle.cb_cert.specs.Lines.{certificate_lines, line_text, text_of}
 use Rattle.cb_cert.specs.Format.{Fits, IsCertificate, entries_in, entry_limit}
 use Rattle.cb_cert.specs.Fronts.{Begins, IsFront, IsWhole, IsReading}
@@ -30,7 +30,7 @@ all_last P [] x all = All-head P x [] all
 all_last P (y ∷ xs) x all = all_last P xs x (All-tail P y (xs ++ x ∷ []) all)
 
 -- what is a beginning up to some line is one up to any line before
-pub front_part : (xs ys : List Line) → Begins (xs ++ ys) → Begins xs
+pub front_part : (xs ys : List CertificateLine) → Begins (xs ++ ys) → Begins xs
 front_part xs ys begins = record {
   of = begins.of;
   few = begins.few;
@@ -39,22 +39,22 @@ front_part xs ys begins = record {
   fit = all_front (Fits begins.of) xs ys begins.fit;
 }
 
--- a front of a front is one
-front_of_front : (xs ys : List Line) → IsFront (xs ++ ys) → IsFront xs
+-- a prefix of a prefix is one
+front_of_front : (xs ys : List CertificateLine) → IsFront (xs ++ ys) → IsFront xs
 front_of_front xs ys is = record {
   begins = front_part xs ys is.begins;
   few = let e = sum_by-append entries_in xs ys in let most = is.few in omega arith;
 }
 
--- the lines of a certificate of the format are a front
-pub whole_is_front : (lines : List Line) → IsWhole lines → IsFront lines
+-- the lines of a certificate of the format are a prefix
+pub whole_is_front : (lines : List CertificateLine) → IsWhole lines → IsFront lines
 whole_is_front lines (c, is, e) = record {
   begins = record { of = c; few = few_nodes c is; more = []; are = sym e ∙ sym (append-nil lines); fit = subst (All (Fits c)) (sym e) is.fit };
   few = subst (λ ls. sum_by entries_in ls ≤ entry_limit) (sym e) is.few;
 }
 
 -- nothing goes on from a whole certificate
-whole_ends : (lines : List Line) → IsWhole lines → (l : Line) → ¬ Begins (lines ++ l ∷ [])
+whole_ends : (lines : List CertificateLine) → IsWhole lines → (l : CertificateLine) → ¬ Begins (lines ++ l ∷ [])
 whole_ends lines (c, is, e) l begins =
     let longer : certificate_lines begins.of ≡ certificate_lines c ++ l ∷ begins.more =
     begins.are ∙ (append_assoc lines (l ∷ []) begins.more ∙ ap (λ ls. ls ++ l ∷ begins.more) e)
@@ -63,24 +63,24 @@ whole_ends lines (c, is, e) l begins =
     cc
 
 -- lines that a certificate begins with are small
-begins_is_small : (lines : List Line) → Begins lines → All IsSmall lines
+begins_is_small : (lines : List CertificateLine) → Begins lines → All IsSmall lines
 begins_is_small lines begins = All-weaker (Fits begins.of) IsSmall (fitting_is_small begins.of begins.few) lines begins.fit
 
-front_is_small : (lines : List Line) → IsFront lines → All IsSmall lines
+front_is_small : (lines : List CertificateLine) → IsFront lines → All IsSmall lines
 front_is_small lines is = begins_is_small lines is.begins
 
--- a front begins with the header
-front_head : (l : Line) (ls : List Line) → Begins (l ∷ ls) → l ≡ line.Header
+-- a prefix begins with the header
+front_head : (l : CertificateLine) (ls : List CertificateLine) → Begins (l ∷ ls) → l ≡ line.Header
 front_head l ls begins = let e = begins.are in cc
 
 -- a reading: the lines that are as they should be, what follows them, and that nothing that should be follows
-record Reads (text : List ℕ) (before : List Line) (rest : List (List ℕ)) : Type 0 where
+record Reads (text : List ℕ) (before : List CertificateLine) (rest : List (List ℕ)) : Type 0 where
   lines : lines_of text ≡ map line_text before ++ rest
   front : IsFront before
-  stuck : (l : Line) (more : List (List ℕ)) → IsFront (before ++ l ∷ []) → rest ≡ line_text l ∷ more → ⊥
+  stuck : (l : CertificateLine) (more : List (List ℕ)) → IsFront (before ++ l ∷ []) → rest ≡ line_text l ∷ more → ⊥
 
 -- of two readings neither is longer
-no_longer : (text : List ℕ) (xs : List Line) (l : Line) (ls : List Line) (us vs : List (List ℕ)) → Reads text xs us → Reads text (xs ++ l ∷ ls) vs → ⊥
+no_longer : (text : List ℕ) (xs : List CertificateLine) (l : CertificateLine) (ls : List CertificateLine) (us vs : List (List ℕ)) → Reads text xs us → Reads text (xs ++ l ∷ ls) vs → ⊥
 no_longer text xs l ls us vs a b =
     let joined : map line_text xs ++ us ≡ map line_text xs ++ line_text l ∷ (map line_text ls ++ vs) =
     sym a.lines ∙ (b.lines ∙ (ap (λ ts. ts ++ vs) (map-append line_text xs (l ∷ ls)) ∙ append_assoc (map line_text xs) (map line_text (l ∷ ls)) vs))
@@ -90,8 +90,8 @@ no_longer text xs l ls us vs a b =
     a.stuck l (map line_text ls ++ vs) (front_of_front (xs ++ l ∷ []) ls longer) rest
 
 -- two lists of lines with texts that agree: they are one, or one is longer
-compare : (xs ys : List Line) (us vs : List (List ℕ)) → All IsSmall xs → All IsSmall ys → map line_text xs ++ us ≡ map line_text ys ++ vs
-    → ((xs ≡ ys) × (us ≡ vs)) ⊎ (((l : Line) × (ls : List Line) × (ys ≡ xs ++ l ∷ ls)) ⊎ ((l : Line) × (ls : List Line) × (xs ≡ ys ++ l ∷ ls)))
+compare : (xs ys : List CertificateLine) (us vs : List (List ℕ)) → All IsSmall xs → All IsSmall ys → map line_text xs ++ us ≡ map line_text ys ++ vs
+    → ((xs ≡ ys) × (us ≡ vs)) ⊎ (((l : CertificateLine) × (ls : List CertificateLine) × (ys ≡ xs ++ l ∷ ls)) ⊎ ((l : CertificateLine) × (ls : List CertificateLine) × (xs ≡ ys ++ l ∷ ls)))
 compare [] [] us vs small_x small_y e = inl (refl, e)
 compare [] (y ∷ ys) us vs small_x small_y e = inr (inl (y, ys, refl))
 compare (x ∷ xs) [] us vs small_x small_y e = inr (inr (x, xs, refl))
@@ -106,7 +106,7 @@ compare (x ∷ xs) (y ∷ ys) us vs small_x small_y e =
     ]
 
 -- readings end at the same lines
-same_lines : (text : List ℕ) (xs ys : List Line) (us vs : List (List ℕ)) → Reads text xs us → Reads text ys vs → (xs ≡ ys) × (us ≡ vs)
+same_lines : (text : List ℕ) (xs ys : List CertificateLine) (us vs : List (List ℕ)) → Reads text xs us → Reads text ys vs → (xs ≡ ys) × (us ≡ vs)
 same_lines text xs ys us vs a b =
     elim (compare xs ys us vs (front_is_small xs a.front) (front_is_small ys b.front) (sym a.lines ∙ b.lines)) [
       | inl one ↦ one
@@ -115,13 +115,13 @@ same_lines text xs ys us vs a b =
     ]
 
 -- why a reading ends
-abbrev Ended : Result Certificate CertText → List Line → List (List ℕ) → Type 0
+abbrev Ended : Result Certificate CertText → List CertificateLine → List (List ℕ) → Type 0
 Ended (Ok c) before rest = (rest ≡ []) × IsCertificate c × (before ≡ certificate_lines c)
 Ended (Err fault.BadHeader) before rest =
     (met : List ℕ) × (after : List (List ℕ)) × (rest ≡ met ∷ after) × (before ≡ []) × (met ≢ line_text line.Header)
 Ended (Err (fault.BadLine n)) before rest =
     (met : List ℕ) × (after : List (List ℕ)) × (rest ≡ met ∷ after) × (n ≡ length before + 1) × (before ≢ []) × (IsWhole before → ⊥)
-    × ((l : Line) → met ≡ line_text l → ¬ Begins (before ++ l ∷ []))
+    × ((l : CertificateLine) → met ≡ line_text l → ¬ Begins (before ++ l ∷ []))
 Ended (Err fault.Truncated) before rest = (rest ≡ []) × (IsWhole before → ⊥)
 Ended (Err (fault.Extra n)) before rest =
     (met : List ℕ) × (after : List (List ℕ)) × (rest ≡ met ∷ after) × (n ≡ length before + 1) × IsWhole before
@@ -132,12 +132,12 @@ Ended (Err fault.NoMemory) before rest = ⊥
 
 -- a reading with where and why it ends
 record IsEnded (text : List ℕ) (a : Result Certificate CertText) : Type 0 where
-  before : List Line
+  before : List CertificateLine
   rest : List (List ℕ)
   reads : Reads text before rest
   ended : Ended a before rest
 
--- nothing is a front
+-- nothing is a prefix
 pub nothing_is_front : IsFront []
 nothing_is_front = record {
   begins = record { of = certificate.Book 1 [] [] []; few = omega arith; more = certificate_lines (certificate.Book 1 [] [] []); are = refl; fit = All-nil (Fits (certificate.Book 1 [] [] [])) };
@@ -211,15 +211,15 @@ ended_of text (Err (fault.TooManyEntries n)) p = record {
 }
 ended_of text (Err fault.NoMemory) p = absurd p
 
-pub no_header : (before : List Line) → before ≡ [] → IsWhole before → ⊥
+pub no_header : (before : List CertificateLine) → before ≡ [] → IsWhole before → ⊥
 no_header before none (c, is, e) = cc
 
-no_span : (before : List Line) (k : ℕ) → before ≡ [] → Begins (before ++ line.Span k ∷ []) → ⊥
+no_span : (before : List CertificateLine) (k : ℕ) → before ≡ [] → Begins (before ++ line.Span k ∷ []) → ⊥
 no_span before k none begins =
     let header = front_head (line.Span k) [] (subst (λ ls. Begins (ls ++ line.Span k ∷ [])) none begins) in
     cc
 
-ended_one : (a b : Result Certificate CertText) (before : List Line) (rest : List (List ℕ)) → Ended a before rest → Ended b before rest → a ≡ b
+ended_one : (a b : Result Certificate CertText) (before : List CertificateLine) (rest : List (List ℕ)) → Ended a before rest → Ended b before rest → a ≡ b
 ended_one (Ok c) (Ok d) before rest p q = ap Ok (lines_are_of_one c d (sym p.2 ∙ q.2))
 ended_one (Ok c) (Err fault.BadHeader) before rest p q = absurd (let x = p.0 in let y = q.2 in cc)
 ended_one (Ok c) (Err (fault.BadLine n)) before rest p q = absurd (let x = p.0 in let y = q.2 in cc)

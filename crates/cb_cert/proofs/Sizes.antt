@@ -14,10 +14,10 @@ use Rattle.cb_cert.specs.declared.certificate.Entry.{Entry}
 use Rattle.cb_cert.specs.declared.certificate.Side.{Side}
 use Rattle.cb_cert.specs.declared.certificate.Side.TheVariants as side
 use Rattle.cb_cert.specs.declared.certificate.Span.{Span}
-use Rattle.cb_cert.specs.declared.line.Line.{Line}
-use Rattle.cb_cert.specs.declared.line.Line.TheVariants as line
+use Rattle.cb_cert.specs.declared.line.CertificateLine.{CertificateLine}
+use Rattle.cb_cert.specs.declared.line.CertificateLine.TheVariants as line
 use Rattle.cb_cert.specs.Lines.{certificate_lines, span_lines, node_lines, column_lines, all_span_lines, side_lines, line_text, ended, text_of}
-use Rattle.cb_cert.specs.Format.{Fits, IsCertificate, Spells, IsDistance, IsNode, nodes_of, node_limit, entries_in}
+use Rattle.cb_cert.specs.Format.{Fits, IsCertificate, SpellsCertificate, IsDistance, IsNode, nodes_of, node_limit, entries_in}
 
 -- ---- lines
 
@@ -29,11 +29,11 @@ numbered word n small =
     omega arith
 
 -- no line has more bytes than this
-most : Line → ℕ
+most : CertificateLine → ℕ
 most (line.Node n) = 132
 most l = 22
 
-most_of : (l : Line) → most l ≤ 132
+most_of : (l : CertificateLine) → most l ≤ 132
 unfolding most
 most_of line.Header = omega arith
 most_of line.Book = omega arith
@@ -77,7 +77,7 @@ entry_line e low parent =
     omega (arith, parts, node_digits, digits)
 
 module _ (c : Certificate) (few : length (nodes_of c) ≤ node_limit) where
-  short_line : (l : Line) → Fits c l → length (line_text l) ≤ most l
+  short_line : (l : CertificateLine) → Fits c l → length (line_text l) ≤ most l
   unfolding most
   short_line line.Header fits = omega arith
   short_line line.Book fits = omega arith
@@ -95,11 +95,11 @@ module _ (c : Certificate) (few : length (nodes_of c) ≤ node_limit) where
   short_line line.End fits = omega arith
 
   -- with its LF
-  ended_line : (l : Line) → Fits c l → length (ended l) ≤ most l + 1
+  ended_line : (l : CertificateLine) → Fits c l → length (ended l) ≤ most l + 1
   ended_line l fits = let short = short_line l fits in let whole = length-append (line_text l) (codes "\n") in omega arith
 
   -- each line of the text is short
-  short_lines : (ls : List Line) → All (Fits c) ls → All (λ (text : List ℕ). length text ≤ line_limit) (map line_text ls)
+  short_lines : (ls : List CertificateLine) → All (Fits c) ls → All (λ (text : List ℕ). length text ≤ line_limit) (map line_text ls)
   short_lines [] fit = All-nil (λ (text : List ℕ). length text ≤ line_limit)
   short_lines (l ∷ ls) fit =
       let here = short_line l (All-head (Fits c) l ls fit) in
@@ -118,10 +118,10 @@ all_back P [] ys all = all
 all_back P (x ∷ xs) ys all = all_back P xs ys (All-tail P x (xs ++ ys) all)
 
 -- how many bytes lines have together
-bytes_of : List Line → ℕ
+bytes_of : List CertificateLine → ℕ
 bytes_of ls = length (flat_map ended ls)
 
-bytes_cons : (l : Line) (ls : List Line) → bytes_of (l ∷ ls) ≡ length (ended l) + bytes_of ls
+bytes_cons : (l : CertificateLine) (ls : List CertificateLine) → bytes_of (l ∷ ls) ≡ length (ended l) + bytes_of ls
 unfolding bytes_of
 bytes_cons l ls = length-append (ended l) (flat_map ended ls)
 
@@ -129,7 +129,7 @@ bytes_none : bytes_of [] ≡ 0
 unfolding bytes_of
 bytes_none = refl
 
-bytes_append : (xs ys : List Line) → bytes_of (xs ++ ys) ≡ bytes_of xs + bytes_of ys
+bytes_append : (xs ys : List CertificateLine) → bytes_of (xs ++ ys) ≡ bytes_of xs + bytes_of ys
 bytes_append [] ys = let none = bytes_none in omega arith
 bytes_append (x ∷ xs) ys =
     let rest = bytes_append xs ys in
@@ -138,7 +138,7 @@ bytes_append (x ∷ xs) ys =
     omega arith
 
 -- nothing on these lines counts entries
-pub no_entries : {X : Type 0} (f : X → Line) → ((x : X) → entries_in (f x) ≡ 0) → (xs : List X) → sum_by entries_in (map f xs) ≡ 0
+pub no_entries : {X : Type 0} (f : X → CertificateLine) → ((x : X) → entries_in (f x) ≡ 0) → (xs : List X) → sum_by entries_in (map f xs) ≡ 0
 no_entries f zero_each [] = refl
 no_entries f zero_each (x ∷ xs) =
     let rest = no_entries f zero_each xs in
@@ -155,7 +155,7 @@ one_span_entries span =
 
 module _ (c : Certificate) (few : length (nodes_of c) ≤ node_limit) where
   -- lines of at most 22 bytes
-  small_lines : {X : Type 0} (f : X → Line) → ((x : X) → most (f x) ≡ 22) → (xs : List X) → All (Fits c) (map f xs) → bytes_of (map f xs) ≤ 23 * length xs
+  small_lines : {X : Type 0} (f : X → CertificateLine) → ((x : X) → most (f x) ≡ 22) → (xs : List X) → All (Fits c) (map f xs) → bytes_of (map f xs) ≤ 23 * length xs
   small_lines f is [] fit = let none = bytes_none in omega arith
   small_lines f is (x ∷ xs) fit =
       let here = ended_line c few (f x) (All-head (Fits c) (f x) (map f xs) fit) in
@@ -334,7 +334,7 @@ unfolding bytes_of
 text_is_short (certificate.Book far nodes numbers spans) is = book_bytes far nodes numbers spans is
 text_is_short (certificate.Thin wanted far nodes first second) is = thin_bytes wanted far nodes first second is
 
-pub spelled_is_short : (text : List ℕ) (c : Certificate) → Spells text c → HasShortLines text
+pub spelled_is_short : (text : List ℕ) (c : Certificate) → SpellsCertificate text c → HasShortLines text
 spelled_is_short text c spells =
     subst (All (λ (line : List ℕ). length line ≤ line_limit)) (sym spells.lines)
     (short_lines c (few_nodes_of c spells.is) (certificate_lines c) spells.is.fit)

@@ -2,69 +2,69 @@
 use Rattle.std.proofs.Common.{◌≡◌, ℕ, refl, arith}
 use Rattle.cb_model.specs.declared.node.NodeName.{NodeName}
 use Rattle.cb_cert.specs.declared.certificate.Entry.{Entry}
-use Rattle.cb_cert.specs.declared.line.Line.{Line}
-use Rattle.cb_cert.specs.declared.line.Line.TheVariants as line
+use Rattle.cb_cert.specs.declared.line.CertificateLine.{CertificateLine}
+use Rattle.cb_cert.specs.declared.line.CertificateLine.TheVariants as line
 use Rattle.cb_cert.specs.Ahead.{at_wanted, at_distance, at_thin_distance, at_nodes, at_node, at_columns, at_column, at_spans, at_entry, MayStand}
 use Rattle.cb_cert.specs.Format.{IsBetween, IsNode, IsEntry, wanted_limit, node_limit, column_limit}
 use Rattle.cb_cert.proofs.Moved.{Stand}
 
-only_wanted : (n : ℕ) (l : Line) → MayStand n at_wanted l → (x : ℕ) × (l ≡ line.Wanted x) × IsBetween 1 wanted_limit x
+only_wanted : (n : ℕ) (l : CertificateLine) → MayStand n at_wanted l → (x : ℕ) × (l ≡ line.Wanted x) × IsBetween 1 wanted_limit x
 only_wanted n (line.Wanted x) p = (x, refl, p)
 only_wanted n l p = absurd p
 
 pub wanted : (n : ℕ) → Stand n at_wanted line.Wanted (IsBetween 1 wanted_limit)
 wanted n = record { may = λ x p. p; only = only_wanted n; light = λ x. refl; inside = λ x e. cc }
 
-only_distance : (n : ℕ) (l : Line) → MayStand n at_distance l → (x : ℕ) × (l ≡ line.Distance x) × IsBetween 1 wanted_limit x
+only_distance : (n : ℕ) (l : CertificateLine) → MayStand n at_distance l → (x : ℕ) × (l ≡ line.Distance x) × IsBetween 1 wanted_limit x
 only_distance n (line.Distance x) p = (x, refl, p)
 only_distance n l p = absurd p
 
 pub distance : (n : ℕ) → Stand n at_distance line.Distance (IsBetween 1 wanted_limit)
 distance n = record { may = λ x p. p; only = only_distance n; light = λ x. refl; inside = λ x e. cc }
 
-only_thin : (n : ℕ) (l : Line) → MayStand n at_thin_distance l → (x : ℕ) × (l ≡ line.Distance x) × IsBetween 0 column_limit x
+only_thin : (n : ℕ) (l : CertificateLine) → MayStand n at_thin_distance l → (x : ℕ) × (l ≡ line.Distance x) × IsBetween 0 column_limit x
 only_thin n (line.Distance x) p = (x, refl, ((omega arith), p))
 only_thin n l p = absurd p
 
 pub thin_distance : (n : ℕ) → Stand n at_thin_distance line.Distance (IsBetween 0 column_limit)
 thin_distance n = record { may = λ x p. p.1; only = only_thin n; light = λ x. refl; inside = λ x e. cc }
 
-only_nodes : (n : ℕ) (l : Line) → MayStand n at_nodes l → (x : ℕ) × (l ≡ line.Nodes x) × IsBetween 0 node_limit x
+only_nodes : (n : ℕ) (l : CertificateLine) → MayStand n at_nodes l → (x : ℕ) × (l ≡ line.Nodes x) × IsBetween 0 node_limit x
 only_nodes n (line.Nodes x) p = (x, refl, ((omega arith), p))
 only_nodes n l p = absurd p
 
 pub nodes : (n : ℕ) → Stand n at_nodes line.Nodes (IsBetween 0 node_limit)
 nodes n = record { may = λ x p. p.1; only = only_nodes n; light = λ x. refl; inside = λ x e. cc }
 
-only_node : (n : ℕ) (l : Line) → MayStand n at_node l → (x : NodeName) × (l ≡ line.Node x) × IsNode x
+only_node : (n : ℕ) (l : CertificateLine) → MayStand n at_node l → (x : NodeName) × (l ≡ line.Node x) × IsNode x
 only_node n (line.Node x) p = (x, refl, p)
 only_node n l p = absurd p
 
 pub one_node : (n : ℕ) → Stand n at_node line.Node IsNode
 one_node n = record { may = λ x p. p; only = only_node n; light = λ x. refl; inside = λ x e. cc }
 
-only_columns : (n : ℕ) (l : Line) → MayStand n at_columns l → (x : ℕ) × (l ≡ line.Columns x) × IsBetween 0 column_limit x
+only_columns : (n : ℕ) (l : CertificateLine) → MayStand n at_columns l → (x : ℕ) × (l ≡ line.Columns x) × IsBetween 0 column_limit x
 only_columns n (line.Columns x) p = (x, refl, ((omega arith), p))
 only_columns n l p = absurd p
 
 pub columns : (n : ℕ) → Stand n at_columns line.Columns (IsBetween 0 column_limit)
 columns n = record { may = λ x p. p.1; only = only_columns n; light = λ x. refl; inside = λ x e. cc }
 
-only_column : (n : ℕ) (l : Line) → MayStand n at_column l → (x : ℕ) × (l ≡ line.Column x) × IsBetween 1 n x
+only_column : (n : ℕ) (l : CertificateLine) → MayStand n at_column l → (x : ℕ) × (l ≡ line.Column x) × IsBetween 1 n x
 only_column n (line.Column x) p = (x, refl, p)
 only_column n l p = absurd p
 
 pub column : (n : ℕ) → Stand n at_column line.Column (IsBetween 1 n)
 column n = record { may = λ x p. p; only = only_column n; light = λ x. refl; inside = λ x e. cc }
 
-only_spans : (n : ℕ) (l : Line) → MayStand n at_spans l → (x : ℕ) × (l ≡ line.Spans x) × IsBetween 0 column_limit x
+only_spans : (n : ℕ) (l : CertificateLine) → MayStand n at_spans l → (x : ℕ) × (l ≡ line.Spans x) × IsBetween 0 column_limit x
 only_spans n (line.Spans x) p = (x, refl, ((omega arith), p))
 only_spans n l p = absurd p
 
 pub spans : (n : ℕ) → Stand n at_spans line.Spans (IsBetween 0 column_limit)
 spans n = record { may = λ x p. p.1; only = only_spans n; light = λ x. refl; inside = λ x e. cc }
 
-only_entry : (n : ℕ) (l : Line) → MayStand n at_entry l → (x : Entry) × (l ≡ line.Entry x) × IsEntry n x
+only_entry : (n : ℕ) (l : CertificateLine) → MayStand n at_entry l → (x : Entry) × (l ≡ line.Entry x) × IsEntry n x
 only_entry n (line.Entry x) p = (x, refl, p)
 only_entry n l p = absurd p
 

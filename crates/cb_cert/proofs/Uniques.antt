@@ -8,8 +8,8 @@ use Rattle.cb_cert.specs.declared.certificate.Side.{Side}
 use Rattle.cb_cert.specs.declared.certificate.Side.TheVariants as side
 use Rattle.cb_cert.specs.declared.certificate.Certificate.{Certificate}
 use Rattle.cb_cert.specs.declared.certificate.Certificate.TheVariants as certificate
-use Rattle.cb_cert.specs.declared.line.Line.{Line}
-use Rattle.cb_cert.specs.declared.line.Line.TheVariants as line
+use Rattle.cb_cert.specs.declared.line.CertificateLine.{CertificateLine}
+use Rattle.cb_cert.specs.declared.line.CertificateLine.TheVariants as line
 use Rattle.cb_cert.specs.Lines.{certificate_lines, span_lines, node_lines, column_lines, all_span_lines, side_lines}
 
 heads : {X : Type 0} (x y : X) (xs ys : List X) → x ∷ xs ≡ y ∷ ys → (x ≡ y) × (xs ≡ ys)
@@ -29,7 +29,7 @@ cut f one (x ∷ xs) (y ∷ ys) us vs l e =
     (cc, rest.1)
 
 -- a span and what follows it
-cut_span : (a b : Span) (us vs : List Line) → span_lines a ++ us ≡ span_lines b ++ vs → (a ≡ b) × (us ≡ vs)
+cut_span : (a b : Span) (us vs : List CertificateLine) → span_lines a ++ us ≡ span_lines b ++ vs → (a ≡ b) × (us ≡ vs)
 cut_span a b us vs e =
     let h = heads (line.Span (length a.entries)) (line.Span (length b.entries)) (map line.Entry a.entries ++ us) (map line.Entry b.entries ++ vs) e in
     let count = h.0 in
@@ -39,7 +39,7 @@ cut_span a b us vs e =
     ((λ i. record { entries = entries i }), rest.1)
 
 -- spans and what follows them
-cut_spans : (xs ys : List Span) (us vs : List Line) → length xs ≡ length ys → flat_map span_lines xs ++ us ≡ flat_map span_lines ys ++ vs
+cut_spans : (xs ys : List Span) (us vs : List CertificateLine) → length xs ≡ length ys → flat_map span_lines xs ++ us ≡ flat_map span_lines ys ++ vs
     → (xs ≡ ys) × (us ≡ vs)
 cut_spans [] [] us vs l e = (refl, e)
 cut_spans [] (y ∷ ys) us vs l e = absurd (cc)
@@ -53,7 +53,7 @@ cut_spans (x ∷ xs) (y ∷ ys) us vs l e =
     (cc, rest.1)
 
 -- nodes and what follows them
-cut_nodes : (xs ys : List NodeName) (us vs : List Line) → node_lines xs ++ us ≡ node_lines ys ++ vs → (xs ≡ ys) × (us ≡ vs)
+cut_nodes : (xs ys : List NodeName) (us vs : List CertificateLine) → node_lines xs ++ us ≡ node_lines ys ++ vs → (xs ≡ ys) × (us ≡ vs)
 cut_nodes xs ys us vs e =
     let h = heads (line.Nodes (length xs)) (line.Nodes (length ys)) (map line.Node xs ++ us) (map line.Node ys ++ vs) e in
     let count = h.0 in
@@ -61,7 +61,7 @@ cut_nodes xs ys us vs e =
     cut line.Node (λ x y same. cc) xs ys us vs short h.1
 
 -- columns and what follows them
-cut_columns : (xs ys : List ℕ) (us vs : List Line) → column_lines xs ++ us ≡ column_lines ys ++ vs → (xs ≡ ys) × (us ≡ vs)
+cut_columns : (xs ys : List ℕ) (us vs : List CertificateLine) → column_lines xs ++ us ≡ column_lines ys ++ vs → (xs ≡ ys) × (us ≡ vs)
 cut_columns xs ys us vs e =
     let h = heads (line.Columns (length xs)) (line.Columns (length ys)) (map line.Column xs ++ us) (map line.Column ys ++ vs) e in
     let count = h.0 in
@@ -69,18 +69,18 @@ cut_columns xs ys us vs e =
     cut line.Column (λ x y same. cc) xs ys us vs short h.1
 
 -- a side and what follows it
-cut_side : (a b : Side) (us vs : List Line) → side_lines a ++ us ≡ side_lines b ++ vs → (a ≡ b) × (us ≡ vs)
+cut_side : (a b : Side) (us vs : List CertificateLine) → side_lines a ++ us ≡ side_lines b ++ vs → (a ≡ b) × (us ≡ vs)
 cut_side side.Quiet side.Quiet us vs e = (refl, (heads line.Quiet line.Quiet us vs e).1)
 cut_side side.Quiet (side.Root b) us vs e = absurd (cc)
 cut_side (side.Root a) side.Quiet us vs e = absurd (cc)
 cut_side (side.Root a) (side.Root b) us vs e = let parts = cut_span a b us vs e in (ap side.Root parts.0, parts.1)
 
 -- three parts and what follows them
-pub three_parts : (xs ys zs us : List Line) → (xs ++ (ys ++ zs)) ++ us ≡ xs ++ (ys ++ (zs ++ us))
-three_parts xs ys zs us = append_assoc xs (ys ++ zs) us ∙ ap (λ (ls : List Line). xs ++ ls) (append_assoc ys zs us)
+pub three_parts : (xs ys zs us : List CertificateLine) → (xs ++ (ys ++ zs)) ++ us ≡ xs ++ (ys ++ (zs ++ us))
+three_parts xs ys zs us = append_assoc xs (ys ++ zs) us ∙ ap (λ (ls : List CertificateLine). xs ++ ls) (append_assoc ys zs us)
 
 -- the lines of a certificate end where those of the same certificate end
-pub goes_on : (a b : Certificate) (us : List Line) → certificate_lines a ≡ certificate_lines b ++ us → (a ≡ b) × (us ≡ [])
+pub goes_on : (a b : Certificate) (us : List CertificateLine) → certificate_lines a ≡ certificate_lines b ++ us → (a ≡ b) × (us ≡ [])
 goes_on (certificate.Book d ns cs ss) (certificate.Book d' ns' cs' ss') us e =
     let end = line.End ∷ [] in
     let body = (node_lines ns ++ (column_lines cs ++ all_span_lines ss)) ++ end in

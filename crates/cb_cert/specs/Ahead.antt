@@ -1,28 +1,28 @@
 -- What may come at each place of a certificate's text.
 use Rattle.std.specs.Prelude.{⊤, ℕ, ◌<◌, ◌≤◌, List, [], ◌∷◌, ◌++◌, replicate}
-use Rattle.cb_cert.specs.declared.line.Line.{Line}
-use Rattle.cb_cert.specs.declared.line.Line.TheVariants as line
+use Rattle.cb_cert.specs.declared.line.CertificateLine.{CertificateLine}
+use Rattle.cb_cert.specs.declared.line.CertificateLine.TheVariants as line
 use Rattle.cb_cert.specs.Format.{IsWanted, IsNode, IsEntry, column_limit, node_limit}
 
 -- a place, by what stands there; the distance of a thin certificate, which may be 0, has a place of its own
-pub data Place : Type 0 where
-  at_header : Place
-  at_kind : Place
-  at_wanted : Place
-  at_distance : Place
-  at_thin_distance : Place
-  at_nodes : Place
-  at_node : Place
-  at_columns : Place
-  at_column : Place
-  at_spans : Place
-  at_span : Place
-  at_side : Place
-  at_entry : Place
-  at_end : Place
+pub data TextPlace : Type 0 where
+  at_header : TextPlace
+  at_kind : TextPlace
+  at_wanted : TextPlace
+  at_distance : TextPlace
+  at_thin_distance : TextPlace
+  at_nodes : TextPlace
+  at_node : TextPlace
+  at_columns : TextPlace
+  at_column : TextPlace
+  at_spans : TextPlace
+  at_span : TextPlace
+  at_side : TextPlace
+  at_entry : TextPlace
+  at_end : TextPlace
 
 -- the line may stand at the place in a certificate with n nodes
-abbrev pub MayStand : ℕ → Place → Line → Type 0
+abbrev pub MayStand : ℕ → TextPlace → CertificateLine → Type 0
 MayStand n at_header line.Header = ⊤
 MayStand n at_kind line.Book = ⊤
 MayStand n at_kind line.Thin = ⊤
@@ -41,8 +41,8 @@ MayStand n at_entry (line.Entry e) = IsEntry n e
 MayStand n at_end line.End = ⊤
 MayStand n place l = ⊥
 
--- the places that come right behind a line
-abbrev pub opened : Line → List Place
+-- the places that come right after a line
+abbrev pub opened : CertificateLine → List TextPlace
 opened line.Book = at_distance ∷ at_nodes ∷ at_columns ∷ at_spans ∷ []
 opened line.Thin = at_wanted ∷ at_thin_distance ∷ at_nodes ∷ at_side ∷ at_span ∷ []
 opened (line.Nodes n) = replicate n at_node
@@ -52,16 +52,16 @@ opened (line.Span n) = replicate n at_entry
 opened l = []
 
 -- how many nodes the certificate has, once the line is read
-abbrev pub nodes_after : ℕ → Line → ℕ
+abbrev pub nodes_after : ℕ → CertificateLine → ℕ
 nodes_after n (line.Nodes m) = m
 nodes_after n l = n
 
 -- these lines may come in a certificate with n nodes where these places are ahead
-abbrev pub MayCome : ℕ → List Place → List Line → Type 0
+abbrev pub MayCome : ℕ → List TextPlace → List CertificateLine → Type 0
 MayCome n ahead [] = ⊤
 MayCome n [] (l ∷ ls) = ⊥
 MayCome n (place ∷ ahead) (l ∷ ls) = MayStand n place l × MayCome (nodes_after n l) (opened l ++ ahead) ls
 
 -- what is ahead at the beginning
-abbrev pub all_places : List Place
+abbrev pub all_places : List TextPlace
 all_places = at_header ∷ at_kind ∷ at_end ∷ []

@@ -7,8 +7,8 @@ use Rattle.cb_model.specs.declared.node.NodeName.{NodeName}
 use Rattle.cb_cert.specs.declared.certificate.Certificate.{Certificate}
 use Rattle.cb_cert.specs.declared.certificate.Certificate.TheVariants.{Book, Thin}
 use Rattle.cb_cert.specs.declared.certificate.Entry.{Entry}
-use Rattle.cb_cert.specs.declared.line.Line.{Line}
-use Rattle.cb_cert.specs.declared.line.Line.TheVariants as line
+use Rattle.cb_cert.specs.declared.line.CertificateLine.{CertificateLine}
+use Rattle.cb_cert.specs.declared.line.CertificateLine.TheVariants as line
 use Rattle.cb_cert.specs.Lines.{certificate_lines, line_text}
 
 -- a distance that is wanted is at most this
@@ -58,7 +58,7 @@ abbrev pub IsEntry : ℕ → Entry → Type 0
 IsEntry nodes e = ((0 < e.node) × (e.node ≤ nodes)) × (e.parent ≤ node_limit)
 
 -- the numbers of a line of the certificate are in their ranges, and its names are names
-abbrev pub Fits : Certificate → Line → Type 0
+abbrev pub Fits : Certificate → CertificateLine → Type 0
 Fits c (line.Wanted w) = IsWanted w
 Fits c (line.Distance d) = IsDistance c d
 Fits c (line.Nodes n) = n ≤ node_limit
@@ -71,7 +71,7 @@ Fits c (line.Entry e) = IsEntry (length (nodes_of c)) e
 Fits c l = ⊤
 
 -- how many entries the spans that begin on these lines have
-abbrev pub entries_in : Line → ℕ
+abbrev pub entries_in : CertificateLine → ℕ
 entries_in (line.Span n) = n
 entries_in l = 0
 
@@ -81,6 +81,6 @@ pub record IsCertificate (c : Certificate) : Type 0 where
   pub few : sum_by entries_in (certificate_lines c) ≤ entry_limit
 
 -- the lines of the text are those of the certificate; whether the last one has a LF makes no difference
-pub record Spells (text : List ℕ) (c : Certificate) : Type 0 where
+pub record SpellsCertificate (text : List ℕ) (c : Certificate) : Type 0 where
   pub is : IsCertificate c
   pub lines : lines_of text ≡ map line_text (certificate_lines c)

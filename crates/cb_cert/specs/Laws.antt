@@ -4,14 +4,14 @@ use Rattle.cb_text.specs.Lines.{HasShortLines}
 use Rattle.cb_cert.specs.declared.certificate.Certificate.{Certificate}
 use Rattle.cb_cert.specs.declared.fault.CertText.{CertText}
 use Rattle.cb_cert.specs.Lines.{certificate_lines, text_of}
-use Rattle.cb_cert.specs.Format.{IsCertificate, Spells}
-use Rattle.cb_cert.specs.declared.line.Line.{Line}
+use Rattle.cb_cert.specs.Format.{IsCertificate, SpellsCertificate}
+use Rattle.cb_cert.specs.declared.line.CertificateLine.{CertificateLine}
 use Rattle.cb_cert.specs.Ahead.{MayCome, all_places}
 use Rattle.cb_cert.specs.Fronts.{Begins, IsReading}
 
 -- the text of a certificate of the format spells it
 abbrev pub TextSpells : Type 0
-TextSpells = (c : Certificate) → IsCertificate c → Spells (text_of c) c
+TextSpells = (c : Certificate) → IsCertificate c → SpellsCertificate (text_of c) c
 
 -- no two certificates have the same lines
 abbrev pub LinesAreOfOne : Type 0
@@ -27,7 +27,7 @@ WrittenIsRead = (c : Certificate) (reading : Result Certificate CertText) → Is
 
 -- what may come place by place is exactly what some certificate begins with
 abbrev pub PlacesAreExact : Type 0
-PlacesAreExact = (ls : List Line) → MayCome 0 all_places ls ↔ Begins ls
+PlacesAreExact = (ls : List CertificateLine) → MayCome 0 all_places ls ↔ Begins ls
 
 -- the text of a certificate of the format has at most 32 MiB
 abbrev pub TextIsShort : Type 0
@@ -35,4 +35,4 @@ TextIsShort = (c : Certificate) → IsCertificate c → length (text_of c) ≤ 3
 
 -- no line of a text that spells a certificate is too long
 abbrev pub SpelledIsShort : Type 0
-SpelledIsShort = (text : List ℕ) (c : Certificate) → Spells text c → HasShortLines text
+SpelledIsShort = (text : List ℕ) (c : Certificate) → SpellsCertificate text c → HasShortLines text

@@ -2,7 +2,7 @@
 use Rattle.std.specs.Prelude.{◌≡◌, ◌≢◌, ℕ, ◌<◌, ◌^◌, List, codes, decimal, ◌++◌, Option, None, Some}
 use Rattle.cb_model.specs.declared.node.NodeName.{NodeName}
 use Rattle.cb_cert.specs.declared.certificate.Entry.{Entry}
-use Rattle.cb_cert.specs.declared.line.Line.TheVariants as line
+use Rattle.cb_cert.specs.declared.line.CertificateLine.TheVariants as line
 use Rattle.cb_cert.specs.Format.{IsNode}
 use Rattle.cb_cert.specs.Lines.{line_text}
 

@@ -5,16 +5,16 @@ use Rattle.cb_text.specs.Lines.{lines_of}
 use Rattle.cb_cert.specs.declared.certificate.Certificate.{Certificate}
 use Rattle.cb_cert.specs.declared.fault.CertText.{CertText}
 use Rattle.cb_cert.specs.declared.fault.CertText.TheVariants as fault
-use Rattle.cb_cert.specs.declared.line.Line.{Line}
-use Rattle.cb_cert.specs.declared.line.Line.TheVariants as line
+use Rattle.cb_cert.specs.declared.line.CertificateLine.{CertificateLine}
+use Rattle.cb_cert.specs.declared.line.CertificateLine.TheVariants as line
 use Rattle.cb_cert.specs.declared.reader.Reader.{Reader}
-use Rattle.cb_cert.specs.Ahead.{Place, at_end, MayCome}
-use Rattle.cb_cert.specs.Format.{IsBetween, Spells, entries_in, entry_limit, node_limit}
+use Rattle.cb_cert.specs.Ahead.{TextPlace, at_end, MayCome}
+use Rattle.cb_cert.specs.Format.{IsBetween, SpellsCertificate, entries_in, entry_limit, node_limit}
 use Rattle.cb_cert.specs.Fronts.{Begins, IsFault}
 use Rattle.cb_cert.specs.Lines.{claim_lines, line_text}
 
 -- of the text these lines were read, and exactly what may come where these places are ahead goes on from them
-pub record HasRead (text : List ℕ) (reader : Reader) (before : List Line) (n : ℕ) (ahead : List Place) : Type 0 where
+pub record HasRead (text : List ℕ) (reader : Reader) (before : List CertificateLine) (n : ℕ) (ahead : List TextPlace) : Type 0 where
   pub lines_are : lines_of text ≡ map line_text before ++ reader.lines
   pub number_is : reader.number ≡ length before
   pub small : length (lines_of text) < 2 ^ 64
@@ -22,8 +22,8 @@ pub record HasRead (text : List ℕ) (reader : Reader) (before : List Line) (n :
   pub few : reader.entries ≤ entry_limit
   pub begun : before ≢ []
   pub unended : All (λ l. l ≢ line.End) before
-  pub goes_on : (ls : List Line) → MayCome n ahead ls → Begins (before ++ ls)
-  pub no_other : (ls : List Line) → Begins (before ++ ls) → MayCome n ahead ls
+  pub goes_on : (ls : List CertificateLine) → MayCome n ahead ls → Begins (before ++ ls)
+  pub no_other : (ls : List CertificateLine) → Begins (before ++ ls) → MayCome n ahead ls
 
 -- the reader has read one line more
 pub record Moves (old new : Reader) (met : List ℕ) : Type 0 where
@@ -47,9 +47,9 @@ Misses old Wrong fault.NoMemory = ⊤
 Misses old Wrong why = ⊥
 
 -- the next line is read, which has this form for something such that P; or it is missing or not of this form
-abbrev pub Takes : {X : Type 0} → (X → List ℕ) → (X → Type 0) → Reader → Reader → Result X CertText → Type 0
-Takes form P old new (Ok x) = Moves old new (form x) × P x
-Takes {X} form P old new (Err why) = Misses old (λ met. (x : X) → P x → met ≢ form x) why
+abbrev pub TakesForm : {X : Type 0} → (X → List ℕ) → (X → Type 0) → Reader → Reader → Result X CertText → Type 0
+TakesForm form P old new (Ok x) = Moves old new (form x) × P x
+TakesForm {X} form P old new (Err why) = Misses old (λ met. (x : X) → P x → met ≢ form x) why
 
 -- so many entries are not too many for one span
 abbrev pub IsLength : ℕ → Type 0
@@ -69,25 +69,25 @@ CountsSpan met old new (Err (fault.TooManyEntries number)) = (number ≡ old.num
 CountsSpan met old new (Err why) = ⊥
 
 -- the lines of what was read were read too, or the text has this fault
-abbrev pub ComesTo : {X : Type 0} → List ℕ → Reader → List Line → List Place → (X → List Line) → (X → ℕ) → Result X CertText → Type 0
+abbrev pub ComesTo : {X : Type 0} → List ℕ → Reader → List CertificateLine → List TextPlace → (X → List CertificateLine) → (X → ℕ) → Result X CertText → Type 0
 ComesTo text new before ahead lines nodes (Ok x) = HasRead text new (before ++ lines x) (nodes x) ahead
 ComesTo text new before ahead lines nodes (Err why) = (why ≡ fault.NoMemory) ⊎ IsFault text why
 
 -- wherever these places are ahead, the lines of what is read there are read, or the text's first fault is met
-abbrev pub Reads : {X : Type 0} → ℕ → List Place → (X → List Line) → (X → ℕ) → Reader → Reader → Result X CertText → Type 0
-Reads n places lines nodes old new result =
-    (text : List ℕ) (before : List Line) (ahead : List Place) → HasRead text old before n (places ++ ahead)
+abbrev pub ReadsLines : {X : Type 0} → ℕ → List TextPlace → (X → List CertificateLine) → (X → ℕ) → Reader → Reader → Result X CertText → Type 0
+ReadsLines n places lines nodes old new result =
+    (text : List ℕ) (before : List CertificateLine) (ahead : List TextPlace) → HasRead text old before n (places ++ ahead)
     → ComesTo text new before ahead lines nodes result
 
 -- the same where the first of the lines was read before
-abbrev pub ReadsBehind : {X : Type 0} → Line → ℕ → List Place → (X → List Line) → (X → ℕ) → Reader → Reader → Result X CertText → Type 0
+abbrev pub ReadsBehind : {X : Type 0} → CertificateLine → ℕ → List TextPlace → (X → List CertificateLine) → (X → ℕ) → Reader → Reader → Result X CertText → Type 0
 ReadsBehind first n places lines nodes old new result =
-    (text : List ℕ) (before : List Line) (ahead : List Place) → HasRead text old (before ++ first ∷ []) n (places ++ ahead)
+    (text : List ℕ) (before : List CertificateLine) (ahead : List TextPlace) → HasRead text old (before ++ first ∷ []) n (places ++ ahead)
     → ComesTo text new before ahead lines nodes result
 
 -- a certificate is spelt by its text, or the text has this fault
 abbrev pub EndsWell : List ℕ → Certificate → Result (Unit {0}) CertText → Type 0
-EndsWell text c (Ok done) = Spells text c
+EndsWell text c (Ok done) = SpellsCertificate text c
 EndsWell text c (Err why) = IsFault text why
 
 -- once all that the certificate claims was read, the text ends as it should, or it has a fault

@@ -14,7 +14,7 @@ pub enum CertText {
     BadLine { line: u64 },
     /// The text ends, and a certificate has more lines.
     Truncated,
-    /// Behind the last line of a certificate there is another one.
+    /// After the last line of a certificate there is another one.
     Extra { line: u64 },
     /// With the span that begins here there are too many entries.
     TooManyEntries { line: u64 },

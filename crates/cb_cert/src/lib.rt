@@ -1,6 +1,6 @@
 //! Certificates: a claim about a topology, with all that it takes to check it, and the one text that it is written with.
 //!
-//! `write` makes the text of a certificate, `read` the certificate of a text. Above this crate cb_claim says which
+//! `write` makes the text of a certificate, `read` the certificate of a text. Above this crate cb_validity says which
 //! certificates are valid; here nothing is known of topologies.
 //!
 //! A certificate lists its *nodes* once and speaks of them by number, from 1. A *span* lists all nodes that a problem
@@ -29,6 +29,6 @@ mod writer;
 
 pub use certificate::{Certificate, Entry, Side, Span};
 pub use fault::CertText;
-pub use line::Line;
+pub use line::CertificateLine;
 pub use reading::read;
 pub use writer::write;

@@ -1,10 +1,10 @@
 //! The parts of a certificate, read: lists whose length their first line tells.
 ghost use Rattle.std.specs.Prelude.{[], ◌∷◌, ◌≤◌, IfOk, length, replicate};
-ghost use Rattle.cb_cert.specs.declared.line.Line.TheVariants as line;
+ghost use Rattle.cb_cert.specs.declared.line.CertificateLine.TheVariants as line;
 ghost use Rattle.cb_cert.specs.Ahead.{at_nodes, at_columns, at_spans, at_span, at_side, at_entry};
 ghost use Rattle.cb_cert.specs.Format.{node_limit};
 ghost use Rattle.cb_cert.specs.Lines.{node_lines, column_lines, all_span_lines, span_lines, side_lines};
-ghost use Rattle.cb_cert.specs.Steps.{Reads, ReadsBehind};
+ghost use Rattle.cb_cert.specs.Steps.{ReadsLines, ReadsBehind};
 
 use crate::certificate::{Side, Span};
 use crate::fault::CertText;
@@ -17,7 +17,7 @@ use std::alloc::Global;
 impl<'a> Reader<'a> {
     /// The nodes.
     pub fn nodes(&mut self, alloc: Global) -> Result<List<NodeName>, CertText>
-        ensures lines { Reads 0 (at_nodes ∷ []) node_lines length self.old self.new result }
+        ensures lines { ReadsLines 0 (at_nodes ∷ []) node_lines length self.old self.new result }
         ensures few { IfOk result (λ nodes. length nodes ≤ node_limit) }
     {
         let count = self.number(b"nodes ", 0, MOST_NODES)?;
@@ -30,7 +30,7 @@ impl<'a> Reader<'a> {
 
     /// The columns, which are numbers of some of the nodes.
     pub fn columns(&mut self, alloc: Global, nodes: u32) -> Result<List<u32>, CertText>
-        ensures { Reads nodes (at_columns ∷ []) column_lines (λ columns. nodes) self.old self.new result }
+        ensures { ReadsLines nodes (at_columns ∷ []) column_lines (λ columns. nodes) self.old self.new result }
     {
         let count = self.number(b"columns ", 0, MOST_COLUMNS)?;
         let mut columns = List::new(alloc);
@@ -42,7 +42,7 @@ impl<'a> Reader<'a> {
 
     /// The spans of a book.
     pub fn spans(&mut self, alloc: Global, nodes: u32) -> Result<List<Span>, CertText>
-        ensures { Reads nodes (at_spans ∷ []) all_span_lines (λ spans. nodes) self.old self.new result }
+        ensures { ReadsLines nodes (at_spans ∷ []) all_span_lines (λ spans. nodes) self.old self.new result }
     {
         let count = self.number(b"spans ", 0, MOST_COLUMNS)?;
         let mut spans = List::new(alloc);
@@ -54,7 +54,7 @@ impl<'a> Reader<'a> {
 
     /// A span.
     pub fn span(&mut self, alloc: Global, nodes: u32) -> Result<Span, CertText>
-        ensures { Reads nodes (at_span ∷ []) span_lines (λ span. nodes) self.old self.new result }
+        ensures { ReadsLines nodes (at_span ∷ []) span_lines (λ span. nodes) self.old self.new result }
     {
         let line = self.next()?;
         let length = self.span_of(line)?;
@@ -63,7 +63,7 @@ impl<'a> Reader<'a> {
 
     /// The first side of a thin certificate.
     pub fn side(&mut self, alloc: Global, nodes: u32) -> Result<Side, CertText>
-        ensures { Reads nodes (at_side ∷ []) side_lines (λ side. nodes) self.old self.new result }
+        ensures { ReadsLines nodes (at_side ∷ []) side_lines (λ side. nodes) self.old self.new result }
     {
         let line = self.next()?;
         if is_text(line, b"quiet") {

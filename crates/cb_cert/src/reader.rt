@@ -1,12 +1,12 @@
 //! A certificate's text, one line after the other.
 ghost use Rattle.std.specs.Prelude.{◌≡◌, ◌≢◌, ◌<◌, ◌≤◌, ◌++◌, [], ◌∷◌, ℕ, decimal, IfOk, IfErr};
 ghost use Rattle.cb_cert.specs.declared.fault.CertText.TheVariants.{BadLine, Truncated};
-ghost use Rattle.cb_cert.specs.declared.line.Line.TheVariants as line;
+ghost use Rattle.cb_cert.specs.declared.line.CertificateLine.TheVariants as line;
 ghost use Rattle.cb_cert.specs.Ahead.{at_kind, at_end};
 ghost use Rattle.cb_cert.specs.Format.{IsBetween, IsNode, IsEntry};
 ghost use Rattle.cb_cert.specs.Fronts.{IsFault};
 ghost use Rattle.cb_cert.specs.Lines.{line_text};
-ghost use Rattle.cb_cert.specs.Steps.{HasRead, Moves, Takes, CountsSpan, Finishes};
+ghost use Rattle.cb_cert.specs.Steps.{HasRead, Moves, TakesForm, CountsSpan, Finishes};
 
 use crate::certificate::Entry;
 use crate::fault::CertText;
@@ -28,7 +28,7 @@ pub struct Reader<'a> {
 }
 
 impl<'a> Reader<'a> {
-    /// The text behind its header.
+    /// The text after its header.
     pub fn behind_header(text: &'a [u8]) -> Result<Reader<'a>, CertText>
         ensures reader { IfOk result (λ reader. HasRead text.now reader (line.Header ∷ []) 0 (at_kind ∷ at_end ∷ [])) }
         ensures fault { IfErr result (IsFault text.now) }
@@ -67,9 +67,9 @@ impl<'a> Reader<'a> {
         CertText::BadLine { line: self.number }
     }
 
-    /// The number behind a word.
+    /// The number after a word.
     pub fn number(&mut self, word: &[u8], least: u32, most: u32) -> Result<u32, CertText>
-        ensures { Takes (λ n. word.now ++ decimal n) (IsBetween least most) self.old self.new result }
+        ensures { TakesForm (λ n. word.now ++ decimal n) (IsBetween least most) self.old self.new result }
     {
         let line = self.next()?;
         let Some(number) = number_after(line, word) else {
@@ -83,7 +83,7 @@ impl<'a> Reader<'a> {
 
     /// A node.
     pub fn node(&mut self, alloc: Global) -> Result<NodeName, CertText>
-        ensures { Takes (λ n. line_text (line.Node n)) IsNode self.old self.new result }
+        ensures { TakesForm (λ n. line_text (line.Node n)) IsNode self.old self.new result }
     {
         let line = self.next()?;
         let Some(node) = node_of(alloc, line)? else {
@@ -92,9 +92,9 @@ impl<'a> Reader<'a> {
         Ok(node)
     }
 
-    /// An entry, in a certificate with so many nodes.
+    /// An entry, in a certificate with `nodes` nodes.
     pub fn entry(&mut self, nodes: u32) -> Result<Entry, CertText>
-        ensures { Takes (λ e. line_text (line.Entry e)) (IsEntry nodes) self.old self.new result }
+        ensures { TakesForm (λ e. line_text (line.Entry e)) (IsEntry nodes) self.old self.new result }
     {
         let line = self.next()?;
         let Some(entry) = entry_of(line) else {

@@ -1,12 +1,12 @@
 //! A whole certificate, read.
 ghost use Rattle.std.specs.Prelude.{◌≡◌, ◌⊎◌, [], ◌∷◌, IfOk, IfErr, length};
 ghost use Rattle.cb_cert.specs.declared.fault.CertText.TheVariants.{NoMemory};
-ghost use Rattle.cb_cert.specs.declared.line.Line.TheVariants as line;
+ghost use Rattle.cb_cert.specs.declared.line.CertificateLine.TheVariants as line;
 ghost use Rattle.cb_cert.specs.Ahead.{at_kind, at_wanted, at_distance, at_thin_distance, at_nodes, at_columns, at_spans, at_side, at_span};
-ghost use Rattle.cb_cert.specs.Format.{Spells, nodes_of};
+ghost use Rattle.cb_cert.specs.Format.{SpellsCertificate, nodes_of};
 ghost use Rattle.cb_cert.specs.Fronts.{IsFault};
 ghost use Rattle.cb_cert.specs.Lines.{claim_lines};
-ghost use Rattle.cb_cert.specs.Steps.{Reads, ReadsBehind};
+ghost use Rattle.cb_cert.specs.Steps.{ReadsLines, ReadsBehind};
 
 use crate::certificate::Certificate;
 use crate::fault::CertText;
@@ -18,7 +18,7 @@ use std::alloc::Global;
 /// The certificate that a text spells. The text is read once, line by line, and no line of it is kept; counts that it
 /// claims take no memory before their lines are there.
 pub fn read(alloc: Global, text: &[u8]) -> Result<Certificate, CertText>
-    ensures certificate { IfOk result (Spells text.now) }
+    ensures certificate { IfOk result (SpellsCertificate text.now) }
     ensures fault { IfErr result (λ why. (why ≡ NoMemory) ⊎ IsFault text.now why) }
 {
     let mut reader = Reader::behind_header(text)?;
@@ -30,7 +30,7 @@ pub fn read(alloc: Global, text: &[u8]) -> Result<Certificate, CertText>
 impl<'a> Reader<'a> {
     // What the certificate claims, with its reasons.
     fn claim(&mut self, alloc: Global) -> Result<Certificate, CertText>
-        ensures { Reads 0 (at_kind ∷ []) claim_lines (λ c. length (nodes_of c)) self.old self.new result }
+        ensures { ReadsLines 0 (at_kind ∷ []) claim_lines (λ c. length (nodes_of c)) self.old self.new result }
     {
         let kind = self.next()?;
         if is_text(kind, b"kind book") {

@@ -3,7 +3,7 @@ ghost use Rattle.std.specs.Prelude.{◌≡◌, ◌≢◌, ◌<◌, ◌^◌, ◌+
 ghost use Rattle.cb_cert.specs.Lines.{line_text};
 ghost use Rattle.cb_cert.specs.Format.{IsBetween};
 ghost use Rattle.cb_cert.specs.LineForms.{IsNoPair, IsNoEntry, IsNodeLine, numbers_text};
-ghost use Rattle.cb_cert.specs.declared.line.Line.TheVariants as line;
+ghost use Rattle.cb_cert.specs.declared.line.CertificateLine.TheVariants as line;
 
 use crate::certificate::Entry;
 use cb_model::NodeName;
@@ -45,8 +45,8 @@ fn short_number(bytes: &[u8]) -> Option<u32>
     }
 }
 
-/// The number behind a word, where it has at most 32 bits.
-pub fn number_after(bytes: &[u8], word: &[u8]) -> Option<u32>
+/// The number after a word, where it has at most 32 bits.
+pub(crate) fn number_after(bytes: &[u8], word: &[u8]) -> Option<u32>
     ensures some { IfSome result (λ n. bytes.now ≡ word.now ++ decimal n) }
     ensures none { IfNone result ((n : ℕ) → n < 2 ^ 32 → bytes.now ≢ word.now ++ decimal n) }
 {
@@ -60,7 +60,7 @@ pub fn number_after(bytes: &[u8], word: &[u8]) -> Option<u32>
 }
 
 /// Whether these are the bytes of the text.
-pub fn is_text(bytes: &[u8], text: &[u8]) -> bool
+pub(crate) fn is_text(bytes: &[u8], text: &[u8]) -> bool
     ensures { IsTrue result ↔ (bytes.now ≡ text.now) }
 {
     bytes == text
@@ -84,7 +84,7 @@ fn two_numbers(bytes: &[u8]) -> Option<Entry>
 }
 
 /// The entry of a line.
-pub fn entry_of(bytes: &[u8]) -> Option<Entry>
+pub(crate) fn entry_of(bytes: &[u8]) -> Option<Entry>
     ensures some { IfSome result (λ e. bytes.now ≡ line_text (line.Entry e)) }
     ensures none { IfNone result (IsNoEntry bytes.now) }
 {
@@ -98,7 +98,7 @@ pub fn entry_of(bytes: &[u8]) -> Option<Entry>
 }
 
 /// The node of a line, which may lack memory for its names.
-pub fn node_of(alloc: Global, bytes: &[u8]) -> Result<Option<NodeName>, AllocError>
+pub(crate) fn node_of(alloc: Global, bytes: &[u8]) -> Result<Option<NodeName>, AllocError>
     ensures { IfOk result (IsNodeLine bytes.now) }
 {
     let Some(rest) = rest_after(bytes, b"node ") else {
@@ -111,7 +111,7 @@ pub fn node_of(alloc: Global, bytes: &[u8]) -> Result<Option<NodeName>, AllocErr
 }
 
 /// Whether the number is in the range.
-pub fn is_between(number: u32, least: u32, most: u32) -> bool
+pub(crate) fn is_between(number: u32, least: u32, most: u32) -> bool
     ensures { IsTrue result ↔ IsBetween least most number }
 {
     least <= number && number <= most

@@ -6,9 +6,10 @@ use Rattle.std.proofs.lemmas.Option.{slice_get_within}
 use Rattle.cb_text.specs.Names.{IsName}
 use Rattle.cb_model.specs.declared.id.ClassId.{ClassId}
 use Rattle.cb_model.specs.declared.id.RelId.{RelId}
+use Rattle.cb_model.specs.declared.tables.Place.{Place}
 use Rattle.cb_model.specs.declared.tables.Tables.{Tables}
 use Rattle.cb_model.specs.Classes.{NamesClass}
-use Rattle.cb_model.specs.WellTyped.{Member as Declaration, IsClass, IsEvent, IsRelation, HasPlaces, HasNames}
+use Rattle.cb_model.specs.WellTyped.{Member as Declaration, IsClass, IsEvent, IsRelation, IsPlace, HasPlaces, HasNames}
 use Rattle.cb_grammar.specs.declared.tree.Token.{Token}
 use Rattle.cb_grammar.specs.declared.tree.Tree.{Tree}
 use Rattle.cb_grammar.specs.declared.tree.ClassDecl.{ClassDecl}
@@ -18,7 +19,7 @@ use Rattle.cb_grammar.specs.declared.lexeme.Lexeme.{Lexeme}
 use Rattle.cb_grammar.specs.declared.lexeme.Lexeme.TheVariants as lexemes
 use Rattle.cb_grammar.specs.Grammar.{NameFits, NamesFit, member_tokens, parent_tokens, class_tokens, tree_tokens}
 use Rattle.cb_rules.specs.Classes.{ClassAt, declared}
-use Rattle.cb_check.specs.Stands.{Stands, StandsParent, StandsPath, StandsBlock, StandsHide, NameDecl, blocks_declared, hides_declared, declared_from, block_in, hide_in}
+use Rattle.cb_check.specs.Stands.{PlaceDecl, Stands, StandsParent, StandsPath, StandsBlock, StandsHide, NameDecl, blocks_declared, hides_declared, declared_from, block_in, hide_in}
 use Rattle.cb_check.proofs.Places.{slice_get-left, slice_get-right, all_from, at_all, zip_left, among_flat_map}
 use Rattle.cb_check.proofs.Sections.{declared_by}
 use Rattle.cb_check.proofs.Given.{Gives, from_some}
@@ -93,12 +94,12 @@ module _ (tree : Tree) (t : Tables) (stands : Stands tree t) where
   parent_is_class (Some token) None says = tt
   parent_is_class (Some token) (Some c) says = named_is_class token.name c says
 
-  path_places : (c : ClassId) (names : List (List ℕ)) (rs : List RelId) (d : ClassId) → StandsPath t c names rs d → (i : ℕ) (r : RelId) → slice_get rs i ≡ Some r → IsRelation t r
-  path_places c [] [] d says i r is = absurd (cc)
-  path_places c [] (q ∷ rs) d says i r is = absurd says
-  path_places c (name ∷ names) [] d says i r is = absurd says
-  path_places c (name ∷ names) (q ∷ rs) d (named, says) zero r is = from_some (IsRelation t) is (slice_get_within t.relations q.0 named.0.row named.0.is)
-  path_places c (name ∷ names) (q ∷ rs) d (named, says) (suc i) r is = path_places named.0.row.target names rs d says i r is
+  path_places : (c : ClassId) (steps : List PlaceDecl) (places : List Place) (d : ClassId) → StandsPath t c steps places d → (i : ℕ) (p : Place) → slice_get places i ≡ Some p → IsRelation t p.rel
+  path_places c [] [] d says i p is = absurd (cc)
+  path_places c [] (q ∷ qs) d says i p is = absurd says
+  path_places c (s ∷ steps) [] d says i p is = absurd says
+  path_places c (s ∷ steps) (q ∷ qs) d (named, plus, says) zero p is = from_some (IsPlace t) is (slice_get_within t.relations q.rel.0 named.0.row named.0.is)
+  path_places c (s ∷ steps) (q ∷ qs) d (named, plus, says) (suc i) p is = path_places named.0.row.target steps qs d says i p is
 
   pub have_places : HasPlaces t
   have_places = record {
@@ -114,11 +115,11 @@ module _ (tree : Tree) (t : Tables) (stands : Stands tree t) where
           named_is_class decl.target row.target says.target,
           slice_get_within t.relations row.inverse.0 says.inverse.0 says.inverse.1,
         ));
-    rules = all_from (λ row. IsClass t row.class × IsEvent t row.cause × All (IsRelation t) row.path × IsEvent t row.effect) t.rules (λ i row is.
+    rules = all_from (λ row. IsClass t row.class × IsEvent t row.cause × All (IsPlace t) row.path × IsEvent t row.effect) t.rules (λ i row is.
         let (decl, says, g, class, gives) = rule_given tree t stands row.class i row is (0, refl) in (
           given_class row.class row.class.0 _ row.name g (class ∙ ap (λ (c : ClassId). c.0) (sym says.class)),
           slice_get_within t.events row.cause.0 says.cause.0.row says.cause.0.is,
-          all_from (IsRelation t) row.path (path_places row.class decl.path row.path says.reached says.path),
+          all_from (IsPlace t) row.path (path_places row.class decl.path row.path says.reached says.path),
           slice_get_within t.events row.effect.0 says.effect.0.row says.effect.0.is,
         ));
     blocks = all_from (λ row. IsClass t row.class × (row.rule < length t.rules)) t.blocks (λ i row is.

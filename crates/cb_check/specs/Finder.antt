@@ -2,6 +2,7 @@
 use Rattle.std.specs.Prelude.{◌≡◌, ℕ, List, Option, Some, slice_get, take}
 use Rattle.cb_model.specs.declared.id.ClassId.{ClassId}
 use Rattle.cb_grammar.specs.declared.tree.Token.{Token}
+use Rattle.cb_grammar.specs.declared.tree.PlaceToken.{PlaceToken}
 use Rattle.cb_grammar.specs.declared.tree.Tree.{Tree}
 use Rattle.cb_grammar.specs.declared.tree.Member.{Member}
 use Rattle.cb_grammar.specs.declared.tree.Member.TheVariants.{Relation}
@@ -31,9 +32,9 @@ NeedsRule tree k name = ¬ (¬ Has tree k (IsRuleNamed name))
 abbrev pub NeedsOwn : Tree → ℕ → List ℕ → Type 0
 NeedsOwn tree k name = ¬ (¬ Owns tree k (IsRelationNamed name))
 
--- each class that a front of the path leads to can't be without the path's next relation
-abbrev pub NeedsPath : Tree → ℕ → List Token → Type 0
-NeedsPath tree k path = (m : ℕ) (step : Token) (j : ℕ) → slice_get path m ≡ Some step → Leads tree k (take m path) j → NeedsRelation tree j step.name
+-- each class that a prefix of the path leads to can't be without the path's next relation
+abbrev pub NeedsPath : Tree → ℕ → List PlaceToken → Type 0
+NeedsPath tree k path = (m : ℕ) (step : PlaceToken) (j : ℕ) → slice_get path m ≡ Some step → Leads tree k (take m path) j → NeedsRelation tree j step.name.name
 
 -- an event, a relation or a rule stands at place i of the class at place j
 abbrev pub HasNumber : Tree → ℕ → ℕ → Type 0

@@ -5,12 +5,13 @@ ghost use Rattle.cb_rules.specs.Classes.{IsNamed, MemberAt, Has, HasAt, Declares
 ghost use Rattle.cb_rules.specs.Rules.{IsNoClass};
 ghost use Rattle.cb_rules.specs.Fault.{KeepsAll};
 ghost use Rattle.cb_check.specs.Denotes.{DenotesEvent, DenotesRule, DenotesOwn, DenotesPath};
+ghost use Rattle.cb_check.specs.Stands.{place_in};
 ghost use Rattle.cb_check.specs.Finder.{NeedsEvent, NeedsRelation, NeedsRule, NeedsOwn, NeedsPath, HasNumber, IsNumberAt, IsRelationInto, StepsTo};
 
 use crate::numbers::numbers_of;
-use cb_grammar::{Member, Token, Tree};
-use cb_model::{ClassId, EventId, List, RelId};
-use cb_rules::{Directory, Place};
+use cb_grammar::{Member, PlaceToken, Token, Tree};
+use cb_model::{ClassId, EventId, List, Place as PathPlace, RelId};
+use cb_rules::{Directory, MemberPosition};
 use std::alloc::{AllocError, Global};
 use std::marker::Model;
 
@@ -82,24 +83,27 @@ impl<'t> Finder<'t> {
     {
         let class = class.0 as usize;
         let member = self.directory.own(class, name.name.bytes()).unwrap();
-        RelId(self.number(Place { class, member }))
+        RelId(self.number(MemberPosition { class, member }))
     }
 
-    /// The relations of a path, and the class that they lead to.
+    /// The places of a path, and the class that they lead to.
     pub fn path(
         &self,
         alloc: Global,
         class: ClassId,
-        names: &[Token],
-    ) -> Result<(List<RelId>, ClassId), AllocError>
-        requires { NeedsPath self.now class.0 names.now }
-        ensures { IfOk result (λ found. DenotesPath self.now class.0 (map (λ token. token.name) names.now) found.0 found.1.0) }
+        steps: &[PlaceToken],
+    ) -> Result<(List<PathPlace>, ClassId), AllocError>
+        requires { NeedsPath self.now class.0 steps.now }
+        ensures { IfOk result (λ found. DenotesPath self.now class.0 (map place_in steps.now) found.0 found.1.0) }
     {
         let mut path = List::new(alloc);
         let mut reached = class;
-        for name in names {
-            let (relation, next) = self.step(reached, name);
-            path.push(relation)?;
+        for step in steps {
+            let (rel, next) = self.step(reached, &step.name);
+            path.push(PathPlace {
+                rel,
+                plus: step.plus,
+            })?;
             reached = next;
         }
         Ok((path, reached))
@@ -115,7 +119,7 @@ impl<'t> Finder<'t> {
     }
 
     // The target of the relation at this place.
-    fn target_at(&self, place: Place) -> ClassId
+    fn target_at(&self, place: MemberPosition) -> ClassId
         requires { (member : TheMember) × MemberAt self.now place.class place.member member × IsRelation member }
         ensures { (member : TheMember) × MemberAt self.now place.class place.member member × IsRelationInto self.now member result.0 }
     {
@@ -127,7 +131,7 @@ impl<'t> Finder<'t> {
     }
 
     // Where what the class has under this name is declared.
-    fn place(&self, class: ClassId, name: &Token) -> Place
+    fn place(&self, class: ClassId, name: &Token) -> MemberPosition
         requires { ¬ (¬ Has self.now class.0 (Declares name.now.name)) }
         ensures keeps { KeepsAll self.now }
         ensures place { HasAt self.now class.0 (Declares name.now.name) result.class result.member }
@@ -138,7 +142,7 @@ impl<'t> Finder<'t> {
     }
 
     // The number of the event, the relation or the rule at this place.
-    fn number(&self, place: Place) -> u32
+    fn number(&self, place: MemberPosition) -> u32
         requires { HasNumber self.now place.class place.member }
         ensures { IsNumberAt self.now place.class place.member result }
     {

@@ -7,14 +7,14 @@ ghost use Rattle.cb_check.specs.Stands.{relation_in, rule_in};
 ghost use Rattle.cb_check.specs.Rows.{GivesClass, GivesRelation, GivesRule, GivesBy, AddsMembers, AreRowsOf};
 
 use crate::finder::Finder;
-use cb_grammar::{ClassDecl, Member, Token};
+use cb_grammar::{ClassDecl, Member, PlaceToken, Token};
 use cb_model::{
     BlockRow, ClassId, ClassRow, EventRow, HideRow, List, Name, RelRow, RuleRow, Tables,
 };
 use std::alloc::{AllocError, Global};
 
 /// The tables of the finder's tree: the k-th declaration of a kind gives the k-th row.
-pub fn tables_of(alloc: Global, finder: &Finder) -> Result<Tables, AllocError>
+pub(crate) fn tables_of(alloc: Global, finder: &Finder) -> Result<Tables, AllocError>
     ensures { IfOk result (AreRowsOf finder.now finder.now.classes) }
 {
     let mut tables = Tables {
@@ -147,7 +147,7 @@ fn rule_row(
     class: ClassId,
     name: &Token,
     cause: &Token,
-    path: &List<Token>,
+    path: &List<PlaceToken>,
     effect: &Token,
 ) -> Result<RuleRow, AllocError>
     requires keeps { KeepsAll finder.now }

@@ -6,7 +6,7 @@ use Rattle.std.proofs.lemmas.Bool.{false≢true, cases_eq, cases_lt}
 use Rattle.std.proofs.lemmas.List.{get_or-take, get_or-drop, get_or-set_same, get_or-set_other, length-take}
 use Rattle.std.proofs.Math.Seq.{take-add}
 use Rattle.std.proofs.lemmas.List.Elements.{Contains-append_left, Contains-append_right, Contains-append_cases, Contains-push_cases}
-use Rattle.cb_reach.specs.Rows.{Has}
+use Rattle.cb_successors.specs.Rows.{Has}
 use Rattle.cb_checker.specs.declared.reasons.Reason.{Reason}
 use Rattle.cb_checker.specs.Reasons.{HasNoEnds, IsFirstLacking, IsFirstWithout, IsSooner}
 
@@ -96,7 +96,7 @@ no_ends_more reasons reason row low none other in' = elim (Contains-push_cases r
   | inr same ↦ subst (λ (r : Reason). ¬ Has (slice_set row reason.to.0 false) r.to.0) same (cleared row reason.to.0 low)
 ]
 
--- what stands behind a place, up to another
+-- what stands after a place, up to another
 module _ {X : Type 0} (xs : List X) (a b : ℕ) (within : b ≤ length xs) where
   pub range_joined : a ≤ b → take b xs ≡ take a xs ++ slice_range xs a b
   range_joined up =

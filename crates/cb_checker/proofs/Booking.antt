@@ -18,15 +18,15 @@ use Rattle.cb_cert.specs.declared.certificate.Certificate.{Certificate}
 use Rattle.cb_cert.specs.declared.certificate.Certificate.TheVariants.{Book}
 use Rattle.cb_cert.specs.declared.certificate.Span.{Span}
 use Rattle.cb_cert.specs.Format.{nodes_of}
-use Rattle.cb_claim.specs.declared.verdict.Accepted.{Accepted}
-use Rattle.cb_claim.specs.declared.verdict.Rejected.{Rejected}
-use Rattle.cb_claim.specs.declared.verdict.Rejected.TheVariants.{TooClose}
-use Rattle.cb_claim.specs.Checks.{Check, node_check, column_check, no_more_problems, no_more_spans, asked_of, span_checks, book_checks, places, Passes, Judges, claim_check, IsGoodNode, AreTooClose}
-use Rattle.cb_claim.specs.Reading.{MakeGroups, ArePlaces, AreApart}
-use Rattle.cb_claim.specs.Verdicts.{Shows, ShowsBook}
-use Rattle.cb_claim.proofs.Firsts.{made_is_one, places_found_once}
-use Rattle.cb_claim.proofs.Passing.{nodes_from_checks}
-use Rattle.cb_claim.proofs.Stages.{passed_go_on, failed_stop}
+use Rattle.cb_validity.specs.declared.verdict.Accepted.{Accepted}
+use Rattle.cb_validity.specs.declared.verdict.Rejected.{Rejected}
+use Rattle.cb_validity.specs.declared.verdict.Rejected.TheVariants.{TooClose}
+use Rattle.cb_validity.specs.Checks.{Check, node_check, column_check, no_more_problems, no_more_spans, asked_of, span_checks, book_checks, places, Passes, Judges, claim_check, IsGoodNode, AreTooClose}
+use Rattle.cb_validity.specs.Reading.{MakeGroups, ArePlaces, AreApart}
+use Rattle.cb_validity.specs.Verdicts.{Shows, ShowsBook}
+use Rattle.cb_validity.proofs.Firsts.{made_is_one, places_found_once}
+use Rattle.cb_validity.proofs.Passing.{nodes_from_checks}
+use Rattle.cb_validity.proofs.Stages.{passed_go_on, failed_stop}
 use Rattle.cb_nodes.specs.declared.id.NodeId.{NodeId}
 use Rattle.cb_topo.specs.Numbered.{Numbered, topology_of, IsNodeNamed, IsWhole, AreNamed}
 use Rattle.cb_checker.specs.Firsts.{AreAll}

@@ -14,7 +14,7 @@ some_long : {X : Type 0} (xs : List X) → xs ≢ [] → 0 < length xs
 some_long [] not = absurd (not refl)
 some_long (x ∷ xs) not = omega arith
 
--- each group behind the quiet one has a problem
+-- each group after the quiet one has a problem
 pub have_members : (width : ℕ) (problems : List Problem) (groups : List Group) → AreGroups width problems groups → HaveMembers groups
 have_members width problems groups are = λ i g some at.
     let there = subst (λ gs. slice_get gs i ≡ Some g) are.quiet at in

@@ -18,18 +18,18 @@ use Rattle.cb_network.specs.Nodes.{IsNodeOf}
 use Rattle.cb_cert.specs.declared.certificate.Certificate.{Certificate}
 use Rattle.cb_cert.specs.declared.certificate.Span.{Span}
 use Rattle.cb_cert.specs.Format.{nodes_of}
-use Rattle.cb_claim.specs.declared.verdict.Rejected.TheVariants.{NotClosed}
-use Rattle.cb_claim.specs.Spans.{IsListedAt, Lists}
-use Rattle.cb_claim.specs.Checks.{closed_check, places, Passes, Judges, IsLeastOutside}
+use Rattle.cb_validity.specs.declared.verdict.Rejected.TheVariants.{NotClosed}
+use Rattle.cb_validity.specs.Spans.{IsListedAt, ListsNode}
+use Rattle.cb_validity.specs.Checks.{closed_check, places, Passes, Judges, IsLeastOutside}
 use Rattle.cb_nodes.specs.declared.id.NodeId.{NodeId}
-use Rattle.cb_reach.specs.Rows.{Has}
+use Rattle.cb_successors.specs.Rows.{Has}
 use Rattle.cb_topo.specs.Numbered.{Numbered, topology_of, IsNodeNamed}
 use Rattle.cb_graph.specs.Edges.{EdgeAt, number}
 use Rattle.cb_graph.proofs.Chains.{named_once}
 use Rattle.cb_checker.specs.Known.{IsKnown}
 use Rattle.cb_checker.specs.Listed.{ArePlaced, IsAmong, AreListed, AreMarked}
-use Rattle.cb_checker.specs.declared.marks.Marks.{Marks}
-use Rattle.cb_reach.proofs.Marks.{nothing, same_rows}
+use Rattle.cb_checker.specs.declared.marks.SpanNodes.{SpanNodes}
+use Rattle.cb_successors.proofs.Marks.{nothing, same_rows}
 use Rattle.cb_checker.specs.Missing.{AreClosed, AreClosedTo, HasSuccessorsTo, IsLeastOf, IsLeastIfAny, IsMissing, IsOutside, IsLesser}
 use Rattle.cb_checker.specs.Spans.{asked}
 use Rattle.cb_checker.proofs.Joined.{fails_here, place_fails, place_passes}
@@ -69,7 +69,7 @@ module _ (n : Numbered) (ids : List NodeId) (c : Certificate) (known : IsKnown n
     (placed : List NodeId) (are : ArePlaced ids span (length span.entries) placed) (listed : List Bool)
     (each : (k : ℕ) → Has listed k ↔ IsAmong placed k) where
   -- what is listed by its name is listed by its number
-  has_listed : (x : NodeName) (k : ℕ) → IsNodeNamed n (number k) x → Lists (nodes_of c) span x → Has listed k
+  has_listed : (x : NodeName) (k : ℕ) → IsNodeNamed n (number k) x → ListsNode (nodes_of c) span x → Has listed k
   has_listed x k named l =
       let p = placed_by n ids c known span l.0 x l.1 in
       let low = slice_get_within span.entries l.0 l.1.entry l.1.is in
@@ -79,13 +79,13 @@ module _ (n : Numbered) (ids : List NodeId) (c : Certificate) (known : IsKnown n
       (each k).1 (l.0, subst (λ (i : NodeId). slice_get placed l.0 ≡ Some i) (one ∙ two) there.1)
 
   -- and the other way round
-  lists_listed : (x : NodeName) (k : ℕ) → IsNodeNamed n (number k) x → Has listed k → Lists (nodes_of c) span x
+  lists_listed : (x : NodeName) (k : ℕ) → IsNodeNamed n (number k) x → Has listed k → ListsNode (nodes_of c) span x
   lists_listed x k named has =
       let among = (each k).0 has in
       let p = listed_by n ids c known span among.0 (number k) (are.each among.0 (number k) among.1) in
       (among.0, subst (IsListedAt (nodes_of c) span among.0) (named_once n (number k) p.0 x p.2 named) p.1)
 
-  pub listed_names : (x : NodeName) (k : ℕ) → IsNodeNamed n (number k) x → Has listed k ↔ Lists (nodes_of c) span x
+  pub listed_names : (x : NodeName) (k : ℕ) → IsNodeNamed n (number k) x → Has listed k ↔ ListsNode (nodes_of c) span x
   listed_names x k named = (lists_listed x k named, has_listed x k named)
 
   closed_here : (place : ℕ) (id : NodeId) → slice_get placed place ≡ Some id → ((k : ℕ) → ¬ IsMissing n id.0 listed k)
@@ -118,8 +118,8 @@ module _ (n : Numbered) (ids : List NodeId) (c : Certificate) (known : IsKnown n
       let from_is : led.from ≡ first.0 = named_once n id led.from first.0 led.from_is first.2 in
       let to_is : led.to ≡ name = named_once n (number least.node) led.to name led.to_is least.named in
       let edge : Edge t first.0 name = subst (λ x. Edge t x name) from_is (subst (λ y. Edge t led.from y) to_is led.edge) in
-      let outside : ¬ Lists (nodes_of c) span name = λ l. least.is.1 (has_listed name least.node least.named l) in
-      let least_name : (other : NodeName) → Edge t first.0 other → ¬ Lists (nodes_of c) span other → node_cmp other name ≢ Less =
+      let outside : ¬ ListsNode (nodes_of c) span name = λ l. least.is.1 (has_listed name least.node least.named l) in
+      let least_name : (other : NodeName) → Edge t first.0 other → ¬ ListsNode (nodes_of c) span other → node_cmp other name ≢ Less =
       λ other to_other out.
       let to = known.whole.named other (ends_at_node n first.0 other to_other) in
       let led_other : EdgeAt n id.0 to.0.0 = record { from = first.0; to = other; from_is = first.2; to_is = to.1; edge = to_other } in
@@ -260,7 +260,7 @@ pub least_moved : (m n : Numbered) (i : ℕ) (listed other : List Bool) (least :
 least_moved m n i listed other least same rows is =
     subst (λ row. IsLeastIfAny n (IsMissing n i row) least) rows (subst (λ (k : Numbered). IsLeastIfAny k (IsMissing k i listed) least) same is)
 
-pub forgot_marked : (n : Numbered) (old new : Marks) → AreMarked n old → new.placed.items ≡ [] → new.listed ≡ replicate (length old.listed) false
+pub forgot_marked : (n : Numbered) (old new : SpanNodes) → AreMarked n old → new.placed.items ≡ [] → new.listed ≡ replicate (length old.listed) false
     → new.found ≡ old.found → AreMarked n new
 forgot_marked n old new are none listed found = record {
   room = ap length listed ∙ (length-replicate (length old.listed) false ∙ are.room);

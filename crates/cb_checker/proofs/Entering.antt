@@ -1,4 +1,4 @@
--- An entry behind the first one, by numbers and by names.
+-- An entry after the first one, by numbers and by names.
 use Rattle.std.proofs.Common.{◌≡◌, ◌⊎◌, inl, inr, ℕ, ◌+◌, ◌-◌, ◌<◌, ◌≤◌, List, [], ◌∷◌, ◌++◌, Bool, true, length, refl, sym, ap, subst, ◌∙◌, Option, Some, arith}
 use Rattle.std.specs.Prelude.{Err, slice_get, slice_set}
 use Rattle.std.specs.List.{All}
@@ -6,23 +6,23 @@ use Rattle.std.proofs.lemmas.Option.{same_Some, slice_get_within}
 use Rattle.std.proofs.lemmas.List.{length-append, length-set}
 use Rattle.cb_model.proofs.Numbers.{slice_get-push_before, slice_get-push_last}
 use Rattle.cb_coding.proofs.Pushed.{pushed_cases}
-use Rattle.cb_reach.proofs.Marks.{has_set, set_cases}
+use Rattle.cb_successors.proofs.Marks.{has_set, set_cases}
 use Rattle.cb_model.specs.declared.node.NodeName.{NodeName}
 use Rattle.cb_network.specs.Causes.{Edge}
 use Rattle.cb_cert.specs.declared.certificate.Certificate.{Certificate}
 use Rattle.cb_cert.specs.declared.certificate.Entry.{Entry}
 use Rattle.cb_cert.specs.declared.certificate.Span.{Span}
 use Rattle.cb_cert.specs.Format.{nodes_of}
-use Rattle.cb_claim.specs.declared.verdict.Rejected.TheVariants.{BadParent, NoEdge, Repeated}
-use Rattle.cb_claim.specs.Spans.{IsListedAt, HasEdge}
-use Rattle.cb_claim.specs.Checks.{Asked, parent_check, edge_check, new_check, entry_checks, Passes, Judges, EntryIs, IsNew}
-use Rattle.cb_claim.proofs.Stages.{passed_go_on}
+use Rattle.cb_validity.specs.declared.verdict.Rejected.TheVariants.{BadParent, NoEdge, Repeated}
+use Rattle.cb_validity.specs.Spans.{IsListedAt, HasEdge}
+use Rattle.cb_validity.specs.Checks.{Asked, parent_check, edge_check, new_check, entry_checks, Passes, Judges, EntryIs, IsNew}
+use Rattle.cb_validity.proofs.Stages.{passed_go_on}
 use Rattle.cb_nodes.specs.declared.id.NodeId.{NodeId}
-use Rattle.cb_reach.specs.Rows.{Has}
+use Rattle.cb_successors.specs.Rows.{Has}
 use Rattle.cb_topo.specs.Numbered.{Numbered, topology_of, IsNodeNamed}
 use Rattle.cb_graph.specs.Edges.{EdgeAt, number}
 use Rattle.cb_graph.proofs.Chains.{named_once}
-use Rattle.cb_checker.specs.declared.marks.Marks.{Marks}
+use Rattle.cb_checker.specs.declared.marks.SpanNodes.{SpanNodes}
 use Rattle.cb_checker.specs.Known.{IsIdAt, IsKnown}
 use Rattle.cb_checker.specs.Listed.{IsPlaced, ArePlaced, AreListed, AreMarked}
 use Rattle.cb_checker.specs.Spans.{asked}
@@ -164,7 +164,7 @@ listed_more listed more placed id now are within is_placed is_listed = λ k. (
       ]),
 )
 
-pub marked_more : (n : Numbered) (old new : Marks) (id : NodeId) → AreMarked n old → id.0 < length n.nodes
+pub marked_more : (n : Numbered) (old new : SpanNodes) (id : NodeId) → AreMarked n old → id.0 < length n.nodes
     → new.placed.items ≡ old.placed.items ++ (id ∷ []) → new.listed ≡ slice_set old.listed id.0 true → length new.found ≡ length n.nodes → AreMarked n new
 marked_more n old new id are low placed listed spare = record {
   room = ap length listed ∙ (length-set old.listed id.0 true ∙ are.room);

@@ -8,10 +8,10 @@ use Rattle.std.proofs.lemmas.List.Elements.{All-nil}
 use Rattle.std.proofs.lemmas.Option.{same_Some, slice_get_within, slice_get-get_or}
 use Rattle.cb_network.specs.Topology.{Topology}
 use Rattle.cb_cert.specs.declared.certificate.Certificate.{Certificate}
-use Rattle.cb_claim.specs.declared.verdict.Rejected.{Rejected}
-use Rattle.cb_claim.specs.Checks.{Check, Passes, Tells, FailsFirst, Judges, places}
-use Rattle.cb_claim.proofs.Passing.{all_joined, range_of_all, places_of_checks}
-use Rattle.cb_claim.proofs.Stages.{passed_go_on, failed_stop}
+use Rattle.cb_validity.specs.declared.verdict.Rejected.{Rejected}
+use Rattle.cb_validity.specs.Checks.{Check, Passes, ReportsCheck, FailsFirst, Judges, places}
+use Rattle.cb_validity.proofs.Passing.{all_joined, range_of_all, places_of_checks}
+use Rattle.cb_validity.proofs.Stages.{passed_go_on, failed_stop}
 
 pub all_from : {X : Type 0} (P : X → Type 0) (xs : List X) → ((i : ℕ) (x : X) → slice_get xs i ≡ Some x → P x) → All P xs
 all_from P xs each = λ i d low. each i (get_or xs i d) (slice_get-get_or xs i d low)
@@ -35,7 +35,7 @@ range_at a n i k at =
 
 module _ (t : Topology) (c : Certificate) where
   -- the first of these checks fails
-  pub fails_here : (check : Check) (after : List Check) (told : Rejected) → ¬ Passes t c check → Tells t c check told
+  pub fails_here : (check : Check) (after : List Check) (told : Rejected) → ¬ Passes t c check → ReportsCheck t c check told
       → FailsFirst t c (check ∷ after) told
   fails_here check after told fails tells = record {
     before = [];

@@ -12,7 +12,7 @@ use Rattle.cb_model.proofs.Rising.{node_strict}
 use Rattle.cb_coding.proofs.Pushed.{pushed_cases}
 use Rattle.cb_cert.specs.declared.certificate.Certificate.{Certificate}
 use Rattle.cb_cert.specs.Format.{nodes_of}
-use Rattle.cb_claim.specs.Spans.{StandsFor}
+use Rattle.cb_validity.specs.Spans.{StandsFor}
 use Rattle.cb_nodes.specs.declared.id.NodeId.{NodeId}
 use Rattle.cb_topo.specs.Numbered.{Numbered, IsNodeNamed, IsLiveNode}
 use Rattle.cb_checker.specs.Known.{IsIdAt, AreLive, IsKnown}

@@ -8,8 +8,8 @@ use Rattle.cb_network.specs.Nodes.{IsColumn}
 use Rattle.cb_network.specs.Topology.{Topology}
 use Rattle.cb_cert.specs.declared.certificate.Certificate.{Certificate}
 use Rattle.cb_cert.specs.Format.{nodes_of}
-use Rattle.cb_claim.specs.declared.verdict.Rejected.TheVariants.{BadNode, BadColumn}
-use Rattle.cb_claim.specs.Checks.{node_check, column_check, columns_of, places, Passes, Judges, IsGoodNode, IsGoodColumn}
+use Rattle.cb_validity.specs.declared.verdict.Rejected.TheVariants.{BadNode, BadColumn}
+use Rattle.cb_validity.specs.Checks.{node_check, column_check, columns_of, places, Passes, Judges, IsGoodNode, IsGoodColumn}
 use Rattle.cb_nodes.specs.declared.id.NodeId.{NodeId}
 use Rattle.cb_topo.specs.Numbered.{Numbered, topology_of}
 use Rattle.cb_graph.proofs.Chains.{named_once}

@@ -7,7 +7,7 @@ use Rattle.cb_cert.specs.declared.certificate.Certificate.{Certificate}
 use Rattle.cb_cert.specs.declared.certificate.Span.{Span}
 use Rattle.cb_cert.specs.declared.certificate.Entry.{Entry}
 use Rattle.cb_cert.specs.Format.{nodes_of}
-use Rattle.cb_claim.specs.Spans.{IsListedAt}
+use Rattle.cb_validity.specs.Spans.{IsListedAt}
 use Rattle.cb_nodes.specs.declared.id.NodeId.{NodeId}
 use Rattle.cb_topo.specs.Numbered.{Numbered, IsNodeNamed, IsLiveNode}
 use Rattle.cb_checker.specs.Known.{IsIdAt, AreLive, IsKnown}

@@ -17,9 +17,9 @@ use Rattle.cb_network.specs.Nodes.{AreColumns, AreProblems as AreProblemNodes}
 use Rattle.cb_cert.specs.declared.certificate.Certificate.{Certificate}
 use Rattle.cb_cert.specs.declared.certificate.Span.{Span}
 use Rattle.cb_cert.specs.Format.{nodes_of}
-use Rattle.cb_claim.specs.Reading.{IsCodeOf as IsCodeRead, MakeGroups, ArePlaces}
-use Rattle.cb_claim.specs.Reading as reading
-use Rattle.cb_claim.specs.Spans.{Lists}
+use Rattle.cb_validity.specs.Reading.{IsCodeOf as IsCodeRead, MakeGroups, ArePlaces}
+use Rattle.cb_validity.specs.Reading as reading
+use Rattle.cb_validity.specs.Spans.{ListsNode}
 use Rattle.cb_nodes.specs.declared.id.NodeId.{NodeId}
 use Rattle.cb_topo.specs.Numbered.{Numbered, topology_of, IsNodeNamed, AreNamed, IsWhole}
 use Rattle.cb_graph.proofs.Chains.{named_once}
@@ -67,7 +67,7 @@ module _ (n : Numbered) (ids : List NodeId) (c : Certificate) (known : IsKnown n
 
   -- a code that is read off by numbers is read off by names
   pub code_read : (span : Span) (listed code : List Bool) → IsListing ids span listed → IsCodeOf columns listed code → IsCodeRead (nodes_of c) names span code
-  code_read span listed code lists coded = zip_each (λ column bit. IsTrue bit ↔ Lists (nodes_of c) span column) names code (coded.width ∙ width_same) (λ i column bit at_column at_bit.
+  code_read span listed code lists coded = zip_each (λ column bit. IsTrue bit ↔ ListsNode (nodes_of c) span column) names code (coded.width ∙ width_same) (λ i column bit at_column at_bit.
       let id = zip_left (IsNodeNamed n) columns names named i column at_column in
       let is = listed_names n ids c known 0 None span lists.placed lists.are listed lists.each column id.0.0 id.2 in
       let same : bit ≡ slice_index_or listed id.0.0 false = sym (get_or_from_slice_get code i bit false at_bit) ∙ coded.each i id.0 id.1 in

@@ -7,8 +7,8 @@ use Rattle.cb_network.specs.Nodes.{IsProblem}
 use Rattle.cb_cert.specs.declared.certificate.Certificate.{Certificate}
 use Rattle.cb_cert.specs.declared.certificate.Span.{Span}
 use Rattle.cb_cert.specs.Format.{nodes_of}
-use Rattle.cb_claim.specs.declared.verdict.Rejected.TheVariants.{BadRoot}
-use Rattle.cb_claim.specs.Checks.{root_check, Passes, Judges, IsAskedFor, IsGoodRoot}
+use Rattle.cb_validity.specs.declared.verdict.Rejected.TheVariants.{BadRoot}
+use Rattle.cb_validity.specs.Checks.{root_check, Passes, Judges, IsAskedFor, IsGoodRoot}
 use Rattle.cb_nodes.specs.declared.id.NodeId.{NodeId}
 use Rattle.cb_topo.specs.Numbered.{Numbered, topology_of, IsNodeNamed}
 use Rattle.cb_graph.proofs.Chains.{named_once}

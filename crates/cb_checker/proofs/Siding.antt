@@ -8,12 +8,12 @@ use Rattle.std.proofs.lemmas.List.Sums.{sum_by-cons}
 use Rattle.cb_cert.specs.declared.certificate.Side.{Side}
 use Rattle.cb_cert.specs.declared.certificate.Side.TheVariants.{Quiet, Root}
 use Rattle.cb_cert.specs.declared.certificate.Span.{Span}
-use Rattle.cb_claim.specs.declared.verdict.Rejected.{Rejected}
-use Rattle.cb_claim.specs.declared.verdict.Rejected.TheVariants.{NoMemory}
-use Rattle.cb_claim.specs.Canonical.{side_spans}
-use Rattle.cb_claim.specs.Checks.{Check, Passes, Judges, asked_sides, span_checks}
-use Rattle.cb_claim.specs.Verdicts.{entries_of}
-use Rattle.cb_claim.proofs.Stages.{passed_go_on, failed_stop}
+use Rattle.cb_validity.specs.declared.verdict.Rejected.{Rejected}
+use Rattle.cb_validity.specs.declared.verdict.Rejected.TheVariants.{NoMemory}
+use Rattle.cb_validity.specs.Canonical.{side_spans}
+use Rattle.cb_validity.specs.Checks.{Check, Passes, Judges, asked_sides, span_checks}
+use Rattle.cb_validity.specs.Verdicts.{entries_of}
+use Rattle.cb_validity.proofs.Stages.{passed_go_on, failed_stop}
 use Rattle.cb_nodes.specs.declared.id.NodeId.{NodeId}
 use Rattle.cb_topo.specs.Numbered.{Numbered, topology_of}
 use Rattle.cb_checker.specs.Known.{ended}

@@ -11,11 +11,11 @@ use Rattle.cb_coding.specs.declared.group.Problem.{Problem}
 use Rattle.cb_coding.proofs.Pushed.{pushed_cases}
 use Rattle.cb_cert.specs.declared.certificate.Certificate.{Certificate}
 use Rattle.cb_cert.specs.declared.certificate.Span.{Span}
-use Rattle.cb_claim.specs.declared.verdict.Rejected.{Rejected}
-use Rattle.cb_claim.specs.declared.verdict.Rejected.TheVariants.{NoSpan, ExtraSpan}
-use Rattle.cb_claim.specs.Checks.{Asked, Passes, Judges, asked_of, span_checks, no_more_problems, no_more_spans}
-use Rattle.cb_claim.specs.Verdicts.{entries_of}
-use Rattle.cb_claim.proofs.Stages.{passed_go_on}
+use Rattle.cb_validity.specs.declared.verdict.Rejected.{Rejected}
+use Rattle.cb_validity.specs.declared.verdict.Rejected.TheVariants.{NoSpan, ExtraSpan}
+use Rattle.cb_validity.specs.Checks.{Asked, Passes, Judges, asked_of, span_checks, no_more_problems, no_more_spans}
+use Rattle.cb_validity.specs.Verdicts.{entries_of}
+use Rattle.cb_validity.proofs.Stages.{passed_go_on}
 use Rattle.cb_nodes.specs.declared.id.NodeId.{NodeId}
 use Rattle.cb_topo.specs.Numbered.{Numbered, topology_of, IsNodeNamed, AreNamed}
 use Rattle.cb_checker.specs.Known.{IsKnown}

@@ -1,4 +1,4 @@
--- Entries behind the first one, by what they state.
+-- Entries after the first one, by what they state.
 use Rattle.std.proofs.Common.{◌≡◌, inl, inr, ℕ, ◌+◌, ◌-◌, ◌<◌, ◌≤◌, List, Bool, [], ◌∷◌, ◌++◌, length, sym, subst, Option, arith}
 use Rattle.std.specs.Prelude.{Ok, Err}
 use Rattle.std.specs.List.{All, Contains}
@@ -7,10 +7,10 @@ use Rattle.std.proofs.lemmas.List.Elements.{Contains-push_cases}
 use Rattle.cb_model.specs.declared.node.NodeName.{NodeName}
 use Rattle.cb_cert.specs.declared.certificate.Certificate.{Certificate}
 use Rattle.cb_cert.specs.declared.certificate.Span.{Span}
-use Rattle.cb_claim.specs.declared.verdict.Rejected.TheVariants.{NoEdge, Repeated}
-use Rattle.cb_claim.specs.Checks.{Passes, Judges, entry_checks}
+use Rattle.cb_validity.specs.declared.verdict.Rejected.TheVariants.{NoEdge, Repeated}
+use Rattle.cb_validity.specs.Checks.{Passes, Judges, entry_checks}
 use Rattle.cb_nodes.specs.declared.id.NodeId.{NodeId}
-use Rattle.cb_reach.specs.Rows.{Has}
+use Rattle.cb_successors.specs.Rows.{Has}
 use Rattle.cb_topo.specs.Numbered.{Numbered, topology_of}
 use Rattle.cb_checker.specs.declared.reasons.Reason.{Reason}
 use Rattle.cb_checker.specs.Known.{AreLive, IsKnown}
@@ -62,7 +62,7 @@ stated_live n ids span to reasons live are = λ reason in'.
     let is = (are reason in').1 in
     (live_placed n ids live span (is.entry.parent - 1) reason.from is.from, live_at n ids live is.entry.node reason.to is.to)
 
--- the entries behind the first one, below a place, pass their checks where their edges are there
+-- the entries after the first one, below a place, pass their checks where their edges are there
 abbrev pub PassIfLed : List NodeId → ℕ → Span → List Reason → ℕ → Type 0
 PassIfLed ids before span reasons to = (n : Numbered) (c : Certificate) (root : Option NodeName) → IsKnown n ids c → (j : ℕ) → 1 ≤ j → j < to → IsLedAt n reasons j
     → All (Passes (topology_of n) c) (entry_checks (asked before root span) j)

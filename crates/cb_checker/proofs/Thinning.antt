@@ -13,23 +13,23 @@ use Rattle.cb_cert.specs.declared.certificate.Side.{Side}
 use Rattle.cb_cert.specs.declared.certificate.Side.TheVariants.{Quiet, Root}
 use Rattle.cb_cert.specs.declared.certificate.Span.{Span}
 use Rattle.cb_cert.specs.Format.{nodes_of}
-use Rattle.cb_claim.specs.declared.verdict.Rejected.{Rejected}
-use Rattle.cb_claim.specs.declared.verdict.Rejected.TheVariants.{NotThin}
-use Rattle.cb_claim.specs.Checks.{Asked, Check, Passes, Judges, AreChecks, IsGoodRoot, asked_sides, span_checks, root_check, claim_check}
-use Rattle.cb_claim.specs.Reading.{IsCodeOf, IsSideCode, AreAt}
-use Rattle.cb_claim.specs.Spans.{BeginsWith, Lists}
-use Rattle.cb_claim.specs.Valid.{IsValid, IsClose}
-use Rattle.cb_claim.specs.Verdicts.{TellsWhy, Shows}
-use Rattle.cb_claim.proofs.Passing.{all_split, valid_passes_all}
-use Rattle.cb_claim.proofs.Stages.{judged_is_first_fail}
+use Rattle.cb_validity.specs.declared.verdict.Rejected.{Rejected}
+use Rattle.cb_validity.specs.declared.verdict.Rejected.TheVariants.{NotThin}
+use Rattle.cb_validity.specs.Checks.{Asked, Check, Passes, Judges, AreChecks, IsGoodRoot, asked_sides, span_checks, root_check, claim_check}
+use Rattle.cb_validity.specs.Reading.{IsCodeOf, IsSideCode, AreAt}
+use Rattle.cb_validity.specs.Spans.{BeginsWith, ListsNode}
+use Rattle.cb_validity.specs.Valid.{IsValid, IsClose}
+use Rattle.cb_validity.specs.Verdicts.{TellsWhy, Shows}
+use Rattle.cb_validity.proofs.Passing.{all_split, valid_passes_all}
+use Rattle.cb_validity.proofs.Stages.{judged_is_first_fail}
 use Rattle.std.specs.Prelude.{not, slice_index_or}
 use Rattle.std.specs.List.{range_with_len}
 use mathlib.Core.Bool.{beq}
 use Rattle.std.proofs.lemmas.List.Sums.{count_by-le-length}
 use Rattle.std.proofs.lemmas.List.FromFn.{length-range_with_len}
 use Rattle.std.proofs.lemmas.List.{length-replicate}
-use Rattle.cb_claim.specs.declared.verdict.Accepted.{Accepted}
-use Rattle.cb_claim.specs.declared.verdict.Accepted.TheVariants as accepted
+use Rattle.cb_validity.specs.declared.verdict.Accepted.{Accepted}
+use Rattle.cb_validity.specs.declared.verdict.Accepted.TheVariants as accepted
 use Rattle.cb_checker.specs.declared.thin.Closeness.{Closeness}
 use Rattle.cb_bits.specs.Bits.{differing}
 use Rattle.cb_coding.specs.Groups.{zeros}
@@ -68,7 +68,7 @@ code_once nodes span [] (x ∷ v) w a b = absurd a
 code_once nodes span (c ∷ columns) [] w a b = absurd a
 code_once nodes span (c ∷ columns) (x ∷ v) [] a b = absurd b
 code_once nodes span (c ∷ columns) (x ∷ v) (y ∷ w) a b =
-    let bits = same_truth (Lists nodes span c) x y a.0 b.0 in
+    let bits = same_truth (ListsNode nodes span c) x y a.0 b.0 in
     let rest = code_once nodes span columns v w a.1 b.1 in
     cc
 

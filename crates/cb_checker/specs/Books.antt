@@ -5,10 +5,10 @@ use Rattle.cb_model.specs.declared.node.NodeName.{NodeName}
 use Rattle.cb_coding.specs.declared.group.Problem.{Problem}
 use Rattle.cb_cert.specs.declared.certificate.Certificate.{Certificate}
 use Rattle.cb_cert.specs.declared.certificate.Span.{Span}
-use Rattle.cb_claim.specs.declared.verdict.Rejected.{Rejected}
-use Rattle.cb_claim.specs.Checks.{Judges, asked_of, span_checks, no_more_problems, no_more_spans}
+use Rattle.cb_validity.specs.declared.verdict.Rejected.{Rejected}
+use Rattle.cb_validity.specs.Checks.{Judges, asked_of, span_checks, no_more_problems, no_more_spans}
 use Rattle.cb_nodes.specs.declared.id.NodeId.{NodeId}
-use Rattle.cb_reach.specs.Rows.{Has}
+use Rattle.cb_successors.specs.Rows.{Has}
 use Rattle.cb_topo.specs.Numbered.{Numbered, topology_of, IsNodeNamed, AreNamed}
 use Rattle.cb_checker.specs.Known.{IsKnown}
 use Rattle.cb_checker.specs.Listed.{ArePlaced, IsAmong}

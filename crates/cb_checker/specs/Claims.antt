@@ -8,10 +8,10 @@ use Rattle.cb_coding.specs.Groups.{AreGroups, codes_of}
 use Rattle.cb_coding.specs.Pairs.{Good, IsFirstClose}
 use Rattle.cb_finding.specs.Finding.{IsCalled}
 use Rattle.cb_model.specs.declared.node.GroupName.{GroupName}
-use Rattle.cb_claim.specs.declared.verdict.Accepted.{Accepted}
-use Rattle.cb_claim.specs.declared.verdict.Accepted.TheVariants as accepted
-use Rattle.cb_claim.specs.declared.verdict.Rejected.{Rejected}
-use Rattle.cb_claim.specs.declared.verdict.Rejected.TheVariants.{TooClose}
+use Rattle.cb_validity.specs.declared.verdict.Accepted.{Accepted}
+use Rattle.cb_validity.specs.declared.verdict.Accepted.TheVariants as accepted
+use Rattle.cb_validity.specs.declared.verdict.Rejected.{Rejected}
+use Rattle.cb_validity.specs.declared.verdict.Rejected.TheVariants.{TooClose}
 use Rattle.cb_nodes.specs.declared.id.NodeId.{NodeId}
 use Rattle.cb_checker.specs.Places.{ArePlacesOf}
 

@@ -3,8 +3,8 @@ use Rattle.std.specs.Prelude.{◌≡◌, ℕ, suc, ◌<◌, List, map, Result, S
 use Rattle.cb_model.specs.declared.node.NodeName.{NodeName}
 use Rattle.cb_network.specs.Nodes.{IsColumn}
 use Rattle.cb_cert.specs.declared.certificate.Certificate.{Certificate}
-use Rattle.cb_claim.specs.declared.verdict.Rejected.{Rejected}
-use Rattle.cb_claim.specs.Checks.{Judges, column_check, columns_of, places}
+use Rattle.cb_validity.specs.declared.verdict.Rejected.{Rejected}
+use Rattle.cb_validity.specs.Checks.{Judges, column_check, columns_of, places}
 use Rattle.cb_nodes.specs.declared.id.NodeId.{NodeId}
 use Rattle.cb_topo.specs.Numbered.{Numbered, topology_of, IsNodeNamed}
 use Rattle.cb_checker.specs.Known.{IsIdAt, IsKnown}

@@ -4,7 +4,7 @@ use Rattle.cb_model.specs.Order.{Rises}
 use Rattle.cb_model.specs.NodeOrder.{node_cmp}
 use Rattle.cb_cert.specs.declared.certificate.Certificate.{Certificate}
 use Rattle.cb_cert.specs.Format.{nodes_of}
-use Rattle.cb_claim.specs.declared.verdict.Rejected.{Rejected}
+use Rattle.cb_validity.specs.declared.verdict.Rejected.{Rejected}
 use Rattle.cb_nodes.specs.declared.id.NodeId.{NodeId}
 use Rattle.cb_topo.specs.Numbered.{Numbered, IsLiveNode, IsWhole, AreNamed}
 

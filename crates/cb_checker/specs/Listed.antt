@@ -3,10 +3,10 @@ use Rattle.std.specs.Prelude.{◌≡◌, ◌↔◌, ℕ, List, Bool, length, Som
 use Rattle.cb_cert.specs.declared.certificate.Entry.{Entry}
 use Rattle.cb_cert.specs.declared.certificate.Span.{Span}
 use Rattle.cb_nodes.specs.declared.id.NodeId.{NodeId}
-use Rattle.cb_reach.specs.Rows.{Has}
+use Rattle.cb_successors.specs.Rows.{Has}
 use Rattle.cb_topo.specs.Numbered.{Numbered}
 use Rattle.cb_graph.specs.Edges.{number}
-use Rattle.cb_checker.specs.declared.marks.Marks.{Marks}
+use Rattle.cb_checker.specs.declared.marks.SpanNodes.{SpanNodes}
 use Rattle.cb_checker.specs.Known.{IsIdAt}
 
 -- the entry at the place lists this node
@@ -29,7 +29,7 @@ abbrev pub AreListed : List Bool → List NodeId → Type 0
 AreListed listed placed = (k : ℕ) → Has listed k ↔ IsAmong placed k
 
 -- the rows have a place for each number, and exactly the placed nodes are listed
-pub record AreMarked (n : Numbered) (marks : Marks) : Type 0 where
+pub record AreMarked (n : Numbered) (marks : SpanNodes) : Type 0 where
   pub room : length marks.listed ≡ length n.nodes
   pub spare : length marks.found ≡ length n.nodes
   pub each : AreListed marks.listed marks.placed.items

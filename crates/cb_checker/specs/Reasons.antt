@@ -3,12 +3,12 @@ use Rattle.std.specs.Prelude.{◌≡◌, ℕ, ◌+◌, ◌-◌, ◌<◌, min, Li
 use Rattle.std.specs.List.{Contains, flat_map, range_with_len}
 use Rattle.cb_cert.specs.declared.certificate.Entry.{Entry}
 use Rattle.cb_cert.specs.declared.certificate.Span.{Span}
-use Rattle.cb_claim.specs.declared.verdict.Rejected.{Rejected}
-use Rattle.cb_claim.specs.declared.verdict.Rejected.TheVariants.{NoEdge}
-use Rattle.cb_claim.specs.Checks.{entry_checks}
-use Rattle.cb_claim.specs.Spans.{IsEarlier}
+use Rattle.cb_validity.specs.declared.verdict.Rejected.{Rejected}
+use Rattle.cb_validity.specs.declared.verdict.Rejected.TheVariants.{NoEdge}
+use Rattle.cb_validity.specs.Checks.{entry_checks}
+use Rattle.cb_validity.specs.Spans.{IsEarlier}
 use Rattle.cb_nodes.specs.declared.id.NodeId.{NodeId}
-use Rattle.cb_reach.specs.Rows.{Has}
+use Rattle.cb_successors.specs.Rows.{Has}
 use Rattle.cb_topo.specs.Numbered.{Numbered, IsLiveNode}
 use Rattle.cb_graph.specs.Edges.{EdgeAt}
 use Rattle.cb_checker.specs.declared.reasons.Reason.{Reason}
@@ -89,7 +89,7 @@ JudgesEntry ids before span place result = (n : Numbered) → JudgesPart n ids b
 abbrev pub JudgesEntryIfLed : List NodeId → ℕ → Span → ℕ → List Reason → Result (Unit {0}) Rejected → Type 0
 JudgesEntryIfLed ids before span place reasons result = (n : Numbered) → IsLedAt n reasons place → JudgesPart n ids before span (λ a. entry_checks a place) result
 
--- the checks of the entries behind the first one come to this
+-- the checks of the entries after the first one come to this
 abbrev pub JudgesEntries : Numbered → List NodeId → ℕ → Span → Result (Unit {0}) Rejected → Type 0
 JudgesEntries n ids before span result =
     JudgesPart n ids before span (λ a. flat_map (entry_checks a) (range_with_len 1 (length a.span.entries - 1))) result

@@ -5,8 +5,8 @@ use Rattle.cb_network.specs.Nodes.{IsProblem}
 use Rattle.cb_cert.specs.declared.certificate.Certificate.{Certificate}
 use Rattle.cb_cert.specs.declared.certificate.Entry.{Entry}
 use Rattle.cb_cert.specs.declared.certificate.Span.{Span}
-use Rattle.cb_claim.specs.declared.verdict.Rejected.{Rejected}
-use Rattle.cb_claim.specs.Checks.{Asked, Check, Judges, closed_check, places}
+use Rattle.cb_validity.specs.declared.verdict.Rejected.{Rejected}
+use Rattle.cb_validity.specs.Checks.{Asked, Check, Judges, closed_check, places}
 use Rattle.cb_nodes.specs.declared.id.NodeId.{NodeId}
 use Rattle.cb_topo.specs.Numbered.{Numbered, topology_of, IsNodeNamed}
 use Rattle.cb_checker.specs.Known.{IsIdAt, IsKnown}
@@ -32,7 +32,7 @@ IsNamedRoot n None (Some name) = ⊥
 IsNamedRoot n (Some id) None = ⊥
 IsNamedRoot n (Some id) (Some name) = IsNodeNamed n id name
 
--- a span that is checked, behind so many entries, with its root where one is asked for
+-- a span that is checked, after so many entries, with its root where one is asked for
 abbrev pub asked : ℕ → Option NodeName → Span → Asked
 asked before root span = record { before = before; root = root; span = span }
 

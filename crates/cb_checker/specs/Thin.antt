@@ -5,12 +5,12 @@ use Rattle.cb_cert.specs.declared.certificate.Certificate.TheVariants.{Thin}
 use Rattle.cb_cert.specs.declared.certificate.Side.{Side}
 use Rattle.cb_cert.specs.declared.certificate.Side.TheVariants.{Quiet, Root}
 use Rattle.cb_cert.specs.declared.certificate.Span.{Span}
-use Rattle.cb_claim.specs.declared.verdict.Accepted.{Accepted}
-use Rattle.cb_claim.specs.declared.verdict.Rejected.{Rejected}
-use Rattle.cb_claim.specs.Checks.{Judges, thin_checks}
-use Rattle.cb_claim.specs.Spans.{BeginsWith}
-use Rattle.cb_claim.specs.declared.verdict.Accepted.TheVariants as accepted
-use Rattle.cb_claim.specs.Verdicts.{Shows, IsSideName}
+use Rattle.cb_validity.specs.declared.verdict.Accepted.{Accepted}
+use Rattle.cb_validity.specs.declared.verdict.Rejected.{Rejected}
+use Rattle.cb_validity.specs.Checks.{Judges, thin_checks}
+use Rattle.cb_validity.specs.Spans.{BeginsWith}
+use Rattle.cb_validity.specs.declared.verdict.Accepted.TheVariants as accepted
+use Rattle.cb_validity.specs.Verdicts.{Shows, IsSideName}
 use Rattle.cb_checker.specs.declared.thin.Closeness.{Closeness}
 use Rattle.cb_topo.specs.Numbered.{Numbered, topology_of}
 

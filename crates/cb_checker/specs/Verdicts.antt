@@ -5,10 +5,10 @@ use Rattle.cb_network.specs.Nodes.{AreColumns, AreProblems}
 use Rattle.cb_network.specs.Sound.{symptom_limit}
 use Rattle.cb_cert.specs.declared.certificate.Certificate.TheVariants.{Book}
 use Rattle.cb_cert.specs.declared.certificate.Span.{Span}
-use Rattle.cb_claim.specs.declared.verdict.Accepted.{Accepted}
-use Rattle.cb_claim.specs.declared.verdict.Rejected.{Rejected}
-use Rattle.cb_claim.specs.Checks.{Judges, book_checks}
-use Rattle.cb_claim.specs.Verdicts.{Shows}
+use Rattle.cb_validity.specs.declared.verdict.Accepted.{Accepted}
+use Rattle.cb_validity.specs.declared.verdict.Rejected.{Rejected}
+use Rattle.cb_validity.specs.Checks.{Judges, book_checks}
+use Rattle.cb_validity.specs.Verdicts.{Shows}
 use Rattle.cb_nodes.specs.declared.id.NodeId.{NodeId}
 use Rattle.cb_topo.specs.Numbered.{Numbered, topology_of, AreNamed, IsWhole}
 use Rattle.cb_checker.specs.declared.sides.Sides.{Sides}

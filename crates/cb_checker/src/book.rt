@@ -1,7 +1,7 @@
 //! A certificate for a book.
 ghost use Rattle.std.specs.Prelude.{◌≡◌, ◌<◌, ◌+◌, length, IfOk, OnOk};
-ghost use Rattle.cb_claim.specs.Checks.{IsGoodNode};
-ghost use Rattle.cb_claim.specs.Verdicts.{entries_of};
+ghost use Rattle.cb_validity.specs.Checks.{IsGoodNode};
+ghost use Rattle.cb_validity.specs.Verdicts.{entries_of};
 ghost use Rattle.cb_topo.specs.Numbered.{topology_of, AreNamed};
 ghost use Rattle.cb_checker.specs.Firsts.{AreAll, JudgesNodes};
 ghost use Rattle.cb_checker.specs.Known.{ended};
@@ -14,17 +14,17 @@ use crate::nodes::check_nodes;
 use crate::sides::Sides;
 use crate::spans::{check_count, check_spans};
 use cb_cert::Span;
-use cb_claim::{Accepted, Rejected};
 use cb_graph::Graph;
 use cb_model::{List, NodeName};
 use cb_nodes::NodeId;
 use cb_steps::Steps;
 use cb_topo::Topology;
+use cb_validity::{Accepted, Rejected};
 use std::alloc::Global;
 use std::sync::ledger::Ledger;
 
 /// Checks a book over the problems and the columns of the topology.
-pub fn check_book<L: Ledger>(
+pub(crate) fn check_book<L: Ledger>(
     alloc: Global,
     graph: &mut Graph,
     sides: &Sides,
@@ -60,7 +60,7 @@ pub fn check_book<L: Ledger>(
 }
 
 /// Checks the nodes of a certificate, and finds their numbers.
-pub fn known(
+pub(crate) fn known(
     alloc: Global,
     topology: &Topology,
     nodes: &[NodeName],

@@ -1,17 +1,17 @@
 //! The checker.
 ghost use Rattle.std.specs.Prelude.{◌≡◌, IfOk, OnOk, IfErr};
 ghost use Rattle.cb_topo.specs.Numbered.{topology_of};
-ghost use Rattle.cb_claim.specs.Valid.{IsValid};
-ghost use Rattle.cb_claim.specs.Verdicts.{IsCheckable, Shows, TellsWhy};
+ghost use Rattle.cb_validity.specs.Valid.{IsValid};
+ghost use Rattle.cb_validity.specs.Verdicts.{IsCheckable, Shows, TellsWhy};
 ghost use Rattle.cb_checker.specs.Verdicts.{AreSidesOf};
 
 use crate::book::check_book;
 use crate::sides::{Sides, sides_of};
 use crate::thin::{Closeness, check_thin};
 use cb_cert::Certificate;
-use cb_claim::{Accepted, Rejected};
 use cb_graph::Graph;
 use cb_steps::Steps;
+use cb_validity::{Accepted, Rejected};
 use std::alloc::Global;
 use std::sync::ledger::Ledger;
 

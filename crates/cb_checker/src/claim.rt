@@ -7,15 +7,15 @@ ghost use Rattle.cb_checker.specs.Claims.{HaveMembers, IsTooClose, JudgesBook};
 
 use crate::all_columns::AllColumns;
 use crate::places::places_of;
-use cb_claim::{Accepted, Rejected};
 use cb_coding::{Group, Pair, Problem};
 use cb_group::{first_close, groups};
 use cb_model::{GroupName, List};
 use cb_nodes::NodeId;
+use cb_validity::{Accepted, Rejected};
 use std::alloc::{AllocError, Global};
 
 /// Whether over the columns of these numbers the groups of the problems are so far apart; else the first two that are closer.
-pub fn judge_book(
+pub(crate) fn judge_book(
     alloc: Global,
     columns: &AllColumns,
     ids: &[NodeId],

@@ -1,6 +1,6 @@
 //! Whether a span lists all successors.
 ghost use Rattle.std.specs.Prelude.{◌≡◌, ◌<◌, ◌+◌, ◌^◌, ℕ, length, IfOk, IsTrue};
-ghost use Rattle.cb_reach.specs.Rows.{Has};
+ghost use Rattle.cb_successors.specs.Rows.{Has};
 ghost use Rattle.cb_topo.specs.Numbered.{IsLiveNode};
 ghost use Rattle.cb_graph.specs.Edges.{number};
 ghost use Rattle.cb_checker.specs.Known.{AreLive};
@@ -8,24 +8,24 @@ ghost use Rattle.cb_checker.specs.Listed.{AreMarked};
 ghost use Rattle.cb_checker.specs.Missing.{AreClosed, HasSuccessorsTo, IsLeastMissing, IsLeastOutside, IsLesser};
 ghost use Rattle.cb_checker.specs.Spans.{JudgesClosed};
 
-use crate::marks::Marks;
+use crate::marks::SpanNodes;
 use cb_bits::Row;
-use cb_claim::Rejected;
 use cb_graph::Graph;
 use cb_model::NodeName;
 use cb_nodes::NodeId;
-use cb_reach::Edges;
 use cb_steps::Steps;
+use cb_successors::Edges;
 use cb_topo::Topology;
+use cb_validity::Rejected;
 use std::alloc::{AllocError, Global};
 use std::sync::ledger::Ledger;
 
 /// Checks that the successors of each listed node are listed: of all at once, and node by node only where some aren't.
-pub fn check_closed<L: Ledger>(
+pub(crate) fn check_closed<L: Ledger>(
     alloc: Global,
     graph: &mut Graph,
     before: u32,
-    marks: &mut Marks,
+    marks: &mut SpanNodes,
     steps: &mut Steps<L>,
 ) -> Result<(), Rejected>
     requires live { AreLive graph.old marks.old.placed.items }
@@ -44,7 +44,7 @@ pub fn check_closed<L: Ledger>(
 }
 
 // Whether the successors of all listed nodes are listed.
-fn are_closed<L: Ledger>(graph: &mut Graph, marks: &mut Marks, steps: &mut Steps<L>) -> bool
+fn are_closed<L: Ledger>(graph: &mut Graph, marks: &mut SpanNodes, steps: &mut Steps<L>) -> bool
     requires live { AreLive graph.old marks.old.placed.items }
     requires marked { AreMarked graph.old marks.old }
     ensures same { graph.new ≡ graph.old }
@@ -76,7 +76,7 @@ fn check_each<L: Ledger>(
     alloc: Global,
     graph: &mut Graph,
     before: u32,
-    marks: &mut Marks,
+    marks: &mut SpanNodes,
     steps: &mut Steps<L>,
 ) -> Result<(), Rejected>
     requires live { AreLive graph.old marks.old.placed.items }
@@ -107,7 +107,7 @@ fn missing<L: Ledger>(
     alloc: Global,
     graph: &mut Graph,
     node: NodeId,
-    marks: &mut Marks,
+    marks: &mut SpanNodes,
     steps: &mut Steps<L>,
 ) -> Result<Option<NodeName>, AllocError>
     requires node { IsLiveNode graph.old node }

@@ -4,12 +4,16 @@ ghost use Rattle.cb_checker.specs.Codes.{IsCodeOf};
 ghost use Rattle.cb_checker.specs.Listed.{AreListed};
 
 use crate::all_columns::AllColumns;
-use crate::marks::Marks;
+use crate::marks::SpanNodes;
 use cb_bits::Row;
 use std::alloc::{AllocError, Global};
 
 /// For each column, whether it is listed. Only what is listed is looked at.
-pub fn code_of(alloc: Global, columns: &AllColumns, marks: &Marks) -> Result<Row, AllocError>
+pub(crate) fn code_of(
+    alloc: Global,
+    columns: &AllColumns,
+    marks: &SpanNodes,
+) -> Result<Row, AllocError>
     requires { AreListed marks.now.listed marks.now.placed.items }
     ensures { IfOk result (IsCodeOf columns.now marks.now.listed) }
 {

@@ -5,12 +5,16 @@ ghost use Rattle.cb_checker.specs.Known.{AreLive};
 ghost use Rattle.cb_checker.specs.Columns.{IsColumnAt, JudgesColumns};
 
 use crate::known::id_at;
-use cb_claim::Rejected;
 use cb_nodes::NodeId;
 use cb_topo::Topology;
+use cb_validity::Rejected;
 
 /// Checks the columns of a certificate, in order.
-pub fn check_columns(topology: &Topology, ids: &[NodeId], columns: &[u32]) -> Result<(), Rejected>
+pub(crate) fn check_columns(
+    topology: &Topology,
+    ids: &[NodeId],
+    columns: &[u32],
+) -> Result<(), Rejected>
     requires live { AreLive topology.now ids.now }
     requires few { length columns.now + 1 < 4294967296 }
     ensures judges { JudgesColumns topology.now ids.now columns.now result }

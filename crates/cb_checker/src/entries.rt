@@ -1,7 +1,7 @@
-//! The entries of a span behind its first one.
+//! The entries of a span after its first one.
 ghost use Rattle.std.specs.Prelude.{◌≡◌, ◌<◌, ◌-◌, ◌+◌, ℕ, [], length, IfOk, IfErr, OnOk, Err};
 ghost use Rattle.std.specs.List.{Contains, flat_map, range_with_len};
-ghost use Rattle.cb_claim.specs.Checks.{entry_checks};
+ghost use Rattle.cb_validity.specs.Checks.{entry_checks};
 ghost use Rattle.cb_checker.specs.declared.reasons.Reason.{Reason as Stated};
 ghost use Rattle.cb_checker.specs.Codes.{IsBelow};
 ghost use Rattle.cb_checker.specs.Known.{AreLive};
@@ -10,23 +10,23 @@ ghost use Rattle.cb_checker.specs.Reasons.{IsStated, AreStated, JudgesEntry, Jud
 ghost use Rattle.cb_checker.specs.Spans.{JudgesPart};
 
 use crate::known::id_at;
-use crate::marks::Marks;
+use crate::marks::SpanNodes;
 use crate::reasons::{Reason, first_unled};
 use cb_cert::Span;
-use cb_claim::Rejected;
 use cb_graph::Graph;
 use cb_nodes::NodeId;
 use cb_steps::Steps;
+use cb_validity::Rejected;
 use std::sync::ledger::Ledger;
 
-/// Checks the entries behind the first one, which is listed, and lists them too. Whether edges lead to them is asked of all at once,
+/// Checks the entries after the first one, which is listed, and lists them too. Whether edges lead to them is asked of all at once,
 /// up to the first that fails another check.
-pub fn check_entries<L: Ledger>(
+pub(crate) fn check_entries<L: Ledger>(
     graph: &mut Graph,
     ids: &[NodeId],
     span: &Span,
     before: u32,
-    marks: &mut Marks,
+    marks: &mut SpanNodes,
     steps: &mut Steps<L>,
 ) -> Result<(), Rejected>
     requires live { AreLive graph.old ids.now }
@@ -49,8 +49,13 @@ pub fn check_entries<L: Ledger>(
     listed
 }
 
-// Lists the entries behind the first one, with what they state, up to the first that fails a check, if all edges are there.
-fn list_entries(ids: &[NodeId], span: &Span, before: u32, marks: &mut Marks) -> Result<(), Rejected>
+// Lists the entries after the first one, with what they state, up to the first that fails a check, if all edges are there.
+fn list_entries(
+    ids: &[NodeId],
+    span: &Span,
+    before: u32,
+    marks: &mut SpanNodes,
+) -> Result<(), Rejected>
     requires some { 0 < length span.now.entries }
     requires few { before + length span.now.entries < 4294967296 }
     requires below { IsBelow (length marks.old.listed) ids.now }
@@ -77,7 +82,7 @@ fn list_entry(
     span: &Span,
     before: u32,
     place: usize,
-    marks: &mut Marks,
+    marks: &mut SpanNodes,
 ) -> Result<(), Rejected>
     requires place { place < length span.now.entries }
     requires few { before + length span.now.entries < 4294967296 }

@@ -2,7 +2,7 @@
 ghost use Rattle.std.specs.Prelude.{IfOk, IfSome, IfNone};
 ghost use Rattle.cb_nodes.specs.declared.id.NodeId.{NodeId as Id};
 ghost use Rattle.cb_network.specs.Nodes.{IsNodeOf};
-ghost use Rattle.cb_claim.specs.Checks.{IsGoodNode};
+ghost use Rattle.cb_validity.specs.Checks.{IsGoodNode};
 ghost use Rattle.cb_topo.specs.Numbered.{topology_of, IsNodeNamed, AreNamed};
 ghost use Rattle.cb_checker.specs.Firsts.{AreAll};
 ghost use Rattle.cb_checker.specs.Known.{IsIdAt};
@@ -14,7 +14,7 @@ use cb_topo::Topology;
 use std::alloc::{AllocError, Global};
 
 /// The numbers of nodes that are all there.
-pub fn ids_of(
+pub(crate) fn ids_of(
     alloc: Global,
     topology: &Topology,
     nodes: &[NodeName],
@@ -39,7 +39,7 @@ fn id_of(topology: &Topology, node: &NodeName) -> NodeId
 }
 
 /// The node that a number of the certificate stands for.
-pub fn id_at(ids: &[NodeId], number: u32) -> Option<NodeId>
+pub(crate) fn id_at(ids: &[NodeId], number: u32) -> Option<NodeId>
     ensures found { IfSome result (IsIdAt ids.now number) }
     ensures none { IfNone result ((id : Id) → ¬ IsIdAt ids.now number id) }
 {

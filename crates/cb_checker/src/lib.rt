@@ -1,8 +1,8 @@
 //! Certificates, checked against a topology.
 //!
 //! `check(alloc, &mut graph, &certificate, &mut steps)` says what a valid certificate shows, and of any other the first check that
-//! fails. It goes by nodes, columns, spans and claim, in the order of cb_claim's checks; each stage has one clause over its own slice of
-//! that list (`Judges`), and laws of cb_claim join them.
+//! fails. It goes by nodes, columns, spans and claim, in the order of cb_validity's checks; each stage has one clause over its own slice of
+//! that list (`Judges`), and laws of cb_validity join them.
 //!
 //! Read `src/checked.rt` first, then `src/book.rt`, `src/span.rt` and `src/entries.rt`. All but the contract of `check` may be changed freely.
 #![tactic(auto)]
@@ -28,5 +28,5 @@ mod span;
 mod spans;
 mod thin;
 
-pub use cb_claim::{Accepted, Rejected};
+pub use cb_validity::{Accepted, Rejected};
 pub use checked::check;

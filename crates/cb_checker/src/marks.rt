@@ -10,20 +10,20 @@ use std::alloc::{AllocError, Global};
 
 /// The nodes that the entries of a span list so far, in their order and as a row; what the entries state; and a row for successors.
 #[derive(Drop)]
-pub struct Marks {
+pub struct SpanNodes {
     pub placed: Vec<NodeId>,
     pub listed: Row,
     pub reasons: Vec<Reason>,
     pub found: Row,
 }
 
-impl Marks {
+impl SpanNodes {
     /// No node of the topology is listed.
-    pub fn new(alloc: Global, topology: &Topology) -> Result<Marks, AllocError>
+    pub fn new(alloc: Global, topology: &Topology) -> Result<SpanNodes, AllocError>
         ensures { IfOk result (AreMarked topology.now) }
     {
         let room = topology.node_room();
-        Ok(Marks {
+        Ok(SpanNodes {
             placed: Vec::new(alloc),
             listed: Row::zeroed(alloc, room)?,
             reasons: Vec::new(alloc),

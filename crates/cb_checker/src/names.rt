@@ -1,8 +1,8 @@
 //! What the sides of a thin certificate are called.
 ghost use Rattle.std.specs.Prelude.{IfOk};
 ghost use Rattle.cb_model.specs.declared.node.NodeName.{NodeName as Name};
-ghost use Rattle.cb_claim.specs.Spans.{BeginsWith};
-ghost use Rattle.cb_claim.specs.Verdicts.{IsSideName};
+ghost use Rattle.cb_validity.specs.Spans.{BeginsWith};
+ghost use Rattle.cb_validity.specs.Verdicts.{IsSideName};
 ghost use Rattle.cb_checker.specs.Thin.{IsBegun};
 
 use cb_cert::{Side, Span};
@@ -10,7 +10,11 @@ use cb_model::{GroupName, NodeName};
 use std::alloc::{AllocError, Global};
 
 /// What a side is called: quiet, or by its root.
-pub fn side_name(alloc: Global, nodes: &[NodeName], side: &Side) -> Result<GroupName, AllocError>
+pub(crate) fn side_name(
+    alloc: Global,
+    nodes: &[NodeName],
+    side: &Side,
+) -> Result<GroupName, AllocError>
     requires { IsBegun nodes.now side.now }
     ensures { IfOk result (IsSideName nodes.now side.now) }
 {
@@ -21,7 +25,11 @@ pub fn side_name(alloc: Global, nodes: &[NodeName], side: &Side) -> Result<Group
 }
 
 /// The name of the root that a span begins with.
-pub fn root_name(alloc: Global, nodes: &[NodeName], span: &Span) -> Result<NodeName, AllocError>
+pub(crate) fn root_name(
+    alloc: Global,
+    nodes: &[NodeName],
+    span: &Span,
+) -> Result<NodeName, AllocError>
     requires { (root : Name) × BeginsWith nodes.now span.now root }
     ensures { IfOk result (BeginsWith nodes.now span.now) }
 {

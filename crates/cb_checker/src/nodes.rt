@@ -2,15 +2,15 @@
 ghost use Rattle.std.specs.Prelude.{◌<◌, ◌+◌, ◌↔◌, length, IfSome, IfNone, OnOk, IsTrue};
 ghost use Rattle.cb_topo.specs.Numbered.{topology_of};
 ghost use Rattle.cb_network.specs.Nodes.{IsNodeOf};
-ghost use Rattle.cb_claim.specs.Checks.{IsGoodNode};
+ghost use Rattle.cb_validity.specs.Checks.{IsGoodNode};
 ghost use Rattle.cb_checker.specs.Firsts.{AreAll, IsFirstNot, JudgesNodes};
 
-use cb_claim::Rejected;
 use cb_model::NodeName;
 use cb_topo::Topology;
+use cb_validity::Rejected;
 
 /// Checks the nodes of a certificate, in order.
-pub fn check_nodes(topology: &Topology, nodes: &[NodeName]) -> Result<(), Rejected>
+pub(crate) fn check_nodes(topology: &Topology, nodes: &[NodeName]) -> Result<(), Rejected>
     requires { length nodes.now + 1 < 4294967296 }
     ensures judges { JudgesNodes (topology_of topology.now) nodes.now result }
     ensures good { OnOk result (AreAll (IsGoodNode (topology_of topology.now) nodes.now) (length nodes.now)) }

@@ -1,10 +1,10 @@
 //! The two spans of a thin certificate, or the quiet group and a span.
 ghost use Rattle.std.specs.Prelude.{◌≡◌, ◌<◌, ◌+◌, length, None, IfOk, IfErr, OnOk};
 ghost use Rattle.cb_coding.specs.Groups.{zeros};
-ghost use Rattle.cb_claim.specs.declared.verdict.Rejected.TheVariants.{NoMemory};
-ghost use Rattle.cb_claim.specs.Canonical.{side_spans};
-ghost use Rattle.cb_claim.specs.Checks.{span_checks};
-ghost use Rattle.cb_claim.specs.Verdicts.{entries_of};
+ghost use Rattle.cb_validity.specs.declared.verdict.Rejected.TheVariants.{NoMemory};
+ghost use Rattle.cb_validity.specs.Canonical.{side_spans};
+ghost use Rattle.cb_validity.specs.Checks.{span_checks};
+ghost use Rattle.cb_validity.specs.Verdicts.{entries_of};
 ghost use Rattle.cb_checker.specs.Known.{AreLive, ended};
 ghost use Rattle.cb_checker.specs.Listed.{AreMarked};
 ghost use Rattle.cb_checker.specs.Codes.{IsBelow};
@@ -13,14 +13,14 @@ ghost use Rattle.cb_checker.specs.Pairs.{IsRead, IsSideRead, JudgesSide, JudgesS
 
 use crate::all_columns::AllColumns;
 use crate::codes::code_of;
-use crate::marks::Marks;
+use crate::marks::SpanNodes;
 use crate::span::check_span;
 use cb_bits::Row;
 use cb_cert::{Side, Span};
-use cb_claim::Rejected;
 use cb_graph::Graph;
 use cb_nodes::NodeId;
 use cb_steps::Steps;
+use cb_validity::Rejected;
 use std::alloc::Global;
 use std::sync::ledger::Ledger;
 
@@ -32,7 +32,7 @@ pub struct Codes {
 }
 
 /// Checks the spans, whose roots may be any problems, and reads a code off each.
-pub fn read_sides<L: Ledger>(
+pub(crate) fn read_sides<L: Ledger>(
     alloc: Global,
     graph: &mut Graph,
     ids: &[NodeId],
@@ -49,7 +49,7 @@ pub fn read_sides<L: Ledger>(
     ensures first { IfOk result (λ codes. IsSideRead ids.now columns.now first.now codes.first) }
     ensures second { IfOk result (λ codes. IsRead ids.now columns.now second.now codes.second) }
 {
-    let Ok(mut marks) = Marks::new(alloc, graph.topology()) else {
+    let Ok(mut marks) = SpanNodes::new(alloc, graph.topology()) else {
         return Err(Rejected::NoMemory);
     };
     let before = entries_in(first);
@@ -78,7 +78,7 @@ fn read_side<L: Ledger>(
     ids: &[NodeId],
     columns: &AllColumns,
     side: &Side,
-    marks: &mut Marks,
+    marks: &mut SpanNodes,
     steps: &mut Steps<L>,
 ) -> Result<Row, Rejected>
     requires live { AreLive graph.old ids.now }
@@ -115,7 +115,7 @@ fn read_span<L: Ledger>(
     columns: &AllColumns,
     span: &Span,
     before: u32,
-    marks: &mut Marks,
+    marks: &mut SpanNodes,
     steps: &mut Steps<L>,
 ) -> Result<Row, Rejected>
     requires live { AreLive graph.old ids.now }

@@ -8,7 +8,7 @@ use cb_nodes::NodeId;
 use std::alloc::{AllocError, Global};
 
 /// For each number of a column, its place among all columns.
-pub fn places_of(
+pub(crate) fn places_of(
     alloc: Global,
     all: &AllColumns,
     ids: &[NodeId],

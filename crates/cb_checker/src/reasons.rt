@@ -7,11 +7,11 @@ ghost use Rattle.cb_checker.specs.Reasons.{AreEndsBelow, AreFrom, AreLiveEdges, 
 use cb_bits::Row;
 use cb_graph::Graph;
 use cb_nodes::NodeId;
-use cb_reach::Edges;
 use cb_steps::Steps;
+use cb_successors::Edges;
 use std::sync::ledger::Ledger;
 
-/// What an entry behind the first one states: that an edge leads to its node from that of its parent. Its place counts from 0, and
+/// What an entry after the first one states: that an edge leads to its node from that of its parent. Its place counts from 0, and
 /// that of its parent from 1.
 #[derive(Clone, Copy)]
 pub struct Reason {
@@ -23,7 +23,7 @@ pub struct Reason {
 
 /// The place of the first entry that states an edge which isn't there. Entries of one parent are brought together, as they stand in a
 /// canonical span already, so that a parent is asked for its successors once.
-pub fn first_unled<L: Ledger>(
+pub(crate) fn first_unled<L: Ledger>(
     graph: &mut Graph,
     reasons: &mut Vec<Reason>,
     found: &mut Row,

@@ -1,7 +1,7 @@
 //! The first entry of a span.
 ghost use Rattle.std.specs.Prelude.{◌<◌, ◌+◌, ◌↔◌, [], ◌∷◌, IfOk, IfSome, IfNone, IsTrue};
 ghost use Rattle.cb_nodes.specs.declared.id.NodeId.{NodeId as Id};
-ghost use Rattle.cb_claim.specs.Checks.{root_check};
+ghost use Rattle.cb_validity.specs.Checks.{root_check};
 ghost use Rattle.cb_topo.specs.Numbered.{IsLiveNode};
 ghost use Rattle.cb_checker.specs.Known.{AreLive, ended};
 ghost use Rattle.cb_checker.specs.Listed.{IsPlaced};
@@ -9,12 +9,12 @@ ghost use Rattle.cb_checker.specs.Spans.{IsAskedAt, IsRootAt, JudgesSpan};
 
 use crate::known::id_at;
 use cb_cert::Span;
-use cb_claim::Rejected;
 use cb_nodes::NodeId;
 use cb_topo::Topology;
+use cb_validity::Rejected;
 
 /// Checks that the span begins with the root that is asked for, or with any problem, and finds it.
-pub fn check_root(
+pub(crate) fn check_root(
     topology: &Topology,
     ids: &[NodeId],
     root: Option<NodeId>,

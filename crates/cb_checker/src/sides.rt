@@ -16,7 +16,7 @@ pub struct Sides {
 }
 
 /// Those of this topology.
-pub fn sides_of(alloc: Global, topology: &Topology) -> Result<Sides, AllocError>
+pub(crate) fn sides_of(alloc: Global, topology: &Topology) -> Result<Sides, AllocError>
     ensures { IfOk result (AreSidesOf topology.now) }
 {
     // The topology is sound, so that they are few.

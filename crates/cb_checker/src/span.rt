@@ -1,31 +1,31 @@
 //! One span.
 ghost use Rattle.std.specs.Prelude.{◌≡◌, ◌<◌, ◌+◌, length, OnOk};
-ghost use Rattle.cb_claim.specs.Checks.{span_checks};
+ghost use Rattle.cb_validity.specs.Checks.{span_checks};
 ghost use Rattle.cb_checker.specs.Known.{AreLive};
 ghost use Rattle.cb_checker.specs.Listed.{ArePlaced, AreMarked};
 ghost use Rattle.cb_checker.specs.Spans.{JudgesSpan};
 
 use crate::closed::check_closed;
 use crate::entries::check_entries;
-use crate::marks::Marks;
+use crate::marks::SpanNodes;
 use crate::root::check_root;
 use cb_cert::Span;
-use cb_claim::Rejected;
 use cb_graph::Graph;
 use cb_nodes::NodeId;
 use cb_steps::Steps;
+use cb_validity::Rejected;
 use std::alloc::Global;
 use std::sync::ledger::Ledger;
 
 /// Checks a span, before which so many entries stand, and lists its nodes.
-pub fn check_span<L: Ledger>(
+pub(crate) fn check_span<L: Ledger>(
     alloc: Global,
     graph: &mut Graph,
     ids: &[NodeId],
     root: Option<NodeId>,
     span: &Span,
     before: u32,
-    marks: &mut Marks,
+    marks: &mut SpanNodes,
     steps: &mut Steps<L>,
 ) -> Result<(), Rejected>
     requires live { AreLive graph.old ids.now }

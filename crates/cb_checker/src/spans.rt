@@ -1,7 +1,7 @@
 //! The spans of a book, one for each problem.
 ghost use Rattle.std.specs.Prelude.{◌≡◌, ◌<◌, ◌+◌, ◌++◌, [], ◌∷◌, length, min, IfOk, OnOk};
 ghost use Rattle.cb_coding.specs.declared.group.Problem.{Problem as Coded};
-ghost use Rattle.cb_claim.specs.Verdicts.{entries_of};
+ghost use Rattle.cb_validity.specs.Verdicts.{entries_of};
 ghost use Rattle.cb_topo.specs.Numbered.{IsLiveNode};
 ghost use Rattle.cb_checker.specs.Known.{AreLive, ended};
 ghost use Rattle.cb_checker.specs.Codes.{IsBelow};
@@ -10,21 +10,21 @@ ghost use Rattle.cb_checker.specs.Books.{IsCodedBy, AreReadTo, JudgesSpans, Judg
 
 use crate::all_columns::AllColumns;
 use crate::codes::code_of;
-use crate::marks::Marks;
+use crate::marks::SpanNodes;
 use crate::span::check_span;
 use cb_cert::Span;
-use cb_claim::Rejected;
 use cb_coding::Problem;
 use cb_graph::Graph;
 use cb_model::List;
 use cb_nodes::NodeId;
 use cb_steps::Steps;
 use cb_topo::Topology;
+use cb_validity::Rejected;
 use std::alloc::{AllocError, Global};
 use std::sync::ledger::Ledger;
 
 /// Checks each span with the problem at its place, and reads the problem's code off it.
-pub fn check_spans<L: Ledger>(
+pub(crate) fn check_spans<L: Ledger>(
     alloc: Global,
     graph: &mut Graph,
     ids: &[NodeId],
@@ -41,7 +41,7 @@ pub fn check_spans<L: Ledger>(
     ensures judges { JudgesSpans graph.old ids.now problems.now spans.now (ended result) }
     ensures coded { IfOk result (AreReadTo graph.old ids.now problems.now columns.now spans.now (min (length problems.now) (length spans.now))) }
 {
-    let Ok(mut marks) = Marks::new(alloc, graph.topology()) else {
+    let Ok(mut marks) = SpanNodes::new(alloc, graph.topology()) else {
         return Err(Rejected::NoMemory);
     };
     let mut coded = List::new(alloc);
@@ -73,7 +73,7 @@ fn add_problem(
     topology: &Topology,
     columns: &AllColumns,
     node: NodeId,
-    marks: &Marks,
+    marks: &SpanNodes,
     coded: &mut List<Problem>,
 ) -> Result<(), AllocError>
     requires node { IsLiveNode topology.now node }
@@ -86,7 +86,7 @@ fn add_problem(
 }
 
 /// Checks that there are as many spans as problems.
-pub fn check_count(
+pub(crate) fn check_count(
     alloc: Global,
     topology: &Topology,
     problems: &List<NodeId>,

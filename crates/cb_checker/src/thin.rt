@@ -1,8 +1,8 @@
 //! A certificate for two groups that are close.
 ghost use Rattle.std.specs.Prelude.{◌≡◌, ◌<◌, ◌+◌, ◌↔◌, length, IfOk, IsTrue};
 ghost use Rattle.cb_cert.specs.declared.certificate.Side.TheVariants.{Root};
-ghost use Rattle.cb_claim.specs.Canonical.{side_spans};
-ghost use Rattle.cb_claim.specs.Verdicts.{entries_of};
+ghost use Rattle.cb_validity.specs.Canonical.{side_spans};
+ghost use Rattle.cb_validity.specs.Verdicts.{entries_of};
 ghost use Rattle.cb_checker.specs.Known.{ended};
 ghost use Rattle.cb_checker.specs.Verdicts.{AreSidesOf};
 ghost use Rattle.cb_checker.specs.Thin.{IsAsClaimed, IsBegun, IsShown, JudgesThinOver, ShowsThinOver};
@@ -12,22 +12,22 @@ use crate::names::{root_name, side_name};
 use crate::pair::read_sides;
 use crate::sides::Sides;
 use cb_cert::{Side, Span};
-use cb_claim::{Accepted, Rejected};
 use cb_graph::Graph;
 use cb_model::{GroupName, NodeName};
 use cb_steps::Steps;
+use cb_validity::{Accepted, Rejected};
 use std::alloc::{AllocError, Global};
 use std::sync::ledger::Ledger;
 
 /// How far two groups are apart, which is less than is wanted.
-#[derive(Clone, Copy, Debug, PartialEq, Eq)]
+#[derive(Clone, Copy, PartialEq, Eq)]
 pub struct Closeness {
     pub wanted: u32,
     pub distance: u32,
 }
 
 /// Checks a thin certificate over the columns of the topology.
-pub fn check_thin<L: Ledger>(
+pub(crate) fn check_thin<L: Ledger>(
     alloc: Global,
     graph: &mut Graph,
     sides: &Sides,

@@ -20,7 +20,7 @@ fn start<L: Ledger>(rt: &HostRuntime, words: &[String], blank: Blank) -> Status
     let mut files = HostFiles::new(rt.alloc(), rt);
     let mut out = HostSink::new(rt.stdout());
     let mut err = HostSink::new(rt.stderr());
-    let mut steps = Steps::<L>::new(blank);
+    let mut steps = Steps::<L>::new(rt, blank);
     run(
         rt.alloc(),
         words,

@@ -17,7 +17,7 @@ use Rattle.cb_codes.proofs.ByColumn.{had_within}
 use Rattle.cb_codes.proofs.Passing.{passing, one_more_passes, none_further, passing_grow}
 
 module _ (code : List Bool) where
-  -- the next column comes behind those before it
+  -- the next column comes after those before it
   pub next_column : (columns : List ℕ) (from column : ℕ) → columns ≡ passing (bit code) from → IsNextOne code from column
       → (columns ++ column ∷ [] ≡ passing (bit code) (column + 1)) × (column + 1 ≤ length code)
   next_column columns from column are next =

@@ -36,7 +36,7 @@ pub record JoinsThere (place : ℕ) (member : NodeName) (old new : List NamedGro
   pub at : slice_get old place ≡ Some joined
   pub new_is : new ≡ slice_set old place (record { quiet = joined.quiet; members = joined.members ++ member ∷ [] })
 
--- it opens one behind the last
+-- it opens one after the last
 pub record OpensLast (place : ℕ) (member : NodeName) (old new : List NamedGroup) : Type 0 where
   pub last : place ≡ length old
   pub new_is : new ≡ old ++ record { quiet = place == 0; members = member ∷ [] } ∷ []
@@ -49,7 +49,7 @@ abbrev pub groups_in : Grouping → List Group
 groups_in grouping = groups_of grouping.codes.codes.rows grouping.named.items
 
 -- the parts fit one another, and codes have that width
-pub record IsSound (width : ℕ) (grouping : Grouping) : Type 0 where
+pub record FitsTogether (width : ℕ) (grouping : Grouping) : Type 0 where
   pub wide : grouping.codes.codes.width ≡ width
   pub keys : AreKeysOf grouping.codes.codes.rows grouping.codes.keys.keys
   pub fit : Fit grouping.codes.codes.rows grouping.named.items

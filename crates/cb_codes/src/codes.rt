@@ -12,7 +12,7 @@ use std::marker::Model;
 
 /// Codes in order, each a row with one place a column, kept by its columns where these are few. Contracts see how many columns there
 /// are, and the rows. It keeps for each column which codes have it, as long as that takes little memory.
-#[derive(Debug, Drop)]
+#[derive(Drop)]
 pub struct Codes {
     width: usize,
     rows: Vec<CompactRow>,
@@ -46,7 +46,7 @@ impl Codes {
         }
     }
 
-    /// Adds a code behind the others. Where memory is wanting it is dropped.
+    /// Adds a code after the others. Where memory runs out it is dropped.
     pub fn push(&mut self, alloc: Global, row: Row) -> Result<(), AllocError>
         requires { length row ≡ self.old.width }
         ensures width { self.new.width ≡ self.old.width }

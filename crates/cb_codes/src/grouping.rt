@@ -3,7 +3,7 @@ ghost use Rattle.std.specs.Prelude.{◌≡◌, ◌≤◌, List as Items, [], ◌
 ghost use Rattle.cb_coding.specs.Groups.{zeros as no_symptom};
 ghost use Rattle.cb_coding.specs.declared.group.Problem.{Problem as Problem_};
 ghost use Rattle.cb_codes.specs.Groups.{Fit};
-ghost use Rattle.cb_codes.specs.Grouped.{group, AddsProblem, IsSound, Holds, TakesMember, groups_in};
+ghost use Rattle.cb_codes.specs.Grouped.{group, AddsProblem, FitsTogether, Holds, TakesMember, groups_in};
 
 use crate::each_once::EachOnce;
 use crate::groups::Groups;
@@ -24,7 +24,7 @@ pub struct Grouping {
 impl Grouping {
     /// Quiet alone, without problems.
     pub fn quiet(alloc: Global, width: usize) -> Result<Grouping, AllocError>
-        ensures sound { IfOk result (IsSound width) }
+        ensures sound { IfOk result (FitsTogether width) }
         ensures quiet { IfOk result (λ made. groups_in made ≡ group (no_symptom width) [] ∷ []) }
         ensures none { IfOk result (Holds []) }
     {
@@ -45,8 +45,8 @@ impl Grouping {
 
     /// Adds a problem to the group of its code, which is opened where there is none.
     pub fn add(&mut self, alloc: Global, problem: Problem) -> Result<(), AllocError>
-        requires sound { IsSound (length problem.code) self.old }
-        ensures sound { OnOk result (IsSound (length problem.code) self.new) }
+        requires sound { FitsTogether (length problem.code) self.old }
+        ensures sound { OnOk result (FitsTogether (length problem.code) self.new) }
         ensures added { OnOk result (AddsProblem problem (groups_in self.old) (groups_in self.new)) }
         ensures holds { OnOk result ((before : Items Problem_) → Holds before self.old → Holds (before ++ problem ∷ []) self.new) }
     {
@@ -69,7 +69,7 @@ impl Grouping {
     }
 }
 
-// Adds a member to the group at a place, or opens one with it behind the last.
+// Adds a member to the group at a place, or opens one with it after the last.
 fn take_member(
     alloc: Global,
     named: &mut Vec<NamedGroup>,

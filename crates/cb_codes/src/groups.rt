@@ -9,7 +9,7 @@ use std::marker::Model;
 
 /// Groups in order, each with its code; the first is the quiet one. Contracts see how many columns the codes have, and the
 /// groups.
-#[derive(Debug, Drop)]
+#[derive(Drop)]
 pub struct Groups {
     codes: Codes,
     named: List<NamedGroup>,

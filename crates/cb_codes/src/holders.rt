@@ -12,7 +12,7 @@ const MOST_COLUMNS: usize = 65_536;
 const MOST_ONES: usize = 4_194_304;
 
 /// An empty list for each column, or none at all.
-pub fn begin(alloc: Global, width: usize) -> Vec<List<u32>>
+pub(crate) fn begin(alloc: Global, width: usize) -> Vec<List<u32>>
     ensures { (result.items ≡ []) ⊎ (result.items ≡ replicate width []) }
 {
     if MOST_COLUMNS < width {
@@ -37,7 +37,7 @@ fn empty_lists(alloc: Global, count: usize) -> Result<Vec<List<u32>>, AllocError
 
 /// Adds the place of a code to the lists of the columns that it has, or gives up all lists. `ones` says how many columns
 /// all codes have together.
-pub fn hold(lists: &mut Vec<List<u32>>, code: &CompactRow, place: usize, ones: usize)
+pub(crate) fn hold(lists: &mut Vec<List<u32>>, code: &CompactRow, place: usize, ones: usize)
     ensures { (lists.new.items ≡ []) ⊎ AddsPlace code.now place lists.old.items lists.new.items }
 {
     let kept = ones <= MOST_ONES && place <= u32::MAX as usize && lists.len() == code.len();

@@ -7,7 +7,7 @@ use std::alloc::{AllocError, Global};
 
 /// The key of a code: the numbers of its columns, where these are fewer than its words, and else its words. So a sparse code has a
 /// short key, however many columns there are, and no two codes of one width have the same.
-pub fn key_of(alloc: Global, code: &Row) -> Result<Vec<u64>, AllocError>
+pub(crate) fn key_of(alloc: Global, code: &Row) -> Result<Vec<u64>, AllocError>
     ensures { IfOk result (λ key. IsKey code.now key.items) }
 {
     let words = code.words();
@@ -21,7 +21,7 @@ pub fn key_of(alloc: Global, code: &Row) -> Result<Vec<u64>, AllocError>
 fn columns_below(alloc: Global, code: &Row, limit: usize) -> Result<Option<Vec<u64>>, AllocError>
     ensures { IfOk result (AreColumnsBelow code.now limit) }
 {
-    // A length fits its type, and so does the place behind a column.
+    // A length fits its type, and so does the place after a column.
     let _width = code.len();
     let mut columns = Vec::new(alloc);
     let mut from = 0;

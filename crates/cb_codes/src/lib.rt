@@ -5,7 +5,7 @@
 //!
 //! Beside the rows it keeps for each column which codes have it (`holders`), so that codes which share a column are found without
 //! comparing all. These lists take 4 bytes a one. They are given up, and `holders` says none, where there are too many columns or ones, or
-//! memory is wanting: who asks for them must do without.
+//! memory runs out: who asks for them must do without.
 #![tactic(auto)]
 
 mod codes;

@@ -10,15 +10,25 @@ pub struct Pair {
 }
 
 /// The columns that are looked at, as rising places, and a distance: over a good book any two codes are at least so far apart.
-#[derive(Debug, Drop)]
+#[derive(Drop)]
 pub struct Book {
     pub columns: List<u32>,
     pub distance: u32,
 }
 
+/// The columns that are looked at, as rising places; a cap; and for each code its radius, how many lost or spurious symptoms it
+/// tolerates. Over a good book any two codes are at least as far apart as over all columns, or
+/// as the cap where that is less.
+#[derive(Drop)]
+pub struct CapBook {
+    pub columns: List<u32>,
+    pub cap: u32,
+    pub radii: List<u32>,
+}
+
 /// The groups nearest to a word, as rising places; at how many columns their codes differ from it; and whether that
-/// is within the radius of the book's distance. Over a good book no other group can be meant then.
-#[derive(Debug, Drop)]
+/// is within the radius of one of them. Over a good book no other group can be meant then.
+#[derive(Drop)]
 pub struct Answer {
     pub distance: u32,
     pub groups: List<u32>,

@@ -33,7 +33,7 @@ module _ (row : List Bool) where
     first = λ j low high. next.first j (omega arith) high;
   }
 
-  -- past places that are no ones a front stays as it is
+  -- past places that are no ones a prefix stays as it is
   pub stays : (from place before : ℕ) (next : Option ℕ) → from ≤ place → ((j : ℕ) → from ≤ j → j < place → bit j ≡ false)
       → IsFrontAt row from before next → IsFrontAt row place before next
   stays from place before next le none at = record {
@@ -48,7 +48,7 @@ module _ (row : List Bool) where
   pub only_there : (place : ℕ) → bit place ≡ false → (k : ℕ) → place ≤ k → k < place + 1 → bit k ≡ false
   only_there place isnt k low high = let same : k ≡ place = omega arith in ap bit same ∙ isnt
 
-  -- a front tells whether the place is a one from which it goes on
+  -- a prefix tells whether the place is a one from which it goes on
   pub tells : (place : ℕ) (next : Option ℕ) → IsFront row place next → is_at next place ≡ bit place
   tells place None none = sym (none place (omega arith))
   tells place (Some k) next = elim (cases_eq k place) [

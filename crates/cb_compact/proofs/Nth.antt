@@ -149,7 +149,7 @@ module _ (v w : List Bool) (a b : List ℕ) (pv : Packs v a) (pw : Packs w b) (i
       let here = counted 64 (omega arith) in
       omega arith
 
-  -- behind all words they differ nowhere
+  -- after all words they differ nowhere
   pub all_counted : length v ≡ length w → length a ≤ i → (before : ℕ) → differing_before before v w ≤ differing_before (64 * i) v w
   all_counted same past before = elim (cases_lt before (64 * i)) [
     | inl lt ↦ no_fewer v w (64 * i - before) before (64 * i) (omega arith)

@@ -40,7 +40,7 @@ module _ (row : List Bool) where
       ap ones_before last ∙ sym (none_more (from + n) (none (from + n) (omega arith) (omega arith)))
       ∙ none_further from n (from + n) refl (λ k le lt. none k le (omega arith))
 
-  -- the next one comes behind those before it
+  -- the next one comes after those before it
   pub next_comes : (places : List ℕ) (from place : ℕ) → places ≡ ones_before from → IsNextOne row from place → places ++ place ∷ [] ≡ ones_before (place + 1)
   next_comes places from place are next =
       let on = next.on in

@@ -24,7 +24,7 @@ Keeps row (Places places) = places.items ≡ ones_of row
 Keeps row (Whole whole) = whole ≡ row
 
 -- it is kept of its n values, of which so many are true
-pub record IsKept (kept : Kept) (n weight : ℕ) : Type 0 where
+pub record IsCompactOf (kept : Kept) (n weight : ℕ) : Type 0 where
   pub long : length (values_of kept n) ≡ n
   pub keeps : Keeps (values_of kept n) kept
   pub counted : weight ≡ count_by (λ value. value) (values_of kept n)

@@ -9,7 +9,7 @@ ghost use Rattle.cb_compact.specs.Nth.{IsNthOne};
 use cb_bits::Row;
 
 /// The first place from one on at which two rows differ.
-pub fn next_apart(a: &Row, b: &Row, from: usize) -> Option<usize>
+pub(crate) fn next_apart(a: &Row, b: &Row, from: usize) -> Option<usize>
     requires { length a.now ≡ length b.now }
     ensures next { IfSome result (IsNextDiffering a.now b.now from) }
     ensures none { IfNone result (DifferNowhereFrom a.now b.now from) }
@@ -35,7 +35,7 @@ fn next_difference(a: &[u64], b: &[u64], from: usize) -> Option<usize>
 }
 
 /// The nth place at which two rows differ, counted from the first, where it comes before the given one. Words before the one that has it are only counted.
-pub fn nth_apart(one: &Row, other: &Row, before: usize, n: usize) -> Option<usize>
+pub(crate) fn nth_apart(one: &Row, other: &Row, before: usize, n: usize) -> Option<usize>
     requires same { length one.now ≡ length other.now }
     requires some { 0 < n }
     ensures before { IfSome result (λ k. k < before) }

@@ -19,7 +19,7 @@ const MOST_PLACES: usize = 4_294_967_296;
 const MOST_COUNTED: usize = 4_294_967_232;
 
 /// What is kept of a row: the places of its ones, in order, or all of it.
-#[derive(Debug, Drop)]
+#[derive(Drop)]
 enum Kept {
     Places(Vec<u32>),
     Whole(Row),
@@ -27,7 +27,7 @@ enum Kept {
 
 /// Truth values in order. Contracts see the list of them. It keeps the places of those that are true, where these are fewer than
 /// a sixth of the words that all would take, rounded down, and how many they are.
-#[derive(Debug, Drop)]
+#[derive(Drop)]
 pub struct CompactRow {
     len: usize,
     // How many values are true.
@@ -37,13 +37,13 @@ pub struct CompactRow {
 
 impl Model for CompactRow {
     ghost use Rattle.std.specs.Prelude.{List, Bool};
-    ghost use Rattle.cb_compact.specs.Compact.{values_of, IsKept};
+    ghost use Rattle.cb_compact.specs.Compact.{values_of, IsCompactOf};
 
     ghost Value = { List Bool };
 
     ghost view = { λ r. values_of r.kept r.len };
 
-    ghost invariant = { λ r. IsKept r.kept r.len r.weight };
+    ghost invariant = { λ r. IsCompactOf r.kept r.len r.weight };
 }
 
 impl CompactRow {
@@ -93,7 +93,7 @@ impl CompactRow {
         }
     }
 
-    /// The same, where so many ones come before that place: among places that are kept it stands at that index.
+    /// As `next_one(from)`; `before` ones precede `from`, so stored positions are indexed directly.
     pub(crate) fn one_behind(&self, before: usize, from: usize) -> Option<usize>
         requires { AreBefore (ones_of self.now) from before }
         ensures next { IfSome result (IsNextOne self.now from) }

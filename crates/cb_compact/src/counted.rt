@@ -9,7 +9,7 @@ use cb_bits::Row;
 use cb_lanes::distance_under;
 
 /// At how many places two rows differ, where these are fewer than the limit.
-pub fn count_below(left: &CompactRow, right: &CompactRow, limit: usize) -> Option<usize>
+pub(crate) fn count_below(left: &CompactRow, right: &CompactRow, limit: usize) -> Option<usize>
     requires { length left.now ≡ length right.now }
     ensures { let distance = differing left.now right.now in
         SomeIff result (distance < limit) distance }
@@ -29,7 +29,7 @@ pub fn count_below(left: &CompactRow, right: &CompactRow, limit: usize) -> Optio
 }
 
 /// At how many ones of a mask two rows differ.
-pub fn count_under(left: &CompactRow, right: &CompactRow, mask: &Row) -> usize
+pub(crate) fn count_under(left: &CompactRow, right: &CompactRow, mask: &Row) -> usize
     requires same { length left.now ≡ length right.now }
     requires masked { length left.now ≡ length mask.now }
     ensures { result ≡ differing_under mask.now left.now right.now }
@@ -47,7 +47,7 @@ pub fn count_under(left: &CompactRow, right: &CompactRow, mask: &Row) -> usize
 }
 
 /// At how many ones of a mask two rows differ, where these are fewer than the limit.
-pub fn count_under_below(
+pub(crate) fn count_under_below(
     left: &CompactRow,
     right: &CompactRow,
     mask: &Row,
@@ -76,7 +76,7 @@ pub fn count_under_below(
 }
 
 /// At how many ones of a mask two rows differ, by the words of both.
-pub fn words_under(one: &Row, other: &Row, mask: &Row) -> usize
+pub(crate) fn words_under(one: &Row, other: &Row, mask: &Row) -> usize
     requires same { length one.now ≡ length other.now }
     requires masked { length one.now ≡ length mask.now }
     requires few { length one.now ≤ 4294967232 }
@@ -86,7 +86,7 @@ pub fn words_under(one: &Row, other: &Row, mask: &Row) -> usize
 }
 
 /// The same, where these are fewer than the limit.
-pub fn words_under_below(one: &Row, other: &Row, mask: &Row, limit: usize) -> Option<usize>
+pub(crate) fn words_under_below(one: &Row, other: &Row, mask: &Row, limit: usize) -> Option<usize>
     requires same { length one.now ≡ length other.now }
     requires masked { length one.now ≡ length mask.now }
     requires few { length one.now ≤ 4294967232 }
@@ -102,7 +102,12 @@ pub fn words_under_below(one: &Row, other: &Row, mask: &Row, limit: usize) -> Op
 }
 
 /// The nth place at which two rows differ, counted from the first, where it comes before the given one.
-pub fn nth_place(left: &CompactRow, right: &CompactRow, before: usize, n: usize) -> Option<usize>
+pub(crate) fn nth_place(
+    left: &CompactRow,
+    right: &CompactRow,
+    before: usize,
+    n: usize,
+) -> Option<usize>
     requires same { length left.now ≡ length right.now }
     requires some { 0 < n }
     ensures before { IfSome result (λ k. k < before) }

@@ -81,7 +81,7 @@ fn next_by_words(one: &Row, other: &Row, from: &mut usize) -> Option<usize>
     ensures from { IfSome result (λ place. from.new ≡ place + 1) }
     ensures none { IfNone result (DifferNowhereFrom one.now other.now from.old) }
 {
-    // A length fits its type, and so does the place behind one.
+    // A length fits its type, and so does the place after one.
     let _len = one.len();
     let place = next_apart(one, other, *from)?;
     *from = place + 1;
@@ -105,7 +105,7 @@ fn next_by_ones(
     ensures from { IfSome result (λ place. from.new ≡ place + 1) }
     ensures none { IfNone result (DifferNowhereFrom left.now right.now from.old) }
 {
-    // A length fits its type, and so does the place behind a one.
+    // A length fits its type, and so does the place after a one.
     let _len = left.len();
     while let Some(place) = one.lower(other) {
         let is = one.pass(left, place);

@@ -41,7 +41,7 @@ impl Front {
         ensures front { IsFrontAt row.now (place + 1) self.new.before self.new.next }
         ensures is { result ≡ slice_index_or row.now place false }
     {
-        // A length fits its type, and so does what is behind a one.
+        // A length fits its type, and so does what is after a one.
         let _len = row.len();
         let is = self.stands_at(place);
         if is {

@@ -6,12 +6,12 @@ ghost use Rattle.cb_compact.specs.Compact.{ones_of, AreRising, AreBefore};
 use cb_bits::Row;
 use std::alloc::{AllocError, Global};
 
-/// The places of the ones, of which there are so many.
-pub fn places_of(alloc: Global, row: &Row, ones: usize) -> Result<Vec<u32>, AllocError>
+/// The positions of the ones, of which there are `ones`.
+pub(crate) fn places_of(alloc: Global, row: &Row, ones: usize) -> Result<Vec<u32>, AllocError>
     requires { length row.now ≤ 2 ^ 32 }
     ensures { IfOk result (λ places. places.items ≡ ones_of row.now) }
 {
-    // A length fits its type, and so does the index behind a place.
+    // A length fits its type, and so does the index after a place.
     let _len = row.len();
     let mut places = Vec::with_capacity(alloc, ones)?;
     let mut from = 0;
@@ -23,7 +23,7 @@ pub fn places_of(alloc: Global, row: &Row, ones: usize) -> Result<Vec<u32>, Allo
 }
 
 /// Whether a place is one of a row that has its ones at these.
-pub fn has_place(places: &[u32], place: usize) -> bool
+pub(crate) fn has_place(places: &[u32], place: usize) -> bool
     ensures { (row : List Bool) → places.now ≡ ones_of row → result ≡ slice_index_or row place false }
 {
     let at = first_from(places, place);
@@ -31,15 +31,15 @@ pub fn has_place(places: &[u32], place: usize) -> bool
 }
 
 /// The first one from a place on of a row that has its ones at these.
-pub fn next_place(places: &[u32], from: usize) -> Option<usize>
+pub(crate) fn next_place(places: &[u32], from: usize) -> Option<usize>
     ensures next { IfSome result (λ place. (row : List Bool) → places.now ≡ ones_of row → IsNextOne row from place) }
     ensures none { IfNone result ((row : List Bool) → places.now ≡ ones_of row → HasNoneFrom row from) }
 {
     place_behind(places, first_from(places, from), from)
 }
 
-/// The same, where so many of them come before that place, which then need not be looked at.
-pub fn place_behind(places: &[u32], before: usize, from: usize) -> Option<usize>
+/// As `next_place`; `before` of them come before that place, and are skipped.
+pub(crate) fn place_behind(places: &[u32], before: usize, from: usize) -> Option<usize>
     ensures next { IfSome result (λ place. (row : List Bool) → places.now ≡ ones_of row → AreBefore (ones_of row) from before → IsNextOne row from place) }
     ensures none { IfNone result ((row : List Bool) → places.now ≡ ones_of row → AreBefore (ones_of row) from before → HasNoneFrom row from) }
 {

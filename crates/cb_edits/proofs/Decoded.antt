@@ -10,13 +10,13 @@ use Rattle.cb_text.specs.Names.{IsName}
 use Rattle.cb_text.proofs.Cuts.{name_lacks_at}
 use Rattle.cb_network.specs.declared.edit.Edit.{Edit}
 use Rattle.cb_network.specs.declared.edit.Edit.TheVariants.{Create, Delete, Link, Unlink, Mute, Unmute}
-use Rattle.cb_edits.specs.Spelled.{Spells, HasNames, words_for, node_text}
+use Rattle.cb_edits.specs.Spelled.{SpellsEditWords, HasNames, words_for, node_text}
 
 -- the word of this place
 abbrev word : List (List ℕ) → ℕ → List ℕ
 word words i = slice_index_or words i []
 
--- what stands before the first `@`, and what stands behind it
+-- what stands before the first `@`, and what stands after it
 abbrev event_of : List ℕ → List ℕ
 event_of text = word (slice_split (λ b. nat_eq b 64) text) 0
 
@@ -54,6 +54,6 @@ decoded_is (Mute event name) names = λ i. Mute (event_is event name names.0 i) 
 decoded_is (Unmute event name) names = λ i. Unmute (event_is event name names.0 i) (name_is event name names.0 i)
 
 -- so words spell one edit at most
-pub spelled_once : (words : List (List ℕ)) (edit other : Edit) → Spells words edit → Spells words other → edit ≡ other
+pub spelled_once : (words : List (List ℕ)) (edit other : Edit) → SpellsEditWords words edit → SpellsEditWords words other → edit ≡ other
 spelled_once words edit other one two =
     sym (decoded_is edit one.names) ∙ (ap decoded (sym one.says ∙ two.says) ∙ decoded_is other two.names)

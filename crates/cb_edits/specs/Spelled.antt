@@ -28,10 +28,10 @@ HasNames (Mute event name) = IsName event × IsInstance name
 HasNames (Unmute event name) = IsName event × IsInstance name
 
 -- these words spell the edit
-pub record Spells (words : List (List ℕ)) (edit : Edit) : Type 0 where
+pub record SpellsEditWords (words : List (List ℕ)) (edit : Edit) : Type 0 where
   pub says : words ≡ words_for edit
   pub names : HasNames edit
 
 -- the words of the line spell the edit
 abbrev pub SpellsEdit : List ℕ → Edit → Type 0
-SpellsEdit line edit = Spells (words_of line) edit
+SpellsEdit line edit = SpellsEditWords (words_of line) edit

@@ -1,7 +1,7 @@
 //! The edit of a line.
 ghost use Rattle.std.specs.Prelude.{IfOk, IsErrOf, [], ◌∷◌};
 ghost use Rattle.cb_network.specs.declared.edit.Edit.{Edit as TheEdit};
-ghost use Rattle.cb_edits.specs.Spelled.{Spells, SpellsEdit};
+ghost use Rattle.cb_edits.specs.Spelled.{SpellsEditWords, SpellsEdit};
 
 use crate::stop::EditText;
 use cb_model::Name;
@@ -35,8 +35,8 @@ pub fn read_edit(alloc: Global, line: &[u8]) -> Result<Edit, EditText>
 
 // The edit of a verb and one word more.
 fn of_two(alloc: Global, verb: &[u8], word: &[u8]) -> Result<Edit, EditText>
-    ensures edit { IfOk result (Spells (verb.now ∷ word.now ∷ [])) }
-    ensures bad_words { IsErrOf result EditText.BadWords → (edit : TheEdit) → ¬ Spells (verb.now ∷ word.now ∷ []) edit }
+    ensures edit { IfOk result (SpellsEditWords (verb.now ∷ word.now ∷ [])) }
+    ensures bad_words { IsErrOf result EditText.BadWords → (edit : TheEdit) → ¬ SpellsEditWords (verb.now ∷ word.now ∷ []) edit }
 {
     if verb == b"delete".as_slice() && is_instance(word) {
         return Ok(Edit::Delete {
@@ -63,8 +63,8 @@ fn of_two(alloc: Global, verb: &[u8], word: &[u8]) -> Result<Edit, EditText>
 
 // The edit of a verb and two words more.
 fn of_three(alloc: Global, verb: &[u8], name: &[u8], class: &[u8]) -> Result<Edit, EditText>
-    ensures edit { IfOk result (Spells (verb.now ∷ name.now ∷ class.now ∷ [])) }
-    ensures bad_words { IsErrOf result EditText.BadWords → (edit : TheEdit) → ¬ Spells (verb.now ∷ name.now ∷ class.now ∷ []) edit }
+    ensures edit { IfOk result (SpellsEditWords (verb.now ∷ name.now ∷ class.now ∷ [])) }
+    ensures bad_words { IsErrOf result EditText.BadWords → (edit : TheEdit) → ¬ SpellsEditWords (verb.now ∷ name.now ∷ class.now ∷ []) edit }
 {
     if verb == b"create".as_slice() && is_instance(name) && is_name(class) {
         Ok(Edit::Create {
@@ -78,8 +78,8 @@ fn of_three(alloc: Global, verb: &[u8], name: &[u8], class: &[u8]) -> Result<Edi
 
 // The edit of a verb and three words more.
 fn of_four(alloc: Global, verb: &[u8], a: &[u8], rel: &[u8], b: &[u8]) -> Result<Edit, EditText>
-    ensures edit { IfOk result (Spells (verb.now ∷ a.now ∷ rel.now ∷ b.now ∷ [])) }
-    ensures bad_words { IsErrOf result EditText.BadWords → (edit : TheEdit) → ¬ Spells (verb.now ∷ a.now ∷ rel.now ∷ b.now ∷ []) edit }
+    ensures edit { IfOk result (SpellsEditWords (verb.now ∷ a.now ∷ rel.now ∷ b.now ∷ [])) }
+    ensures bad_words { IsErrOf result EditText.BadWords → (edit : TheEdit) → ¬ SpellsEditWords (verb.now ∷ a.now ∷ rel.now ∷ b.now ∷ []) edit }
 {
     if !is_instance(a) || !is_name(rel) || !is_instance(b) {
         return Err(EditText::BadWords);

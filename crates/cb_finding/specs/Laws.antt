@@ -4,13 +4,17 @@ use Rattle.cb_model.specs.declared.node.GroupName.{GroupName}
 use Rattle.cb_model.specs.declared.node.NodeName.{NodeName}
 use Rattle.cb_coding.specs.declared.group.Group.{Group}
 use Rattle.cb_coding.specs.declared.group.Problem.{Problem}
+use Rattle.cb_model.specs.declared.wish.Wish.{Wish}
 use Rattle.cb_coding.specs.Answers.{from_word}
 use Rattle.cb_coding.specs.Distance.{all_columns}
 use Rattle.cb_coding.specs.Groups.{codes_of}
+use Rattle.cb_coding.specs.Needs.{need_of}
+use Rattle.cb_coding.specs.Pairs.{Good, GoodFor}
+use Rattle.cb_coding.specs.Used.{IsRadius, AsksSomething}
 use Rattle.cb_network.specs.Topology.{Topology}
 use Rattle.cb_finding.specs.declared.finding.Finding.{Finding}
 use Rattle.cb_finding.specs.Matrix.{IsCode, AreCoded, IsMatrix}
-use Rattle.cb_finding.specs.Finding.{IsCalled, IsFinding, IsBurst, named_groups, word_of}
+use Rattle.cb_finding.specs.Finding.{IsCalled, IsFinding, IsFindingFor, IsBurst, named_groups, word_of}
 
 -- over some columns a node has one code
 abbrev pub CodeIsOne : Type 0
@@ -35,6 +39,20 @@ GroupNameIsOne = (groups : List Group) (i : ℕ) (x y : GroupName) → IsCalled 
 abbrev pub FindingIsOne : Type 0
 FindingIsOne = (columns : List NodeName) (groups : List Group) (book_columns : List ℕ) (d : ℕ) (raised : List NodeName)
     (a b : Finding) → IsFinding columns groups book_columns d raised a → IsFinding columns groups book_columns d raised b → a ≡ b
+
+-- and one by what is in use
+abbrev pub FindingForIsOne : Type 0
+FindingForIsOne = (columns : List NodeName) (groups : List Group) (book_columns : List ℕ) (used : Wish) (raised : List NodeName)
+    (a b : Finding) → IsFindingFor columns groups book_columns used raised a → IsFindingFor columns groups book_columns used raised b → a ≡ b
+
+-- Where each two groups are as far apart over the columns in use as they need, and what is raised differs from the code of one group at no
+-- more of them than its radius says, that group alone is listed, and the finding is sure.
+abbrev pub FindingNamesAlone : Type 0
+FindingNamesAlone = (columns : List NodeName) (groups : List Group) (book_columns : List ℕ) (used : Wish) (raised : List NodeName)
+    → GoodFor (codes_of groups) book_columns (need_of (length columns) (codes_of groups) used)
+    → Good (codes_of groups) (all_columns (length columns)) 1 → AsksSomething used → (i r : ℕ) (finding : Finding) → i < length groups
+    → IsRadius (length columns) (codes_of groups) used i r → from_word book_columns (codes_of groups) (word_of columns raised) i ≤ r
+    → IsFindingFor columns groups book_columns used raised finding → (finding.groups ≡ named_groups groups (i ∷ [])) × IsTrue finding.sure
 
 -- a topology and a set of raised nodes have one finding over all columns
 abbrev pub BurstIsOne : Type 0

@@ -20,7 +20,7 @@ parts_cons (b ∷ bs) = elim (cases_Bool (nat_eq b 10)) [
   | inr other ↦ let rest = parts_cons bs in (b ∷ rest.0, rest.1, rw other (ap (onto_first b) rest.2))
 ]
 
--- a line that ends at a LF, and the lines behind it
+-- a line that ends at a LF, and the lines after it
 lines_of-front : (line rest : List ℕ) → Lacks 10 line → lines_of (line ++ 10 ∷ rest) ≡ line ∷ lines_of rest
 lines_of-front line rest lacks =
     let later = parts_cons rest in

@@ -1,15 +1,15 @@
 -- The generator of numbers.
 use Rattle.std.specs.Prelude.{ℕ, zero, suc, ◌+◌, ◌*◌, ◌/◌, ◌%◌, ◌^◌}
 
--- the state behind a draw, in 64 bits
+-- the state after a draw, in 64 bits
 unfoldable pub next_state : ℕ → ℕ
 next_state x = (x * 6364136223846793005 + 1442695040888963407) % 2 ^ 64
 
--- what is drawn below a number, by the state behind the draw
+-- what is drawn below a number, by the state after the draw
 abbrev pub drawn : ℕ → ℕ → ℕ
 drawn x below = x / 2 ^ 33 % below
 
--- the state behind so many draws
+-- the state after so many draws
 abbrev pub state_after : ℕ → ℕ → ℕ
 state_after zero x = x
 state_after (suc n) x = next_state (state_after n x)

@@ -39,21 +39,21 @@ abbrev pub tick_line : ℕ → List ℕ
 tick_line at = codes "{\"at\":" ++ decimal at ++ codes ",\"tick\":true}\n"
 
 -- what stands on a line
-pub data Entry : Type 0 where
-  Edit : Entry
-  Alarm : Entry
-  Tick : Entry
+pub data MadeUpLine : Type 0 where
+  Edit : MadeUpLine
+  Alarm : MadeUpLine
+  Tick : MadeUpLine
 
 -- a round is 50 edits, 100 alarms and a tick
-unfoldable pub round : List Entry
+unfoldable pub round : List MadeUpLine
 round = replicate 50 Edit ++ (replicate 100 Alarm ++ Tick ∷ [])
 
 -- so many rounds
-unfoldable pub rounds : ℕ → List Entry
+unfoldable pub rounds : ℕ → List MadeUpLine
 rounds zero = []
 rounds (suc n) = round ++ rounds n
 
--- the line of an edit that is drawn behind a time and a state of the generator: its kind, and then its site
+-- the line of an edit that is drawn after a time and a state of the generator: its kind, and then its site
 abbrev pub drawn_edit_line : ℕ → ℕ → ℕ → List ℕ
 drawn_edit_line sites at x = edit_line (at + 1) (draw 1 x 8) (draw 2 x sites)
 
@@ -62,7 +62,7 @@ abbrev pub drawn_alarm_line : ℕ → ℕ → ℕ → List ℕ
 drawn_alarm_line sites at x = alarm_line (at + 1) (draw 1 x 4) (draw 2 x 6) (draw 3 x sites)
 
 -- the lines from a time and a state of the generator on. Before an edit or an alarm the time rises by 1, before a tick by 40.
-unfoldable pub lines_text : ℕ → ℕ → ℕ → List Entry → List ℕ
+unfoldable pub lines_text : ℕ → ℕ → ℕ → List MadeUpLine → List ℕ
 lines_text sites at x [] = []
 lines_text sites at x (Edit ∷ later) = drawn_edit_line sites at x ++ lines_text sites (at + 1) (state_after 2 x) later
 lines_text sites at x (Alarm ∷ later) = drawn_alarm_line sites at x ++ lines_text sites (at + 1) (state_after 3 x) later

@@ -6,7 +6,7 @@ use crate::piece::push_number;
 use std::alloc::AllocError;
 
 /// Adds the line of an alarm: its time, its source, and what it says of which site.
-pub fn push_alarm(
+pub(crate) fn push_alarm(
     out: &mut Vec<u8>,
     at: u64,
     source: u64,

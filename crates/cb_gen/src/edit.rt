@@ -6,7 +6,7 @@ use crate::piece::push_number;
 use std::alloc::AllocError;
 
 /// Adds the line of an edit: its time, and what it does with which site.
-pub fn push_edit(out: &mut Vec<u8>, at: u64, kind: u64, site: u64) -> Result<(), AllocError>
+pub(crate) fn push_edit(out: &mut Vec<u8>, at: u64, kind: u64, site: u64) -> Result<(), AllocError>
     requires { kind < 8 }
     ensures { OnOk result (out.new.items ≡ out.old.items ++ edit_line at kind site) }
 {
@@ -33,7 +33,7 @@ fn push_words(out: &mut Vec<u8>, kind: u64, site: u64) -> Result<(), AllocError>
     }
 }
 
-// Adds two names of a site, each behind words.
+// Adds two names of a site, each after words.
 fn push_both(out: &mut Vec<u8>, first: &[u8], site: u64, second: &[u8]) -> Result<(), AllocError>
     ensures { OnOk result (out.new.items ≡ out.old.items ++ (first.now ++ decimal site ++ second.now ++ decimal site)) }
 {

@@ -18,7 +18,7 @@ struct Log {
     draws: Draws,
 }
 
-/// The log of a network of so many sites, with what is drawn from a start on.
+/// The log of a network of `sites` sites, with what is drawn from `start` on.
 pub fn log_text(alloc: Global, sites: u32, start: u64) -> Result<Vec<u8>, AllocError>
     requires some { 1 ≤ sites }
     requires few { sites ≤ 256 }

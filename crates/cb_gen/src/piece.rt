@@ -6,7 +6,7 @@ use itoa::Buffer;
 use std::alloc::AllocError;
 
 /// Adds words, and then the digits of a number.
-pub fn push_number(out: &mut Vec<u8>, words: &[u8], number: u64) -> Result<(), AllocError>
+pub(crate) fn push_number(out: &mut Vec<u8>, words: &[u8], number: u64) -> Result<(), AllocError>
     ensures { OnOk result (out.new.items ≡ out.old.items ++ (words.now ++ decimal number)) }
 {
     let mut digits = Buffer::new();
@@ -15,7 +15,7 @@ pub fn push_number(out: &mut Vec<u8>, words: &[u8], number: u64) -> Result<(), A
 }
 
 /// Adds the line of a tick.
-pub fn push_tick(out: &mut Vec<u8>, at: u64) -> Result<(), AllocError>
+pub(crate) fn push_tick(out: &mut Vec<u8>, at: u64) -> Result<(), AllocError>
     ensures { OnOk result (out.new.items ≡ out.old.items ++ tick_line at) }
 {
     push_number(out, b"{\"at\":", at)?;

@@ -6,7 +6,7 @@ ghost use Rattle.cb_gen.specs.Topology.{create_line, created, link_line, linked,
 use crate::piece::push_number;
 use std::alloc::{AllocError, Global};
 
-/// The topology of so many sites. No line is longer than a line of a topology may be.
+/// The topology of `sites` sites. No line is longer than a line of a topology may be.
 pub fn topology_text(alloc: Global, sites: u32) -> Result<Vec<u8>, AllocError>
     requires some { 1 ≤ sites }
     requires few { sites ≤ 256 }

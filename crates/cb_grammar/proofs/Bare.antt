@@ -3,6 +3,7 @@ use Rattle.std.proofs.Common.{◌≡◌, refl, ap, sym, ◌∙◌, subst, List, 
 use Rattle.std.specs.Prelude.{if◌then◌else◌, nat_lt, length, IfSome}
 use Rattle.std.proofs.lemmas.List.{map-append, length-map}
 use Rattle.cb_grammar.specs.declared.tree.Token.{Token}
+use Rattle.cb_grammar.specs.declared.tree.PlaceToken.{PlaceToken}
 use Rattle.cb_grammar.specs.declared.tree.ClassDecl.{ClassDecl}
 use Rattle.cb_grammar.specs.declared.tree.Tree.{Tree}
 use Rattle.cb_grammar.specs.declared.lexeme.Lexeme.{Lexeme}
@@ -13,18 +14,18 @@ use Rattle.cb_grammar.specs.declared.place.RelationPlace.{RelationPlace}
 use Rattle.cb_grammar.specs.declared.place.RelationPlace.TheVariants as relations
 use Rattle.cb_grammar.specs.declared.place.RulePlace.{RulePlace}
 use Rattle.cb_grammar.specs.declared.place.RulePlace.TheVariants as rules
-use Rattle.cb_grammar.specs.declared.place.Place.{Place}
-use Rattle.cb_grammar.specs.declared.place.Place.TheVariants as places
+use Rattle.cb_grammar.specs.declared.place.MemberSoFar.{MemberSoFar}
+use Rattle.cb_grammar.specs.declared.place.MemberSoFar.TheVariants as places
 use Rattle.cb_grammar.specs.declared.place.Grown.{Grown}
 use Rattle.cb_grammar.specs.declared.place.Grown.TheVariants.{More, Whole, Wrong}
 use Rattle.cb_grammar.specs.declared.machine.Part.{Part}
 use Rattle.cb_grammar.specs.declared.machine.Part.TheVariants as parts
 use Rattle.cb_grammar.specs.declared.machine.State.{State}
-use Rattle.cb_grammar.specs.Bare.{bare, bare_name, bare_parent, bare_member, bare_class, bare_tree}
+use Rattle.cb_grammar.specs.Bare.{bare, bare_name, bare_step, bare_parent, bare_member, bare_class, bare_tree}
 use Rattle.cb_grammar.proofs.Front.{classes_of, tree_of}
 use Rattle.cb_grammar.specs.Grammar.{tree_tokens, IsTreeOf, PathsFit}
-use Rattle.cb_grammar.specs.Table.{begun, next_event, next_relation, next_rule, next, next_head, next_inside, next_part, next_state, after_grown, with_part}
-use Rattle.cb_grammar.specs.Read.{so_far, IsSound}
+use Rattle.cb_grammar.specs.Table.{begun, next_event, next_relation, next_rule, next, next_head, next_inside, next_part, next_state, after_grown, with_part, longer}
+use Rattle.cb_grammar.specs.Read.{so_far, HasShortPaths}
 use Rattle.cb_grammar.proofs.Grows.{Grows, grows, stays_sound}
 use Rattle.cb_grammar.proofs.Runs.{run, then_step, run_none, start, between, tree_runs}
 
@@ -47,10 +48,11 @@ bare_rule (rules.Named n) = rules.Named (bare_name n)
 bare_rule (rules.Colon n) = rules.Colon (bare_name n)
 bare_rule (rules.Cause n c) = rules.Cause (bare_name n) (bare_name c)
 bare_rule (rules.Arrow n c) = rules.Arrow (bare_name n) (bare_name c)
-bare_rule (rules.Effect n c path e) = rules.Effect (bare_name n) (bare_name c) (map bare_name path) (bare_name e)
-bare_rule (rules.Dot n c path) = rules.Dot (bare_name n) (bare_name c) (map bare_name path)
+bare_rule (rules.Effect n c path e) = rules.Effect (bare_name n) (bare_name c) (map bare_step path) (bare_name e)
+bare_rule (rules.Plus n c path e) = rules.Plus (bare_name n) (bare_name c) (map bare_step path) (bare_name e)
+bare_rule (rules.Dot n c path) = rules.Dot (bare_name n) (bare_name c) (map bare_step path)
 
-abbrev bare_place : Place → Place
+abbrev bare_place : MemberSoFar → MemberSoFar
 bare_place places.Start = places.Start
 bare_place (places.Event p) = places.Event (bare_event p)
 bare_place (places.Relation p) = places.Relation (bare_relation p)
@@ -114,10 +116,19 @@ bare_next_relation (relations.Inverse n g m) (lexemes.Name t) = refl
 bare_next_relation (relations.Whole n g m i) lexemes.Semicolon = refl
 bare_next_relation p k = refl
 
-bare_dot : (n c : Token) (path : List Token) (e : Token) (b : Bool) →
-    (if b then More (places.Rule (rules.Dot (bare_name n) (bare_name c) (map bare_name path ++ bare_name e ∷ []))) else Wrong) ≡ bare_grown (if b then More (places.Rule (rules.Dot n c (path ++ e ∷ []))) else Wrong)
-bare_dot n c path e true = ap (λ l. More (places.Rule (rules.Dot (bare_name n) (bare_name c) l))) (sym (map-append bare_name path (e ∷ [])))
+bare_longer : (n c : Token) (path : List PlaceToken) (e : Token) (plus : Bool) →
+    longer (bare_name n) (bare_name c) (map bare_step path) (bare_name e) plus ≡ bare_grown (longer n c path e plus)
+bare_longer n c path e plus = ap (λ l. More (places.Rule (rules.Dot (bare_name n) (bare_name c) l))) (sym (map-append bare_step path (record { name = e; plus = plus } ∷ [])))
+
+bare_dot : (n c : Token) (path : List PlaceToken) (e : Token) (b : Bool) →
+    (if b then longer (bare_name n) (bare_name c) (map bare_step path) (bare_name e) false else Wrong) ≡ bare_grown (if b then longer n c path e false else Wrong)
+bare_dot n c path e true = bare_longer n c path e false
 bare_dot n c path e false = refl
+
+bare_plus : (n c : Token) (path : List PlaceToken) (e : Token) (b : Bool) →
+    (if b then More (places.Rule (rules.Plus (bare_name n) (bare_name c) (map bare_step path) (bare_name e))) else Wrong) ≡ bare_grown (if b then More (places.Rule (rules.Plus n c path e)) else Wrong)
+bare_plus n c path e true = refl
+bare_plus n c path e false = refl
 
 bare_next_rule : (p : RulePlace) (k : Lexeme) → next_rule (bare_rule p) (bare k) ≡ bare_grown (next_rule p k)
 bare_next_rule rules.Word (lexemes.Name t) = refl
@@ -127,11 +138,14 @@ bare_next_rule (rules.Cause n c) lexemes.Arrow = refl
 bare_next_rule (rules.Arrow n c) (lexemes.Name t) = refl
 bare_next_rule (rules.Effect n c path e) lexemes.Semicolon = refl
 bare_next_rule (rules.Effect n c path e) lexemes.Dot =
-    ap (λ l. if nat_lt l 4 then More (places.Rule (rules.Dot (bare_name n) (bare_name c) (map bare_name path ++ bare_name e ∷ []))) else Wrong) (length-map path bare_name) ∙ bare_dot n c path e (nat_lt (length path) 4)
+    ap (λ l. if nat_lt l 4 then longer (bare_name n) (bare_name c) (map bare_step path) (bare_name e) false else Wrong) (length-map path bare_step) ∙ bare_dot n c path e (nat_lt (length path) 4)
+bare_next_rule (rules.Effect n c path e) lexemes.Plus =
+    ap (λ l. if nat_lt l 4 then More (places.Rule (rules.Plus (bare_name n) (bare_name c) (map bare_step path) (bare_name e))) else Wrong) (length-map path bare_step) ∙ bare_plus n c path e (nat_lt (length path) 4)
+bare_next_rule (rules.Plus n c path e) lexemes.Dot = bare_longer n c path e true
 bare_next_rule (rules.Dot n c path) (lexemes.Name t) = refl
 bare_next_rule p k = refl
 
-bare_next : (p : Place) (k : Lexeme) → next (bare_place p) (bare k) ≡ bare_grown (next p k)
+bare_next : (p : MemberSoFar) (k : Lexeme) → next (bare_place p) (bare k) ≡ bare_grown (next p k)
 bare_next places.Start k = bare_begun k
 bare_next (places.Event p) k = bare_next_event p k
 bare_next (places.Relation p) k = bare_next_relation p k
@@ -148,7 +162,7 @@ bare_after cs c (Whole m) =
     ap (λ ms. Some (record { classes = map bare_class cs; part = parts.Inside (record { name = bare_name c.name; parent = bare_parent c.parent; members = ms }) places.Start })) (sym (map-append bare_member c.members (m ∷ [])))
 bare_after cs c Wrong = refl
 
-bare_inside : (cs : List ClassDecl) (c : ClassDecl) (p : Place) (k : Lexeme) → next_inside (map bare_class cs) (bare_class c) (bare_place p) (bare k) ≡ bare_option (next_inside cs c p k)
+bare_inside : (cs : List ClassDecl) (c : ClassDecl) (p : MemberSoFar) (k : Lexeme) → next_inside (map bare_class cs) (bare_class c) (bare_place p) (bare k) ≡ bare_option (next_inside cs c p k)
 bare_inside cs c places.Start lexemes.Close = ap (λ l. Some (record { classes = l; part = parts.Between })) (sym (map-append bare_class cs (c ∷ [])))
 bare_inside cs c p k = ap (after_grown (map bare_class cs) (bare_class c)) (bare_next p k) ∙ bare_after cs c (next p k)
 
@@ -184,17 +198,17 @@ bare_run (k ∷ ks) o = ap (λ x. run x (map bare ks)) (bare_then o k) ∙ bare_
 -- what the machine reads is what it is given, and stays sound
 abbrev ReadsAll : Option State → List Lexeme → Type 0
 ReadsAll None ks = Unit {0}
-ReadsAll (Some s) ks = (so_far s ≡ ks) × IsSound s
+ReadsAll (Some s) ks = (so_far s ≡ ks) × HasShortPaths s
 
-step_reads : (o : Option State) (ks : List Lexeme) → Grows o ks → IfSome o IsSound → ReadsAll o ks
+step_reads : (o : Option State) (ks : List Lexeme) → Grows o ks → IfSome o HasShortPaths → ReadsAll o ks
 step_reads None ks g s = tt
 step_reads (Some x) ks g s = (g, s)
 
-run_goes : (k : Lexeme) (ks before : List Lexeme) (o : Option State) → ((s : State) → IsSound s → ReadsAll (run (Some s) ks) (so_far s ++ ks)) → ReadsAll o (before ++ k ∷ []) → ReadsAll (run o ks) (before ++ k ∷ ks)
+run_goes : (k : Lexeme) (ks before : List Lexeme) (o : Option State) → ((s : State) → HasShortPaths s → ReadsAll (run (Some s) ks) (so_far s ++ ks)) → ReadsAll o (before ++ k ∷ []) → ReadsAll (run o ks) (before ++ k ∷ ks)
 run_goes k ks before None more one = subst (λ o. ReadsAll o (before ++ k ∷ ks)) (sym (run_none ks)) tt
 run_goes k ks before (Some s) more one = subst (λ l. ReadsAll (run (Some s) ks) l) (ap (λ l. l ++ ks) one.0 ∙ append_assoc before (k ∷ []) ks) (more s one.1)
 
-run_reads : (ks : List Lexeme) (s : State) → IsSound s → ReadsAll (run (Some s) ks) (so_far s ++ ks)
+run_reads : (ks : List Lexeme) (s : State) → HasShortPaths s → ReadsAll (run (Some s) ks) (so_far s ++ ks)
 run_reads [] s is = (sym (append-nil (so_far s)), is)
 run_reads (k ∷ ks) s is = run_goes k ks (so_far s) (next_state s k) (run_reads ks) (step_reads (next_state s k) (so_far s ++ k ∷ []) (grows s k) (stays_sound s k is))
 
@@ -206,7 +220,7 @@ abbrev EndsOption : Option State → Type 0
 EndsOption None = ⊥
 EndsOption (Some s) = Ends s.part
 
-part_done : (cs : List ClassDecl) (part : Part) (ks : List Lexeme) → Ends (bare_part part) → so_far (record { classes = cs; part = part }) ≡ ks → IsSound (record { classes = cs; part = part }) →
+part_done : (cs : List ClassDecl) (part : Part) (ks : List Lexeme) → Ends (bare_part part) → so_far (record { classes = cs; part = part }) ≡ ks → HasShortPaths (record { classes = cs; part = part }) →
     IsTreeOf (tree_of cs) ks
 part_done cs parts.Between ks ends is sound = record { fits = sound.classes; tokens = sym (append-nil (tree_tokens (tree_of cs))) ∙ is }
 part_done cs part ks ends is sound = absurd ends

@@ -1,9 +1,12 @@
 -- What each state can go on to.
 use Rattle.std.proofs.Common.{◌≡◌, refl, ap, sym, ◌∙◌, true, false, List, [], ◌∷◌, ◌++◌, append_assoc, append-nil, Option, None, Some, arith}
 use Rattle.std.specs.List.{flat_map}
+use Rattle.std.specs.Prelude.{length, ◌+◌}
+use Rattle.std.proofs.lemmas.List.{length_push}
 use Rattle.std.proofs.lemmas.List.Elements.{All-push}
 use Rattle.std.proofs.lemmas.Grind.{flat_map-append}
 use Rattle.cb_grammar.specs.declared.tree.Token.{Token}
+use Rattle.cb_grammar.specs.declared.tree.PlaceToken.{PlaceToken}
 use Rattle.cb_grammar.specs.declared.tree.Member.{Member}
 use Rattle.cb_grammar.specs.declared.tree.Member.TheVariants as members
 use Rattle.cb_grammar.specs.declared.tree.ClassDecl.{ClassDecl}
@@ -15,14 +18,14 @@ use Rattle.cb_grammar.specs.declared.place.RelationPlace.{RelationPlace}
 use Rattle.cb_grammar.specs.declared.place.RelationPlace.TheVariants as relations
 use Rattle.cb_grammar.specs.declared.place.RulePlace.{RulePlace}
 use Rattle.cb_grammar.specs.declared.place.RulePlace.TheVariants as rules
-use Rattle.cb_grammar.specs.declared.place.Place.{Place}
-use Rattle.cb_grammar.specs.declared.place.Place.TheVariants as places
+use Rattle.cb_grammar.specs.declared.place.MemberSoFar.{MemberSoFar}
+use Rattle.cb_grammar.specs.declared.place.MemberSoFar.TheVariants as places
 use Rattle.cb_grammar.specs.declared.machine.Part.{Part}
 use Rattle.cb_grammar.specs.declared.machine.Part.TheVariants as parts
 use Rattle.cb_grammar.specs.declared.machine.State.{State}
-use Rattle.cb_grammar.specs.Grammar.{member_tokens, class_tokens, parent_tokens, PathFits, ClassFits, IsFront}
-use Rattle.cb_grammar.specs.Read.{in_event, in_relation, in_rule, in_place, in_part, so_far, RuleSound, PlaceSound, PartSound, IsSound}
-use Rattle.cb_grammar.proofs.Grows.{ends_path, none_fits}
+use Rattle.cb_grammar.specs.Grammar.{step_tokens, named_step, member_tokens, class_tokens, parent_tokens, PathFits, ClassFits, IsFront}
+use Rattle.cb_grammar.specs.Read.{in_event, in_relation, in_rule, in_place, in_part, so_far, RuleSound, PlaceSound, PartSound, HasShortPaths}
+use Rattle.cb_grammar.proofs.Grows.{rule_head, flat_longer, ends_path, none_fits}
 
 abbrev any_name : Token
 any_name = record { name = 97 ∷ []; line = 0; start = 0 }
@@ -67,9 +70,19 @@ rule_goes_on (rules.Colon n) is = (members.Rule n any_name [] any_name, lexemes.
 rule_goes_on (rules.Cause n c) is = (members.Rule n c [] any_name, lexemes.Arrow ∷ name_ends, omega arith, refl)
 rule_goes_on (rules.Arrow n c) is = (members.Rule n c [] any_name, name_ends, omega arith, refl)
 rule_goes_on (rules.Effect n c path e) is = (members.Rule n c path e, ends, is, ends_path n c path e)
+rule_goes_on (rules.Plus n c path e) is =
+    let p : PlaceToken = record { name = e; plus = true } in
+    let long : length (path ++ p ∷ []) ≡ length path + 1 = length_push path p in (
+      members.Rule n c (path ++ p ∷ []) any_name,
+      lexemes.Dot ∷ name_ends,
+      omega (arith, long, is),
+      ap (rule_head n c) (ap (λ ks. ks ++ name_ends) (flat_longer path e true)
+          ∙ append_assoc (flat_map step_tokens path) (lexemes.Name e ∷ lexemes.Plus ∷ lexemes.Dot ∷ []) name_ends
+          ∙ sym (append_assoc (flat_map step_tokens path) (lexemes.Name e ∷ lexemes.Plus ∷ []) (lexemes.Dot ∷ name_ends))),
+    )
 rule_goes_on (rules.Dot n c path) is = (members.Rule n c path any_name, name_ends, is.1, refl)
 
-place_goes_on : (p : Place) → PlaceSound p → GoesOn (in_place p)
+place_goes_on : (p : MemberSoFar) → PlaceSound p → GoesOn (in_place p)
 place_goes_on places.Start is = (members.Block any_name, lexemes.Block ∷ name_ends, tt, refl)
 place_goes_on (places.Event p) is = event_goes_on p
 place_goes_on (places.Relation p) is = relation_goes_on p
@@ -94,7 +107,7 @@ new n p = record { name = n; parent = p; members = [] }
 abbrev ClassGoesOn : List Lexeme → Type 0
 ClassGoesOn ks = (c : ClassDecl) × (more : List Lexeme) × ClassFits c × (class_tokens c ≡ ks ++ more)
 
-body_goes_on : (c : ClassDecl) (p : Place) → ClassFits c → GoesOn (in_place p) → ClassGoesOn (in_part (parts.Inside c p))
+body_goes_on : (c : ClassDecl) (p : MemberSoFar) → ClassFits c → GoesOn (in_place p) → ClassGoesOn (in_part (parts.Inside c p))
 body_goes_on c p fits e = (
   record { name = c.name; parent = c.parent; members = c.members ++ e.0 ∷ [] },
   e.1 ++ lexemes.Close ∷ [],
@@ -114,7 +127,7 @@ part_goes_on (parts.Child n p) is = (new n (Some p), lexemes.Open ∷ lexemes.Cl
 part_goes_on (parts.Inside c p) is = body_goes_on c p is.0 (place_goes_on p is.1)
 
 -- some model begins with what a state has read
-pub is_front : (s : State) → IsSound s → IsFront (so_far s)
+pub is_front : (s : State) → HasShortPaths s → IsFront (so_far s)
 is_front s is =
     let e = part_goes_on s.part is.part in (
       e.1,

@@ -9,8 +9,8 @@ use Rattle.cb_grammar.specs.declared.place.RelationPlace.{RelationPlace}
 use Rattle.cb_grammar.specs.declared.place.RelationPlace.TheVariants as relations
 use Rattle.cb_grammar.specs.declared.place.RulePlace.{RulePlace}
 use Rattle.cb_grammar.specs.declared.place.RulePlace.TheVariants as rules
-use Rattle.cb_grammar.specs.declared.place.Place.{Place}
-use Rattle.cb_grammar.specs.declared.place.Place.TheVariants as places
+use Rattle.cb_grammar.specs.declared.place.MemberSoFar.{MemberSoFar}
+use Rattle.cb_grammar.specs.declared.place.MemberSoFar.TheVariants as places
 use Rattle.cb_grammar.specs.declared.machine.Part.{Part}
 use Rattle.cb_grammar.specs.declared.machine.Part.TheVariants as parts
 use Rattle.cb_grammar.specs.declared.machine.State.{State}
@@ -48,10 +48,11 @@ in_rule (rules.Colon n) = lexemes.Rule ∷ lexemes.Name n ∷ lexemes.Colon ∷ 
 in_rule (rules.Cause n c) = lexemes.Rule ∷ lexemes.Name n ∷ lexemes.Colon ∷ lexemes.Name c ∷ []
 in_rule (rules.Arrow n c) = lexemes.Rule ∷ lexemes.Name n ∷ lexemes.Colon ∷ lexemes.Name c ∷ lexemes.Arrow ∷ []
 in_rule (rules.Effect n c path e) = lexemes.Rule ∷ lexemes.Name n ∷ lexemes.Colon ∷ lexemes.Name c ∷ lexemes.Arrow ∷ (flat_map step_tokens path ++ lexemes.Name e ∷ [])
+in_rule (rules.Plus n c path e) = lexemes.Rule ∷ lexemes.Name n ∷ lexemes.Colon ∷ lexemes.Name c ∷ lexemes.Arrow ∷ (flat_map step_tokens path ++ lexemes.Name e ∷ lexemes.Plus ∷ [])
 in_rule (rules.Dot n c path) = lexemes.Rule ∷ lexemes.Name n ∷ lexemes.Colon ∷ lexemes.Name c ∷ lexemes.Arrow ∷ flat_map step_tokens path
 
 -- the tokens read of a member
-abbrev pub in_place : Place → List Lexeme
+abbrev pub in_place : MemberSoFar → List Lexeme
 in_place places.Start = []
 in_place (places.Event p) = in_event p
 in_place (places.Relation p) = in_relation p
@@ -74,14 +75,15 @@ in_part (parts.Inside c p) = lexemes.Class ∷ lexemes.Name c.name ∷ (parent_t
 abbrev pub so_far : State → List Lexeme
 so_far s = flat_map class_tokens s.classes ++ in_part s.part
 
--- a path has at most 4 relations, and before a dot at least one
+-- a path has at most 4 places; at a plus it has fewer, and after a dot at least one
 abbrev pub RuleSound : RulePlace → Type 0
 RuleSound (rules.Effect n c path e) = length path ≤ 4
+RuleSound (rules.Plus n c path e) = length path < 4
 RuleSound (rules.Dot n c path) = (0 < length path) × (length path ≤ 4)
 RuleSound p = Unit {0}
 
 -- so for the rule that is being read
-abbrev pub PlaceSound : Place → Type 0
+abbrev pub PlaceSound : MemberSoFar → Type 0
 PlaceSound (places.Rule p) = RuleSound p
 PlaceSound p = Unit {0}
 
@@ -90,7 +92,7 @@ abbrev pub PartSound : Part → Type 0
 PartSound (parts.Inside c p) = ClassFits c × PlaceSound p
 PartSound part = Unit {0}
 
--- all paths read have at most 4 relations
-pub record IsSound (s : State) : Type 0 where
+-- all paths read have at most 4 places
+pub record HasShortPaths (s : State) : Type 0 where
   pub classes : All ClassFits s.classes
   pub part : PartSound s.part

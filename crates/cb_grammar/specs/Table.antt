@@ -1,6 +1,7 @@
 -- The machine's table: the state after one token more.
-use Rattle.std.specs.Prelude.{true, false, List, [], ◌∷◌, ◌++◌, Option, None, Some, if◌then◌else◌, nat_lt, length}
+use Rattle.std.specs.Prelude.{Bool, true, false, List, [], ◌∷◌, ◌++◌, Option, None, Some, if◌then◌else◌, nat_lt, length}
 use Rattle.cb_grammar.specs.declared.tree.Token.{Token}
+use Rattle.cb_grammar.specs.declared.tree.PlaceToken.{PlaceToken}
 use Rattle.cb_grammar.specs.declared.tree.Member.TheVariants as members
 use Rattle.cb_grammar.specs.declared.tree.ClassDecl.{ClassDecl}
 use Rattle.cb_grammar.specs.declared.lexeme.Lexeme.{Lexeme}
@@ -11,8 +12,8 @@ use Rattle.cb_grammar.specs.declared.place.RelationPlace.{RelationPlace}
 use Rattle.cb_grammar.specs.declared.place.RelationPlace.TheVariants as relations
 use Rattle.cb_grammar.specs.declared.place.RulePlace.{RulePlace}
 use Rattle.cb_grammar.specs.declared.place.RulePlace.TheVariants as rules
-use Rattle.cb_grammar.specs.declared.place.Place.{Place}
-use Rattle.cb_grammar.specs.declared.place.Place.TheVariants as places
+use Rattle.cb_grammar.specs.declared.place.MemberSoFar.{MemberSoFar}
+use Rattle.cb_grammar.specs.declared.place.MemberSoFar.TheVariants as places
 use Rattle.cb_grammar.specs.declared.place.Grown.{Grown}
 use Rattle.cb_grammar.specs.declared.place.Grown.TheVariants.{More, Whole, Wrong}
 use Rattle.cb_grammar.specs.declared.machine.Part.{Part}
@@ -56,7 +57,11 @@ next_relation (relations.Inverse n g m) (lexemes.Name t) = More (places.Relation
 next_relation (relations.Whole n g m i) lexemes.Semicolon = Whole (members.Relation n g m i)
 next_relation p k = Wrong
 
--- a rule after one token more; its path ends at 4 relations
+-- a rule whose path has one place more
+abbrev pub longer : Token → Token → List PlaceToken → Token → Bool → Grown
+longer n c path e plus = More (places.Rule (rules.Dot n c (path ++ record { name = e; plus = plus } ∷ [])))
+
+-- a rule after one token more; its path ends at 4 places
 abbrev pub next_rule : RulePlace → Lexeme → Grown
 next_rule rules.Word (lexemes.Name t) = More (places.Rule (rules.Named t))
 next_rule (rules.Named n) lexemes.Colon = More (places.Rule (rules.Colon n))
@@ -64,12 +69,14 @@ next_rule (rules.Colon n) (lexemes.Name t) = More (places.Rule (rules.Cause n t)
 next_rule (rules.Cause n c) lexemes.Arrow = More (places.Rule (rules.Arrow n c))
 next_rule (rules.Arrow n c) (lexemes.Name t) = More (places.Rule (rules.Effect n c [] t))
 next_rule (rules.Effect n c path e) lexemes.Semicolon = Whole (members.Rule n c path e)
-next_rule (rules.Effect n c path e) lexemes.Dot = if nat_lt (length path) 4 then More (places.Rule (rules.Dot n c (path ++ e ∷ []))) else Wrong
+next_rule (rules.Effect n c path e) lexemes.Dot = if nat_lt (length path) 4 then longer n c path e false else Wrong
+next_rule (rules.Effect n c path e) lexemes.Plus = if nat_lt (length path) 4 then More (places.Rule (rules.Plus n c path e)) else Wrong
+next_rule (rules.Plus n c path e) lexemes.Dot = longer n c path e true
 next_rule (rules.Dot n c path) (lexemes.Name t) = More (places.Rule (rules.Effect n c path t))
 next_rule p k = Wrong
 
 -- a member after one token more
-abbrev pub next : Place → Lexeme → Grown
+abbrev pub next : MemberSoFar → Lexeme → Grown
 next places.Start k = begun k
 next (places.Event p) k = next_event p k
 next (places.Relation p) k = next_relation p k
@@ -101,7 +108,7 @@ after_grown cs c (Whole m) = Some (record { classes = cs; part = parts.Inside (r
 after_grown cs c Wrong = None
 
 -- the state inside a class after one token more
-abbrev pub next_inside : List ClassDecl → ClassDecl → Place → Lexeme → Option State
+abbrev pub next_inside : List ClassDecl → ClassDecl → MemberSoFar → Lexeme → Option State
 next_inside cs c places.Start lexemes.Close = Some (record { classes = cs ++ c ∷ []; part = parts.Between })
 next_inside cs c p k = after_grown cs c (next p k)
 

@@ -1,14 +1,14 @@
 //! What has been read of a member of a class.
 ghost use Rattle.std.specs.Prelude.{◌≡◌, IfOk};
-ghost use Rattle.cb_grammar.specs.Table.{begun, next_event, next_relation, next_rule, next};
+ghost use Rattle.cb_grammar.specs.Table.{begun, next_event, next_relation, next_rule, next, longer};
 
 use crate::lexeme::Lexeme;
-use crate::tree::{LONGEST_PATH, Member, Token};
+use crate::tree::{LONGEST_PATH, Member, PlaceToken, Token};
 use cb_model::List;
 use std::alloc::{AllocError, Global};
 
 /// An event's words, and then its name, with whether it is marked problem and symptom.
-#[derive(Debug, Drop)]
+#[derive(Drop)]
 pub enum EventPlace {
     Problem,
     ProblemSymptom,
@@ -18,7 +18,7 @@ pub enum EventPlace {
 }
 
 /// A relation's name, its target, whether it leads to many, and its inverse, as far as they are read.
-#[derive(Debug, Drop)]
+#[derive(Drop)]
 pub enum RelationPlace {
     Word,
     Named(Token),
@@ -29,22 +29,23 @@ pub enum RelationPlace {
     Whole(Token, Token, bool, Token),
 }
 
-/// A rule's name, its cause, its path and its effect, as far as they are read. What seems the effect is a relation of
-/// the path where a dot follows.
-#[derive(Debug, Drop)]
+/// A rule's name, its cause, its path and its effect, as far as they are read. What seems the effect is a place of
+/// the path where a dot follows, or a plus and a dot.
+#[derive(Drop)]
 pub enum RulePlace {
     Word,
     Named(Token),
     Colon(Token),
     Cause(Token, Token),
     Arrow(Token, Token),
-    Effect(Token, Token, List<Token>, Token),
-    Dot(Token, Token, List<Token>),
+    Effect(Token, Token, List<PlaceToken>, Token),
+    Plus(Token, Token, List<PlaceToken>, Token),
+    Dot(Token, Token, List<PlaceToken>),
 }
 
 /// Nothing of a member yet, or what has been read of one.
-#[derive(Debug, Drop)]
-pub enum Place {
+#[derive(Drop)]
+pub enum MemberSoFar {
     Start,
     Event(EventPlace),
     Relation(RelationPlace),
@@ -55,10 +56,10 @@ pub enum Place {
     HideName(Token),
 }
 
-/// A place after one token more: still inside the member, behind it, or nowhere.
-#[derive(Debug, Drop)]
+/// A place after one token more: still inside the member, after it, or nowhere.
+#[derive(Drop)]
 pub enum Grown {
-    More(Place),
+    More(MemberSoFar),
     Whole(Member),
     Wrong,
 }
@@ -68,13 +69,13 @@ fn begin(lexeme: Lexeme) -> Grown
     ensures { result ≡ begun lexeme }
 {
     match lexeme {
-        Lexeme::Problem => Grown::More(Place::Event(EventPlace::Problem)),
-        Lexeme::Symptom => Grown::More(Place::Event(EventPlace::Symptom)),
-        Lexeme::Event => Grown::More(Place::Event(EventPlace::Event)),
-        Lexeme::Relation => Grown::More(Place::Relation(RelationPlace::Word)),
-        Lexeme::Rule => Grown::More(Place::Rule(RulePlace::Word)),
-        Lexeme::Block => Grown::More(Place::Block),
-        Lexeme::Hide => Grown::More(Place::Hide),
+        Lexeme::Problem => Grown::More(MemberSoFar::Event(EventPlace::Problem)),
+        Lexeme::Symptom => Grown::More(MemberSoFar::Event(EventPlace::Symptom)),
+        Lexeme::Event => Grown::More(MemberSoFar::Event(EventPlace::Event)),
+        Lexeme::Relation => Grown::More(MemberSoFar::Relation(RelationPlace::Word)),
+        Lexeme::Rule => Grown::More(MemberSoFar::Rule(RulePlace::Word)),
+        Lexeme::Block => Grown::More(MemberSoFar::Block),
+        Lexeme::Hide => Grown::More(MemberSoFar::Hide),
         _ => Grown::Wrong,
     }
 }
@@ -112,7 +113,7 @@ fn grow_event(place: EventPlace, lexeme: Lexeme) -> Grown
             _ => return Grown::Wrong,
         },
     };
-    Grown::More(Place::Event(next))
+    Grown::More(MemberSoFar::Event(next))
 }
 
 // A relation, one token more.
@@ -157,7 +158,7 @@ fn grow_relation(place: RelationPlace, lexeme: Lexeme) -> Grown
             _ => return Grown::Wrong,
         },
     };
-    Grown::More(Place::Relation(next))
+    Grown::More(MemberSoFar::Relation(next))
 }
 
 // A rule, one token more.
@@ -188,19 +189,38 @@ fn grow_rule(alloc: Global, place: RulePlace, lexeme: Lexeme) -> Result<Grown, A
         RulePlace::Effect(name, cause, path, effect) => {
             return grow_path(name, cause, path, effect, lexeme);
         }
+        RulePlace::Plus(name, cause, path, last) => match lexeme {
+            Lexeme::Dot => return add_place(name, cause, path, last, true),
+            _ => return Ok(Grown::Wrong),
+        },
         RulePlace::Dot(name, cause, path) => match lexeme {
             Lexeme::Name(effect) => RulePlace::Effect(name, cause, path, effect),
             _ => return Ok(Grown::Wrong),
         },
     };
-    Ok(Grown::More(Place::Rule(next)))
+    Ok(Grown::More(MemberSoFar::Rule(next)))
 }
 
-// A rule ends, or what seemed its effect is a relation of its path, unless that is full.
+// What seemed the effect is a place of the path.
+fn add_place(
+    name: Token,
+    cause: Token,
+    path: List<PlaceToken>,
+    last: Token,
+    plus: bool,
+) -> Result<Grown, AllocError>
+    ensures { IfOk result (λ grown. grown ≡ longer name cause path last plus) }
+{
+    let mut more = path;
+    more.push(PlaceToken { name: last, plus })?;
+    Ok(Grown::More(MemberSoFar::Rule(RulePlace::Dot(name, cause, more))))
+}
+
+// A rule ends, or what seemed its effect is a place of its path, unless that is full.
 fn grow_path(
     name: Token,
     cause: Token,
-    path: List<Token>,
+    path: List<PlaceToken>,
     effect: Token,
     lexeme: Lexeme,
 ) -> Result<Grown, AllocError>
@@ -217,36 +237,40 @@ fn grow_path(
             if path.len() >= LONGEST_PATH {
                 return Ok(Grown::Wrong);
             }
-            let mut longer = path;
-            longer.push(effect)?;
-            Ok(Grown::More(Place::Rule(RulePlace::Dot(name, cause, longer))))
+            add_place(name, cause, path, effect, false)
+        }
+        Lexeme::Plus => {
+            if path.len() >= LONGEST_PATH {
+                return Ok(Grown::Wrong);
+            }
+            Ok(Grown::More(MemberSoFar::Rule(RulePlace::Plus(name, cause, path, effect))))
         }
         _ => Ok(Grown::Wrong),
     }
 }
 
 /// A member, one token more.
-pub fn grow(alloc: Global, place: Place, lexeme: Lexeme) -> Result<Grown, AllocError>
+pub(crate) fn grow(alloc: Global, place: MemberSoFar, lexeme: Lexeme) -> Result<Grown, AllocError>
     ensures { IfOk result (λ grown. grown ≡ next place lexeme) }
 {
     match place {
-        Place::Start => Ok(begin(lexeme)),
-        Place::Event(inner) => Ok(grow_event(inner, lexeme)),
-        Place::Relation(inner) => Ok(grow_relation(inner, lexeme)),
-        Place::Rule(inner) => grow_rule(alloc, inner, lexeme),
-        Place::Block => match lexeme {
-            Lexeme::Name(name) => Ok(Grown::More(Place::BlockName(name))),
+        MemberSoFar::Start => Ok(begin(lexeme)),
+        MemberSoFar::Event(inner) => Ok(grow_event(inner, lexeme)),
+        MemberSoFar::Relation(inner) => Ok(grow_relation(inner, lexeme)),
+        MemberSoFar::Rule(inner) => grow_rule(alloc, inner, lexeme),
+        MemberSoFar::Block => match lexeme {
+            Lexeme::Name(name) => Ok(Grown::More(MemberSoFar::BlockName(name))),
             _ => Ok(Grown::Wrong),
         },
-        Place::BlockName(name) => match lexeme {
+        MemberSoFar::BlockName(name) => match lexeme {
             Lexeme::Semicolon => Ok(Grown::Whole(Member::Block { name })),
             _ => Ok(Grown::Wrong),
         },
-        Place::Hide => match lexeme {
-            Lexeme::Name(name) => Ok(Grown::More(Place::HideName(name))),
+        MemberSoFar::Hide => match lexeme {
+            Lexeme::Name(name) => Ok(Grown::More(MemberSoFar::HideName(name))),
             _ => Ok(Grown::Wrong),
         },
-        Place::HideName(name) => match lexeme {
+        MemberSoFar::HideName(name) => match lexeme {
             Lexeme::Semicolon => Ok(Grown::Whole(Member::Hide { name })),
             _ => Ok(Grown::Wrong),
         },

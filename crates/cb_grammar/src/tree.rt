@@ -1,19 +1,26 @@
 //! What a text of classes says.
 use cb_model::{List, Name};
 
-/// The most relations of a rule's path.
+/// The most places of a rule's path.
 pub const LONGEST_PATH: usize = 4;
 
 /// A name, with its line, counted from 1, and the place of its first byte in the text.
-#[derive(Debug, Drop)]
+#[derive(Drop)]
 pub struct Token {
     pub name: Name,
     pub line: u32,
     pub start: u32,
 }
 
+/// A place of a rule's path: the name of a relation, and whether it has the plus.
+#[derive(Drop)]
+pub struct PlaceToken {
+    pub name: Token,
+    pub plus: bool,
+}
+
 /// A member of a class.
-#[derive(Debug, Drop)]
+#[derive(Drop)]
 pub enum Member {
     Event {
         name: Token,
@@ -29,7 +36,7 @@ pub enum Member {
     Rule {
         name: Token,
         cause: Token,
-        path: List<Token>,
+        path: List<PlaceToken>,
         effect: Token,
     },
     Block {
@@ -41,7 +48,7 @@ pub enum Member {
 }
 
 /// A class, with the class that it extends.
-#[derive(Debug, Drop)]
+#[derive(Drop)]
 pub struct ClassDecl {
     pub name: Token,
     pub parent: Option<Token>,
@@ -49,7 +56,7 @@ pub struct ClassDecl {
 }
 
 /// The classes of a text, in its order.
-#[derive(Debug, Drop)]
+#[derive(Drop)]
 pub struct Tree {
     pub classes: List<ClassDecl>,
 }

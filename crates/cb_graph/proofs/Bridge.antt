@@ -6,7 +6,7 @@ use Rattle.std.proofs.lemmas.List.Elements.{Contains-append_left, Contains-push,
 use Rattle.std.proofs.lemmas.Option.{slice_get_within, slice_get_past, get_or_from_slice_get}
 use Rattle.cb_model.specs.declared.id.ClassId.{ClassId}
 use Rattle.cb_model.specs.declared.id.EventId.{EventId}
-use Rattle.cb_model.specs.declared.id.RelId.{RelId}
+use Rattle.cb_model.specs.declared.tables.Place.{Place}
 use Rattle.cb_model.specs.declared.node.NodeName.{NodeName}
 use Rattle.cb_model.specs.declared.rule.Rule.{Rule}
 use Rattle.cb_model.specs.declared.tables.EventRow.{EventRow}
@@ -16,7 +16,7 @@ use Rattle.cb_model.specs.Views.{AreRulesOf, IsRuleAt, rule_of}
 use Rattle.cb_model.specs.WellTyped.{IsClass, WellTyped}
 use Rattle.cb_model.proofs.Climb.{stops}
 use Rattle.cb_model.proofs.Rising.{contains_cases, contains_head, contains_tail, nothing_in_empty}
-use Rattle.cb_network.specs.Topology.{Topology, IsOf}
+use Rattle.cb_network.specs.Topology.{Topology, HasClass}
 use Rattle.cb_network.specs.Nodes.{IsEventAt}
 use Rattle.cb_network.specs.Causes.{Edge}
 use Rattle.cb_instances.specs.declared.id.InstanceId.{InstanceId}
@@ -25,7 +25,7 @@ use Rattle.cb_instances.proofs.Muting.{event_told}
 use Rattle.cb_nodes.specs.declared.id.NodeId.{NodeId}
 use Rattle.cb_nodes.specs.declared.node.Node.{Node}
 use Rattle.cb_nodes.specs.Table.{IsNode, node_of}
-use Rattle.cb_reach.specs.Rows.{Has}
+use Rattle.cb_successors.specs.Rows.{Has}
 use Rattle.cb_topo.specs.Numbered.{Numbered, topology_of, IsNodeNamed, IsWhole}
 use Rattle.cb_graph.specs.Edges.{EdgeAt, number}
 use Rattle.cb_graph.specs.Instances.{Adds}
@@ -53,7 +53,7 @@ left_of R (a ∷ rest) (b ∷ bs) x zip has = elim (contains_cases a rest x has)
 ]
 
 -- an instance has one class
-pub one_class : (t : Topology) (name : List ℕ) (c d : ClassId) → IsOf t name c → IsOf t name d → c ≡ d
+pub one_class : (t : Topology) (name : List ℕ) (c d : ClassId) → HasClass t name c → HasClass t name d → c ≡ d
 one_class t name c d a b = let e : Some c ≡ Some d = sym a ∙ b in cc
 
 -- a class with an ancestor in the tables is in them
@@ -84,7 +84,7 @@ one_event t typed c name e f a b =
     event_told t typed c e f a.0 b.0 (ap name_in_row a.0.is ∙ (a.1 ∙ (sym b.1 ∙ sym (ap name_in_row b.0.is))))
 
 -- what a rule brings about is added
-pub effects_gained : (n : Numbered) (i : InstanceId) (cause : EventId) (rule : Rule) → rule.cause ≡ cause → (path : List RelId) → path ≡ rule.path → (here : List Bool) → IsWhereLeads n.net i path here
+pub effects_gained : (n : Numbered) (i : InstanceId) (cause : EventId) (rule : Rule) → rule.cause ≡ cause → (path : List Place) → path ≡ rule.path → (here : List Bool) → IsWhereLeads n.net i path here
     → (members : List InstanceId) → ((id : InstanceId) → Contains members id ↔ Has here id.0) → (before now : ℕ → Type 0) → Adds before now members (IsEventNumber n rule.effect)
     → (k : ℕ) → now k ↔ (before k ⊎ BringsAbout n i cause rule k)
 effects_gained n i cause rule caused path same here at members are before now gains k = (
@@ -131,7 +131,7 @@ module _ (n : Numbered) (whole : IsWhole n) where
         λ g. s.1 (elim g [ inl h ↦ inl h | inr there ↦ inr (ap (λ (z : NodeId). z.0) (node_told id (number k) (node_of i e) is there)) ]),
       )
 
-  -- a list with the number of the event at the instance behind it
+  -- a list with the number of the event at the instance after it
   pub number_listed : (list : List ℕ) (id : NodeId) (i : InstanceId) (e : EventId) → IsNode n.nodes id (node_of i e)
       → (k : ℕ) → Contains (list ++ id.0 ∷ []) k ↔ (Contains list k ⊎ IsEventNumber n e i k)
   number_listed list id i e is k = (
@@ -153,11 +153,11 @@ module _ (n : Numbered) (whole : IsWhole n) where
       let at : name_at n.net node.instance ≡ name.instance = ap name_or named in
       record {
         class = had.0;
-        of_class = subst (λ a. IsOf (topology_of n) a had.0) at had.1;
+        of_class = subst (λ a. HasClass (topology_of n) a had.0) at had.1;
         named = (had.2, sym (ap name_in_row had.2.is) ∙ event);
       }
 
-  module _ (typed : WellTyped tables) (node : NodeId) (from : NodeName) (named : IsNodeNamed n node from) (c : ClassId) (of_class : IsOf (topology_of n) from.instance c) where
+  module _ (typed : WellTyped tables) (node : NodeId) (from : NodeName) (named : IsNodeNamed n node from) (c : ClassId) (of_class : HasClass (topology_of n) from.instance c) where
     here : NamesEvent tables c from.event named.node.event
     here =
         let at = event_at node named.node from named.is named.instance named.event in

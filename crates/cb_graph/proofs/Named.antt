@@ -1,14 +1,16 @@
 -- Walks by numbers to links that move are walks by names to links that an edit moves.
-use Rattle.std.proofs.Common.{◌≡◌, ◌⊎◌, inl, inr, ℕ, List, [], ◌∷◌, true, is_some, refl, sym, ap, subst, ◌∙◌}
+use Rattle.std.proofs.Common.{◌≡◌, ◌⊎◌, inl, inr, ℕ, List, [], ◌∷◌, Bool, true, false, is_some, refl, sym, ap, subst, ◌∙◌}
 use Rattle.std.specs.FinMap as map
 use Rattle.std.proofs.lemmas.Bool.{cases_eq}
 use Rattle.cb_model.specs.declared.id.ClassId.{ClassId}
 use Rattle.cb_model.specs.declared.id.RelId.{RelId}
+use Rattle.cb_model.specs.declared.tables.Place.{Place}
 use Rattle.cb_model.proofs.Rising.{name_cmp_total, name_cmp_exact}
 use Rattle.cb_network.specs.declared.edit.Edit.{Edit}
 use Rattle.cb_network.specs.declared.edit.Edit.TheVariants.{Create, Delete, Link, Unlink, Mute, Unmute}
-use Rattle.cb_network.specs.Topology.{Topology, HasLink, IsOf, IsLive as IsLiveName}
+use Rattle.cb_network.specs.Topology.{Topology, HasLink, HasClass, IsLive as IsLiveName}
 use Rattle.cb_network.specs.Edits.{NamesPair, without_instance}
+use Rattle.cb_network.specs.Causes.{Run, Ahead}
 use Rattle.cb_network.specs.Regular.{IsRegular}
 use Rattle.cb_network.proofs.Kept.{class_of}
 use Rattle.cb_network.proofs.Sets.{got_remove}
@@ -21,34 +23,63 @@ use Rattle.cb_graph.specs.declared.moves.Moves.{Moves}
 use Rattle.cb_graph.specs.declared.moves.Moves.TheVariants.{Pair, AllOf}
 use Rattle.cb_graph.specs.Touched.{ArePair, AreMovedBy, StartsAt, ComesAt, Remains}
 use Rattle.cb_graph.proofs.Listing.{same_instance}
-use Rattle.cb_graph.proofs.Walking.{one_name}
+use Rattle.cb_graph.specs.Walks.{RunsAt}
+use Rattle.cb_graph.proofs.Walking.{one_name, runs_names, link_named, link_numbered}
 
 -- the links that move are these, by names, and make this topology of the one before
 pub record MoveThese (n : Net) (moves : Moves) (by_name : List ℕ → RelId → List ℕ → Type 0) (new : Topology) : Type 0 where
   pub started : (i : InstanceId) (a : List ℕ) (q : RelId) → IsNamed n i a → StartsAt n moves q i → (b : List ℕ) × by_name a q b
   pub starts : (i : InstanceId) (a : List ℕ) (q : RelId) (b : List ℕ) → IsNamed n i a → Remains moves i → by_name a q b → StartsAt n moves q i
   pub ends : (j : InstanceId) → Remains moves j ⊎ ((i : InstanceId) (q : RelId) → LinkAt n i q j → StartsAt n moves q i)
-  pub left : (i : InstanceId) (a : List ℕ) (c : ClassId) → IsNamed n i a → IsOf n.topology a c → Remains moves i → IsLiveName new a
+  pub left : (i : InstanceId) (a : List ℕ) (c : ClassId) → IsNamed n i a → HasClass n.topology a c → Remains moves i → IsLiveName new a
   pub leaves : (i : InstanceId) (a : List ℕ) → IsNamed n i a → IsLiveName new a → Remains moves i
 
 module _ (n : Net) (whole : IsWhole n) (moves : Moves) (by_name : List ℕ → RelId → List ℕ → Type 0) (new : Topology) (these : MoveThese n moves by_name new) where
-  pub comes_by_name : (i : InstanceId) (a : List ℕ) (path : List RelId) → IsNamed n i a → ComesAt n moves i path → ComesTo n.topology by_name a path
+  pub comes_by_name : (i : InstanceId) (a : List ℕ) (path : List Place) → IsNamed n i a → ComesAt n moves i path → ComesTo n.topology by_name a path
   comes_by_name i a [] named none = none
-  comes_by_name i a (r ∷ rest) named (inl start) = let s = these.started i a r named start in (s.0, inl s.1)
-  comes_by_name i a (r ∷ rest) named (inr (j, link, later)) =
-      let same : link.from ≡ a = one_name n i link.from a link.from_is named in
-      (link.to, inr (subst (λ x. HasLink n.topology x r link.to) same link.linked, comes_by_name j link.to rest link.to_is later))
+  comes_by_name i a (place ∷ rest) named (last, run, comes) =
+      let (b, last_named, ahead) = runs_names n whole place.rel place.plus i last run a named in
+      elim comes [
+        | inl start ↦ let s = these.started last b place.rel last_named start in (b, ahead, s.0, inl s.1)
+        | inr (j, link, later) ↦ (b, ahead, link.to, inr (link_named n whole place.rel last j link b last_named, comes_by_name j link.to rest link.to_is later))
+      ]
 
-  pub comes_by_number : (i : InstanceId) (a : List ℕ) (path : List RelId) → IsNamed n i a → Remains moves i → ComesTo n.topology by_name a path → ComesAt n moves i path
+  -- a run of links passes an instance where a link that moves starts, or ends at an instance that stays
+  module _ (r : RelId) where
+    abbrev Ends : Bool → InstanceId → List ℕ → Type 0
+    Ends plus i b = ((last : InstanceId) × RunsAt n r plus i last × StartsAt n moves r last)
+        ⊎ ((last : InstanceId) × RunsAt n r plus i last × IsNamed n last b × Remains moves last)
+
+    run_ends : (i : InstanceId) (a : List ℕ) (between : List (List ℕ)) (b : List ℕ) → IsNamed n i a → Remains moves i → Run (λ x y. HasLink n.topology x r y) a between b → Ends true i b
+    run_ends i a [] b named remains same = inr (i, ([], refl), subst (IsNamed n i) same named, remains)
+    run_ends i a (x ∷ xs) b named remains run =
+        let (j, j_named, link) = link_numbered n whole r i a x run.0 named in
+        elim (these.ends j) [
+          | inr goes ↦ inl (i, ([], refl), goes i r link)
+          | inl there ↦ elim (run_ends j x xs b j_named there run.1) [
+            | inl (last, (between, later), starts) ↦ inl (last, (j ∷ between, (link, later)), starts)
+            | inr (last, (between, later), is, stays) ↦ inr (last, (j ∷ between, (link, later)), is, stays)
+          ]
+        ]
+
+    ahead_ends : (plus : Bool) (i : InstanceId) (a b : List ℕ) → IsNamed n i a → Remains moves i → Ahead (λ x y. HasLink n.topology x r y) plus a b → Ends plus i b
+    ahead_ends true i a b named remains ahead = run_ends i a ahead.0 b named remains ahead.1
+    ahead_ends false i a b named remains same = inr (i, refl, subst (IsNamed n i) same named, remains)
+
+  pub comes_by_number : (i : InstanceId) (a : List ℕ) (path : List Place) → IsNamed n i a → Remains moves i → ComesTo n.topology by_name a path → ComesAt n moves i path
   comes_by_number i a [] named remains none = none
-  comes_by_number i a (r ∷ rest) named remains (b, inl moved) = inl (these.starts i a r b named remains moved)
-  comes_by_number i a (r ∷ rest) named remains (b, inr (has, later)) =
-      let e = whole.ends a r b has in
-      let j = e.1 in
-      let link : LinkAt n i r j = record { from = a; to = b; from_is = named; to_is = e.3; linked = has } in
-      elim (these.ends j) [
-        | inl there ↦ inr (j, link, comes_by_number j b rest e.3 there later)
-        | inr goes ↦ inl (goes i r link)
+  comes_by_number i a (place ∷ rest) named remains (x, ahead, y, comes) =
+      elim (ahead_ends place.rel place.plus i a x named remains ahead) [
+        | inl (last, run, starts) ↦ (last, run, inl starts)
+        | inr (last, run, last_named, there) ↦ elim comes [
+          | inl moved ↦ (last, run, inl (these.starts last x place.rel y last_named there moved))
+          | inr (has, later) ↦
+              let (j, j_named, link) = link_numbered n whole place.rel last x y has last_named in
+              elim (these.ends j) [
+                | inl stays ↦ (last, run, inr (j, link, comes_by_number j y rest j_named stays later))
+                | inr goes ↦ (last, run, inl (goes last place.rel link))
+              ]
+        ]
       ]
 
 -- a link that is named, and its inverse

@@ -8,11 +8,11 @@ use Rattle.cb_model.specs.declared.tables.RuleRow.{RuleRow}
 use Rattle.cb_model.specs.declared.tables.Tables.{Tables}
 use Rattle.cb_model.specs.Classes.{HasRule, NamesEvent}
 use Rattle.cb_model.specs.Views.{AreRulesOf, IsRuleAt, rule_of}
-use Rattle.cb_model.specs.WellTyped.{IsClass, IsEvent, IsRelation, WellTyped}
+use Rattle.cb_model.specs.WellTyped.{IsClass, IsEvent, IsPlace, WellTyped}
 use Rattle.cb_model.proofs.Numbers.{all_at}
 use Rattle.cb_network.specs.declared.edit.Edit.{Edit}
 use Rattle.cb_network.specs.declared.edit.Edit.TheVariants.{Create, Delete, Link, Unlink, Mute, Unmute}
-use Rattle.cb_network.specs.Topology.{Topology, IsOf}
+use Rattle.cb_network.specs.Topology.{Topology, HasClass}
 use Rattle.cb_network.specs.Regular.{IsRegular}
 use Rattle.cb_change.specs.Before.{MovesLink}
 use Rattle.cb_change.specs.Laws.{IsStep, KeepsLinks}
@@ -24,9 +24,9 @@ use Rattle.cb_instances.specs.declared.id.InstanceId.{InstanceId}
 use Rattle.cb_instances.specs.Net.{Net, IsNamed, name_or, event_name}
 use Rattle.cb_nodes.specs.declared.node.Node.{Node}
 use Rattle.cb_nodes.specs.Table.{node_of}
-use Rattle.cb_reach.specs.Rows.{Has}
+use Rattle.cb_successors.specs.Rows.{Has}
 use Rattle.cb_topo.specs.Numbered.{Numbered, topology_of, IsWhole}
-use Rattle.cb_topo.proofs.Regular.{typed_is_regular}
+use Rattle.cb_network.proofs.Typed.{typed_is_regular}
 use Rattle.cb_graph.specs.declared.moves.Moves.{Moves}
 use Rattle.cb_graph.specs.declared.moves.Moves.TheVariants.{Pair, AllOf}
 use Rattle.cb_graph.specs.Edges.{number}
@@ -57,13 +57,13 @@ module _ (n : Numbered) (moves : Moves) where
 
     module _ (rules : List Rule) (are : AreRulesOf tables class rules) where
       -- the paths of rules are of relations
-      pub path_is : WellTyped tables → (rule : Rule) → Contains rules rule → All (IsRelation tables) rule.path
+      pub path_is : WellTyped tables → (rule : Rule) → Contains rules rule → All (IsPlace tables) rule.path
       path_is typed rule has =
           let place = right_of (IsRuleAt tables) are.0 rules rule are.2 has in
           let is = place.2 in
-          let places = all_at (λ (row : RuleRow). IsClass tables row.class × IsEvent tables row.cause × All (IsRelation tables) row.path × IsEvent tables row.effect)
+          let places = all_at (λ (row : RuleRow). IsClass tables row.class × IsEvent tables row.cause × All (IsPlace tables) row.path × IsEvent tables row.effect)
           tables.rules place.0 is.0 is.1 typed.places.rules in
-          subst (λ (z : Rule). All (IsRelation tables) z.path) (sym is.2) places.2
+          subst (λ (z : Rule). All (IsPlace tables) z.path) (sym is.2) places.2
 
       -- a row that gains what the listed rules touch gains what the class's rules do
       pub class_gained : (old new : List Bool) → Gains old new rules (TouchesBy n moves class) → (k : ℕ) → Has new k ↔ (Has old k ⊎ TouchesIn n moves class k)
@@ -135,7 +135,7 @@ module _ (n : Numbered) (moves : Moves) where
         let to_node : to.1.node ≡ node_of at cause = one_at n whole (number k) to.1.node (node_of at cause) to.1.is touches.is.is in
         let named : IsNamed n.net at to.0.instance = subst (λ (z : Node). IsNamed n.net z.instance to.0.instance) to_node to.1.instance in
         let event : event_name tables cause ≡ to.0.event = subst (λ (z : Node). event_name tables z.event ≡ to.0.event) to_node to.1.event in
-        let of_class : IsOf (topology_of n) to.0.instance c = subst (λ a. IsOf (topology_of n) a c) (ap name_or named) touches.is.remains.of_class in
+        let of_class : HasClass (topology_of n) to.0.instance c = subst (λ a. HasClass (topology_of n) a c) (ap name_or named) touches.is.remains.of_class in
         let here = event_at n whole (number k) (node_of at cause) to.0 touches.is.is named event in (
           to.0,
           to.1,
@@ -173,7 +173,7 @@ module _ (n : Numbered) (moves : Moves) where
                   (comes (topology_of n) new (MovesLink (topology_of n) edit) (moved (topology_of n) new edit regular step) touched.has.row.path name.instance touched.meets);
               is = record {
                 remains = record {
-                  of_class = subst (λ a. IsOf (topology_of n) a c) (sym (ap name_or named.instance)) touched.of_class;
+                  of_class = subst (λ a. HasClass (topology_of n) a c) (sym (ap name_or named.instance)) touched.of_class;
                   remains = remains;
                 };
                 is = named.is ∙ ap (λ e. Some (node_of at e)) event;

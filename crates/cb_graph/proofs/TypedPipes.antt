@@ -20,7 +20,7 @@ use Rattle.cb_model.specs.declared.tables.RuleRow.{RuleRow}
 use Rattle.cb_model.specs.declared.tables.BlockRow.{BlockRow}
 use Rattle.cb_model.specs.declared.tables.HideRow.{HideRow}
 use Rattle.cb_model.specs.Classes.{ancestor, parent_of, parent_of_some, HasEvent, HasRelation}
-use Rattle.cb_model.specs.WellTyped.{IsClass, IsEvent, IsRelation, HasPlaces, HasNames, HasInverse, InheritsRule, Declares, Member, Reaches, KeepsTypeRules, WellTyped}
+use Rattle.cb_model.specs.WellTyped.{IsClass, IsEvent, IsRelation, IsPlace, HasPlaces, HasNames, HasInverse, InheritsRule, Declares, Member, Reaches, MayRepeat, KeepsTypeRules, WellTyped}
 use Rattle.cb_model.specs.WellTyped as members
 use Rattle.cb_model.proofs.Numbers.{at_most_numbered}
 use Rattle.cb_graph.specs.Pipes.{pipes, pipe_classes, pipe_events, pipe_relations, pipe_rules, next}
@@ -50,9 +50,9 @@ have_places = record {
   events = all_of (λ (row : EventRow). IsClass pipes row.class) pipe_events (omega arith, (omega arith, tt));
   relations = all_of (λ (row : RelRow). IsClass pipes row.class × IsClass pipes row.target × IsRelation pipes row.inverse) pipe_relations
       ((omega arith, omega arith, omega arith), ((omega arith, omega arith, omega arith), tt));
-  rules = all_of (λ (row : RuleRow). IsClass pipes row.class × IsEvent pipes row.cause × All (IsRelation pipes) row.path × IsEvent pipes row.effect) pipe_rules (
-    (omega arith, omega arith, all_of (IsRelation pipes) (next ∷ []) (omega arith, tt), omega arith),
-    ((omega arith, omega arith, all_of (IsRelation pipes) (next ∷ next ∷ []) (omega arith, (omega arith, tt)), omega arith), tt),
+  rules = all_of (λ (row : RuleRow). IsClass pipes row.class × IsEvent pipes row.cause × All (IsPlace pipes) row.path × IsEvent pipes row.effect) pipe_rules (
+    (omega arith, omega arith, all_of (IsPlace pipes) (next ∷ []) (omega arith, tt), omega arith),
+    ((omega arith, omega arith, all_of (IsPlace pipes) (next ∷ next ∷ []) (omega arith, (omega arith, tt)), omega arith), tt),
   );
   blocks = All-nil (λ (row : BlockRow). IsClass pipes row.class × (row.rule < length pipes.rules));
   hides = All-nil (λ (row : HideRow). IsClass pipes row.class × IsEvent pipes row.event);
@@ -122,7 +122,7 @@ has_leak = record { row = _; is = refl; from_c = (0, refl) }
 abbrev has_dry : HasEvent pipes pipe (record { 0 = 1 })
 has_dry = record { row = _; is = refl; from_c = (0, refl) }
 
-abbrev has_next : HasRelation pipes pipe next
+abbrev has_next : HasRelation pipes pipe next.rel
 has_next = record { row = _; is = refl; from_c = (0, refl) }
 
 keep_rules : KeepsTypeRules pipes
@@ -135,6 +135,10 @@ keep_rules = record {
   causes = all_of (λ (row : RuleRow). HasEvent pipes row.class row.cause) pipe_rules (has_leak, (has_leak, tt));
   effects = all_of (λ (row : RuleRow). (d : ClassId) × Reaches pipes row.class row.path d × HasEvent pipes d row.effect) pipe_rules
       ((pipe, (has_next, refl), has_dry), ((pipe, (has_next, (has_next, refl)), has_dry), tt));
+  repeats = all_of (λ (row : RuleRow). All (MayRepeat pipes) row.path) pipe_rules (
+    all_of (MayRepeat pipes) (next ∷ []) (λ e. cc, tt),
+    (all_of (MayRepeat pipes) (next ∷ next ∷ []) (λ e. cc, (λ e. cc, tt)), tt),
+  );
   blocked = All-nil (λ (row : BlockRow). InheritsRule pipes row.class row.rule);
   hidden = All-nil (λ (row : HideRow). (has : HasEvent pipes row.class row.event) × (has.row.symptom ≡ true));
   few_classes = omega arith;

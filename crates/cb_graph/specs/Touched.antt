@@ -3,23 +3,24 @@ use Rattle.std.specs.Prelude.{◌≡◌, ◌≢◌, ◌⊎◌, ◌↔◌, ℕ, L
 use Rattle.cb_model.specs.declared.id.ClassId.{ClassId}
 use Rattle.cb_model.specs.declared.id.EventId.{EventId}
 use Rattle.cb_model.specs.declared.id.RelId.{RelId}
+use Rattle.cb_model.specs.declared.tables.Place.{Place}
 use Rattle.cb_model.specs.declared.node.NodeName.{NodeName}
 use Rattle.cb_model.specs.declared.rule.Rule.{Rule}
 use Rattle.cb_model.specs.Classes.{HasRule}
 use Rattle.cb_model.specs.Views.{rule_of}
 use Rattle.cb_network.specs.declared.edit.Edit.{Edit}
 use Rattle.cb_network.specs.declared.edit.Edit.TheVariants.{Delete, Link, Unlink}
-use Rattle.cb_network.specs.Topology.{Topology, IsOf, IsLive as IsLiveName}
+use Rattle.cb_network.specs.Topology.{Topology, HasClass, IsLive as IsLiveName}
 use Rattle.cb_network.specs.Edits.{NamesPair, HasRelationAt}
 use Rattle.cb_change.specs.Touched.{IsTouched}
 use Rattle.cb_instances.specs.declared.id.InstanceId.{InstanceId}
 use Rattle.cb_instances.specs.Net.{Net, IsNamed, IsLive, LinkAt, name_at}
-use Rattle.cb_reach.specs.Rows.{Has}
+use Rattle.cb_successors.specs.Rows.{Has}
 use Rattle.cb_topo.specs.Numbered.{Numbered, topology_of, IsNodeNamed}
 use Rattle.cb_graph.specs.declared.moves.Moves.{Moves}
 use Rattle.cb_graph.specs.declared.moves.Moves.TheVariants.{Pair, AllOf}
 use Rattle.cb_graph.specs.Edges.{number}
-use Rattle.cb_graph.specs.Walks.{IsEventNumber, instance}
+use Rattle.cb_graph.specs.Walks.{IsEventNumber, RunsAt, instance}
 
 -- the node of this number is touched by the edit that makes the new topology
 abbrev pub IsTouchedNumber : Numbered → Topology → ℕ → Type 0
@@ -63,13 +64,14 @@ abbrev pub StartsAt : Net → Moves → RelId → InstanceId → Type 0
 StartsAt n (Pair from r to s) q i = ((q ≡ r) × (i ≡ from)) ⊎ ((q ≡ s) × (i ≡ to))
 StartsAt n (AllOf id) q i = LinkAt n i q id
 
--- links by the first of these relations lead from the instance to where one of those that move starts, by the next
-abbrev pub ComesAt : Net → Moves → InstanceId → List RelId → Type 0
+-- links by the first of these places lead from the instance to where one of those that move starts, by the place that they come to
+abbrev pub ComesAt : Net → Moves → InstanceId → List Place → Type 0
 ComesAt n moves i [] = ⊥
-ComesAt n moves i (r ∷ rest) = StartsAt n moves r i ⊎ ((j : InstanceId) × LinkAt n i r j × ComesAt n moves j rest)
+ComesAt n moves i (place ∷ rest) = (last : InstanceId) × RunsAt n place.rel place.plus i last
+    × (StartsAt n moves place.rel last ⊎ ((j : InstanceId) × LinkAt n last place.rel j × ComesAt n moves j rest))
 
 -- the row has exactly the instances from which the path comes to a link that moves
-abbrev pub IsWhereComes : Net → Moves → List RelId → List Bool → Type 0
+abbrev pub IsWhereComes : Net → Moves → List Place → List Bool → Type 0
 IsWhereComes n moves path row = (k : ℕ) → Has row k ↔ ComesAt n moves (instance k) path
 
 -- the instance is there still when the links have moved
@@ -79,7 +81,7 @@ Remains (AllOf id) i = i ≢ id
 
 -- the instance is of this class, and stays
 pub record RemainsOf (n : Net) (moves : Moves) (class : ClassId) (i : InstanceId) : Type 0 where
-  pub of_class : IsOf n.topology (name_at n i) class
+  pub of_class : HasClass n.topology (name_at n i) class
   pub remains : Remains moves i
 
 -- this is the number of the event at the instance, which is of the class and stays

@@ -4,10 +4,12 @@ use Rattle.std.specs.List.{Contains}
 use Rattle.cb_model.specs.declared.id.EventId.{EventId}
 use Rattle.cb_model.specs.declared.id.RelId.{RelId}
 use Rattle.cb_model.specs.declared.rule.Rule.{Rule}
+use Rattle.cb_model.specs.declared.tables.Place.{Place}
+use Rattle.cb_network.specs.Causes.{Ahead}
 use Rattle.cb_instances.specs.declared.id.InstanceId.{InstanceId}
 use Rattle.cb_instances.specs.Net.{Net, LinkAt, IsLive}
 use Rattle.cb_nodes.specs.Table.{IsNode, node_of}
-use Rattle.cb_reach.specs.Rows.{Has}
+use Rattle.cb_successors.specs.Rows.{Has}
 use Rattle.cb_topo.specs.Numbered.{Numbered}
 use Rattle.cb_graph.specs.Edges.{number}
 
@@ -15,23 +17,36 @@ use Rattle.cb_graph.specs.Edges.{number}
 abbrev pub instance : ℕ → InstanceId
 instance k = record { 0 = k }
 
--- links by these relations in turn lead from the one instance to the other
-abbrev pub LeadsAt : Net → InstanceId → List RelId → InstanceId → Type 0
+-- links by the relation lead from the first instance to the second: with the plus any number of links, or none; without it none, so the two are one
+abbrev pub RunsAt : Net → RelId → Bool → InstanceId → InstanceId → Type 0
+RunsAt n r plus i j = Ahead (λ x y. LinkAt n x r y) plus i j
+
+-- links by the places in turn lead from the first instance to the second
+abbrev pub LeadsAt : Net → InstanceId → List Place → InstanceId → Type 0
 LeadsAt n i [] j = i ≡ j
-LeadsAt n i (r ∷ rest) j = (next : InstanceId) × LinkAt n i r next × LeadsAt n next rest j
+LeadsAt n i (place ∷ rest) j = (last : InstanceId) × RunsAt n place.rel place.plus i last
+    × (next : InstanceId) × LinkAt n last place.rel next × LeadsAt n next rest j
+
+-- such links lead to the instance of this number from one that the row has
+abbrev pub IsRunTo : Net → RelId → Bool → List Bool → ℕ → Type 0
+IsRunTo n r plus row k = (i : InstanceId) × Has row i.0 × RunsAt n r plus i (instance k)
 
 -- a link leads to the instance of this number
 abbrev pub IsLinked : Net → RelId → InstanceId → ℕ → Type 0
 IsLinked n r i k = LinkAt n i r (instance k)
 
 -- the row has exactly the instances that the path leads to
-abbrev pub IsWhereLeads : Net → InstanceId → List RelId → List Bool → Type 0
+abbrev pub IsWhereLeads : Net → InstanceId → List Place → List Bool → Type 0
 IsWhereLeads n from path row = (k : ℕ) → Has row k ↔ LeadsAt n from path (instance k)
 
 -- the row has a place for each instance, and as many as its numbers may need
 pub record HasPlaces (n : Net) (row : List Bool) : Type 0 where
   pub room : n.room ≤ length row
   pub each : (id : InstanceId) → IsLive n id → id.0 < length row
+
+-- the instances of the row are live
+abbrev pub HasLive : Net → List Bool → Type 0
+HasLive n row = (id : InstanceId) → Has row id.0 → IsLive n id
 
 -- the instances are live
 abbrev pub AllLive : Net → List InstanceId → Type 0

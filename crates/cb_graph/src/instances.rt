@@ -1,11 +1,15 @@
 //! Sets of instances.
-ghost use Rattle.std.specs.Prelude.{◌≡◌, ◌<◌, ◌≤◌, ◌-◌, ◌++◌, ◌↔◌, ◌⊎◌, ℕ, length, replicate, false, [], IfOk, OnOk, OnErr, IsOk};
+ghost use Rattle.std.specs.Prelude.{◌≡◌, ◌<◌, ◌≤◌, ◌-◌, ◌++◌, ◌↔◌, ◌⊎◌, ℕ, length, replicate, false, true, vec_capacity, [], IfOk, OnOk, OnErr, IsOk};
 ghost use Rattle.std.specs.List.{Contains};
 ghost use Rattle.cb_instances.specs.declared.id.InstanceId.{InstanceId as Id};
-ghost use Rattle.cb_reach.specs.Rows.{Has};
+ghost use Rattle.cb_successors.specs.Rows.{Has};
+ghost use Rattle.cb_graph.specs.Instances.{IsListed as Lists, IsPrefix, Gains, IsNumber};
+ghost use Rattle.cb_graph.specs.Walks.{HasPlaces, HasLive, IsRunTo};
 
 use cb_bits::Row;
 use cb_instances::InstanceId;
+use cb_model::RelId;
+use cb_topo::Topology;
 use std::alloc::{AllocError, Global};
 
 /// A set of instances, which takes no memory once it has places enough. Its members are listed, so that going over them
@@ -36,6 +40,60 @@ fn clear_all(list: &[InstanceId], row: &mut Row)
 {
     for id in list {
         row.clear(id.0);
+    }
+}
+
+// Adds the instance to the row, and at the end of the list, unless the row has it.
+fn add_one(id: InstanceId, list: &mut Vec<InstanceId>, row: &mut Row)
+    requires listed { Lists list.old.items row.old }
+    requires room { length row.old ≤ vec_capacity list.old }
+    requires place { id.0 < length row.old }
+    ensures listed { Lists list.new.items row.new }
+    ensures room { length row.new ≤ vec_capacity list.new }
+    ensures length { length row.new ≡ length row.old }
+    ensures each { (k : ℕ) → Has row.new k ↔ (Has row.old k ⊎ (id.0 ≡ k)) }
+    ensures prefix { IsPrefix list.old.items list.new.items }
+{
+    if !row.get(id.0) {
+        row.set(id.0);
+        list.push_reserved(id);
+    }
+}
+
+// Adds these instances to the row, in their order, and at the end of the list those that the row doesn't have. The list
+// keeps the positions of what it had, since a caller may be going over it.
+fn add_each(ids: &[InstanceId], list: &mut Vec<InstanceId>, row: &mut Row)
+    requires listed { Lists list.old.items row.old }
+    requires room { length row.old ≤ vec_capacity list.old }
+    requires places { (id : Id) → Contains ids.now id → id.0 < length row.old }
+    ensures listed { Lists list.new.items row.new }
+    ensures room { length row.new ≤ vec_capacity list.new }
+    ensures length { length row.new ≡ length row.old }
+    ensures each { Gains row.old row.new ids.now IsNumber }
+    ensures prefix { IsPrefix list.old.items list.new.items }
+{
+    for id in ids {
+        add_one(*id, list, row);
+    }
+}
+
+// Adds what links by the relation lead to, from the listed instances and from those that are added to the list on the
+// way. The list is the queue of a search in breadth, so each instance is followed once.
+fn run_along(topology: &Topology, rel: RelId, list: &mut Vec<InstanceId>, row: &mut Row)
+    requires listed { Lists list.old.items row.old }
+    requires room { length row.old ≤ vec_capacity list.old }
+    requires places { HasPlaces topology.now.net row.old }
+    requires live { HasLive topology.now.net row.old }
+    ensures listed { Lists list.new.items row.new }
+    ensures room { length row.new ≤ vec_capacity list.new }
+    ensures length { length row.new ≡ length row.old }
+    ensures exactly { (k : ℕ) → Has row.new k ↔ IsRunTo topology.now.net rel true row.old k }
+{
+    let mut place = 0;
+    while place < list.len() {
+        let id = list[place];
+        place += 1;
+        add_each(topology.links(id, rel), list, row);
     }
 }
 
@@ -78,9 +136,19 @@ impl InstanceSet {
         ensures length { length self.new ≡ length self.old }
         ensures each { (k : ℕ) → Has self.new k ↔ (Has self.old k ⊎ (id.0 ≡ k)) }
     {
-        if !self.row.get(id.0) {
-            self.row.set(id.0);
-            self.list.push_reserved(id);
+        add_one(id, &mut self.list, &mut self.row);
+    }
+
+    /// With the plus, adds all that links by the relation lead to from the members, through any number of instances;
+    /// without it, nothing. It takes no memory, and follows each instance once, whatever cycles there are.
+    pub fn run_on(&mut self, topology: &Topology, rel: RelId, plus: bool)
+        requires places { HasPlaces topology.now.net self.old }
+        requires live { HasLive topology.now.net self.old }
+        ensures length { length self.new ≡ length self.old }
+        ensures exactly { (k : ℕ) → Has self.new k ↔ IsRunTo topology.now.net rel plus self.old k }
+    {
+        if plus {
+            run_along(topology, rel, &mut self.list, &mut self.row);
         }
     }
 

@@ -1,12 +1,12 @@
 //! The nodes that an edit touches: walks back along the paths of rules, from the links that the edit moves.
 ghost use Rattle.std.specs.Prelude.{◌≡◌, ◌<◌, ◌≤◌, ◌↔◌, ◌⊎◌, ℕ, length, IsTrue};
 ghost use Rattle.std.specs.List.{All};
-ghost use Rattle.cb_model.specs.WellTyped.{IsClass, IsRelation};
+ghost use Rattle.cb_model.specs.WellTyped.{IsClass, IsRelation, IsPlace};
 ghost use Rattle.cb_network.specs.declared.edit.Edit.{Edit as AnyEdit};
 ghost use Rattle.cb_network.specs.Topology.{Topology as Instances};
 ghost use Rattle.cb_change.specs.Laws.{IsStep};
 ghost use Rattle.cb_instances.specs.Net.{IsLive};
-ghost use Rattle.cb_reach.specs.Rows.{Has};
+ghost use Rattle.cb_successors.specs.Rows.{Has};
 ghost use Rattle.cb_topo.specs.Numbered.{topology_of};
 ghost use Rattle.cb_graph.specs.Instances.{Gains};
 ghost use Rattle.cb_graph.specs.Walks.{HasPlaces, AllLive, instance};
@@ -18,7 +18,7 @@ use crate::rules::add_event;
 use crate::walk::{add_all, add_links};
 use cb_bits::Row;
 use cb_instances::InstanceId;
-use cb_model::{ClassId, EventId, List, RelId, Rule};
+use cb_model::{ClassId, EventId, List, Place, RelId, Rule};
 use cb_topo::Topology;
 
 // Adds the instance, where its link by one relation is looked for by the other and the two are one.
@@ -62,12 +62,12 @@ fn add_starts(topology: &Topology, moves: Moves, rel: RelId, out: &mut InstanceS
 fn come_to(
     topology: &Topology,
     moves: Moves,
-    path: &List<RelId>,
+    path: &List<Place>,
     here: &mut InstanceSet,
     spare: &mut InstanceSet,
 )
     requires moves { HaveEnds topology.now.net moves }
-    requires path { All (IsRelation (topology_of topology.now).model) path.now }
+    requires path { All (IsPlace (topology_of topology.now).model) path.now }
     requires here { HasPlaces topology.now.net here.old }
     requires spare { HasPlaces topology.now.net spare.old }
     ensures here { HasPlaces topology.now.net here.new }
@@ -75,12 +75,13 @@ fn come_to(
     ensures exactly { IsWhereComes topology.now.net moves path.now here.new }
 {
     here.clear();
-    for place in (0..path.len()).rev() {
-        let rel = *path.at(place);
-        let back = back_of(topology, rel);
+    for depth in (0..path.len()).rev() {
+        let place = *path.at(depth);
+        let back = back_of(topology, place.rel);
         spare.clear();
         add_links(topology, here.members(), back, spare);
-        add_starts(topology, moves, rel, spare);
+        add_starts(topology, moves, place.rel, spare);
+        spare.run_on(topology, back, place.plus);
         std::mem::swap(here, spare);
     }
 }
@@ -125,7 +126,7 @@ fn add_rule(
     out: &mut Row,
 )
     requires moves { HaveEnds topology.now.net moves }
-    requires path { All (IsRelation (topology_of topology.now).model) rule.now.path }
+    requires path { All (IsPlace (topology_of topology.now).model) rule.now.path }
     requires here { HasPlaces topology.now.net here.old }
     requires spare { HasPlaces topology.now.net spare.old }
     requires out { length topology.now.nodes ≤ length out.old }
@@ -164,7 +165,7 @@ fn add_class(
 }
 
 /// Adds the nodes that an edit touches which moves these links. The edit isn't made yet.
-pub fn add_touched(
+pub(crate) fn add_touched(
     topology: &Topology,
     moves: Moves,
     here: &mut InstanceSet,

@@ -8,11 +8,11 @@ ghost use Rattle.cb_graph.specs.Walks.{LeadsAt, IsWhereLeads, HasPlaces, AllLive
 
 use crate::instances::InstanceSet;
 use cb_instances::InstanceId;
-use cb_model::RelId;
+use cb_model::{Place, RelId};
 use cb_topo::Topology;
 
 /// Adds the listed instances to the set.
-pub fn add_all(list: &[InstanceId], out: &mut InstanceSet)
+pub(crate) fn add_all(list: &[InstanceId], out: &mut InstanceSet)
     requires { (id : Id) → Contains list.now id → id.0 < length out.old }
     ensures length { length out.new ≡ length out.old }
     ensures each { Gains out.old out.new list.now IsNumber }
@@ -23,7 +23,7 @@ pub fn add_all(list: &[InstanceId], out: &mut InstanceSet)
 }
 
 /// Adds what the relation leads to from the listed instances.
-pub fn add_links(topology: &Topology, list: &[InstanceId], rel: RelId, out: &mut InstanceSet)
+pub(crate) fn add_links(topology: &Topology, list: &[InstanceId], rel: RelId, out: &mut InstanceSet)
     requires live { AllLive topology.now.net list.now }
     requires out { HasPlaces topology.now.net out.old }
     ensures length { length out.new ≡ length out.old }
@@ -34,11 +34,12 @@ pub fn add_links(topology: &Topology, list: &[InstanceId], rel: RelId, out: &mut
     }
 }
 
-/// Makes `here` the set of the instances that the path leads to. No instance is followed twice at one place of the path.
-pub fn follow(
+/// Makes `here` the set of the instances that the path leads to. At each place of the path an instance is followed at
+/// most twice.
+pub(crate) fn follow(
     topology: &Topology,
     from: InstanceId,
-    path: &[RelId],
+    path: &[Place],
     here: &mut InstanceSet,
     spare: &mut InstanceSet,
 )
@@ -51,9 +52,10 @@ pub fn follow(
 {
     here.clear();
     here.add(from);
-    for rel in path {
+    for place in path {
         spare.clear();
-        add_links(topology, here.members(), *rel, spare);
+        add_links(topology, here.members(), place.rel, spare);
+        spare.run_on(topology, place.rel, place.plus);
         std::mem::swap(here, spare);
     }
 }

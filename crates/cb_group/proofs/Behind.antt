@@ -1,4 +1,4 @@
--- The codes behind one that needn't be looked at: those that have none of so many of its columns.
+-- The codes after one that needn't be looked at: those that have none of so many of its columns.
 use Rattle.std.proofs.Common.{◌≡◌, ◌↔◌, IsTrue, ℕ, zero, suc, ◌+◌, ◌-◌, ◌<◌, ◌≤◌, ◌⊎◌, List, length, get_or, Bool, true, false, cond, refl, sym, ap, subst, inl, inr, arith}
 use Rattle.std.specs.List.{All, Contains}
 use Rattle.std.proofs.lemmas.Bool.{cases_lt, cases_eq, cases_Bool, both_ways}
@@ -49,7 +49,7 @@ module _ (rows : List (List Bool)) (column : ℕ) (places : List ℕ) (are : pla
       (kept_by_filter (λ k. bit (code_at rows k) column) (all_columns (length rows)) j (in_all_columns (length rows) j lt) has)
 
 module _ (codes : Coded) (first d : ℕ) where
-  -- each code behind the first, before the end, is far, or differs from it in so many of the columns below one
+  -- each code after the first, before the end, is far, or differs from it in so many of the columns below one
   abbrev pub AreFarOrDiffer : ℕ → ℕ → ℕ → Type 0
   AreFarOrDiffer below count end = (j : ℕ) → first < j → j < end → (d ≤ far codes first j) ⊎ (count ≤ apart (all_columns below) codes.rows first j)
 
@@ -57,7 +57,7 @@ module _ (codes : Coded) (first d : ℕ) where
   within_all end is = elim is [ inl close ↦ let lt = close.within in omega arith | inr all ↦ omega arith ]
 
   module _ (from column looked end : ℕ) (on : from ≤ column) (old : AreFarOrDiffer from looked end) where
-    -- a column that is passed over
+    -- a column that is ignored
     pub column_passed : AreFarOrDiffer (column + 1) looked end
     column_passed = λ j behind before. elim (old j behind before) [
       | inl is ↦ inl is

@@ -103,7 +103,7 @@ any_of_chosen columns codes chosen are d found some none =
     (subst (λ n. IfSome found (IsFirstClose (all_columns n) chosen.rows d)) are.width some)
     (subst (λ n. IfNone found (Good chosen.rows (all_columns n) d)) are.width none)
 
--- no code before this one has a close one behind it
+-- no code before this one has a close one after it
 abbrev pub AreFarTo : Coded → ℕ → ℕ → Type 0
 AreFarTo codes d to = (i : ℕ) → i < to → AreAllFar codes i d (length codes.rows)
 

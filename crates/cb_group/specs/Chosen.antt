@@ -24,7 +24,7 @@ ArePlacesBelow columns below lists = (column place : ℕ) → column < length li
     → Contains (slice_index_or lists column []) place ↔ ((place < below) × (slice_index_or columns place 0 ≡ column))
 
 -- a list for each column of so many: where it stands among these
-pub record ArePlaces (columns : List ℕ) (width : ℕ) (lists : List (List ℕ)) : Type 0 where
+pub record IsChosenIndex (columns : List ℕ) (width : ℕ) (lists : List (List ℕ)) : Type 0 where
   pub all : length lists ≡ width
   pub each : ArePlacesBelow columns (length columns) lists
 

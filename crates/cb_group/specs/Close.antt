@@ -9,13 +9,13 @@ use Rattle.cb_codes.specs.Codes.{Coded}
 abbrev pub far : Coded → ℕ → ℕ → ℕ
 far codes i j = apart (all_columns codes.width) codes.rows i j
 
--- the code at the second place stands behind the first, and is less than d from it
+-- the code at the second place stands after the first, and is less than d from it
 pub record IsClose (codes : Coded) (first d second : ℕ) : Type 0 where
   pub behind : first < second
   pub within : second < length codes.rows
   pub close : far codes first second < d
 
--- the codes behind the first, before the end, are at least d from it
+-- the codes after the first, before the end, are at least d from it
 abbrev pub AreAllFar : Coded → ℕ → ℕ → ℕ → Type 0
 AreAllFar codes first d end = (j : ℕ) → first < j → j < end → d ≤ far codes first j
 
@@ -28,7 +28,7 @@ pub record IsFirstBehind (codes : Coded) (first d place : ℕ) : Type 0 where
   pub is : IsCloseOrEnd codes first d place
   pub before : AreAllFar codes first d place
 
--- the second of the pair is the first code behind this one that is less than d from it
+-- the second of the pair is the first code after this one that is less than d from it
 pub record IsCloseWith (codes : Coded) (first d : ℕ) (pair : Pair) : Type 0 where
   pub first_is : pair.first ≡ first
   pub close : IsClose codes first d pair.second

@@ -2,7 +2,7 @@
 ghost use Rattle.std.specs.Prelude.{◌≡◌, ◌<◌, ◌≤◌, [], length, replicate, IfOk};
 ghost use Rattle.std.specs.List.{All};
 ghost use Rattle.cb_coding.specs.Groups.{codes_of};
-ghost use Rattle.cb_group.specs.Chosen.{IsOver, AreChosen, ArePlaces, Sets};
+ghost use Rattle.cb_group.specs.Chosen.{IsOver, AreChosen, IsChosenIndex, Sets};
 
 use cb_bits::Row;
 use cb_codes::Codes;
@@ -11,7 +11,11 @@ use cb_model::List;
 use std::alloc::{AllocError, Global};
 
 /// The codes of the groups, over these columns alone.
-pub fn chosen(alloc: Global, groups: &List<Group>, columns: &[u32]) -> Result<Codes, AllocError>
+pub(crate) fn chosen(
+    alloc: Global,
+    groups: &List<Group>,
+    columns: &[u32],
+) -> Result<Codes, AllocError>
     ensures { IfOk result (AreChosen columns.now (codes_of groups.now)) }
 {
     let places = places_of(alloc, columns, longest(groups))?;
@@ -35,7 +39,7 @@ fn longest(groups: &List<Group>) -> usize
 
 // For each column of so many, where it stands among these.
 fn places_of(alloc: Global, columns: &[u32], width: usize) -> Result<Vec<List<usize>>, AllocError>
-    ensures { IfOk result (λ places. ArePlaces columns.now width places.items) }
+    ensures { IfOk result (λ places. IsChosenIndex columns.now width places.items) }
 {
     let mut places = empty_lists(alloc, width)?;
     for place in 0..columns.len() {
@@ -65,7 +69,7 @@ fn over(
     columns: &[u32],
     places: &[List<usize>],
 ) -> Result<Row, AllocError>
-    requires places { ArePlaces columns.now (length places.now) places.now }
+    requires places { IsChosenIndex columns.now (length places.now) places.now }
     requires within { length code.now ≤ length places.now }
     ensures { IfOk result (IsOver columns.now code.now) }
 {

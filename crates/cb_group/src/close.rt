@@ -1,7 +1,7 @@
 //! The first two groups that are close to each other over some columns.
 //!
 //! A code that has none of so many columns of another is at least so far from it. So a code is compared with those alone that have one of so
-//! many of its columns as the distance wants, where few codes have these; and with all behind it where it has no so many.
+//! many of its columns as the distance wants, where few codes have these; and with all after it where it has no so many.
 ghost use Rattle.std.specs.Prelude.{◌≡◌, ◌<◌, ◌≤◌, ◌^◌, ◌↔◌, ℕ, length, IfOk, IfSome, IfNone, IsTrue};
 ghost use Rattle.std.specs.List.{All, Contains};
 ghost use Rattle.cb_coding.specs.Distance.{all_columns};
@@ -66,14 +66,14 @@ fn pair_of(codes: &Codes, first: usize, second: usize, distance: u32) -> Option<
     }
 }
 
-// The place of the first code behind this one that is less than the distance from it, or the end. A code that has none of the columns that
+// The place of the first code after this one that is less than the distance from it, or the end. A code that has none of the columns that
 // were looked at is as far from this one as they are many.
 fn first_behind(codes: &Codes, first: usize, distance: u32) -> usize
     requires { first < length codes.now.rows }
     ensures { IsFirstBehind codes.now first distance result }
 {
     let code = codes.row(first);
-    // A length fits its type, and so does the place behind a column. All codes have one width.
+    // A length fits its type, and so does the place after a column. All codes have one width.
     let _width = code.len();
     let _wide = codes.width();
     let mut end = codes.len();
@@ -109,7 +109,7 @@ fn few_holders(codes: &Codes, column: usize, columns: u32) -> Option<&List<u32>>
     }
 }
 
-// The first code before the end that stands at one of these places, behind this one, and is less than the distance from it; or the end.
+// The first code before the end that stands at one of these places, after this one, and is less than the distance from it; or the end.
 fn close_among(
     codes: &Codes,
     first: usize,
@@ -130,7 +130,7 @@ fn close_among(
     end
 }
 
-// The second, where it stands behind the first and before the end and is less than the distance from it; else the end.
+// The second, where it stands after the first and before the end and is less than the distance from it; else the end.
 fn nearer_end(codes: &Codes, first: usize, distance: u32, second: usize, end: usize) -> usize
     requires first { first < length codes.now.rows }
     requires second { second < length codes.now.rows }
@@ -146,7 +146,7 @@ fn nearer_end(codes: &Codes, first: usize, distance: u32, second: usize, end: us
     }
 }
 
-// The first code behind this one that is less than the distance from it, or the end.
+// The first code after this one that is less than the distance from it, or the end.
 fn close_behind(codes: &Codes, first: usize, distance: u32) -> usize
     requires { first < length codes.now.rows }
     ensures { IsFirstBehind codes.now first distance result }

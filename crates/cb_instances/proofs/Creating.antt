@@ -18,19 +18,19 @@ use Rattle.cb_instances.specs.Net.{slot, SetsOnly, Once, inverse_of}
 use Rattle.cb_instances.specs.Places.{Entries, IsIndexed, place_of}
 use Rattle.cb_instances.specs.Rows.{row_of}
 use Rattle.cb_instances.specs.Shown.{topology_of, name_in, Shows}
-use Rattle.cb_instances.specs.Slots.{head_of, Slots, At, Lists}
-use Rattle.cb_instances.specs.Sound.{IsSound, IsTidy, StandBothWays, FitsMutes}
+use Rattle.cb_instances.specs.Slots.{head_of, Slots, At, ListsInstance}
+use Rattle.cb_instances.specs.Sound.{IsNetOf, IsTidy, StandBothWays, FitsMutes}
 use Rattle.cb_instances.proofs.Placing.{told, stays, either, indexed_more, named_only, same_id}
 use Rattle.cb_instances.proofs.Showing.{one_at, shows_made, shown_once}
 
 -- who is listed is there
-pub listed_live : (tables : Tables) (slots : Slots) → StandBothWays tables slots → (i : InstanceId) (r : RelId) (j : InstanceId) → Lists slots i r j → (y : Instance) × At slots j y
+pub listed_live : (tables : Tables) (slots : Slots) → StandBothWays tables slots → (i : InstanceId) (r : RelId) (j : InstanceId) → ListsInstance slots i r j → (y : Instance) × At slots j y
 listed_live tables slots both i r j lists = let back = (both i r j lists).1 in (back.lister, back.is)
 
 pub nothing_twice : {X : Type 0} (xs : List X) → xs ≡ [] → Once xs
 nothing_twice xs e = subst Once (sym e) (λ i j d lt le. absurd (omega arith))
 
-pub shown_of : (tables : Tables) (slots : Slots) (entries : Entries) (room : ℕ) → IsSound tables slots entries room → Shows slots (topology_of tables slots)
+pub shown_of : (tables : Tables) (slots : Slots) (entries : Entries) (room : ℕ) → IsNetOf tables slots entries room → Shows slots (topology_of tables slots)
 shown_of tables slots entries room sound = shows_made tables slots (told slots entries sound.indexed) (λ i x at. (sound.tidy i x at).apart)
 
 module _ (tables : Tables) (old new : Slots) (id : InstanceId) (x : Instance) (free : slot old id.0 ≡ None) (sets : SetsOnly old new id (Some x))
@@ -45,10 +45,10 @@ module _ (tables : Tables) (old new : Slots) (id : InstanceId) (x : Instance) (f
   lists_nobody : (r : RelId) (j : InstanceId) (y : Instance) → y ≡ x → Contains (row_of y.links.rows.items r) j → ⊥
   lists_nobody r j y same has = nothing_in_empty j (subst (λ rows. Contains (row_of rows r) j) (ap (λ (z : Instance). z.links.rows.items) same ∙ bare) has)
 
-  lists_more : (i : InstanceId) (r : RelId) (j : InstanceId) → Lists old i r j → Lists new i r j
+  lists_more : (i : InstanceId) (r : RelId) (j : InstanceId) → ListsInstance old i r j → ListsInstance new i r j
   lists_more i r j l = record { lister = l.lister; is = keeps i l.lister l.is; listed = l.listed }
 
-  listed_before : (i : InstanceId) (r : RelId) (j : InstanceId) → Lists new i r j → Lists old i r j
+  listed_before : (i : InstanceId) (r : RelId) (j : InstanceId) → ListsInstance new i r j → ListsInstance old i r j
   listed_before i r j l = elim (now i l.lister l.is) [
     | inl e ↦ absurd (lists_nobody r j l.lister e.1 l.listed)
     | inr was ↦ record { lister = l.lister; is = was; listed = l.listed }
@@ -65,8 +65,8 @@ module _ (tables : Tables) (old new : Slots) (id : InstanceId) (x : Instance) (f
     | inr old_y ↦ was i y old_y
   ]
 
-  pub created_sound : (entries entries' : Entries) (room room' : ℕ) → IsSound tables old entries room → IsIndexed new entries' → room' ≡ max room (id.0 + 1)
-      → IsSound tables new entries' room'
+  pub created_sound : (entries entries' : Entries) (room room' : ℕ) → IsNetOf tables old entries room → IsIndexed new entries' → room' ≡ max room (id.0 + 1)
+      → IsNetOf tables new entries' room'
   created_sound entries entries' room room' sound indexed above = record {
     typed = sound.typed;
     indexed = indexed;
@@ -130,7 +130,7 @@ module _ (tables : Tables) (old new : Slots) (id : InstanceId) (x : Instance) (f
         );
   }
 
-  pub created_topology : (entries entries' : Entries) (room room' : ℕ) → IsSound tables old entries room → IsSound tables new entries' room'
+  pub created_topology : (entries entries' : Entries) (room room' : ℕ) → IsNetOf tables old entries room → IsNetOf tables new entries' room'
       → topology_of tables new ≡ with_instance (topology_of tables old) x.name x.class
   created_topology entries entries' room room' before after =
       shown_once new (topology_of tables new) (with_instance (topology_of tables old) x.name x.class) refl
@@ -140,12 +140,12 @@ module _ (tables : Tables) (old new : Slots) (id : InstanceId) (x : Instance) (f
 -- what a new instance makes of the slots
 pub record IsMade (tables : Tables) (old new : Slots) (entries entries' : Entries) (room room' : ℕ) (id : InstanceId) (name : List ℕ) (class : ClassId) : Type 0 where
   pub named : SetsOnly (map name_in old) (map name_in new) id (Some name)
-  pub sound : IsSound tables new entries' room'
+  pub sound : IsNetOf tables new entries' room'
   pub topology : topology_of tables new ≡ with_instance (topology_of tables old) name class
 
 -- a slot that was free is set, and its name is placed
 pub made : (tables : Tables) (old mid new : Slots) (entries entries' : Entries) (room room' : ℕ) (id : InstanceId) (k : ℕ) (x : Instance) (name : List ℕ)
-    → IsSound tables old entries room → mid ≡ old → slot mid id.0 ≡ None → k ≡ id.0 → slot new k ≡ Some x → ((j : ℕ) → j ≢ k → slot new j ≡ slot mid j)
+    → IsNetOf tables old entries room → mid ≡ old → slot mid id.0 ≡ None → k ≡ id.0 → slot new k ≡ Some x → ((j : ℕ) → j ≢ k → slot new j ≡ slot mid j)
     → x.name ≡ name → ¬ IsLiveName (topology_of tables old) name
     → x.links.rows.items ≡ [] → x.muted.items ≡ [] → FitsMutes tables (head_of x)
     → ((q : List ℕ) → place_of entries' q ≡ cond (bytes_eq q name) (Some id.0) (place_of entries q))
@@ -159,7 +159,7 @@ made tables old mid new entries entries' room room' id k x name sound kept vacan
     let fresh : (i : InstanceId) (y : Instance) → At old i y → y.name ≡ x.name → ⊥ = λ i y at e.
     absent (subst (λ n. IsLiveName (topology_of tables old) n) (e ∙ named) (live_of (topology_of tables old) y.name y.class (((shown_of tables old entries room sound).instances y.name y.class).1 (record { at = i; instance = y; is = at; named = refl; of_class = refl })))) in
     let indexed : IsIndexed new entries' = indexed_more old new id x free sets entries entries' sound.indexed fresh (λ q. finds q ∙ ap (λ n. cond (bytes_eq q n) (Some id.0) (place_of entries q)) (sym named)) in
-    let after : IsSound tables new entries' room' = created_sound tables old new id x free sets bare unmuted sound.both_ways fresh fits entries entries' room room' sound indexed above in
+    let after : IsNetOf tables new entries' room' = created_sound tables old new id x free sets bare unmuted sound.both_ways fresh fits entries entries' room room' sound indexed above in
     record {
       named = named_only old new id x name sets named;
       sound = after;

@@ -16,15 +16,15 @@ use Rattle.cb_network.proofs.Counts.{same_name_is, same_name_of}
 use Rattle.cb_network.proofs.Sets.{link_cmp_total, link_cmp_exact, got_remove, in_retain}
 use Rattle.cb_instances.specs.declared.id.InstanceId.{InstanceId}
 use Rattle.cb_instances.specs.declared.instance.Instance.{Instance}
-use Rattle.cb_instances.specs.declared.links.Row.{Row}
+use Rattle.cb_instances.specs.declared.links.LinkRow.{LinkRow}
 use Rattle.cb_instances.specs.Forgotten.{Sheds, ForgetsAll}
 use Rattle.cb_instances.specs.Joined.{AllTidy}
 use Rattle.cb_instances.specs.Net.{Net, slot, inverse_of, name_at, name_or, without}
 use Rattle.cb_instances.specs.Places.{Entries, place_of}
 use Rattle.cb_instances.specs.Rows.{find_row, items_of, row_of}
 use Rattle.cb_instances.specs.Shown.{topology_of, seen, name_in, Shows}
-use Rattle.cb_instances.specs.Slots.{Head, head_of, Slots, At, NamedAt, Lists}
-use Rattle.cb_instances.specs.Sound.{IsSound, FitsMutes}
+use Rattle.cb_instances.specs.Slots.{Head, head_of, Slots, At, NamedAt, ListsInstance}
+use Rattle.cb_instances.specs.Sound.{IsNetOf, FitsMutes}
 use Rattle.cb_instances.proofs.Creating.{shown_of}
 use Rattle.cb_instances.proofs.Linking.{inverse_twice, same_names}
 use Rattle.cb_instances.proofs.Placing.{told, at_seen, same_id, decide_id}
@@ -69,7 +69,7 @@ emptied_names (o ∷ slots) zero = refl
 emptied_names (o ∷ slots) (suc i) = ap (λ ns. name_in o ∷ ns) (emptied_names slots i)
 
 module _ (tables : Tables) (old new : Slots) (entries entries' : Entries) (room : ℕ) (id : InstanceId) (x : Instance) (at : At old id x)
-    (sound : IsSound tables old entries room) (forgets : ForgetsAll tables (set old id.0 None) new id x.links.rows.items)
+    (sound : IsNetOf tables old entries room) (forgets : ForgetsAll tables (set old id.0 None) new id x.links.rows.items)
     (gone : place_of entries' x.name ≡ None) (kept : (q : List ℕ) → q ≢ x.name → place_of entries' q ≡ place_of entries q) where
   abbrev mid : Slots
   mid = set old id.0 None
@@ -120,24 +120,24 @@ module _ (tables : Tables) (old new : Slots) (entries entries' : Entries) (room 
       let same = one_at old id y x (subst (λ k. At old k y) e is) at in
       ne (sym y_is ∙ ap (λ (z : Instance). z.name) same)
 
-  lists_were : (i : InstanceId) (r : RelId) (j : InstanceId) → Lists new i r j → (i ≢ id) × (j ≢ id) × Lists old i r j
+  lists_were : (i : InstanceId) (r : RelId) (j : InstanceId) → ListsInstance new i r j → (i ≢ id) × (j ≢ id) × ListsInstance old i r j
   lists_were i r j l =
       let m = sheds.fewer i r j l in
       let o = mid_was i m.lister m.is in
-      let before : Lists old i r j = record { lister = m.lister; is = o.1; listed = m.listed } in
+      let before : ListsInstance old i r j = record { lister = m.lister; is = o.1; listed = m.listed } in
       (o.0, not_it before, before)
     where
-      not_it : Lists old i r j → j ≢ id
+      not_it : ListsInstance old i r j → j ≢ id
       not_it before e =
           let turn = sound.both_ways i r j before in
-          let mine : Lists old id (inverse_of tables r) i = subst (λ k. Lists old k (inverse_of tables r) i) e turn.1 in
+          let mine : ListsInstance old id (inverse_of tables r) i = subst (λ k. ListsInstance old k (inverse_of tables r) i) e turn.1 in
           let same = one_at old id mine.lister x mine.is at in
           let has : Contains (row_of x.links.rows.items (inverse_of tables r)) i = subst (λ (z : Instance). Contains (row_of z.links.rows.items (inverse_of tables r)) i) same mine.listed in
           let twice = inverse_twice tables sound.typed r turn.0 in
-          let here : Lists new i r id = subst (λ k. Lists new i r k) e l in
+          let here : ListsInstance new i r id = subst (λ k. ListsInstance new i r k) e l in
           in_row (find_row x.links.rows.items (inverse_of tables r)) refl has twice.1 here
         where
-          in_row : (o : Option Row) → find_row x.links.rows.items (inverse_of tables r) ≡ o → Contains (items_of o) i → inverse_of tables (inverse_of tables r) ≡ r → Lists new i r id → ⊥
+          in_row : (o : Option LinkRow) → find_row x.links.rows.items (inverse_of tables r) ≡ o → Contains (items_of o) i → inverse_of tables (inverse_of tables r) ≡ r → ListsInstance new i r id → ⊥
           in_row None is none twice here = none_in i none
             where
               none_in : (k : InstanceId) → Contains [] k → ⊥
@@ -145,12 +145,12 @@ module _ (tables : Tables) (old new : Slots) (entries entries' : Entries) (room 
           in_row (Some row) is has twice here =
               let of_x = row_listed x.links.rows.items (inverse_of tables r) row is in
               let to_r : inverse_of tables row.rel ≡ r = ap (inverse_of tables) of_x.1 ∙ twice in
-              forgets.gone mid_tidy row i of_x.0 has (subst (λ q. Lists new i q id) (sym to_r) here)
+              forgets.gone mid_tidy row i of_x.0 has (subst (λ q. ListsInstance new i q id) (sym to_r) here)
 
-  lists_stay : (i : InstanceId) (r : RelId) (j : InstanceId) → i ≢ id → j ≢ id → Lists old i r j → Lists new i r j
+  lists_stay : (i : InstanceId) (r : RelId) (j : InstanceId) → i ≢ id → j ≢ id → ListsInstance old i r j → ListsInstance new i r j
   lists_stay i r j ne ne' l = sheds.others i r j ne' (record { lister = l.lister; is = mid_other i ne ∙ l.is; listed = l.listed })
 
-  pub deleted_sound : IsSound tables new entries' room
+  pub deleted_sound : IsNetOf tables new entries' room
   deleted_sound = record {
     typed = sound.typed;
     indexed = record {

@@ -7,13 +7,13 @@ use Rattle.cb_model.specs.declared.tables.Tables.{Tables}
 use Rattle.cb_model.proofs.Rising.{nothing_in_empty}
 use Rattle.cb_instances.specs.Items.{Loses}
 use Rattle.cb_instances.specs.declared.id.InstanceId.{InstanceId}
-use Rattle.cb_instances.specs.declared.links.Row.{Row}
+use Rattle.cb_instances.specs.declared.links.LinkRow.{LinkRow}
 use Rattle.cb_instances.specs.Forgotten.{Sheds, ForgetsRow, ForgetsAll}
 use Rattle.cb_instances.specs.Joined.{Rewires, AllTidy}
 use Rattle.cb_instances.specs.Net.{inverse_of}
 use Rattle.cb_instances.specs.Rows.{items_of}
-use Rattle.cb_instances.specs.Slots.{Slots, At, Lists}
-use Rattle.cb_instances.specs.Sound.{IsSound}
+use Rattle.cb_instances.specs.Slots.{Slots, At, ListsInstance}
+use Rattle.cb_instances.specs.Sound.{IsNetOf}
 use Rattle.cb_instances.specs.Places.{Entries}
 use Rattle.cb_instances.specs.declared.instance.Instance.{Instance}
 use Rattle.cb_model.specs.WellTyped.{IsRelation}
@@ -48,7 +48,7 @@ forgets_one old mid new id back list at so_far w = record {
       ];
 }
 
-pub forgets_row : (tables : Tables) (old mid new : Slots) (id : InstanceId) (rows : List Row) (row : Row) → ForgetsAll tables old mid id rows
+pub forgets_row : (tables : Tables) (old mid new : Slots) (id : InstanceId) (rows : List LinkRow) (row : LinkRow) → ForgetsAll tables old mid id rows
     → ForgetsRow mid new id (inverse_of tables row.rel) row.to.items → ForgetsAll tables old new id (rows ++ row ∷ [])
 forgets_row tables old mid new id rows row so_far more = record {
   sheds = λ t. sheds_more old mid new id (so_far.sheds t) (more.sheds ((so_far.sheds t).tidy t));
@@ -56,13 +56,13 @@ forgets_row tables old mid new id rows row so_far more = record {
       let tidy = (so_far.sheds t).tidy t in
       elim (Contains-push_cases rows row r has) [
         | inl was ↦ so_far.gone t r at was in_r ((more.sheds tidy).fewer at (inverse_of tables r.rel) id l)
-        | inr e ↦ more.gone tidy at (subst (λ (z : Row). Contains z.to.items at) (sym e) in_r) (subst (λ (z : Row). Lists new at (inverse_of tables z.rel) id) (sym e) l)
+        | inr e ↦ more.gone tidy at (subst (λ (z : LinkRow). Contains z.to.items at) (sym e) in_r) (subst (λ (z : LinkRow). ListsInstance new at (inverse_of tables z.rel) id) (sym e) l)
       ];
 }
 
 -- the relation of a row that lists somebody is one of the tables
-pub rows_of_tables : (tables : Tables) (slots : Slots) (entries : Entries) (room : ℕ) → IsSound tables slots entries room → (i : InstanceId) (x : Instance) → At slots i x
-    → (row : Row) (j : InstanceId) → Contains x.links.rows.items row → Contains row.to.items j → IsRelation tables row.rel
+pub rows_of_tables : (tables : Tables) (slots : Slots) (entries : Entries) (room : ℕ) → IsNetOf tables slots entries room → (i : InstanceId) (x : Instance) → At slots i x
+    → (row : LinkRow) (j : InstanceId) → Contains x.links.rows.items row → Contains row.to.items j → IsRelation tables row.rel
 rows_of_tables tables slots entries room sound i x at row j of_x in_row =
     let own = own_row x.links.rows.items row (sound.tidy i x at).apart of_x in
     (sound.both_ways i row.rel j (record { lister = x; is = at; listed = subst (λ o. Contains (items_of o) j) (sym own) in_row })).0

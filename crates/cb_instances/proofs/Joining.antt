@@ -5,7 +5,7 @@ use Rattle.cb_instances.specs.Items.{Gains, Loses}
 use Rattle.cb_instances.specs.declared.id.InstanceId.{InstanceId}
 use Rattle.cb_instances.specs.declared.instance.Instance.{Instance}
 use Rattle.cb_instances.specs.Joined.{Rewires, SameLinks, Joins, Parts}
-use Rattle.cb_instances.specs.Slots.{Slots, At, Lists}
+use Rattle.cb_instances.specs.Slots.{Slots, At, ListsInstance}
 use Rattle.cb_instances.proofs.Rewiring.{same_head, gains_lists, gains_tidy, loses_lists, loses_tidy}
 
 pub same_twice : (old mid new : Slots) → SameLinks old mid → SameLinks mid new → SameLinks old new
@@ -56,7 +56,7 @@ joins_twice old mid one new from rel to back apart x is y is_y same v w =
       );
       tidy = λ none none_back tidy.
           let tidy_one = gains_tidy mid one from rel to v (λ l. none ((same.lists from rel to).0 l)) (same.tidy tidy) in
-          let fresh : ¬ Lists one to back from = λ l. elim ((first to back from).0 l) [
+          let fresh : ¬ ListsInstance one to back from = λ l. elim ((first to back from).0 l) [
             | inl m ↦ none_back ((same.lists to back from).0 m)
             | inr n ↦ apart (sym n.0, sym n.1)
           ] in

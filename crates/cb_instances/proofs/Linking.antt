@@ -16,8 +16,8 @@ use Rattle.cb_instances.specs.Joined.{head_in, SameHeads, SameLinks, Joins, Part
 use Rattle.cb_instances.specs.Net.{Net, inverse_of, inverse_in, name_at, name_or, linked, unlinked}
 use Rattle.cb_instances.specs.Places.{Entries, place_of}
 use Rattle.cb_instances.specs.Shown.{topology_of, seen, name_in, Shows, HoldsLink}
-use Rattle.cb_instances.specs.Slots.{Head, head_of, Slots, At, NamedAt, Lists}
-use Rattle.cb_instances.specs.Sound.{IsSound, StandBothWays, FitsMutes}
+use Rattle.cb_instances.specs.Slots.{Head, head_of, Slots, At, NamedAt, ListsInstance}
+use Rattle.cb_instances.specs.Sound.{IsNetOf, StandBothWays, FitsMutes}
 use Rattle.cb_instances.proofs.Creating.{shown_of}
 use Rattle.cb_instances.proofs.Placing.{at_seen, told}
 use Rattle.cb_instances.proofs.Rewiring.{same_head}
@@ -63,7 +63,7 @@ module _ (old new : Slots) (heads : SameHeads old new) where
   pub named_after : (i : InstanceId) (name : List ℕ) → NamedAt old i name → NamedAt new i name
   named_after i name (x, at, is) = let y = is_still i x at in (y.0, y.1, ap (λ (h : Head). h.name) (sym y.2) ∙ is)
 
-  pub relinked_sound : (tables : Tables) (entries : Entries) (room : ℕ) → IsSound tables old entries room → StandBothWays tables new → AllTidy new → IsSound tables new entries room
+  pub relinked_sound : (tables : Tables) (entries : Entries) (room : ℕ) → IsNetOf tables old entries room → StandBothWays tables new → AllTidy new → IsNetOf tables new entries room
   relinked_sound tables entries room sound both tidy = record {
     typed = sound.typed;
     indexed = record {
@@ -119,7 +119,7 @@ module _ (old new : Slots) (heads : SameHeads old new) where
   }
 
   -- where the slots show the links of a changed topology, they show it
-  pub relinked_net : (tables : Tables) (entries : Entries) (room next : ℕ) (links : set.FinSet link_cmp) → IsSound tables old entries room → IsSound tables new entries room
+  pub relinked_net : (tables : Tables) (entries : Entries) (room next : ℕ) (links : set.FinSet link_cmp) → IsNetOf tables old entries room → IsNetOf tables new entries room
       → ((a : List ℕ) (r : RelId) (b : List ℕ) → HasLink (record (topology_of tables old) { links = links }) a r b ↔ HoldsLink new a r b)
       → seen tables new room next ≡ record (seen tables old room next) { topology = record (topology_of tables old) { links = links } }
   relinked_net tables entries room next links before after holds =
@@ -129,13 +129,13 @@ module _ (old new : Slots) (heads : SameHeads old new) where
       let names = same_names old new heads in
       λ i. record { topology = same i; names = names i; room = room; next = next }
 
-pub same_sound : (old new : Slots) → SameLinks old new → (tables : Tables) (entries : Entries) (room : ℕ) → IsSound tables old entries room → IsSound tables new entries room
+pub same_sound : (old new : Slots) → SameLinks old new → (tables : Tables) (entries : Entries) (room : ℕ) → IsNetOf tables old entries room → IsNetOf tables new entries room
 same_sound old new same tables entries room sound =
     relinked_sound old new same.heads tables entries room sound
     (λ i r j l. let back = sound.both_ways i r j ((same.lists i r j).0 l) in (back.0, (same.lists j (inverse_of tables r) i).1 back.1))
     (same.tidy sound.tidy)
 
-pub same_net : (old new : Slots) → SameLinks old new → (tables : Tables) (entries : Entries) (room next : ℕ) → IsSound tables old entries room
+pub same_net : (old new : Slots) → SameLinks old new → (tables : Tables) (entries : Entries) (room next : ℕ) → IsNetOf tables old entries room
     → seen tables new room next ≡ seen tables old room next
 same_net old new same tables entries room next sound =
     relinked_net old new same.heads tables entries room next (topology_of tables old).links sound (same_sound old new same tables entries room sound) (λ a r b.
@@ -153,7 +153,7 @@ one_name slots i k a b e (x, at, x_is) (y, at_y, y_is) =
 
 module _ (tables : Tables) (old new : Slots) (entries : Entries) (room : ℕ) (from : InstanceId) (rel : RelId) (to : InstanceId) (back : RelId)
     (a b : List ℕ) (from_is : NamedAt old from a) (to_is : NamedAt old to b) (of_tables : IsRelation tables rel) (is : back ≡ inverse_of tables rel)
-    (sound : IsSound tables old entries room) where
+    (sound : IsNetOf tables old entries room) where
   abbrev t : Topology
   t = topology_of tables old
 
@@ -188,9 +188,9 @@ module _ (tables : Tables) (old new : Slots) (entries : Entries) (room : ℕ) (f
       ]
     ]
 
-    pub joined_sound : ¬ Lists old from rel to → IsSound tables new entries room
+    pub joined_sound : ¬ ListsInstance old from rel to → IsNetOf tables new entries room
     joined_sound none =
-        let none_back : ¬ Lists old to back from = λ l. none (subst (λ r. Lists old from r to) inverse_back (sound.both_ways to back from l).1) in
+        let none_back : ¬ ListsInstance old to back from = λ l. none (subst (λ r. ListsInstance old from r to) inverse_back (sound.both_ways to back from l).1) in
         relinked_sound old new joins.heads tables entries room sound joined_both (joins.tidy none none_back sound.tidy)
 
     joined_holds : (x : List ℕ) (r : RelId) (y : List ℕ) → HasLink (with_link t a rel back b) x r y ↔ HoldsLink new x r y
@@ -235,14 +235,14 @@ module _ (tables : Tables) (old new : Slots) (entries : Entries) (room : ℕ) (f
           ],
         )
 
-    pub joined_net : (next : ℕ) → ¬ Lists old from rel to → seen tables new room next ≡ linked (seen tables old room next) from rel to
+    pub joined_net : (next : ℕ) → ¬ ListsInstance old from rel to → seen tables new room next ≡ linked (seen tables old room next) from rel to
     joined_net next none =
         let net = relinked_net old new joins.heads tables entries room next (with_link t a rel back b).links sound (joined_sound none) joined_holds in
         let n : Net = seen tables old room next in
         net ∙ (λ i. record n { topology = with_link t (sym (name_is next from a from_is) i) rel (is i) (sym (name_is next to b to_is) i) })
 
   module _ (parts : Parts old new from rel to back) where
-    lists : (i : InstanceId) (r : RelId) (j : InstanceId) → Lists new i r j ↔ (Lists old i r j × ¬ IsJoin from rel to back i r j)
+    lists : (i : InstanceId) (r : RelId) (j : InstanceId) → ListsInstance new i r j ↔ (ListsInstance old i r j × ¬ IsJoin from rel to back i r j)
     lists = parts.lists sound.tidy
 
     parted_both : StandBothWays tables new
@@ -256,7 +256,7 @@ module _ (tables : Tables) (old new : Slots) (entries : Entries) (room : ℕ) (f
         ] in
         (turn.0, (lists j (inverse_of tables r) i).1 (turn.1, other))
 
-    pub parted_sound : IsSound tables new entries room
+    pub parted_sound : IsNetOf tables new entries room
     parted_sound = relinked_sound old new parts.heads tables entries room sound parted_both (parts.tidy sound.tidy)
 
     parted_holds : (x : List ℕ) (r : RelId) (y : List ℕ) → HasLink (without_link t a rel back b) x r y ↔ HoldsLink new x r y

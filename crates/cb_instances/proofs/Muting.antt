@@ -29,8 +29,8 @@ use Rattle.cb_instances.specs.Net.{Net, slot, event_name, name_in_row, name_at, 
 use Rattle.cb_instances.specs.Places.{Entries, place_of}
 use Rattle.cb_instances.specs.Rows.{row_of}
 use Rattle.cb_instances.specs.Shown.{topology_of, seen, name_in, Shows, HoldsMute}
-use Rattle.cb_instances.specs.Slots.{Slots, At, NamedAt, Lists, head_of}
-use Rattle.cb_instances.specs.Sound.{IsSound, IsTidy, FitsMutes}
+use Rattle.cb_instances.specs.Slots.{Slots, At, NamedAt, ListsInstance, head_of}
+use Rattle.cb_instances.specs.Sound.{IsNetOf, IsTidy, FitsMutes}
 use Rattle.cb_instances.proofs.Creating.{shown_of}
 use Rattle.cb_instances.proofs.Placing.{told, at_seen, same_id, decide_id}
 use Rattle.cb_instances.proofs.Rewiring.{once_more}
@@ -107,7 +107,7 @@ room_to_mute t x fits e has none =
     of_class d h = elim (Contains-push_cases x.muted.items e d h) [ inl was ↦ fits.of_class d was | inr is ↦ subst (HasEvent t x.class) is has ]
 
 module _ (tables : Tables) (old new : Slots) (entries : Entries) (room : ℕ) (id : InstanceId) (x : Instance) (at : At old id x)
-    (Step : List EventId → List EventId → Type 0) (w : Remutes old new id Step) (sound : IsSound tables old entries room) where
+    (Step : List EventId → List EventId → Type 0) (w : Remutes old new id Step) (sound : IsNetOf tables old entries room) where
   abbrev m : Vec EventId Global
   m = (w.this x at).0
 
@@ -143,17 +143,17 @@ module _ (tables : Tables) (old new : Slots) (entries : Entries) (room : ℕ) (i
   named_still : (i : InstanceId) (name : List ℕ) → NamedAt old i name → NamedAt new i name
   named_still i name (v, is, v_is) = let z = still i v is in (z.0, z.1, z.2.0 ∙ v_is)
 
-  lists_were : (i : InstanceId) (r : RelId) (j : InstanceId) → Lists new i r j → Lists old i r j
+  lists_were : (i : InstanceId) (r : RelId) (j : InstanceId) → ListsInstance new i r j → ListsInstance old i r j
   lists_were i r j l =
       let v = was i l.lister l.is in
       record { lister = v.0; is = v.1; listed = subst (λ (k : Links). Contains (row_of k.rows.items r) j) v.2.2 l.listed }
 
-  lists_stay : (i : InstanceId) (r : RelId) (j : InstanceId) → Lists old i r j → Lists new i r j
+  lists_stay : (i : InstanceId) (r : RelId) (j : InstanceId) → ListsInstance old i r j → ListsInstance new i r j
   lists_stay i r j l =
       let z = still i l.lister l.is in
       record { lister = z.0; is = z.1; listed = subst (λ (k : Links). Contains (row_of k.rows.items r) j) (sym z.2.2) l.listed }
 
-  pub remuted_sound : FitsMutes tables (head_of y) → IsSound tables new entries room
+  pub remuted_sound : FitsMutes tables (head_of y) → IsNetOf tables new entries room
   remuted_sound fits = record {
     typed = sound.typed;
     indexed = record {
@@ -263,7 +263,7 @@ module _ (tables : Tables) (old new : Slots) (entries : Entries) (room : ℕ) (i
 
 -- one event more
 module _ (tables : Tables) (old new : Slots) (entries : Entries) (room : ℕ) (id : InstanceId) (x : Instance) (at : At old id x) (e : EventId)
-    (has : HasEvent tables x.class e) (w : Remutes old new id (Gains e)) (sound : IsSound tables old entries room) where
+    (has : HasEvent tables x.class e) (w : Remutes old new id (Gains e)) (sound : IsNetOf tables old entries room) where
   gain_fits : ¬ Contains x.muted.items e → FitsMutes tables (head_of (record x { muted = (w.this x at).0 }))
   gain_fits none =
       let fits = sound.mutes id x at in
@@ -298,7 +298,7 @@ module _ (tables : Tables) (old new : Slots) (entries : Entries) (room : ℕ) (i
         ]),
       )
 
-  pub gained_sound : ¬ Contains x.muted.items e → IsSound tables new entries room
+  pub gained_sound : ¬ Contains x.muted.items e → IsNetOf tables new entries room
   gained_sound none = remuted_sound tables old new entries room id x at (Gains e) w sound (gain_fits none)
 
   pub gained_net : (next : ℕ) → ¬ Contains x.muted.items e → seen tables new room next ≡ muted (seen tables old room next) id e
@@ -310,7 +310,7 @@ module _ (tables : Tables) (old new : Slots) (entries : Entries) (room : ℕ) (i
 
 -- one event less
 module _ (tables : Tables) (old new : Slots) (entries : Entries) (room : ℕ) (id : InstanceId) (x : Instance) (at : At old id x) (e : EventId)
-    (has : HasEvent tables x.class e) (w : Remutes old new id (Loses e)) (sound : IsSound tables old entries room) where
+    (has : HasEvent tables x.class e) (w : Remutes old new id (Loses e)) (sound : IsNetOf tables old entries room) where
   loss_fits : FitsMutes tables (head_of (record x { muted = (w.this x at).0 }))
   loss_fits =
       let fits = sound.mutes id x at in
@@ -349,7 +349,7 @@ module _ (tables : Tables) (old new : Slots) (entries : Entries) (room : ℕ) (i
         ]),
       )
 
-  pub lost_sound : IsSound tables new entries room
+  pub lost_sound : IsNetOf tables new entries room
   lost_sound = remuted_sound tables old new entries room id x at (Loses e) w sound loss_fits
 
   pub lost_net : (next : ℕ) → seen tables new room next ≡ unmuted (seen tables old room next) id e
@@ -364,7 +364,7 @@ pub same_mutes : (slots : Slots) (id : InstanceId) → Remutes slots slots id (�
 same_mutes slots id = record { names = refl; others = λ i ne. refl; this = λ x is. (x.muted, is, refl, refl) }
 
 module _ (tables : Tables) (slots : Slots) (entries : Entries) (room next : ℕ) (n : Net) (is : seen tables slots room next ≡ n) (id : InstanceId) (x : Instance) (at : At slots id x) (e : EventId)
-    (sound : IsSound tables slots entries room) where
+    (sound : IsNetOf tables slots entries room) where
   -- the class of the instance has the event
   pub class_has : HasEventAt n id e → HasEvent tables x.class e
   class_has has =

@@ -3,7 +3,7 @@ use Rattle.std.proofs.Common.{◌≡◌, ◌↔◌, ℕ, List, Some, None, IsSom
 use Rattle.std.specs.List.{Contains}
 use Rattle.cb_model.specs.declared.id.RelId.{RelId}
 use Rattle.cb_model.specs.declared.tables.Tables.{Tables}
-use Rattle.cb_network.specs.Topology.{IsLive as IsLiveName, IsOf}
+use Rattle.cb_network.specs.Topology.{IsLive as IsLiveName, HasClass}
 use Rattle.cb_network.proofs.Kept.{class_of, live_of}
 use Rattle.cb_instances.specs.declared.id.InstanceId.{InstanceId}
 use Rattle.cb_instances.specs.declared.instance.Instance.{Instance}
@@ -11,8 +11,8 @@ use Rattle.cb_instances.specs.Net.{Net, slot, IsLive, LinkAt, IsWhole, inverse_o
 use Rattle.cb_instances.specs.Places.{Entries, place_of}
 use Rattle.cb_instances.specs.Rows.{row_of}
 use Rattle.cb_instances.specs.Shown.{topology_of, seen, Shows}
-use Rattle.cb_instances.specs.Slots.{Slots, At, NamedAt, Lists}
-use Rattle.cb_instances.specs.Sound.{IsSound}
+use Rattle.cb_instances.specs.Slots.{Slots, At, NamedAt, ListsInstance}
+use Rattle.cb_instances.specs.Sound.{IsNetOf}
 use Rattle.cb_instances.proofs.Creating.{listed_live, shown_of}
 use Rattle.cb_model.specs.WellTyped.{IsRelation}
 use Rattle.cb_instances.proofs.Linking.{inverse_twice}
@@ -26,7 +26,7 @@ occupied slots i name (x, at, is) = subst IsSome (sym at) refl
 pub live_at : (tables : Tables) (slots : Slots) (room next : ℕ) (n : Net) → seen tables slots room next ≡ n → (i : InstanceId) → IsLive n i → (name : List ℕ) × NamedAt slots i name
 live_at tables slots room next n is i live = (live.0, seen_at slots i live.0 (subst (λ (m : Net). slot m.names i.0 ≡ Some live.0) (sym is) live.1))
 
-module _ (tables : Tables) (slots : Slots) (entries : Entries) (room : ℕ) (sound : IsSound tables slots entries room) where
+module _ (tables : Tables) (slots : Slots) (entries : Entries) (room : ℕ) (sound : IsNetOf tables slots entries room) where
   shown : Shows slots (topology_of tables slots)
   shown = shown_of tables slots entries room sound
 
@@ -37,7 +37,7 @@ module _ (tables : Tables) (slots : Slots) (entries : Entries) (room : ℕ) (sou
       let h = (shown.instances name class.0).0 class.1 in
       (h.at, (h.instance, h.is, h.named))
 
-  pub class_at : (i : InstanceId) (x : Instance) → At slots i x → IsOf (topology_of tables slots) x.name x.class
+  pub class_at : (i : InstanceId) (x : Instance) → At slots i x → HasClass (topology_of tables slots) x.name x.class
   class_at i x at = (shown.instances x.name x.class).1 (record { at = i; instance = x; is = at; named = refl; of_class = refl })
 
   -- a name that has no place is not live
@@ -48,10 +48,10 @@ module _ (tables : Tables) (slots : Slots) (entries : Entries) (room : ℕ) (sou
       let some : place_of entries name ≡ Some at.0.0 = subst (λ n. place_of entries n ≡ Some at.0.0) x.2 (sound.indexed.listed at.0 x.0 x.1) in
       absurd (cc)
 
-  pub class_is : (i : InstanceId) (x : Instance) (name : List ℕ) → At slots i x → NamedAt slots i name → IsOf (topology_of tables slots) name x.class
+  pub class_is : (i : InstanceId) (x : Instance) (name : List ℕ) → At slots i x → NamedAt slots i name → HasClass (topology_of tables slots) name x.class
   class_is i x name at (y, at_y, is) =
       let same = one_at slots i x y at at_y in
-      subst (λ n. IsOf (topology_of tables slots) n x.class) (ap (λ (z : Instance). z.name) same ∙ is) (class_at i x at)
+      subst (λ n. HasClass (topology_of tables slots) n x.class) (ap (λ (z : Instance). z.name) same ∙ is) (class_at i x at)
 
   -- the numbers in a list are those of the links
   pub row_is : (next : ℕ) (i : InstanceId) (r : RelId) (x : Instance) → At slots i x → (j : InstanceId) → Contains (row_of x.links.rows.items r) j ↔ LinkAt (seen tables slots room next) i r j
@@ -59,7 +59,7 @@ module _ (tables : Tables) (slots : Slots) (entries : Entries) (room : ℕ) (sou
     where
       to : Contains (row_of x.links.rows.items r) j → LinkAt (seen tables slots room next) i r j
       to has =
-          let l : Lists slots i r j = record { lister = x; is = at; listed = has } in
+          let l : ListsInstance slots i r j = record { lister = x; is = at; listed = has } in
           let y = listed_live tables slots sound.both_ways i r j l in
           record {
             from = x.name;
@@ -78,7 +78,7 @@ module _ (tables : Tables) (slots : Slots) (entries : Entries) (room : ℕ) (sou
           subst (λ k. Contains (row_of x.links.rows.items r) k) to (subst (λ (z : Instance). Contains (row_of z.links.rows.items r) h.to) same h.lists.listed)
 
   -- where no link leads, nothing is listed
-  pub not_listed : (next : ℕ) (n : Net) → seen tables slots room next ≡ n → (i : InstanceId) (r : RelId) (j : InstanceId) → ¬ LinkAt n i r j → ¬ Lists slots i r j
+  pub not_listed : (next : ℕ) (n : Net) → seen tables slots room next ≡ n → (i : InstanceId) (r : RelId) (j : InstanceId) → ¬ LinkAt n i r j → ¬ ListsInstance slots i r j
   not_listed next n is i r j none l = none (subst (λ m. LinkAt m i r j) is ((row_is next i r l.lister l.is j).0 l.listed))
 
   pub whole : (next : ℕ) → IsWhole (seen tables slots room next)

@@ -11,7 +11,7 @@ use Rattle.cb_instances.specs.declared.instance.Instance.{Instance}
 use Rattle.cb_instances.specs.Joined.{head_in, SameHeads, Rewires, Stays, HasSpareAt, AllTidy, SameLinks}
 use Rattle.cb_instances.specs.Net.{slot, Once}
 use Rattle.cb_instances.specs.Rows.{find_row, items_of, row_of, Puts}
-use Rattle.cb_instances.specs.Slots.{head_of, Slots, At, Lists}
+use Rattle.cb_instances.specs.Slots.{head_of, Slots, At, ListsInstance}
 use Rattle.cb_instances.specs.Sound.{IsTidy}
 use Rattle.cb_instances.proofs.Placing.{decide_id}
 use Rattle.cb_instances.proofs.Showing.{one_at, same_inside, slot_within}
@@ -85,7 +85,7 @@ module _ (old new : Slots) (at : InstanceId) (rel : RelId) (Step : List Instance
   was_there : (i : InstanceId) (y : Instance) → At new i y → (x : Instance) × At old i x
   was_there i y now = let h = same_head old new w.heads i y now in (h.0, h.1)
 
-  pub lists_elsewhere : (i : InstanceId) (r : RelId) (j : InstanceId) → ((i ≡ at) × (r ≡ rel) → ⊥) → Lists new i r j ↔ Lists old i r j
+  pub lists_elsewhere : (i : InstanceId) (r : RelId) (j : InstanceId) → ((i ≡ at) × (r ≡ rel) → ⊥) → ListsInstance new i r j ↔ ListsInstance old i r j
   lists_elsewhere i r j apart = (
     λ l.
         let x = was_there i l.lister l.is in
@@ -106,13 +106,13 @@ module _ (old new : Slots) (at : InstanceId) (rel : RelId) (Step : List Instance
 
   -- what the list had and has
   module _ (x : Instance) (is : At old at x) where
-    pub listed_before : (j : InstanceId) → Lists old at rel j ↔ Contains (row_of x.links.rows.items rel) j
+    pub listed_before : (j : InstanceId) → ListsInstance old at rel j ↔ Contains (row_of x.links.rows.items rel) j
     listed_before j = (
       λ l. subst (λ (z : Instance). Contains (row_of z.links.rows.items rel) j) (one_at old at l.lister x l.is is) l.listed,
       λ has. record { lister = x; is = is; listed = has },
     )
 
-    pub listed_now : (j : InstanceId) → Lists new at rel j ↔ Contains (row_of (w.this x is).0.links.rows.items rel) j
+    pub listed_now : (j : InstanceId) → ListsInstance new at rel j ↔ Contains (row_of (w.this x is).0.links.rows.items rel) j
     listed_now j =
         let t = w.this x is in (
           λ l. subst (λ (z : Instance). Contains (row_of z.links.rows.items rel) j) (one_at new at l.lister t.0 l.is t.1) l.listed,
@@ -145,13 +145,13 @@ pub stays_links : (old new : Slots) (at : InstanceId) (rel : RelId) → Rewires 
 stays_links old new at rel w = record {
   heads = w.heads;
   lists = λ i r j. elim (decide_both (i ≡ at) (r ≡ rel) (decide_id i at) (decide_rel r rel)) [
-    | inl here ↦ subst (λ k. Lists new k r j ↔ Lists old k r j) (sym here.0) (subst (λ q. Lists new at q j ↔ Lists old at q j) (sym here.1) (same j))
+    | inl here ↦ subst (λ k. ListsInstance new k r j ↔ ListsInstance old k r j) (sym here.0) (subst (λ q. ListsInstance new at q j ↔ ListsInstance old at q j) (sym here.1) (same j))
     | inr apart ↦ lists_elsewhere old new at rel Stays w i r j apart
   ];
   tidy = rewired_tidy old new at rel Stays w (λ x y is step once. subst Once (sym step) once);
 }
   where
-    same : (j : InstanceId) → Lists new at rel j ↔ Lists old at rel j
+    same : (j : InstanceId) → ListsInstance new at rel j ↔ ListsInstance old at rel j
     same j = (
       λ l.
           let x = same_head old new w.heads at l.lister l.is in
@@ -163,23 +163,23 @@ stays_links old new at rel w = record {
     )
 
 pub gains_lists : (old new : Slots) (at : InstanceId) (rel : RelId) (to : InstanceId) (x : Instance) → At old at x → Rewires old new at rel (Gains to)
-    → (i : InstanceId) (r : RelId) (j : InstanceId) → Lists new i r j ↔ (Lists old i r j ⊎ ((i ≡ at) × (r ≡ rel) × (j ≡ to)))
+    → (i : InstanceId) (r : RelId) (j : InstanceId) → ListsInstance new i r j ↔ (ListsInstance old i r j ⊎ ((i ≡ at) × (r ≡ rel) × (j ≡ to)))
 gains_lists old new at rel to x is w i r j = elim (decide_both (i ≡ at) (r ≡ rel) (decide_id i at) (decide_rel r rel)) [
   | inl here ↦ (
     λ l.
-        let l' : Lists new at rel j = subst (λ k. Lists new k rel j) here.0 (subst (λ q. Lists new i q j) here.1 l) in
+        let l' : ListsInstance new at rel j = subst (λ k. ListsInstance new k rel j) here.0 (subst (λ q. ListsInstance new i q j) here.1 l) in
         let has : Contains (row_of x.links.rows.items rel ++ to ∷ []) j = subst (λ row. Contains row j) (w.this x is).3 ((listed_now old new at rel (Gains to) w x is j).0 l') in
         elim (Contains-push_cases (row_of x.links.rows.items rel) to j has) [
-          | inl was ↦ inl (subst (λ k. Lists old k r j) (sym here.0) (subst (λ q. Lists old at q j) (sym here.1) ((listed_before old new at rel (Gains to) w x is j).1 was)))
+          | inl was ↦ inl (subst (λ k. ListsInstance old k r j) (sym here.0) (subst (λ q. ListsInstance old at q j) (sym here.1) ((listed_before old new at rel (Gains to) w x is j).1 was)))
           | inr e ↦ inr (here.0, here.1, sym e)
         ],
     λ s.
         let has : Contains (row_of x.links.rows.items rel ++ to ∷ []) j = elim s [
-          | inl l ↦ Contains-append_left (row_of x.links.rows.items rel) (to ∷ []) j ((listed_before old new at rel (Gains to) w x is j).0 (subst (λ k. Lists old k rel j) here.0 (subst (λ q. Lists old i q j) here.1 l)))
+          | inl l ↦ Contains-append_left (row_of x.links.rows.items rel) (to ∷ []) j ((listed_before old new at rel (Gains to) w x is j).0 (subst (λ k. ListsInstance old k rel j) here.0 (subst (λ q. ListsInstance old i q j) here.1 l)))
           | inr e ↦ subst (Contains (row_of x.links.rows.items rel ++ to ∷ [])) (sym e.2) (Contains-push (row_of x.links.rows.items rel) to)
         ] in
-        let l : Lists new at rel j = (listed_now old new at rel (Gains to) w x is j).1 (subst (λ row. Contains row j) (sym (w.this x is).3) has) in
-        subst (λ k. Lists new k r j) (sym here.0) (subst (λ q. Lists new at q j) (sym here.1) l),
+        let l : ListsInstance new at rel j = (listed_now old new at rel (Gains to) w x is j).1 (subst (λ row. Contains row j) (sym (w.this x is).3) has) in
+        subst (λ k. ListsInstance new k r j) (sym here.0) (subst (λ q. ListsInstance new at q j) (sym here.1) l),
   )
   | inr apart ↦
       let same = lists_elsewhere old new at rel (Gains to) w i r j apart in
@@ -194,7 +194,7 @@ once_more xs y once none = all_pairs_push (λ a b. a ≢ b) xs y once (λ k d lt
     get_or_same (x ∷ xs) zero d y lt e = e
     get_or_same (x ∷ xs) (suc k) d y lt e = get_or_same xs k d y (omega arith) e
 
-pub gains_tidy : (old new : Slots) (at : InstanceId) (rel : RelId) (to : InstanceId) → Rewires old new at rel (Gains to) → ¬ Lists old at rel to → AllTidy old → AllTidy new
+pub gains_tidy : (old new : Slots) (at : InstanceId) (rel : RelId) (to : InstanceId) → Rewires old new at rel (Gains to) → ¬ ListsInstance old at rel to → AllTidy old → AllTidy new
 gains_tidy old new at rel to w none = rewired_tidy old new at rel (Gains to) w (λ x y is step once.
     subst Once (sym step) (once_more (row_of x.links.rows.items rel) to once (λ has. none (record { lister = x; is = is; listed = has }))))
 
@@ -202,22 +202,22 @@ pub loses_tidy : (old new : Slots) (at : InstanceId) (rel : RelId) (to : Instanc
 loses_tidy old new at rel to w = rewired_tidy old new at rel (Loses to) w (λ x y is step once. step.once once)
 
 pub loses_lists : (old new : Slots) (at : InstanceId) (rel : RelId) (to : InstanceId) → AllTidy old → Rewires old new at rel (Loses to)
-    → (i : InstanceId) (r : RelId) (j : InstanceId) → Lists new i r j ↔ (Lists old i r j × ((i ≡ at) × (r ≡ rel) × (j ≡ to) → ⊥))
+    → (i : InstanceId) (r : RelId) (j : InstanceId) → ListsInstance new i r j ↔ (ListsInstance old i r j × ((i ≡ at) × (r ≡ rel) × (j ≡ to) → ⊥))
 loses_lists old new at rel to tidy w i r j = elim (decide_both (i ≡ at) (r ≡ rel) (decide_id i at) (decide_rel r rel)) [
   | inl here ↦ (
     λ l.
-        let l' : Lists new at rel j = subst (λ k. Lists new k rel j) here.0 (subst (λ q. Lists new i q j) here.1 l) in
+        let l' : ListsInstance new at rel j = subst (λ k. ListsInstance new k rel j) here.0 (subst (λ q. ListsInstance new i q j) here.1 l) in
         let x = same_head old new w.heads at l'.lister l'.is in
         let t = w.this x.0 x.1 in
         let has = (listed_now old new at rel (Loses to) w x.0 x.1 j).0 l' in
         let other : j ≢ to = λ e. t.3.gone ((tidy at x.0 x.1).once rel) (subst (Contains (row_of t.0.links.rows.items rel)) e has) in
         let was = (listed_before old new at rel (Loses to) w x.0 x.1 j).1 ((t.3.others j other).0 has) in
-        (subst (λ k. Lists old k r j) (sym here.0) (subst (λ q. Lists old at q j) (sym here.1) was), λ e. other e.2),
+        (subst (λ k. ListsInstance old k r j) (sym here.0) (subst (λ q. ListsInstance old at q j) (sym here.1) was), λ e. other e.2),
     λ s.
-        let l : Lists old at rel j = subst (λ k. Lists old k rel j) here.0 (subst (λ q. Lists old i q j) here.1 s.0) in
+        let l : ListsInstance old at rel j = subst (λ k. ListsInstance old k rel j) here.0 (subst (λ q. ListsInstance old i q j) here.1 s.0) in
         let t = w.this l.lister l.is in
         let now = (listed_now old new at rel (Loses to) w l.lister l.is j).1 ((t.3.others j (λ e. s.1 (here.0, here.1, e))).1 l.listed) in
-        subst (λ k. Lists new k r j) (sym here.0) (subst (λ q. Lists new at q j) (sym here.1) now),
+        subst (λ k. ListsInstance new k r j) (sym here.0) (subst (λ q. ListsInstance new at q j) (sym here.1) now),
   )
   | inr apart ↦
       let same = lists_elsewhere old new at rel (Loses to) w i r j apart in

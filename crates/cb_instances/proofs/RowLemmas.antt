@@ -13,9 +13,9 @@ use Rattle.std.proofs.lemmas.List.Quantifiers.{all_pairs_push, position-Some}
 use Rattle.std.proofs.lemmas.Option.{slice_get-get_or, slice_get_past}
 use Rattle.cb_model.specs.declared.id.RelId.{RelId}
 use Rattle.cb_model.proofs.Rising.{contains_cases, contains_tail, nothing_in_empty}
-use Rattle.cb_instances.specs.declared.links.Row.{Row}
+use Rattle.cb_instances.specs.declared.links.LinkRow.{LinkRow}
 use Rattle.cb_instances.specs.Net.{Once}
-use Rattle.cb_instances.specs.Rows.{is_of, find_row, row_of, AreApart, items_of, Puts}
+use Rattle.cb_instances.specs.Rows.{is_of, find_row, row_of, OneRowEach, items_of, Puts}
 use Rattle.cb_instances.proofs.Losing.{once_head, once_tail}
 
 pub same_rel : (r s : RelId) → nat_eq r.0 s.0 ≡ true → r ≡ s
@@ -50,10 +50,10 @@ module _ {X : Type 0} (p : X → Bool) (xs : List X) where
       find_at p xs ∙ slice_get_past xs (position_or_len p xs) past
 
 -- a row is the one of its relation
-pub own_row : (rows : List Row) (row : Row) → AreApart rows → Contains rows row → find_row rows row.rel ≡ Some row
+pub own_row : (rows : List LinkRow) (row : LinkRow) → OneRowEach rows → Contains rows row → find_row rows row.rel ≡ Some row
 own_row [] row apart has = absurd (nothing_in_empty row has)
 own_row (x ∷ rows) row apart has = elim (contains_cases x rows row has) [
-  | inl e ↦ rw (ap (λ (z : Row). nat_eq z.rel.0 row.rel.0) e ∙ rel_itself row.rel) (ap Some e)
+  | inl e ↦ rw (ap (λ (z : LinkRow). nat_eq z.rel.0 row.rel.0) e ∙ rel_itself row.rel) (ap Some e)
   | inr later ↦ elim (cases_Bool (nat_eq x.rel.0 row.rel.0)) [
     | inl same ↦
         let r : x.rel ≡ row.rel = same_rel x.rel row.rel same in
@@ -62,21 +62,21 @@ own_row (x ∷ rows) row apart has = elim (contains_cases x rows row has) [
   ]
 ]
   where
-    rel_listed : (rows : List Row) (row : Row) → Contains rows row → Contains (map (λ z. z.rel) rows) row.rel
+    rel_listed : (rows : List LinkRow) (row : LinkRow) → Contains rows row → Contains (map (λ z. z.rel) rows) row.rel
     rel_listed [] row has = absurd (nothing_in_empty row has)
     rel_listed (x ∷ rows) row has = elim (contains_cases x rows row has) [
-      | inl e ↦ (0, omega arith, ap (λ (z : Row). z.rel) e)
+      | inl e ↦ (0, omega arith, ap (λ (z : LinkRow). z.rel) e)
       | inr later ↦ contains_tail x.rel (map (λ z. z.rel) rows) row.rel (rel_listed rows row later)
     ]
 
 -- a row that is found is among the rows, under its relation
-pub row_listed : (rows : List Row) (r : RelId) (row : Row) → find_row rows r ≡ Some row → Contains rows row × (row.rel ≡ r)
+pub row_listed : (rows : List LinkRow) (r : RelId) (row : LinkRow) → find_row rows r ≡ Some row → Contains rows row × (row.rel ≡ r)
 row_listed [] r row is = absurd (cc)
 row_listed (x ∷ rows) r row is = elim (cases_Bool (nat_eq x.rel.0 r.0)) [
   | inl same ↦
       let found : Some x ≡ Some row = rw same at is in
       let e : x ≡ row = cc in
-      ((0, omega arith, e), ap (λ (z : Row). z.rel) (sym e) ∙ same_rel x.rel r same)
+      ((0, omega arith, e), ap (λ (z : LinkRow). z.rel) (sym e) ∙ same_rel x.rel r same)
   | inr other ↦
       let found : find_row rows r ≡ Some row = rw other at is in
       let rest = row_listed rows r row found in
@@ -85,7 +85,7 @@ row_listed (x ∷ rows) r row is = elim (cases_Bool (nat_eq x.rel.0 r.0)) [
 ]
 
 -- a row that is written in the place of its relation's
-module _ (rows : List Row) (r : RelId) (k : ℕ) (is : position (is_of r) rows ≡ Some k) (new : Row) (of_r : is_of r new ≡ true) where
+module _ (rows : List LinkRow) (r : RelId) (k : ℕ) (is : position (is_of r) rows ≡ Some k) (new : LinkRow) (of_r : is_of r new ≡ true) where
   pub set_this : find_row (slice_set rows k new) r ≡ Some new
   set_this = find-set (is_of r) rows k new (sym (place_is (is_of r) rows k is)) (place_within (is_of r) rows k is) of_r
 
@@ -98,8 +98,8 @@ module _ (rows : List Row) (r : RelId) (k : ℕ) (is : position (is_of r) rows �
       let now : is_of q new ≡ false = grind (arith, nat_tests, of_r) in
       find_past (is_of q) rows k new new old now
 
-  set_apart : AreApart rows → AreApart (slice_set rows k new)
-  set_apart = subst Once (sym (map-set_same (λ (z : Row). z.rel) rows k new new (same_rel new.rel r of_r ∙ sym (same_rel (get_or rows k new).rel r was_of_r))))
+  set_apart : OneRowEach rows → OneRowEach (slice_set rows k new)
+  set_apart = subst Once (sym (map-set_same (λ (z : LinkRow). z.rel) rows k new new (same_rel new.rel r of_r ∙ sym (same_rel (get_or rows k new).rel r was_of_r))))
 
   pub set_puts : Puts rows (slice_set rows k new) r new.to.items
   set_puts = record {
@@ -109,19 +109,19 @@ module _ (rows : List Row) (r : RelId) (k : ℕ) (is : position (is_of r) rows �
   }
 
 -- a row more
-module _ (new : Row) where
-  push_other : (rows : List Row) (q : RelId) → nat_eq new.rel.0 q.0 ≡ false → find_row (rows ++ new ∷ []) q ≡ find_row rows q
+module _ (new : LinkRow) where
+  push_other : (rows : List LinkRow) (q : RelId) → nat_eq new.rel.0 q.0 ≡ false → find_row (rows ++ new ∷ []) q ≡ find_row rows q
   push_other [] q ne = rw ne refl
   push_other (x ∷ rows) q ne = ap (cond (nat_eq x.rel.0 q.0) (Some x)) (push_other rows q ne)
 
-  pub push_this : (rows : List Row) → find_row rows new.rel ≡ None → find_row (rows ++ new ∷ []) new.rel ≡ Some new
+  pub push_this : (rows : List LinkRow) → find_row rows new.rel ≡ None → find_row (rows ++ new ∷ []) new.rel ≡ Some new
   push_this [] none = rw (rel_itself new.rel) refl
   push_this (x ∷ rows) none = elim (cases_Bool (nat_eq x.rel.0 new.rel.0)) [
     | inl same ↦ let found : Some x ≡ None = rw same at none in absurd (cc)
     | inr other ↦ let rest : find_row rows new.rel ≡ None = rw other at none in rw other (push_this rows rest)
   ]
 
-  not_yet : (rows : List Row) → find_row rows new.rel ≡ None → ¬ Contains (map (λ z. z.rel) rows) new.rel
+  not_yet : (rows : List LinkRow) → find_row rows new.rel ≡ None → ¬ Contains (map (λ z. z.rel) rows) new.rel
   not_yet [] none has = nothing_in_empty new.rel has
   not_yet (x ∷ rows) none has = elim (cases_Bool (nat_eq x.rel.0 new.rel.0)) [
     | inl same ↦ let found : Some x ≡ None = rw same at none in absurd (cc)
@@ -131,14 +131,14 @@ module _ (new : Row) where
     ]
   ]
 
-  push_apart : (rows : List Row) → find_row rows new.rel ≡ None → AreApart rows → AreApart (rows ++ new ∷ [])
+  push_apart : (rows : List LinkRow) → find_row rows new.rel ≡ None → OneRowEach rows → OneRowEach (rows ++ new ∷ [])
   push_apart rows none apart =
       let rels : List RelId = map (λ z. z.rel) rows in
       let fresh = not_yet rows none in
-      subst Once (sym (map-append (λ (z : Row). z.rel) rows (new ∷ [])))
+      subst Once (sym (map-append (λ (z : LinkRow). z.rel) rows (new ∷ [])))
       (all_pairs_push (λ x y. x ≢ y) rels new.rel apart (λ k d lt e. fresh (subst (Contains rels) e (Contains-get_or rels k d lt))))
 
-  pub push_puts : (rows : List Row) → find_row rows new.rel ≡ None → Puts rows (rows ++ new ∷ []) new.rel new.to.items
+  pub push_puts : (rows : List LinkRow) → find_row rows new.rel ≡ None → Puts rows (rows ++ new ∷ []) new.rel new.to.items
   push_puts rows none = record {
     this = ap items_of (push_this rows none);
     others = λ q ne. push_other rows q (other_rel new.rel q (λ e. ne (sym e)));
@@ -146,7 +146,7 @@ module _ (new : Row) where
   }
 
 -- nothing is put where the list is the one that was there
-pub keeps_puts : (rows : List Row) (r : RelId) → Puts rows rows r (row_of rows r)
+pub keeps_puts : (rows : List LinkRow) (r : RelId) → Puts rows rows r (row_of rows r)
 keeps_puts rows r = record { this = refl; others = λ q ne. refl; apart = λ a. a }
 
 pub on_ok : {A E : Type 0} (result : Result A E) (P Q : Type 0) → (P → Q) → OnOk result P → OnOk result Q

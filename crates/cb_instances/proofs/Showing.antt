@@ -18,9 +18,9 @@ use Rattle.cb_network.specs.Edits.{link_of, node_of}
 use Rattle.cb_network.proofs.Sets.{link_cmp_total, link_cmp_exact}
 use Rattle.cb_instances.specs.declared.id.InstanceId.{InstanceId}
 use Rattle.cb_instances.specs.declared.instance.Instance.{Instance}
-use Rattle.cb_instances.specs.declared.links.Row.{Row}
+use Rattle.cb_instances.specs.declared.links.LinkRow.{LinkRow}
 use Rattle.cb_instances.specs.Net.{slot, event_name}
-use Rattle.cb_instances.specs.Rows.{find_row, row_of, items_of, AreApart}
+use Rattle.cb_instances.specs.Rows.{find_row, row_of, items_of, OneRowEach}
 use Rattle.cb_instances.specs.Slots.{Slots, At, NamedAt}
 use Rattle.cb_instances.specs.Shown.{entries_in, links_in, links_by, links_to, mutes_in, topology_of, HoldsInstance, HoldsLink, HoldsMute, Shows}
 use Rattle.cb_instances.proofs.Gathered.{from_flat, to_flat, only, in_set, in_map}
@@ -77,11 +77,11 @@ module _ (slots : Slots) (told : AreTold slots) where
             is.1 (to_flat entries_in slots (Some h.instance) (name, c) (in_slots slots h.at h.instance h.is) listed),
       )
 
-module _ (slots : Slots) (apart : (i : InstanceId) (x : Instance) → At slots i x → AreApart x.links.rows.items) where
+module _ (slots : Slots) (apart : (i : InstanceId) (x : Instance) → At slots i x → OneRowEach x.links.rows.items) where
   link_at : (l : Link) → Contains (flat_map (links_in slots) slots) l → HoldsLink slots l.from l.rel l.to
   link_at l has = go (from_flat (links_in slots) slots l has)
     where
-      target : (i : InstanceId) (x : Instance) → At slots i x → (row : Row) → Contains x.links.rows.items row → (j : InstanceId) → Contains row.to.items j
+      target : (i : InstanceId) (x : Instance) → At slots i x → (row : LinkRow) → Contains x.links.rows.items row → (j : InstanceId) → Contains row.to.items j
           → (o : Option Instance) → slot slots j.0 ≡ o → Contains (links_to x.name row.rel o) l → HoldsLink slots l.from l.rel l.to
       target i x at row of_x j in_row None is in_it = absurd (nothing_in_empty l in_it)
       target i x at row of_x j in_row (Some y) is in_it =
@@ -111,7 +111,7 @@ module _ (slots : Slots) (apart : (i : InstanceId) (x : Instance) → At slots i
       let from : x.name ≡ a = ap (λ (z : Instance). z.name) (sym same) ∙ h.from_is.2 in
       go (find_row x.links.rows.items r) refl h.lists.listed
     where
-      go : (o : Option Row) → find_row h.lists.lister.links.rows.items r ≡ o → Contains (items_of o) h.to → Contains (flat_map (links_in slots) slots) (link_of a r b)
+      go : (o : Option LinkRow) → find_row h.lists.lister.links.rows.items r ≡ o → Contains (items_of o) h.to → Contains (flat_map (links_in slots) slots) (link_of a r b)
       go None is none = absurd (nothing_in_empty h.to none)
       go (Some row) is in_row =
           let x = h.lists.lister in
@@ -164,7 +164,7 @@ module _ (tables : Tables) (slots : Slots) where
           subst (Contains (flat_map (mutes_in tables) slots)) e
           (to_flat (mutes_in tables) slots (Some h.instance) _ (in_slots slots h.at h.instance h.is) (in_nodes h.instance.name h.instance.muted.items h.event h.muted))
 
-pub shows_made : (tables : Tables) (slots : Slots) → AreTold slots → ((i : InstanceId) (x : Instance) → At slots i x → AreApart x.links.rows.items)
+pub shows_made : (tables : Tables) (slots : Slots) → AreTold slots → ((i : InstanceId) (x : Instance) → At slots i x → OneRowEach x.links.rows.items)
     → Shows slots (topology_of tables slots)
 shows_made tables slots told apart = record {
   instances = shows_instances slots told;

@@ -5,7 +5,7 @@ use Rattle.cb_instances.specs.declared.id.InstanceId.{InstanceId}
 use Rattle.cb_instances.specs.declared.instance.Instance.{Instance}
 use Rattle.cb_instances.specs.Net.{slot}
 use Rattle.cb_instances.specs.Rows.{row_of, HasSpare, Puts}
-use Rattle.cb_instances.specs.Slots.{Head, head_of, Slots, At, Lists}
+use Rattle.cb_instances.specs.Slots.{Head, head_of, Slots, At, ListsInstance}
 use Rattle.cb_instances.specs.Sound.{IsTidy}
 
 abbrev pub head_in : Option Instance → Option Head
@@ -43,17 +43,17 @@ AllTidy slots = (i : InstanceId) (x : Instance) → At slots i x → IsTidy x.li
 -- the same instances list each other
 pub record SameLinks (old new : Slots) : Type 0 where
   pub heads : SameHeads old new
-  pub lists : (i : InstanceId) (r : RelId) (j : InstanceId) → Lists new i r j ↔ Lists old i r j
+  pub lists : (i : InstanceId) (r : RelId) (j : InstanceId) → ListsInstance new i r j ↔ ListsInstance old i r j
   pub tidy : AllTidy old → AllTidy new
 
 -- the two list each other, and others as they did
 pub record Joins (old new : Slots) (from : InstanceId) (rel : RelId) (to : InstanceId) (back : RelId) : Type 0 where
   pub heads : SameHeads old new
-  pub lists : (i : InstanceId) (r : RelId) (j : InstanceId) → Lists new i r j ↔ (Lists old i r j ⊎ IsJoin from rel to back i r j)
-  pub tidy : ¬ Lists old from rel to → ¬ Lists old to back from → AllTidy old → AllTidy new
+  pub lists : (i : InstanceId) (r : RelId) (j : InstanceId) → ListsInstance new i r j ↔ (ListsInstance old i r j ⊎ IsJoin from rel to back i r j)
+  pub tidy : ¬ ListsInstance old from rel to → ¬ ListsInstance old to back from → AllTidy old → AllTidy new
 
 -- the two do not list each other, and others do as they did
 pub record Parts (old new : Slots) (from : InstanceId) (rel : RelId) (to : InstanceId) (back : RelId) : Type 0 where
   pub heads : SameHeads old new
-  pub lists : AllTidy old → (i : InstanceId) (r : RelId) (j : InstanceId) → Lists new i r j ↔ (Lists old i r j × ¬ IsJoin from rel to back i r j)
+  pub lists : AllTidy old → (i : InstanceId) (r : RelId) (j : InstanceId) → ListsInstance new i r j ↔ (ListsInstance old i r j × ¬ IsJoin from rel to back i r j)
   pub tidy : AllTidy old → AllTidy new

@@ -1,7 +1,7 @@
 pub mod Net
 pub mod Items
 pub mod Rows
-pub mod Codes
+pub mod Encoding
 pub mod Slots
 pub mod Shown
 pub mod Places

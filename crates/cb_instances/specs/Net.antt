@@ -9,7 +9,7 @@ use Rattle.cb_model.specs.declared.node.NodeName.{NodeName}
 use Rattle.cb_model.specs.declared.tables.EventRow.{EventRow}
 use Rattle.cb_model.specs.declared.tables.RelRow.{RelRow}
 use Rattle.cb_model.specs.declared.tables.Tables.{Tables}
-use Rattle.cb_network.specs.Topology.{Topology, empty_topology, HasLink, IsMuted, IsOf, IsLive as IsLiveName}
+use Rattle.cb_network.specs.Topology.{Topology, empty_topology, HasLink, IsMuted, HasClass, IsLive as IsLiveName}
 use Rattle.cb_network.specs.Edits.{with_instance, without_instance, with_link, without_link, with_mute, without_mute, node_of}
 use Rattle.cb_instances.specs.declared.id.InstanceId.{InstanceId}
 
@@ -113,7 +113,7 @@ node_at n id e = node_of (event_name n.topology.model e) (name_at n id)
 
 -- the class of the instance has the event
 abbrev pub HasEventAt : Net → InstanceId → EventId → Type 0
-HasEventAt n id e = (c : ClassId) × IsOf n.topology (name_at n id) c × HasEvent n.topology.model c e
+HasEventAt n id e = (c : ClassId) × HasClass n.topology (name_at n id) c × HasEvent n.topology.model c e
 
 -- the event is muted at the instance
 abbrev pub IsMutedAt : Net → InstanceId → EventId → Type 0

@@ -8,13 +8,13 @@ use Rattle.cb_model.specs.declared.id.EventId.{EventId}
 use Rattle.cb_model.specs.declared.id.RelId.{RelId}
 use Rattle.cb_model.specs.declared.node.NodeName.{NodeName}
 use Rattle.cb_model.specs.declared.tables.Tables.{Tables}
-use Rattle.cb_network.specs.Topology.{Topology, Link, IsOf, HasLink, IsMuted}
+use Rattle.cb_network.specs.Topology.{Topology, Link, HasClass, HasLink, IsMuted}
 use Rattle.cb_network.specs.Edits.{link_of, node_of}
 use Rattle.cb_instances.specs.declared.id.InstanceId.{InstanceId}
 use Rattle.cb_instances.specs.declared.instance.Instance.{Instance}
-use Rattle.cb_instances.specs.declared.links.Row.{Row}
+use Rattle.cb_instances.specs.declared.links.LinkRow.{LinkRow}
 use Rattle.cb_instances.specs.Net.{Net, slot, event_name}
-use Rattle.cb_instances.specs.Slots.{Slots, At, NamedAt, Lists}
+use Rattle.cb_instances.specs.Slots.{Slots, At, NamedAt, ListsInstance}
 
 abbrev pub name_in : Option Instance → Option (List ℕ)
 name_in None = None
@@ -28,7 +28,7 @@ abbrev pub links_to : List ℕ → RelId → Option Instance → List Link
 links_to a r None = []
 links_to a r (Some y) = link_of a r y.name ∷ []
 
-abbrev pub links_by : Slots → List ℕ → Row → List Link
+abbrev pub links_by : Slots → List ℕ → LinkRow → List Link
 links_by slots a row = flat_map (λ j. links_to a row.rel (slot slots j.0)) row.to.items
 
 abbrev pub links_in : Slots → Option Instance → List Link
@@ -70,7 +70,7 @@ pub record HoldsLink (slots : Slots) (a : List ℕ) (r : RelId) (b : List ℕ) :
   pub to : InstanceId
   pub from_is : NamedAt slots from a
   pub to_is : NamedAt slots to b
-  pub lists : Lists slots from r to
+  pub lists : ListsInstance slots from r to
 
 -- some slot has an instance of the node's name at which the node's event is muted
 pub record HoldsMute (tables : Tables) (slots : Slots) (n : NodeName) : Type 0 where
@@ -84,6 +84,6 @@ pub record HoldsMute (tables : Tables) (slots : Slots) (n : NodeName) : Type 0 w
 
 -- the topology has what the slots hold, and nothing else
 pub record Shows (slots : Slots) (t : Topology) : Type 0 where
-  pub instances : (name : List ℕ) (c : ClassId) → IsOf t name c ↔ HoldsInstance slots name c
+  pub instances : (name : List ℕ) (c : ClassId) → HasClass t name c ↔ HoldsInstance slots name c
   pub links : (a : List ℕ) (r : RelId) (b : List ℕ) → HasLink t a r b ↔ HoldsLink slots a r b
   pub mutes : (n : NodeName) → IsMuted t n ↔ HoldsMute t.model slots n

@@ -32,7 +32,7 @@ abbrev pub NamedAt : Slots → InstanceId → List ℕ → Type 0
 NamedAt slots i name = (x : Instance) × At slots i x × (x.name ≡ name)
 
 -- the instance at i lists that at j under the relation
-pub record Lists (slots : Slots) (i : InstanceId) (r : RelId) (j : InstanceId) : Type 0 where
+pub record ListsInstance (slots : Slots) (i : InstanceId) (r : RelId) (j : InstanceId) : Type 0 where
   pub lister : Instance
   pub is : At slots i lister
   pub listed : Contains (row_of lister.links.rows.items r) j

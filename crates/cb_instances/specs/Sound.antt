@@ -9,21 +9,21 @@ use Rattle.cb_model.specs.declared.tables.Tables.{Tables}
 use Rattle.cb_model.specs.WellTyped.{WellTyped, IsRelation}
 use Rattle.cb_instances.specs.declared.id.InstanceId.{InstanceId}
 use Rattle.cb_instances.specs.declared.instance.Instance.{Instance}
-use Rattle.cb_instances.specs.declared.links.Row.{Row}
+use Rattle.cb_instances.specs.declared.links.LinkRow.{LinkRow}
 use Rattle.cb_instances.specs.Net.{Once, inverse_of}
 use Rattle.cb_instances.specs.Places.{Entries, IsIndexed}
-use Rattle.cb_instances.specs.Rows.{AreApart, row_of}
-use Rattle.cb_instances.specs.Slots.{Head, head_of, Slots, At, Lists}
+use Rattle.cb_instances.specs.Rows.{OneRowEach, row_of}
+use Rattle.cb_instances.specs.Slots.{Head, head_of, Slots, At, ListsInstance}
 
 -- each relation has one row, in which no instance stands twice
-pub record IsTidy (rows : List Row) : Type 0 where
-  pub apart : AreApart rows
+pub record IsTidy (rows : List LinkRow) : Type 0 where
+  pub apart : OneRowEach rows
   pub once : (r : RelId) → Once (row_of rows r)
 
 -- where one instance lists another, that one lists it under the inverse
 abbrev pub StandBothWays : Tables → Slots → Type 0
-StandBothWays tables slots = (i : InstanceId) (r : RelId) (j : InstanceId) → Lists slots i r j
-    → IsRelation tables r × Lists slots j (inverse_of tables r) i
+StandBothWays tables slots = (i : InstanceId) (r : RelId) (j : InstanceId) → ListsInstance slots i r j
+    → IsRelation tables r × ListsInstance slots j (inverse_of tables r) i
 
 -- muted are events of the class, each once, and all of those fit without memory
 pub record FitsMutes (tables : Tables) (h : Head) : Type 0 where
@@ -34,7 +34,7 @@ pub record FitsMutes (tables : Tables) (h : Head) : Type 0 where
   pub once : Once h.muted.items
 
 -- the tables are those of a model, every name leads to its instance, and links stand both ways, each once
-pub record IsSound (tables : Tables) (slots : Slots) (entries : Entries) (room : ℕ) : Type 0 where
+pub record IsNetOf (tables : Tables) (slots : Slots) (entries : Entries) (room : ℕ) : Type 0 where
   pub typed : WellTyped tables
   pub indexed : IsIndexed slots entries
   pub below : (i : InstanceId) (x : Instance) → At slots i x → i.0 < room

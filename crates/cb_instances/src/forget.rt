@@ -3,7 +3,7 @@ ghost use Rattle.std.specs.Prelude.{◌≡◌};
 ghost use Rattle.std.specs.List.{Contains};
 ghost use Rattle.cb_model.specs.WellTyped.{IsRelation};
 ghost use Rattle.cb_instances.specs.declared.id.InstanceId.{InstanceId as Id};
-ghost use Rattle.cb_instances.specs.declared.links.Row.{Row as TheRow};
+ghost use Rattle.cb_instances.specs.declared.links.LinkRow.{LinkRow as TheRow};
 ghost use Rattle.cb_instances.specs.Forgotten.{ForgetsRow, ForgetsAll};
 ghost use Rattle.cb_instances.specs.Net.{inverse_of};
 
@@ -15,7 +15,7 @@ use cb_model::{Model, RelId};
 use slab::Slab;
 
 /// Those that were listed by an instance list it no more.
-pub fn forget(model: &Model, slots: &mut Slab<Instance>, id: InstanceId, links: &Links)
+pub(crate) fn forget(model: &Model, slots: &mut Slab<Instance>, id: InstanceId, links: &Links)
     requires { (row : TheRow) (at : Id) → Contains links.now.rows.items row → Contains row.to.items at → IsRelation model.now row.rel }
     ensures forgets { ForgetsAll model.now slots.old.slots slots.new.slots id links.now.rows.items }
     ensures next { slots.new.vacant_key ≡ slots.old.vacant_key }

@@ -12,7 +12,7 @@ fn place_of<T: Copy + PartialEq>(list: &[T], item: T) -> Option<usize>
 }
 
 /// Takes the item out of the list; the last one comes into its place.
-pub fn take_out<T: Copy + PartialEq>(list: &mut Vec<T>, item: T)
+pub(crate) fn take_out<T: Copy + PartialEq>(list: &mut Vec<T>, item: T)
     requires exact { (a b : T) → Decides (T.eq a b) (a ≡ b) }
     ensures loses { Loses item list.old.items list.new.items }
     ensures capacity { vec_capacity list.new ≡ vec_capacity list.old }

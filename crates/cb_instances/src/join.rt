@@ -14,7 +14,7 @@ use slab::Slab;
 use std::alloc::{AllocError, Global};
 
 /// The inverse of the relation.
-pub fn inverse(model: &Model, rel: RelId) -> RelId
+pub(crate) fn inverse(model: &Model, rel: RelId) -> RelId
     requires { IsRelation model.now rel }
     ensures { result ≡ inverse_of model.now rel }
 {
@@ -22,7 +22,7 @@ pub fn inverse(model: &Model, rel: RelId) -> RelId
 }
 
 /// Adds the link, and its inverse by the relation `back`. A link that is its own inverse is added once.
-pub fn join(
+pub(crate) fn join(
     alloc: Global,
     slots: &mut Slab<Instance>,
     from: InstanceId,
@@ -48,7 +48,13 @@ pub fn join(
 }
 
 /// Takes the link away, and its inverse by the relation `back`.
-pub fn part(slots: &mut Slab<Instance>, from: InstanceId, rel: RelId, to: InstanceId, back: RelId)
+pub(crate) fn part(
+    slots: &mut Slab<Instance>,
+    from: InstanceId,
+    rel: RelId,
+    to: InstanceId,
+    back: RelId,
+)
     requires from { (x : TheInstance) × At slots.old.slots from x }
     requires to { (x : TheInstance) × At slots.old.slots to x }
     ensures parts { Parts slots.old.slots slots.new.slots from rel to back }
@@ -59,7 +65,7 @@ pub fn part(slots: &mut Slab<Instance>, from: InstanceId, rel: RelId, to: Instan
 }
 
 /// The instance lists the other under the relation no more.
-pub fn take_away(slots: &mut Slab<Instance>, at: InstanceId, rel: RelId, to: InstanceId)
+pub(crate) fn take_away(slots: &mut Slab<Instance>, at: InstanceId, rel: RelId, to: InstanceId)
     ensures rewires { Rewires slots.old.slots slots.new.slots at rel (Loses to) }
     ensures next { slots.new.vacant_key ≡ slots.old.vacant_key }
 {

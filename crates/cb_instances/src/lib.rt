@@ -7,7 +7,7 @@
 //! were given (`room`). `IsNamed`, `IsLive`, `LinkAt` and `HasEventAt` say of numbers what a topology says of names.
 //!
 //! Each call is promised to do to the topology what its clause names and nothing else, and to change nothing where memory
-//! is wanting. A number stays with its instance, and may go to another one once that is deleted. Whether an edit is
+//! runs out. A number stays with its instance, and may go to another one once that is deleted. Whether an edit is
 //! allowed is decided in cb_accept; here a caller owes only what a call needs to have a meaning.
 //!
 //! Read `specs/Net.antt` first. How instances, links and names are kept (`specs/Sound.antt`) may be changed freely.

@@ -9,17 +9,17 @@ use cb_model::RelId;
 use std::alloc::{AllocError, Global};
 
 /// The instances that one relation leads to.
-#[derive(Debug, Drop)]
-pub struct Row {
+#[derive(Drop)]
+pub struct LinkRow {
     pub rel: RelId,
     pub to: Vec<InstanceId>,
 }
 
 /// What each relation of an instance leads to. A class may have many relations, of which its instances use few: so
 /// there is one row for each relation in use.
-#[derive(Debug, Drop)]
+#[derive(Drop)]
 pub struct Links {
-    pub rows: Vec<Row>,
+    pub rows: Vec<LinkRow>,
 }
 
 impl Links {
@@ -58,7 +58,7 @@ impl Links {
             Some(place) => self.rows[place].to.reserve(1),
             None => {
                 let to = Vec::with_capacity(alloc, 1)?;
-                self.rows.push(Row { rel, to })?;
+                self.rows.push(LinkRow { rel, to })?;
                 Ok(())
             }
         }

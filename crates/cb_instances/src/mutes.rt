@@ -10,7 +10,7 @@ use cb_model::EventId;
 use slab::Slab;
 
 /// Mutes the event at the instance. It takes no memory.
-pub fn mute(slots: &mut Slab<Instance>, id: InstanceId, event: EventId)
+pub(crate) fn mute(slots: &mut Slab<Instance>, id: InstanceId, event: EventId)
     requires { HasSpareToMute slots.old.slots id }
     ensures remutes { Remutes slots.old.slots slots.new.slots id (Gains event) }
     ensures next { slots.new.vacant_key ≡ slots.old.vacant_key }
@@ -21,7 +21,7 @@ pub fn mute(slots: &mut Slab<Instance>, id: InstanceId, event: EventId)
 }
 
 /// The event is muted at the instance no more.
-pub fn unmute(slots: &mut Slab<Instance>, id: InstanceId, event: EventId)
+pub(crate) fn unmute(slots: &mut Slab<Instance>, id: InstanceId, event: EventId)
     ensures remutes { Remutes slots.old.slots slots.new.slots id (Loses event) }
     ensures next { slots.new.vacant_key ≡ slots.old.vacant_key }
 {

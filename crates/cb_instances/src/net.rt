@@ -3,7 +3,7 @@ ghost use Rattle.std.specs.Prelude.{◌≡◌, ◌<◌, ◌+◌, ◌↔◌, ℕ,
 ghost use Rattle.std.specs.FinMap as fin_map;
 ghost use Rattle.std.specs.List.{Contains};
 ghost use Rattle.cb_model.specs.WellTyped.{IsClass, IsRelation};
-ghost use Rattle.cb_network.specs.Topology.{IsLive as IsLiveName, IsOf};
+ghost use Rattle.cb_network.specs.Topology.{IsLive as IsLiveName, HasClass};
 ghost use Rattle.cb_instances.specs.declared.id.InstanceId.{InstanceId as Id};
 ghost use Rattle.cb_instances.specs.Net.{empty_net, IsNamed, IsLive, LinkAt, Creates, Once, inverse_of, linked, unlinked, without, muted, unmuted, HasEventAt, IsMutedAt, IsWhole};
 
@@ -30,18 +30,18 @@ pub struct Net {
 
 impl std::marker::Model for Net {
     ghost use Rattle.cb_instances.specs.Net.{Net};
-    ghost use Rattle.cb_instances.specs.Codes.{net_code};
+    ghost use Rattle.cb_instances.specs.Encoding.{net_encoding};
 
     ghost Value = { Net };
 
-    ghost coded = { net_code };
+    ghost coded = { net_encoding };
 
     ghost use Rattle.cb_instances.specs.Shown.{seen, next_of};
-    ghost use Rattle.cb_instances.specs.Sound.{IsSound};
+    ghost use Rattle.cb_instances.specs.Sound.{IsNetOf};
 
     ghost view = { λ s. seen s.model s.slots.slots s.room (next_of s.slots.vacant_key) };
 
-    ghost invariant = { λ s. IsSound s.model s.slots.slots s.places.entries s.room };
+    ghost invariant = { λ s. IsNetOf s.model s.slots.slots s.places.entries s.room };
 }
 
 impl Net {
@@ -89,7 +89,7 @@ impl Net {
     /// The class of the instance, by its number in the model.
     pub fn class_of(&self, id: InstanceId) -> ClassId
         requires { IsLive self.now id }
-        ensures { (name : List ℕ) → IsNamed self.now id name → IsOf self.now.topology name result }
+        ensures { (name : List ℕ) → IsNamed self.now id name → HasClass self.now.topology name result }
     {
         self.slots[id.0].class
     }

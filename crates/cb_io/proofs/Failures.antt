@@ -4,14 +4,14 @@ use Rattle.std.specs.Prelude.{◌⊎◌, None, Some, Option, IsErr, IsNone}
 use Rattle.std.specs.Result.{result_unwrap_or}
 use Rattle.cb_io.specs.declared.outside.FileStop.{FileStop}
 use Rattle.cb_io.specs.Pairs.{look_up}
-use Rattle.cb_io.specs.Outside.{Reads}
-use Rattle.cb_io.specs.Memory.{FileState, FilesState, IsDue, file_of, files_told}
+use Rattle.cb_io.specs.Outside.{ReadsBytes}
+use Rattle.cb_io.specs.Memory.{FileState, FilesState, IsNextFailing, file_of, files_told}
 use Rattle.cb_io.specs.Never.{never_told}
 use Rattle.cb_io.proofs.Memory.{bytes-told}
 
 -- where a read fails of a name without bytes, no byte came and none is left
-pub end_for_failure : (old new : FilesState) (name buf : List ℕ) (r : Result ℕ FileStop) → Reads (files_told old) (files_told new) name r buf
-    → (IsErr r → look_up old.files name ≡ None) → Reads {E = FileStop} (never_told old) (never_told new) name (Ok (result_unwrap_or r 0)) buf
+pub end_for_failure : (old new : FilesState) (name buf : List ℕ) (r : Result ℕ FileStop) → ReadsBytes (files_told old) (files_told new) name r buf
+    → (IsErr r → look_up old.files name ≡ None) → ReadsBytes {E = FileStop} (never_told old) (never_told new) name (Ok (result_unwrap_or r 0)) buf
 end_for_failure old new name buf (Ok n) read absent = read
 end_for_failure old new name buf (Err stop) kept absent =
     let none : (file_of old name).left ≡ [] = rw (absent refl) refl in
@@ -19,7 +19,7 @@ end_for_failure old new name buf (Err stop) kept absent =
     (sym kept, λ zero room. kept ∙ empty)
 
 -- where no call is to fail, a read fails of a name that wasn't added
-pub absent_name : (state : FilesState) (name : List ℕ) → state.calls.failing ≡ [] → IsDue state.calls ⊎ IsNone (look_up state.files name)
+pub absent_name : (state : FilesState) (name : List ℕ) → state.calls.failing ≡ [] → IsNextFailing state.calls ⊎ IsNone (look_up state.files name)
     → look_up state.files name ≡ None
 absent_name state name none (inl due) = let never = rw none at due in absurd (omega (arith, never.1))
 absent_name state name none (inr absent) = by_value (look_up state.files name) absent

@@ -42,7 +42,7 @@ moved_front items size from to whole part =
     let kept : List ℕ = slice_range items from to in
     take_at kept _ (to - from) (part_length items size from to whole part)
 
--- more bytes came behind what was kept
+-- more bytes came after what was kept
 pub refilled : (items now text : List ℕ) (from to count size new_size : ℕ) (before after : FilesTold) (name : List ℕ) → size ≡ length items → IsPart size from to →
     (moved : List ℕ) → moved ≡ copy_within items from to 0 → take (to - from) now ≡ take (to - from) moved → to - from + count ≤ length now → to - from < length now → count ≤ piece_limit →
     Consumes (left_of before name) (left_of after name) (take count (drop (to - from) now)) →

@@ -1,10 +1,11 @@
 -- The faults of the machine's files after a change.
 use Rattle.std.proofs.Common.{◌≡◌, ◌≢◌, ℕ, ◌≤◌, List, [], ◌∷◌, ◌++◌, set, refl, sym, ◌∙◌, ap, arith, Bool, true, false}
 use Rattle.std.proofs.lemmas.Slice.Eq.{bytes_eq-Decides}
-use Rattle.std.specs.Prelude.{None, unwrap_or}
+use Rattle.std.proofs.lemmas.Result.{IfOk-weaker}
+use Rattle.std.specs.Prelude.{None, unwrap_or, Result, OnOk}
 use Rattle.std.specs.Str.{bytes_eq}
 use Rattle.cb_io.specs.Pairs.{look_up, put}
-use Rattle.cb_io.specs.Outside.{next_count, NoCountFalls, ReadFailed}
+use Rattle.cb_io.specs.Outside.{FilesTold, next_count, NoCountFalls, ReadFailed, SameFaults, OneMoreFault}
 use Rattle.cb_io.specs.Host.{host_told}
 use Rattle.cb_io.proofs.Pairs.{AtPlace, look_up-put, look_up-put_other, look_up-at, set-put, append-put}
 
@@ -28,6 +29,16 @@ kept_beside opened name other false e absent =
     let ne : other ≢ name = λ s. cc (sym e ∙ (bytes_eq-Decides other name).1 s) in
     rw (look_up-put_other opened name other 0 ne) refl
 
+faults_beside : (opened : List (List ℕ × ℕ)) (name other : List ℕ) (faults : ℕ) (b : Bool) → bytes_eq other name ≡ b
+    → faults ≡ unwrap_or (look_up opened name) 0
+    → unwrap_or (look_up (put opened name faults) other) 0 ≡ unwrap_or (look_up opened other) 0
+faults_beside opened name other faults true e is =
+    let same : other ≡ name = (bytes_eq-Decides other name).0 e in
+    rw (same, look_up-put opened name faults) is
+faults_beside opened name other faults false e is =
+    let ne : other ≢ name = λ s. cc (sym e ∙ (bytes_eq-Decides other name).1 s) in
+    rw (look_up-put_other opened name other faults ne) refl
+
 -- a new name has no faults, as before
 pub faults-new : (opened : List (List ℕ × ℕ)) (name other : List ℕ) → look_up opened name ≡ None
     → (host_told (opened ++ (name, 0) ∷ [])).faults other ≡ (host_told opened).faults other
@@ -48,3 +59,24 @@ module _ {opened : List (List ℕ × ℕ)} {name : List ℕ} {place : ℕ} {old 
       → ReadFailed (host_told opened) (host_told (set opened place new)) name
   ReadFailed-set rose =
       rw (set-put at new same, look_up-put opened name new.1, look_up-at at, rose) (omega arith)
+
+  -- where the count of a name stays, each does
+  pub SameFaults-set : new ≡ old → SameFaults (host_told opened) (host_told (set opened place new))
+  SameFaults-set kept = λ other.
+      rw (set-put at new same)
+      (faults_beside opened name other new.1 (bytes_eq other name) refl (rw (look_up-at at) (ap (λ (o : List ℕ × ℕ). o.1) kept)))
+
+  -- where the count of a name is the next one, every other name's stays
+  pub OneMoreFault-set : new.1 ≡ next_count old.1
+      → OneMoreFault (host_told opened) (host_told (set opened place new)) name
+  OneMoreFault-set rose = (
+    rw (set-put at new same, look_up-put opened name new.1, look_up-at at) rose,
+    λ other ne. rw (set-put at new same, look_up-put_other opened name other new.1 ne) refl,
+  )
+
+  -- and what had the same counts before
+  pub SameFaults-on_ok : {T E : Type 0} (r : Result T E) (before : FilesTold) → OnOk r (new ≡ old)
+      → SameFaults before (host_told opened) → OnOk r (SameFaults before (host_told (set opened place new)))
+  SameFaults-on_ok r before kept same =
+      IfOk-weaker r (λ _. new ≡ old) (λ _. SameFaults before (host_told (set opened place new)))
+      (λ _ e name. SameFaults-set e name ∙ same name) kept

@@ -10,7 +10,7 @@ use Rattle.cb_io.specs.declared.line_reader.Line.TheVariants.{Text, Long, End}
 use Rattle.cb_io.specs.declared.whole.ReadStop.{ReadStop}
 use Rattle.cb_io.specs.declared.whole.ReadStop.TheVariants.{ReadFault, TooMuch, NoMemory}
 use Rattle.cb_io.specs.Hand.{Held}
-use Rattle.cb_io.specs.LineGiving.{Tells, behind_line}
+use Rattle.cb_io.specs.LineGiving.{IsGivenLine, behind_line}
 use Rattle.cb_io.specs.LineReading.{Reading, coming, IsOneLine, GivesEnded, GivesLast, GivesLine, Says, Advances}
 use Rattle.cb_io.specs.LineSearch.{HasCome, Finds, GivesUp, EndsBy, lf_count, behind_of, size_of}
 use Rattle.cb_io.specs.Outside.{FilesTold, left_of, ReadsFront}
@@ -22,7 +22,7 @@ if_coming : (kept : List ℕ) (told : Option (List ℕ)) (P : List ℕ → Type 
 if_coming kept None P next = tt
 if_coming kept (Some left) P next = next left refl
 
--- the bytes that are left behind those that were read
+-- the bytes that are left after those that were read
 record Leaves (told : Option (List ℕ)) (came left : List ℕ) : Type 0 where
   rest : List ℕ
   told_is : told ≡ Some rest
@@ -46,7 +46,7 @@ module _ {old_kept : List ℕ} {before after : FilesTold} {name all : List ℕ} 
       ap (λ (l : List ℕ). old_kept ++ l) behind.are
       ∙ (sym (append_assoc old_kept come.came behind.rest) ∙ ap (λ (l : List ℕ). l ++ behind.rest) come.are)
 
--- in every case a front came, and no more
+-- in every case a prefix came, and no more
 pub come_front : {start : List ℕ} {before after : FilesTold} {name all : List ℕ} → HasCome start before after name all → ReadsFront before after name
 come_front come = (come.came, come.read)
 
@@ -73,7 +73,7 @@ module _ (kept thrown : List ℕ) (after : FilesTold) (name : List ℕ) (n : ℕ
   line_length : n ≤ length kept → length line ≡ length thrown + n
   line_length few = omega (arith, length-append thrown (take n kept), length-take-le n kept few)
 
-  -- nothing is left behind the end of the file
+  -- nothing is left after the end of the file
   at_end : IsAtEnd (left_of after name) → file ≡ []
   at_end end = rw left at end
 
@@ -124,7 +124,7 @@ module _ (old : Reading) (hand : Held) (before after : FilesTold) (end : LineEnd
     abbrev file : List ℕ
     file = (behind found.come left told).rest
 
-    -- what comes behind the line
+    -- what comes after the line
     comes : (number text : ℕ) → coming (behind_line (looking old hand) end number text) after ≡ Some (drop (behind_of end) hand.kept ++ file)
     comes number text = ap (option_map (λ (l : List ℕ). drop (behind_of end) hand.kept ++ l)) (behind found.come left told).told_is
 
@@ -141,7 +141,7 @@ module _ (old : Reading) (hand : Held) (before after : FilesTold) (end : LineEnd
           within = omega (arith, found.within, room);
         }
 
-    says_at : (new : Reading) (told_line : Line) → Tells (looking old hand) end new told_line → Says old new after (Ok told_line) (old.kept ++ left)
+    says_at : (new : Reading) (told_line : Line) → IsGivenLine (looking old hand) end new told_line → Says old new after (Ok told_line) (old.kept ++ left)
     says_at new (Text number) tells =
         let none : found.thrown ≡ [] = nil_from_length found.thrown (omega (arith, found.lost_is, found.long, tells.1)) in
         rw tells.3 (record {
@@ -172,11 +172,11 @@ module _ (old : Reading) (hand : Held) (before after : FilesTold) (end : LineEnd
         })
 
   -- what the answer says, where the files tell the bytes
-  pub says_line : (new : Reading) (told_line : Line) → Tells (looking old hand) end new told_line → IfSome (coming old before) (Says old new after (Ok told_line))
+  pub says_line : (new : Reading) (told_line : Line) → IsGivenLine (looking old hand) end new told_line → IfSome (coming old before) (Says old new after (Ok told_line))
   says_line new told_line tells = if_coming old.kept (left_of before old.name) (Says old new after (Ok told_line)) (λ left told. says_at left told new told_line tells)
 
   -- how far the answer goes on, whatever the files tell
-  pub advances_line : (new : Reading) (told_line : Line) → Tells (looking old hand) end new told_line → Advances old new told_line
+  pub advances_line : (new : Reading) (told_line : Line) → IsGivenLine (looking old hand) end new told_line → Advances old new told_line
   advances_line new (Text number) tells = rw tells.3 (refl, omega (arith, tells.0), omega (arith, found.within, room))
   advances_line new (Long number) tells = rw tells.3 (refl, omega (arith, tells.0), omega (arith, found.within, room))
   advances_line new End tells = rw tells.1 (last_none end.is_last end.lost end.length tells.0, refl, omega (arith, tells.0))

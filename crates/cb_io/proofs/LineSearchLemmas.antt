@@ -110,7 +110,7 @@ absent_before cut n bytes before (k, low, is) =
     before k (omega arith) (omega arith) (eq-eqb (get_or bytes k 0) cut (sym same ∙ is))
 
 module _ (bytes : List ℕ) (searched : ℕ) (within : searched ≤ length bytes) (one : IsOneLine (take searched bytes)) where
-  -- a LF was found behind the bytes that were searched before
+  -- a LF was found after the bytes that were searched before
   pub lf_at : (n : ℕ) → IsFirstByte (is_byte 10) (drop searched bytes) (Some n) → BeginWith bytes (take (searched + n) bytes) (drop (searched + n + 1) bytes)
   lf_at n found =
       let rest : List ℕ = drop searched bytes in

@@ -11,7 +11,7 @@ use Rattle.std.specs.Str.{bytes_eq}
 use Rattle.std.proofs.lemmas.Slice.Eq.{bytes_eq-Decides}
 use Rattle.cb_io.specs.declared.outside.FileStop.{FileStop}
 use Rattle.cb_io.specs.Pairs.{look_up}
-use Rattle.cb_io.specs.Outside.{left_of, next_count, Reads, KeepsOthers, NoCountFalls, ReadFailed}
+use Rattle.cb_io.specs.Outside.{left_of, next_count, ReadsBytes, KeepsOthers, NoCountFalls, ReadFailed}
 use Rattle.cb_io.specs.Memory.{FileState, FilesState, file_of, with_file, with_bytes, after_call, after_read, after_fault_at, after_fault, files_told}
 use Rattle.cb_io.proofs.Pairs.{AtPlace, look_up-put, look_up-put_other, look_up-map, look_up-at, set-put, append-put}
 
@@ -73,7 +73,7 @@ NoCountFalls-with state name file grown = λ other. count_at state name file gro
 pub Reads-after : (state : FilesState) (name buf : List ℕ) (n : ℕ)
     → (file_of state name).left ≡ take n buf ++ drop n (file_of state name).left
     → (n ≡ 0 → 0 < length buf → (file_of state name).left ≡ [])
-    → Reads {E = FileStop} (files_told state) (files_told (after_read state name n)) name (Ok n) buf
+    → ReadsBytes {E = FileStop} (files_told state) (files_told (after_read state name n)) name (Ok n) buf
 Reads-after state name buf n moved end = (
   bytes-told state name ∙ moved ∙ ap (λ l. take n buf ++ l) (sym (left-after state name n)),
   λ zero room. left-after state name n ∙ ap (drop n) (end zero room) ∙ drop-nil n,
@@ -96,7 +96,7 @@ module _ (state : FilesState) {name : List ℕ} {place : ℕ} {entry : List ℕ 
   with_file-found y same =
       ap (λ files. record state { files = files }) (set-put at y same)
 
-  -- more bytes behind those left
+  -- more bytes after those left
   pub extended : (y : List ℕ × FileState) (bytes : List ℕ)
       → y ≡ (entry.0, record entry.1 { left = entry.1.left ++ bytes })
       → record state { files = set state.files place y } ≡ with_bytes state name bytes

@@ -112,14 +112,14 @@ module _ {V : Type 0} where
   new_front pair pairs name value true h rest = cc
   new_front pair pairs name value false h rest = ap (λ l. pair ∷ l) (rest h)
 
-  -- a pair behind the others puts a value beside a new name
+  -- a pair after the others puts a value beside a new name
   pub append-put : (pairs : List (List ℕ × V)) (name : List ℕ) (value : V) → look_up pairs name ≡ None
       → pairs ++ (name, value) ∷ [] ≡ put pairs name value
   append-put [] name value h = refl
   append-put (pair ∷ pairs) name value h =
       new_front pair pairs name value (bytes_eq pair.0 name) h (append-put pairs name value)
 
-  -- a new name has the first place behind the others
+  -- a new name has the first place after the others
   place_from : (pairs : List (List ℕ × V)) (name : List ℕ) (y : List ℕ × V) (n : ℕ)
       → position_from (λ pair. bytes_eq pair.0 name) n pairs ≡ None → y.0 ≡ name
       → position_from (λ pair. bytes_eq pair.0 name) n (pairs ++ y ∷ []) ≡ Some (n + length pairs)

@@ -135,7 +135,7 @@ ReadsEach-others a b c names name each others =
 
 -- ---- what was taken
 
--- a front of the first text, where the second isn't written
+-- a prefix of the first text, where the second isn't written
 pub WritesFront-first : (a b : SinkTold) (first second : List ℕ) → WritesFront a b first
     → WritesFront a b (first ++ second)
 WritesFront-first a b first second (n, within, taken) = (
@@ -145,7 +145,7 @@ WritesFront-first a b first second (n, within, taken) = (
       (sym (take-append-le n first second within)) taken,
 )
 
--- the first text, and a front of the second
+-- the first text, and a prefix of the second
 pub WritesFront-second : (a b c : SinkTold) (first second : List ℕ) → WritesAll a b first → WritesFront b c second
     → WritesFront a c (first ++ second)
 WritesFront-second a b c first second all (n, within, taken) = (

@@ -5,7 +5,7 @@ use Rattle.std.specs.Io.KnownBytes.{Keeps, Consumes, IsAtEnd}
 use Rattle.cb_io.specs.Outside.{FilesTold, left_of}
 use Rattle.cb_io.specs.Pieces.{piece_limit}
 
--- the text of the last line, the bytes that were taken behind it, and how many bytes there is room for
+-- the text of the last line, the bytes that were taken after it, and how many bytes there is room for
 pub record Held : Type 0 where
   pub text : List ℕ
   pub kept : List ℕ
@@ -20,7 +20,7 @@ pub record IsPart (size from to : ℕ) : Type 0 where
 abbrev pub with_text : Held → ℕ → ℕ → Held
 with_text held line behind = record held { text = take line held.kept; kept = drop behind held.kept }
 
--- so many bytes of the file came, at most one piece, and stand behind those that were kept; none came only at the end
+-- so many bytes of the file came, at most one piece, and stand after those that were kept; none came only at the end
 pub record Grows (old new : Held) (before after : FilesTold) (name : List ℕ) (count : ℕ) : Type 0 where
   pub more : List ℕ
   pub kept : new.kept ≡ old.kept ++ more

@@ -6,15 +6,15 @@ use Rattle.cb_io.specs.declared.line_reader.Line.TheVariants.{Text, Long, End}
 use Rattle.cb_io.specs.LineReading.{Reading}
 use Rattle.cb_io.specs.LineSearch.{behind_of, size_of}
 
--- the reader behind the line, with so many of the bytes that were kept as its text
+-- the reader after the line, with so many of the bytes that were kept as its text
 abbrev pub behind_line : Reading → LineEnd → ℕ → ℕ → Reading
 behind_line old end number text = record old
     { number = number; given = old.given + size_of end; text = take text old.kept; kept = drop (behind_of end) old.kept; ended = end.is_last; refused = false }
 
 -- a line without bytes is none, and one with too many isn't given as a text
-abbrev pub Tells : Reading → LineEnd → Reading → Line → Type 0
-Tells old end new (Text number) =
+abbrev pub IsGivenLine : Reading → LineEnd → Reading → Line → Type 0
+IsGivenLine old end new (Text number) =
     (0 < size_of end) × (end.lost + end.length ≤ old.line_most) × (number ≡ old.number + 1) × (new ≡ behind_line old end (old.number + 1) end.length)
-Tells old end new (Long number) =
+IsGivenLine old end new (Long number) =
     (0 < size_of end) × (old.line_most < end.lost + end.length) × (number ≡ old.number + 1) × (new ≡ behind_line old end (old.number + 1) 0)
-Tells old end new End = (size_of end ≡ 0) × (new ≡ behind_line old end old.number 0)
+IsGivenLine old end new End = (size_of end ≡ 0) × (new ≡ behind_line old end old.number 0)

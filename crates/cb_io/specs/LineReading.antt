@@ -53,13 +53,13 @@ pub record AreLast (bytes line : List ℕ) : Type 0 where
   pub some : line ≢ []
   pub are : bytes ≡ line
 
--- the line that a LF ends was given, and these bytes come behind it
+-- the line that a LF ends was given, and these bytes come after it
 pub record GivesEnded (old new : Reading) (bytes line rest : List ℕ) : Type 0 where
   pub begin : BeginWith bytes line rest
   pub given : new.given ≡ old.given + length line + 1
   pub ended : new.ended ≡ false
 
--- the last line was given, which no LF ends, and nothing comes behind it
+-- the last line was given, which no LF ends, and nothing comes after it
 pub record GivesLast (old new : Reading) (bytes line rest : List ℕ) : Type 0 where
   pub last : AreLast bytes line
   pub none : rest ≡ []
@@ -95,7 +95,7 @@ pub record IsAtEnd (old new : Reading) (after : FilesTold) (bytes : List ℕ) : 
   pub ended : new.ended ≡ true
   pub text : new.text ≡ []
 
--- a front of the bytes was taken and is lost, and these are left of the file
+-- a prefix of the bytes was taken and is lost, and these are left of the file
 pub record Loses (old : Reading) (after : FilesTold) (bytes front rest : List ℕ) : Type 0 where
   pub are : bytes ≡ front ++ rest
   pub left : left_of after old.name ≡ Some rest

@@ -1,4 +1,4 @@
--- How the end of the next line is looked for, among the bytes in hand and those that are read behind them.
+-- How the end of the next line is looked for, among the bytes in hand and those that are read after them.
 use Rattle.std.specs.Prelude.{◌≡◌, ◌≢◌, ◌⊎◌, ℕ, ◌+◌, ◌<◌, ◌≤◌, ◌++◌, List, [], ◌∷◌, length, take, drop, Bool, true, false}
 use Rattle.std.specs.Io.KnownBytes.{Consumes, IsAtEnd}
 use Rattle.cb_io.specs.declared.line_end.LineEnd.{LineEnd}
@@ -42,7 +42,7 @@ behind_of end = end.length + lf_count end.is_last
 abbrev pub size_of : LineEnd → ℕ
 size_of end = end.lost + behind_of end
 
--- the bytes in hand end a line at a place: a LF is there, or nothing comes behind them
+-- the bytes in hand end a line at a place: a LF is there, or nothing comes after them
 abbrev pub EndsBy : List ℕ → FilesTold → List ℕ → ℕ → Bool → Type 0
 EndsBy kept after name length_is true = (length_is ≡ length kept) × IsAtEnd (left_of after name)
 EndsBy kept after name length_is false = kept ≡ take length_is kept ++ 10 ∷ drop (length_is + 1) kept

@@ -37,8 +37,8 @@ abbrev pub with_failing : CallsState → ℕ → CallsState
 with_failing calls call = record calls { failing = calls.failing ++ call ∷ [] }
 
 -- the next call is to fail
-abbrev pub IsDue : CallsState → Type 0
-IsDue calls = Contains calls.failing (next_count calls.made)
+abbrev pub IsNextFailing : CallsState → Type 0
+IsNextFailing calls = Contains calls.failing (next_count calls.made)
 
 -- no call yet, and none that is to fail
 abbrev pub no_calls : CallsState
@@ -56,7 +56,7 @@ file_of state name = unwrap_or (look_up state.files name) (record { left = []; f
 abbrev pub with_file : FilesState → List ℕ → FileState → FilesState
 with_file state name file = record state { files = put state.files name file }
 
--- the files with these bytes behind those left of the name
+-- the files with these bytes after those left of the name
 abbrev pub with_bytes : FilesState → List ℕ → List ℕ → FilesState
 with_bytes state name bytes =
     let file = file_of state name in with_file state name (record file { left = file.left ++ bytes })

@@ -33,8 +33,8 @@ abbrev pub left_of : FilesTold → List ℕ → Option (List ℕ)
 left_of told name = option_map (λ left. bytes_of left name) told.left
 
 -- a read moved the front of what was left of the name to the front of buf, no byte only at the end, and none with an error
-abbrev pub Reads : {E : Type 0} → FilesTold → FilesTold → List ℕ → Result ℕ E → List ℕ → Type 0
-Reads old new name result buf = ReadConsumes (left_of old name) (left_of new name) result buf
+abbrev pub ReadsBytes : {E : Type 0} → FilesTold → FilesTold → List ℕ → Result ℕ E → List ℕ → Type 0
+ReadsBytes old new name result buf = ReadConsumes (left_of old name) (left_of new name) result buf
 
 -- all known bytes were taken
 abbrev pub TakesAll : Option (List ℕ) → Option (List ℕ) → List ℕ → Type 0
@@ -45,11 +45,11 @@ TakesAll (Some left) new all = (all ≡ left) × (new ≡ Some [])
 abbrev pub ReadsAll : FilesTold → FilesTold → List ℕ → List ℕ → Type 0
 ReadsAll old new name all = TakesAll (left_of old name) (left_of new name) all
 
--- a front of what was left of the name came
+-- a prefix of what was left of the name came
 abbrev pub ReadsFront : FilesTold → FilesTold → List ℕ → Type 0
 ReadsFront old new name = (front : List ℕ) × Consumes (left_of old name) (left_of new name) front
 
--- a front of what was left of the name came, of at most so many bytes
+-- a prefix of what was left of the name came, of at most so many bytes
 abbrev pub ReadsNoMoreThan : FilesTold → FilesTold → List ℕ → ℕ → Type 0
 ReadsNoMoreThan old new name most = (front : List ℕ) × (length front ≤ most) × Consumes (left_of old name) (left_of new name) front
 
@@ -69,6 +69,14 @@ NoCountFalls old new = (name : List ℕ) → old.faults name ≤ new.faults name
 abbrev pub ReadFailed : FilesTold → FilesTold → List ℕ → Type 0
 ReadFailed old new name = Rose (old.faults name) (new.faults name)
 
+-- no name has more failed reads, and none fewer
+abbrev pub SameFaults : FilesTold → FilesTold → Type 0
+SameFaults old new = (name : List ℕ) → new.faults name ≡ old.faults name
+
+-- the name has one failed read more, or stands at the last count, and every other name as many as before
+abbrev pub OneMoreFault : FilesTold → FilesTold → List ℕ → Type 0
+OneMoreFault old new name = (new.faults name ≡ next_count (old.faults name)) × ((other : List ℕ) → other ≢ name → new.faults other ≡ old.faults other)
+
 -- what a name gives that is read after these: the bytes left of it, and none where it is one of them
 abbrev pub contents : List (List ℕ × List ℕ) → List (List ℕ) → List ℕ → List ℕ
 contents left earlier name = if list_any (λ other. bytes_eq other name) earlier then [] else bytes_of left name
@@ -81,11 +89,11 @@ ReadsEach old new names = IfSome old.left (λ left. (name : List ℕ) → left_o
 abbrev pub Writes : {E : Type 0} → SinkTold → SinkTold → Result ℕ E → List ℕ → Type 0
 Writes old new result bytes = WriteAppends old.taken new.taken result bytes
 
--- all these bytes were taken, behind those taken before
+-- all these bytes were taken, after those taken before
 abbrev pub WritesAll : SinkTold → SinkTold → List ℕ → Type 0
 WritesAll old new bytes = Appends old.taken new.taken bytes
 
--- a front of these bytes was taken
+-- a prefix of these bytes was taken
 abbrev pub WritesFront : SinkTold → SinkTold → List ℕ → Type 0
 WritesFront old new bytes = (n : ℕ) × (n ≤ length bytes) × Appends old.taken new.taken (take n bytes)
 

@@ -1,12 +1,12 @@
 //! The calls of a fake.
 ghost use Rattle.std.specs.Prelude.{◌≡◌, ◌↔◌, IsTrue, OnOk, OnErr};
-ghost use Rattle.cb_io.specs.Memory.{next_call, with_failing, no_calls, IsDue};
+ghost use Rattle.cb_io.specs.Memory.{next_call, with_failing, no_calls, IsNextFailing};
 
 use std::alloc::{AllocError, Global};
 use std::marker::Model;
 
 // How many calls there were, and the numbers of those that are to fail. The first call has the number 1.
-#[derive(Debug, Drop)]
+#[derive(Drop)]
 pub(crate) struct Calls {
     made: u64,
     failing: Vec<u64>,
@@ -41,7 +41,7 @@ impl Calls {
     // Counts a call, and says whether it is to fail.
     pub(crate) fn count(&mut self) -> bool
         ensures counted { self.new ≡ next_call self.old }
-        ensures due { IsTrue result ↔ IsDue self.old }
+        ensures due { IsTrue result ↔ IsNextFailing self.old }
     {
         self.made = self.made.saturating_add(1);
         self.failing.contains(&self.made)

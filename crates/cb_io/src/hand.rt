@@ -1,7 +1,7 @@
 //! The bytes in hand of a file that is read line by line.
 ghost use Rattle.std.specs.Prelude.{◌≡◌, ◌+◌, ◌-◌, ◌<◌, ◌≤◌, [], length, take, drop, slice_range, vec_len, IfOk, IsErrOf};
 ghost use Rattle.cb_io.specs.Hand.{Refills, with_text};
-ghost use Rattle.cb_io.specs.Outside.{KeepsOthers, NoCountFalls, ReadFailed, Reads};
+ghost use Rattle.cb_io.specs.Outside.{KeepsOthers, NoCountFalls, ReadFailed, ReadsBytes};
 ghost use Rattle.cb_io.specs.Pieces.{piece_limit};
 
 use crate::whole::PIECE;
@@ -9,7 +9,7 @@ use crate::{FileStop, Files};
 use std::alloc::{AllocError, Global};
 use std::marker::Model;
 
-// The text of the last line and the bytes that were taken behind it, two parts of one buffer.
+// The text of the last line and the bytes that were taken after it, two parts of one buffer.
 #[derive(Drop)]
 pub(crate) struct Hand {
     buffer: Vec<u8>,
@@ -36,7 +36,7 @@ impl Model for Hand {
 }
 
 impl Hand {
-    // Nothing in hand, and room for so many bytes and a piece behind them.
+    // Nothing in hand, and room for so many bytes and a piece after them.
     pub(crate) fn new(alloc: Global, most: usize) -> Result<Self, AllocError>
         ensures text { IfOk result (λ hand. hand.text ≡ []) }
         ensures kept { IfOk result (λ hand. hand.kept ≡ []) }
@@ -74,7 +74,7 @@ impl Hand {
         self.kept_from += behind;
     }
 
-    // Reads a piece of the file behind what is kept, which moves to the front. The last text is gone.
+    // Reads a piece of the file after what is kept, which moves to the front. The last text is gone.
     pub(crate) fn refill<F: Files>(&mut self, files: &mut F, name: &str) -> Result<usize, FileStop>
         requires { length self.old.kept < self.old.size }
         ensures size { self.new.size ≡ self.old.size }
@@ -105,7 +105,7 @@ fn make_buffer(alloc: Global, most: usize) -> Result<Vec<u8>, AllocError>
     }
 }
 
-// Reads a piece of the file into a buffer, behind its first bytes.
+// Reads a piece of the file into a buffer, after its first bytes.
 fn read_behind<F: Files>(
     files: &mut F,
     name: &str,
@@ -117,7 +117,7 @@ fn read_behind<F: Files>(
     ensures front { take length buffer.new.items ≡ take length buffer.old.items }
     ensures few { IfOk result (λ count. count ≤ piece_limit) }
     ensures within { IfOk result (λ count. length + count ≤ vec_len buffer.new) }
-    ensures bytes { Reads (F.tells files.old) (F.tells files.new) name.now result (drop length buffer.new.items) }
+    ensures bytes { ReadsBytes (F.tells files.old) (F.tells files.new) name.now result (drop length buffer.new.items) }
     ensures others { KeepsOthers (F.tells files.old) (F.tells files.new) name.now }
     ensures counts { NoCountFalls (F.tells files.old) (F.tells files.new) }
     ensures failed { IsErrOf result FileStop.Failed → ReadFailed (F.tells files.old) (F.tells files.new) name.now }

@@ -1,9 +1,9 @@
 //! The machine's files, and standard input.
-ghost use Rattle.std.specs.Prelude.{◌≡◌, ◌<◌, ◌≤◌, List, ℕ, [], ◌∷◌, ◌++◌, length, position, unwrap_or, IfOk, IfSome, OnOk, OnErr, None, Some};
+ghost use Rattle.std.specs.Prelude.{◌≡◌, ◌<◌, ◌≤◌, List, ℕ, [], ◌∷◌, ◌++◌, length, position, unwrap_or, IfOk, IfSome, OnOk, OnErr, IsErrOf, None, Some};
 ghost use Rattle.std.specs.Io.{ReadsAtMost};
 ghost use Rattle.std.specs.Str.{bytes_eq};
 ghost use Rattle.cb_io.specs.Pairs.{look_up};
-ghost use Rattle.cb_io.specs.Outside.{next_count};
+ghost use Rattle.cb_io.specs.Outside.{next_count, ReadsBytes, KeepsOthers, NoCountFalls, ReadFailed, SameFaults, OneMoreFault};
 ghost use Rattle.cb_io.specs.Host.{host_told};
 
 use crate::{FileStop, Files};
@@ -98,7 +98,7 @@ impl<R: rt::Files + Input> Opened<R> {
 }
 
 /// The files of the machine, and standard input as `-`. A file is opened at its first read and stays open. What is left
-/// isn't told; each refusal of the system is a fault of its name.
+/// isn't reported; each refusal of the system is a fault of its name.
 #[derive(Drop)]
 pub struct HostFiles<'a, R: rt::Files + Input> {
     alloc: Global,
@@ -155,7 +155,19 @@ impl<'a, R: rt::Files + Input> HostFiles<'a, R> {
 impl<'a, R: rt::Files + Input> Files for HostFiles<'a, R> {
     ghost tells = { host_told };
 
-    fn read(&mut self, name: &str, buf: &mut [u8]) -> Result<usize, FileStop> {
+    fn read(&mut self, name: &str, buf: &mut [u8]) -> Result<usize, FileStop>
+        requires { 0 < length buf.old }
+        ensures bound { ReadsAtMost result buf.new }
+        ensures bytes { ReadsBytes (host_told self.old) (host_told self.new) name.now result buf.new }
+        ensures others { KeepsOthers (host_told self.old) (host_told self.new) name.now }
+        ensures counts { NoCountFalls (host_told self.old) (host_told self.new) }
+        ensures failed { IsErrOf result FileStop.Failed → ReadFailed (host_told self.old) (host_told self.new) name.now }
+
+        // Each Failed is one fault of its name, and nothing else is.
+        ensures ok { OnOk result (SameFaults (host_told self.old) (host_told self.new)) }
+        ensures err { IsErrOf result FileStop.Failed → OneMoreFault (host_told self.old) (host_told self.new) name.now }
+        ensures no_memory { IsErrOf result FileStop.NoMemory → SameFaults (host_told self.old) (host_told self.new) }
+    {
         match admit(self.alloc, &mut self.opened, name) {
             Ok(place) => {
                 let opened = &mut self.opened[place];

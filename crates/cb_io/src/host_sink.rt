@@ -7,7 +7,7 @@ use crate::{Failed, Sink};
 use std::io::Write;
 use std::marker::Model;
 
-/// Writes to a writer of `std`, as standard output, and flushes each time. What was taken isn't told; each refusal of the
+/// Writes to a writer of `std`, as standard output, and flushes each time. What was taken isn't reported; each refusal of the
 /// writer is a fault.
 #[derive(Drop)]
 pub struct HostSink<W: Write + Drop> {

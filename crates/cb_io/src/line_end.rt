@@ -11,7 +11,7 @@ use memchr::memchr;
 
 // Where a line ends: how many of its bytes were thrown away, how many it has of those in hand, and whether it is the last one,
 // which the end of the file ends, not a LF.
-#[derive(Clone, Copy, Debug)]
+#[derive(Clone, Copy)]
 pub(crate) struct LineEnd {
     pub(crate) lost: u64,
     pub(crate) length: usize,

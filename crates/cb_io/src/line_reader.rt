@@ -1,6 +1,6 @@
 //! A file line by line, over any files.
 ghost use Rattle.std.specs.Prelude.{◌≡◌, ◌+◌, ◌≤◌, length, true, false, IfOk, IfSome, OnErr, IsErrOf};
-ghost use Rattle.cb_io.specs.LineGiving.{Tells};
+ghost use Rattle.cb_io.specs.LineGiving.{IsGivenLine};
 ghost use Rattle.cb_io.specs.LineReading.{Reading, unread, coming, ReadsSame, Says, IsOneLine, IsNumbered, GoesOn, Advances};
 ghost use Rattle.cb_io.specs.LineSearch.{behind_of, size_of};
 ghost use Rattle.cb_io.specs.Pieces.{piece_limit};
@@ -13,11 +13,11 @@ use std::alloc::{AllocError, Global};
 use std::marker::Model;
 
 /// One answer of a reader of lines.
-#[derive(Clone, Copy, Debug, PartialEq, Eq)]
+#[derive(Clone, Copy, PartialEq, Eq)]
 pub enum Line {
     /// The line of this number, counted from 1; its bytes are the reader's text.
     Text { number: u64 },
-    /// The line of this number has too many bytes, which are passed over.
+    /// The line of this number has too many bytes, which are ignored.
     Long { number: u64 },
     /// There is no line any more.
     End,
@@ -106,12 +106,12 @@ impl<'n> LineReader<'n> {
         Ok(self.give(end))
     }
 
-    // Goes behind the line whose end was found, for which there is room.
+    // Goes after the line whose end was found, for which there is room.
     fn give(&mut self, end: LineEnd) -> Line
         requires in_hand { behind_of end ≤ length self.old.kept }
         requires within { self.old.given + size_of end ≤ self.old.total_most }
         requires few { length self.old.kept ≤ behind_of end + piece_limit }
-        ensures { Tells self.old end self.new result }
+        ensures { IsGivenLine self.old end self.new result }
     {
         self.ended = end.is_last;
         self.refused = false;
@@ -139,7 +139,7 @@ impl<'n> LineReader<'n> {
         self.hand.text()
     }
 
-    /// Whether the end has come, so that no line comes behind the one that was given.
+    /// Whether the end has come, so that no line comes after the one that was given.
     pub fn has_ended(&self) -> bool
         ensures { result ≡ self.now.ended }
     {

@@ -2,9 +2,9 @@
 ghost use Rattle.std.specs.Prelude.{◌≡◌, ◌+◌, ◌-◌, ◌^◌, ◌<◌, ◌≤◌, ◌⊎◌, ◌↔◌, [], ◌∷◌, ◌++◌, length, take, drop, min, position, IfOk, IfErr, OnOk, OnErr, IsErr, IsErrOf, IsNone, string_bytes};
 ghost use Rattle.std.specs.Io.{ReadsAtMost};
 ghost use Rattle.std.specs.Str.{bytes_eq};
-ghost use Rattle.cb_io.specs.Outside.{Reads, KeepsOthers, NoCountFalls, ReadFailed, next_count};
+ghost use Rattle.cb_io.specs.Outside.{ReadsBytes, KeepsOthers, NoCountFalls, ReadFailed, next_count};
 ghost use Rattle.cb_io.specs.Pairs.{look_up};
-ghost use Rattle.cb_io.specs.Memory.{file_of, with_bytes, with_failing, no_files, IsDue, after_read, after_fault, files_told};
+ghost use Rattle.cb_io.specs.Memory.{file_of, with_bytes, with_failing, no_files, IsNextFailing, after_read, after_fault, files_told};
 
 use crate::calls::Calls;
 use crate::{FileStop, Files};
@@ -12,15 +12,15 @@ use std::alloc::{AllocError, Global};
 use std::marker::Model;
 
 // A file that was added. Contracts see its name, and the bytes left with its faults.
-#[derive(Debug, Drop)]
-struct Entry {
+#[derive(Drop)]
+struct NamedBytes {
     name: String,
     bytes: Vec<u8>,
     at: usize,
     faults: u64,
 }
 
-impl Model for Entry {
+impl Model for NamedBytes {
     ghost use Rattle.std.specs.Prelude.{◌≤◌, List, ℕ, drop, vec_len, string_bytes};
     ghost use Rattle.cb_io.specs.Memory.{FileState};
 
@@ -31,11 +31,11 @@ impl Model for Entry {
     ghost invariant = { λ e. e.at ≤ vec_len e.bytes };
 }
 
-impl Entry {
+impl NamedBytes {
     fn new(alloc: Global, name: &str, bytes: &[u8], faults: u64) -> Result<Self, AllocError>
         ensures { IfOk result (λ e. e ≡ (name.now, record { left = bytes.now; faults = faults })) }
     {
-        Ok(Entry {
+        Ok(NamedBytes {
             name: String::from_str(alloc, name)?,
             bytes: Vec::from_slice(alloc, bytes)?,
             at: 0,
@@ -78,7 +78,7 @@ impl Entry {
 }
 
 // The place of the first entry of a name.
-fn place_of(entries: &[Entry], name: &str) -> Option<usize>
+fn place_of(entries: &[NamedBytes], name: &str) -> Option<usize>
     ensures { result ≡ position (λ e. bytes_eq e.0 name.now) entries.now }
 {
     entries.iter().position(|e| e.is_named(name))
@@ -86,10 +86,10 @@ fn place_of(entries: &[Entry], name: &str) -> Option<usize>
 
 /// Files that were added. They can be told to give small pieces, and to fail at certain calls; a read of a name that
 /// wasn't added fails always.
-#[derive(Debug, Drop)]
+#[derive(Drop)]
 pub struct MemFiles {
     alloc: Global,
-    entries: Vec<Entry>,
+    entries: Vec<NamedBytes>,
     unknown: u64,
     piece: usize,
     calls: Calls,
@@ -121,7 +121,7 @@ impl MemFiles {
         }
     }
 
-    /// Adds bytes behind those left of a name. A new name starts with the faults of all names that weren't added.
+    /// Adds bytes after those left of a name. A new name starts with the faults of all names that weren't added.
     pub fn add(&mut self, name: &str, bytes: &[u8]) -> Result<(), AllocError>
         ensures ok { OnOk result (self.new ≡ with_bytes self.old name.now bytes.now) }
         ensures err { OnErr result (self.new ≡ self.old) }
@@ -132,14 +132,14 @@ impl MemFiles {
                 entry.extend(bytes)
             }
             None => {
-                let entry = Entry::new(self.alloc, name, bytes, self.unknown)?;
+                let entry = NamedBytes::new(self.alloc, name, bytes, self.unknown)?;
                 self.entries.push(entry)?;
                 Ok(())
             }
         }
     }
 
-    /// From now on a read gives at most so many bytes.
+    /// From now on a read gives at most `most` bytes.
     pub fn piece(&mut self, most: usize)
         requires { 0 < most }
         ensures { self.new ≡ record self.old { piece = most } }
@@ -162,13 +162,13 @@ impl Files for MemFiles {
     fn read(&mut self, name: &str, buf: &mut [u8]) -> Result<usize, FileStop>
         requires { 0 < length buf.old }
         ensures bound { ReadsAtMost result buf.new }
-        ensures bytes { Reads (files_told self.old) (files_told self.new) name.now result buf.new }
+        ensures bytes { ReadsBytes (files_told self.old) (files_told self.new) name.now result buf.new }
         ensures others { KeepsOthers (files_told self.old) (files_told self.new) name.now }
         ensures counts { NoCountFalls (files_told self.old) (files_told self.new) }
         ensures failed { IsErrOf result FileStop.Failed → ReadFailed (files_told self.old) (files_told self.new) name.now }
 
         // Which calls fail, how many bytes the others give, and that nothing else changes.
-        ensures fails { IsErr result ↔ (IsDue self.old.calls ⊎ IsNone (look_up self.old.files name.now)) }
+        ensures fails { IsErr result ↔ (IsNextFailing self.old.calls ⊎ IsNone (look_up self.old.files name.now)) }
         ensures only_failed { IfErr result (λ stop. stop ≡ FileStop.Failed) }
         ensures count { IfOk result (λ n. let left = (file_of self.old name.now).left in
             n ≡ min (min (length left) self.old.piece) (length buf.old)) }

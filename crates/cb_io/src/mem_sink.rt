@@ -2,7 +2,7 @@
 ghost use Rattle.std.specs.Prelude.{◌≡◌, ◌+◌, ◌-◌, ◌^◌, ◌<◌, ◌≤◌, ◌⊎◌, ◌↔◌, [], ◌∷◌, ◌++◌, length, take, min, IfOk, OnOk, OnErr, IsErr};
 ghost use Rattle.std.specs.Io.{WritesAtMost};
 ghost use Rattle.cb_io.specs.Outside.{Writes, WriteFailed};
-ghost use Rattle.cb_io.specs.Memory.{IsDue, with_failing, new_sink, room_left, after_write, after_refused_write, sink_told};
+ghost use Rattle.cb_io.specs.Memory.{IsNextFailing, with_failing, new_sink, room_left, after_write, after_refused_write, sink_told};
 
 use crate::calls::Calls;
 use crate::{Failed, Sink};
@@ -11,7 +11,7 @@ use std::marker::Model;
 
 /// A sink that keeps what it takes. All its room is taken when it is made, so that a write needs no memory; it can be
 /// told to take small pieces, and to fail at certain calls.
-#[derive(Debug, Drop)]
+#[derive(Drop)]
 pub struct MemSink {
     bytes: Vec<u8>,
     room: usize,
@@ -33,7 +33,7 @@ impl Model for MemSink {
 }
 
 impl MemSink {
-    /// A sink with room for so many bytes, which takes as many at once as there is room for.
+    /// A sink with room for `room` bytes, which takes as many at once as fit.
     pub fn new(alloc: Global, room: usize) -> Result<Self, AllocError>
         ensures { IfOk result (λ sink. sink ≡ new_sink room) }
     {
@@ -46,7 +46,7 @@ impl MemSink {
         })
     }
 
-    /// From now on a write takes at most so many bytes.
+    /// From now on a write takes at most `most` bytes.
     pub fn piece(&mut self, most: usize)
         requires { 0 < most }
         ensures { self.new ≡ record self.old { piece = most } }
@@ -82,7 +82,7 @@ impl Sink for MemSink {
         ensures failed { OnErr result (WriteFailed (sink_told self.old) (sink_told self.new)) }
 
         // Which calls fail, how many bytes the others take, and that nothing else changes.
-        ensures fails { IsErr result ↔ (IsDue self.old.calls ⊎ (room_left self.old ≡ 0)) }
+        ensures fails { IsErr result ↔ (IsNextFailing self.old.calls ⊎ (room_left self.old ≡ 0)) }
         ensures count { IfOk result (λ n. n ≡ min (min (length bytes.now) self.old.piece) (room_left self.old)) }
         ensures ok { IfOk result (λ n. self.new ≡ after_write self.old (take n bytes.now)) }
         ensures err { OnErr result (self.new ≡ after_refused_write self.old) }

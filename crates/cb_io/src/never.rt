@@ -1,7 +1,7 @@
 //! Files and a sink that never fail.
 ghost use Rattle.std.specs.Prelude.{◌≡◌, ◌<◌, ◌≤◌, length, IfOk, IsOk, OnOk, OnErr, IsErrOf};
 ghost use Rattle.std.specs.Io.{ReadsAtMost, WritesAtMost};
-ghost use Rattle.cb_io.specs.Outside.{Reads, KeepsOthers, NoCountFalls, ReadFailed, Writes, WriteFailed};
+ghost use Rattle.cb_io.specs.Outside.{ReadsBytes, KeepsOthers, NoCountFalls, ReadFailed, Writes, WriteFailed};
 ghost use Rattle.cb_io.specs.Memory.{no_files, with_bytes};
 ghost use Rattle.cb_io.specs.Never.{never_told, sink_never_told};
 
@@ -11,7 +11,7 @@ use std::alloc::{AllocError, Global};
 use std::marker::Model;
 
 /// Files in memory of which each read succeeds: a name that wasn't added has no bytes.
-#[derive(Debug, Drop)]
+#[derive(Drop)]
 pub struct NeverFiles {
     files: MemFiles,
 }
@@ -37,7 +37,7 @@ impl NeverFiles {
         }
     }
 
-    /// Adds bytes behind those left of a name.
+    /// Adds bytes after those left of a name.
     pub fn add(&mut self, name: &str, bytes: &[u8]) -> Result<(), AllocError>
         ensures ok { OnOk result (self.new ≡ with_bytes self.old name.now bytes.now) }
         ensures err { OnErr result (self.new ≡ self.old) }
@@ -53,7 +53,7 @@ impl Files for NeverFiles {
         requires { 0 < length buf.old }
         ensures never_fails { IsOk result }
         ensures bound { ReadsAtMost result buf.new }
-        ensures bytes { Reads (never_told self.old) (never_told self.new) name.now result buf.new }
+        ensures bytes { ReadsBytes (never_told self.old) (never_told self.new) name.now result buf.new }
         ensures others { KeepsOthers (never_told self.old) (never_told self.new) name.now }
         ensures counts { NoCountFalls (never_told self.old) (never_told self.new) }
         ensures failed { IsErrOf result FileStop.Failed → ReadFailed (never_told self.old) (never_told self.new) name.now }
@@ -64,7 +64,7 @@ impl Files for NeverFiles {
 }
 
 /// A sink that throws away what it takes.
-#[derive(Clone, Copy, Debug)]
+#[derive(Clone, Copy)]
 pub struct NeverSink;
 
 impl NeverSink {

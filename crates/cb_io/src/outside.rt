@@ -1,7 +1,7 @@
 //! Files and sinks, by what they tell of themselves before and after a call.
 ghost use Rattle.std.specs.Prelude.{◌≡◌, ◌<◌, ◌≤◌, length, IfOk, OnErr, IsErrOf};
 ghost use Rattle.std.specs.Io.{ReadsAtMost, WritesAtMost};
-ghost use Rattle.cb_io.specs.Outside.{FilesTold, SinkTold, Reads, KeepsOthers, NoCountFalls, ReadFailed, Writes, WriteFailed};
+ghost use Rattle.cb_io.specs.Outside.{FilesTold, SinkTold, ReadsBytes, KeepsOthers, NoCountFalls, ReadFailed, Writes, WriteFailed};
 
 /// Why a read gave nothing.
 #[derive(Clone, Copy, Debug, PartialEq, Eq)]
@@ -26,7 +26,7 @@ pub trait Files {
     fn read(&mut self, name: &str, buf: &mut [u8]) -> Result<usize, FileStop>
         requires { 0 < length buf.old }
         ensures bound { ReadsAtMost result buf.new }
-        ensures bytes { Reads (tells self.old) (tells self.new) name.now result buf.new }
+        ensures bytes { ReadsBytes (tells self.old) (tells self.new) name.now result buf.new }
         ensures others { KeepsOthers (tells self.old) (tells self.new) name.now }
         ensures counts { NoCountFalls (tells self.old) (tells self.new) }
         ensures failed { IsErrOf result FileStop.Failed → ReadFailed (tells self.old) (tells self.new) name.now };

@@ -9,7 +9,7 @@ use thiserror::Error;
 // How many bytes are asked for at once: enough that a system call for each costs nothing beside the copying.
 pub(crate) const PIECE: usize = 64 << 10;
 
-/// Why a file wasn't read whole. A front of it may have been taken.
+/// Why a file wasn't read whole. A prefix of it may have been taken.
 #[derive(Clone, Copy, Debug, PartialEq, Eq, Error)]
 pub enum ReadStop {
     /// A read of the name failed, and its count of faults rose.
@@ -48,7 +48,7 @@ impl From<AllocError> for ReadStop {
     }
 }
 
-/// Writes all the bytes, or a front of them before a fault.
+/// Writes all the bytes, or a prefix of them before a fault.
 pub fn write_all<S: Sink>(sink: &mut S, bytes: &[u8]) -> Result<(), Failed>
     ensures all { OnOk result (WritesAll (S.tells sink.old) (S.tells sink.new) bytes.now) }
     ensures front { WritesFront (S.tells sink.old) (S.tells sink.new) bytes.now }

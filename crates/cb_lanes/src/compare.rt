@@ -37,7 +37,7 @@ fn lanes_are_same(a: &[u64], b: &[u64]) -> bool
     true
 }
 
-// Whether the words behind the last whole lane are the same.
+// Whether the words after the last whole lane are the same.
 fn rest_is_same(a: &[u64], b: &[u64]) -> bool
     requires { length a.now ≡ length b.now }
     ensures { IsTrue result ↔ SameWords a.now b.now (4 * (length a.now / 4)) (length a.now) }
@@ -63,7 +63,7 @@ fn lanes_are_apart(a: &[u64], b: &[u64]) -> bool
     true
 }
 
-// Whether no bit of the words behind the last whole lane is one in both.
+// Whether no bit of the words after the last whole lane is one in both.
 fn rest_is_apart(a: &[u64], b: &[u64]) -> bool
     requires { length a.now ≡ length b.now }
     ensures { IsTrue result ↔ WordsApart a.now b.now (4 * (length a.now / 4)) (length a.now) }

@@ -1,4 +1,4 @@
--- Behind a place one thing stands next: a token, a byte that begins none, a run that is too long, or the end.
+-- After a place one thing stands next: a token, a byte that begins none, a run that is too long, or the end.
 use Rattle.std.proofs.Common.{◌≡◌, refl, ap, sym, ◌∙◌, subst, ℕ, ◌-◌, ◌≤◌, List, [], ◌∷◌, ◌++◌, length, drop, false, None, Some, arith, length-take, inl, inr}
 use Rattle.std.specs.Prelude.{slice_range, IsSome}
 use Rattle.cb_text.specs.Names.{IsRun}
@@ -77,6 +77,7 @@ short text r start lexemes.Semicolon at = omega arith
 short text r start lexemes.Colon at = omega arith
 short text r start lexemes.Dot at = omega arith
 short text r start lexemes.Arrow at = omega arith
+short text r start lexemes.Plus at = omega arith
 
 -- at one place there is no token and a run that is too long
 token_not_long : (text : List ℕ) (from start : ℕ) (k : Lexeme) (end to : ℕ) → Stands text from start k end → IsLongRun text start to → ⊥
@@ -118,7 +119,7 @@ bad_long text from s s' a b =
     let same = meets text from s s' a.0 b.0 (bad_no_gap (drop s.at text) a.1) (long_no_gap text s'.at b.1.0 b.1.1) in
     bad_not_long text s'.at b.1.0 (subst (λ n. BeginsNone (drop n text)) same a.1) b.1.1
 
--- behind a place one thing stands next
+-- after a place one thing stands next
 pub one_next : (text : List ℕ) (from : ℕ) (found found' : Found) → IsNext text from found → IsNext text from found' → found ≡ found'
 one_next text from (Token k s e) (Token k' s' e') a b =
     let same = one_token text from s.at s'.at k k' e.at e'.at a.2 b.2 in

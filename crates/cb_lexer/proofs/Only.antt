@@ -1,4 +1,4 @@
--- One token stands behind a place.
+-- One token stands after a place.
 use Rattle.std.proofs.Common.{◌≡◌, refl, ap, sym, ◌∙◌, subst, ℕ, ◌+◌, ◌≤◌, List, [], ◌∷◌, ◌++◌, length, drop, Bool, false, Option, None, Some, arith, rules, inl, inr}
 use Rattle.std.specs.Cmp.Lexicographic.{pointwise}
 use Rattle.std.specs.Prelude.{◌⊎◌, if◌then◌else◌, codes, nat_eq, slice_range}
@@ -48,6 +48,7 @@ shape text rest start lexemes.Semicolon at = inr tt
 shape text rest start lexemes.Colon at = inr tt
 shape text rest start lexemes.Dot at = inr tt
 shape text rest start lexemes.Arrow at = inr tt
+shape text rest start lexemes.Plus at = inr tt
 shape text rest start (lexemes.Name t) at = inl (at.name.run, at.ends)
 shape text rest start lexemes.Class at = inl (word_run lexemes.Class tt, at)
 shape text rest start lexemes.Extends at = inl (word_run lexemes.Extends tt, at)
@@ -82,7 +83,7 @@ fixed_of bs =
     if pointwise nat_eq bs (codes "inverse") then Some lexemes.Inverse else (if pointwise nat_eq bs (codes "rule") then Some lexemes.Rule else (if pointwise nat_eq bs (codes "block") then Some lexemes.Block else (
     if pointwise nat_eq bs (codes "hide") then Some lexemes.Hide else (if pointwise nat_eq bs (codes "{") then Some lexemes.Open else (if pointwise nat_eq bs (codes "}") then Some lexemes.Close else (
     if pointwise nat_eq bs (codes ";") then Some lexemes.Semicolon else (if pointwise nat_eq bs (codes ":") then Some lexemes.Colon else (if pointwise nat_eq bs (codes ".") then Some lexemes.Dot else (
-    if pointwise nat_eq bs (codes "=>") then Some lexemes.Arrow else (None)))))))))))))))))))
+    if pointwise nat_eq bs (codes "=>") then Some lexemes.Arrow else (if pointwise nat_eq bs (codes "+") then Some lexemes.Plus else (None))))))))))))))))))))
 
 abbrev IsFixed : Lexeme → Type 0
 IsFixed (lexemes.Name t) = ⊥
@@ -108,6 +109,7 @@ told lexemes.Semicolon f = refl
 told lexemes.Colon f = refl
 told lexemes.Dot f = refl
 told lexemes.Arrow f = refl
+told lexemes.Plus f = refl
 told (lexemes.Name t) f = absurd f
 
 fixed_kinds : (k : Lexeme) → IsFixed k → IsWord k ⊎ IsSign k
@@ -117,6 +119,7 @@ fixed_kinds lexemes.Semicolon f = inr tt
 fixed_kinds lexemes.Colon f = inr tt
 fixed_kinds lexemes.Dot f = inr tt
 fixed_kinds lexemes.Arrow f = inr tt
+fixed_kinds lexemes.Plus f = inr tt
 fixed_kinds (lexemes.Name t) f = absurd f
 fixed_kinds lexemes.Class f = inl tt
 fixed_kinds lexemes.Extends f = inl tt
@@ -153,6 +156,7 @@ name_or_fixed lexemes.Semicolon = inr tt
 name_or_fixed lexemes.Colon = inr tt
 name_or_fixed lexemes.Dot = inr tt
 name_or_fixed lexemes.Arrow = inr tt
+name_or_fixed lexemes.Plus = inr tt
 
 -- no name has the bytes of a fixed token
 name_not_fixed : (name : List ℕ) (k : Lexeme) → IsName name → IsFixed k → name ≡ bytes_of k → ⊥
@@ -185,7 +189,7 @@ token_starts : (k : Lexeme) (r : List ℕ) → Shape k r → NoGapAt (bytes_of k
 token_starts k r (inl a) = run_starts (bytes_of k) r a.0
 token_starts k r (inr s) = sign_starts k r s
 
--- a token's bytes and what is behind them
+-- a token's bytes and what is after them
 pub token_cut : (text : List ℕ) (from start : ℕ) (k : Lexeme) (end : ℕ) → Stands text from start k end → bytes_of k ++ drop end text ≡ drop start text
 token_cut text from start k end s = ap (λ l. l ++ drop end text) (sym s.bytes) ∙ split_at text start end (omega (arith, s.length))
 
@@ -193,7 +197,7 @@ token_cut text from start k end s = ap (λ l. l ++ drop end text) (sym s.bytes) 
 pub token_no_gap : (text : List ℕ) (from start : ℕ) (k : Lexeme) (end : ℕ) → Stands text from start k end → NoGapAt (drop start text)
 token_no_gap text from start k end s = subst NoGapAt (token_cut text from start k end s) (token_starts k (drop end text) (shape text (drop end text) start k s.whole))
 
--- of two places behind a gap at what is no part of one, each is the other
+-- of two places after a gap at what is no part of one, each is the other
 pub one_place : (text : List ℕ) (from at at' : ℕ) → from ≤ at → from ≤ at' → at ≤ length text → at' ≤ length text → IsGap (slice_range text from at) → IsGap (slice_range text from at') →
     NoGapAt (drop at text) → NoGapAt (drop at' text) → at ≡ at'
 one_place text from at at' after after' within within' gap gap' none none' =
@@ -208,12 +212,12 @@ one_there text from start k k' end end' s s' =
     (token_cut text from start k end s ∙ sym (token_cut text from start k' end' s')) in
     (same_token text (drop end text) (drop end' text) start k k' s.whole s'.whole bytes, omega (arith, s.length, s'.length, ap length bytes))
 
--- two tokens behind one place begin at one place
+-- two tokens after one place begin at one place
 token_place : (text : List ℕ) (from start start' : ℕ) (k k' : Lexeme) (end end' : ℕ) → Stands text from start k end → Stands text from start' k' end' → start ≡ start'
 token_place text from start start' k k' end end' s s' =
     one_place text from start start' s.after s'.after (omega (arith, s.length, s.within)) (omega (arith, s'.length, s'.within)) s.gap s'.gap (token_no_gap text from start k end s) (token_no_gap text from start' k' end' s')
 
--- one token stands behind a place
+-- one token stands after a place
 pub one_token : (text : List ℕ) (from start start' : ℕ) (k k' : Lexeme) (end end' : ℕ) → Stands text from start k end → Stands text from start' k' end' → (start ≡ start') × (k ≡ k') × (end ≡ end')
 one_token text from start start' k k' end end' s s' =
     let at : start ≡ start' = token_place text from start start' k k' end end' s s' in

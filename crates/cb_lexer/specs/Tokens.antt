@@ -29,6 +29,7 @@ bytes_of lexemes.Semicolon = codes ";"
 bytes_of lexemes.Colon = codes ":"
 bytes_of lexemes.Dot = codes "."
 bytes_of lexemes.Arrow = codes "=>"
+bytes_of lexemes.Plus = codes "+"
 bytes_of (lexemes.Name t) = t.name
 
 -- a reserved word
@@ -56,6 +57,7 @@ IsSign lexemes.Semicolon = Unit {0}
 IsSign lexemes.Colon = Unit {0}
 IsSign lexemes.Dot = Unit {0}
 IsSign lexemes.Arrow = Unit {0}
+IsSign lexemes.Plus = Unit {0}
 IsSign k = ⊥
 
 abbrev pub BeginsWith : List ℕ → List ℕ → Type 0
@@ -91,6 +93,7 @@ IsTokenAt text start lexemes.Semicolon rest = Unit {0}
 IsTokenAt text start lexemes.Colon rest = Unit {0}
 IsTokenAt text start lexemes.Dot rest = Unit {0}
 IsTokenAt text start lexemes.Arrow rest = Unit {0}
+IsTokenAt text start lexemes.Plus rest = Unit {0}
 IsTokenAt text start (lexemes.Name t) rest = IsNameAt text start t rest
 IsTokenAt text start k rest = EndsRun rest
 
@@ -103,10 +106,10 @@ pub record Stands (text : List ℕ) (from start : ℕ) (k : Lexeme) (end : ℕ) 
   pub bytes : slice_range text start end ≡ bytes_of k
   pub whole : IsTokenAt text start k (drop end text)
 
--- these tokens stand in the text, one behind the other, from one place to another
-abbrev pub Reads : List ℕ → ℕ → List Lexeme → ℕ → Type 0
-Reads text from [] to = from ≡ to
-Reads text from (k ∷ ks) to = (start mid : ℕ) × Stands text from start k mid × Reads text mid ks to
+-- these tokens stand in the text, one after the other, from one place to another
+abbrev pub ReadsTokens : List ℕ → ℕ → List Lexeme → ℕ → Type 0
+ReadsTokens text from [] to = from ≡ to
+ReadsTokens text from (k ∷ ks) to = (start mid : ℕ) × Stands text from start k mid × ReadsTokens text mid ks to
 
 -- a name that begins at a place
 pub record IsNameFrom (start : Spot) (t : Token) : Type 0 where

@@ -5,7 +5,7 @@ ghost use Rattle.cb_lexer.specs.Tokens.{IsSignAt, NoSign};
 use cb_grammar::Lexeme;
 
 /// The sign at the front of the bytes, and its length.
-pub fn sign(bytes: &[u8]) -> Option<(Lexeme, usize)>
+pub(crate) fn sign(bytes: &[u8]) -> Option<(Lexeme, usize)>
     ensures { MatchOption result (NoSign bytes.now) (λ found. IsSignAt bytes.now found.0 found.1) }
 {
     match bytes {
@@ -15,6 +15,7 @@ pub fn sign(bytes: &[u8]) -> Option<(Lexeme, usize)>
         [b':', ..] => Some((Lexeme::Colon, 1)),
         [b'.', ..] => Some((Lexeme::Dot, 1)),
         [b'=', b'>', ..] => Some((Lexeme::Arrow, 2)),
+        [b'+', ..] => Some((Lexeme::Plus, 1)),
         _ => None,
     }
 }

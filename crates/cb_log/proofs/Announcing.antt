@@ -1,4 +1,4 @@
--- Whether groups are far enough apart can be decided, and what is told of a codebook exists.
+-- Whether groups are far enough apart can be decided, and what is reported of a codebook exists.
 use Rattle.std.proofs.Common.{◌≡◌, ◌≢◌, ◌⊎◌, ◌<◌, ◌≤◌, ℕ, zero, suc, List, [], ◌∷◌, length, refl, sym, ap, subst, ◌∙◌, inl, inr, arith, Bool, Some}
 use Rattle.std.proofs.lemmas.Bool.{cases_lt, cases_order}
 use Rattle.std.proofs.lemmas.List.{length-map}
@@ -55,7 +55,7 @@ module _ (columns : List ℕ) (codes : List (List Bool)) (d : ℕ) where
     ]
   ]
 
-  -- some code behind the one at this place is too close to it
+  -- some code after the one at this place is too close to it
   abbrev HasClose : ℕ → Type 0
   HasClose i = (j : ℕ) × (j < length codes) × Close i j × ((k : ℕ) → k < j → ¬ Close i k)
 
@@ -116,7 +116,7 @@ called width problems groups are (suc k) lt =
     contains_got (h ∷ gs) zero g e = subst (Contains (h ∷ gs)) (let f : h ≡ g = cc in f) (contains_head h gs)
     contains_got (h ∷ gs) (suc k) g e = contains_tail h gs g (contains_got gs k g e)
 
--- what is told of a codebook exists
+-- what is reported of a codebook exists
 pub announced : (network : Topology) (mode : Mode) (basis : Basis network mode) (d : ℕ) → (events : List Event) × IsAnnounced basis d events
 announced network mode basis d =
     let codes = codes_of basis.groups in

@@ -27,7 +27,7 @@ use Rattle.cb_log.specs.declared.record.Body.{Body}
 use Rattle.cb_log.specs.declared.record.Body.TheVariants.{Raise, Clear, Change, Tick}
 use Rattle.cb_log.specs.declared.record.Record.{Record}
 use Rattle.cb_log.specs.Basis.{Mode, wanted, fixed, Basis, IsUsed, IsDiagnosis, IsThin, book_made, IsAnnounced}
-use Rattle.cb_log.specs.Entries.{Entry, said, skipped, blank, records_of}
+use Rattle.cb_log.specs.Entries.{LogEntry, said, skipped, blank, records_of}
 use Rattle.cb_log.specs.Events.{IsNetwork, IsOpening, AreDiagnosed, Diagnoses, ClosingGives, IsRefusal, BodyGives, RecordGives, EntryGives, EntriesGive}
 use Rattle.cb_log.specs.Network.{edits_of}
 use Rattle.cb_log.proofs.ClosingOne.{closing_is_one}
@@ -232,13 +232,13 @@ module _ (t : Topology) (regular : IsRegular t.model) where
       let both : p.closings ++ p.refusals ≡ q.closings ++ q.refusals = λ i. closings i ++ refusals i in
       p.events_are ∙ (both ∙ sym q.events_are)
 
-  pub entry_gives_one : (mode : Mode) (w : ℕ) (records : List Record) (entry : Entry) (xs ys : List Event)
+  pub entry_gives_one : (mode : Mode) (w : ℕ) (records : List Record) (entry : LogEntry) (xs ys : List Event)
       → EntryGives t mode w records entry xs → EntryGives t mode w records entry ys → xs ≡ ys
   entry_gives_one mode w records (said line r) xs ys p q = record_is_one mode w records line r xs ys p q
   entry_gives_one mode w records (skipped line why) xs ys p q = p ∙ sym q
   entry_gives_one mode w records blank xs ys p q = p ∙ sym q
 
-  pub entries_give_one : (mode : Mode) (w : ℕ) (before entries : List Entry) (xs ys : List Event)
+  pub entries_give_one : (mode : Mode) (w : ℕ) (before entries : List LogEntry) (xs ys : List Event)
       → EntriesGive t mode w before entries xs → EntriesGive t mode w before entries ys → xs ≡ ys
   entries_give_one mode w before [] xs ys p q = p ∙ sym q
   entries_give_one mode w before (entry ∷ later) xs ys (x, xs', here, there, is) (y, ys', here', there', is') =

@@ -23,7 +23,7 @@ use Rattle.cb_log.specs.declared.record.Body.TheVariants.{Raise, Clear, Change, 
 use Rattle.cb_log.specs.declared.record.Record.{Record}
 use Rattle.cb_log.specs.Basis.{Mode, wanted, fixed, Basis, IsDiagnosis, IsThin, book_made}
 use Rattle.cb_log.specs.Closing.{ClosesAt, AreClosing}
-use Rattle.cb_log.specs.Entries.{Entry, said, skipped, blank, records_of}
+use Rattle.cb_log.specs.Entries.{LogEntry, said, skipped, blank, records_of}
 use Rattle.cb_log.specs.Events.{IsNetwork, IsOpening, Diagnoses, IsRefusal, BodyGives, EntryGives, EntriesGive, EndGives}
 use Rattle.cb_log.specs.Whole.{is_thin, TellsThin}
 use Rattle.cb_log.proofs.Longer.{length_push}
@@ -92,7 +92,7 @@ body_has_none t (fixed book) records line (Clear source node) events e p has thi
 body_has_none t (fixed book) records line Tick events e p has thin = no_event events e p has
 body_has_none t (fixed book) records line (Change edit) events e p has thin = one_event events _ e p refl has thin
 
--- ---- what is told before the first diagnosis
+-- ---- what is reported before the first diagnosis
 
 opening_tells : (t : Topology) (mode : Mode) (w : ℕ) (all records : List Record) (place : ℕ) (c : Closed) → ClosesAt all w place c
     → (network : Topology) → IsNetwork t mode (take place all) network → (basis : Basis network mode) (events : List Event)
@@ -124,7 +124,7 @@ opening_tells t (fixed book) w all records place c closes network is_network bas
 -- ---- a whole log
 
 module _ (t : Topology) (mode : Mode) (w : ℕ) (all : List Record) (e : Event) (thin : IsTrue (is_thin e)) where
-  -- among what is told of the windows that close at a place
+  -- among what is reported of the windows that close at a place
   in_closing : (records : List Record) (closing : List Closed) (events : List Event) → take (length records) all ≡ records
       → AreClosing all w (length records) closing → Diagnoses t mode w records closing events → Contains events e → TellsThin t mode w all e
   in_closing records [] events front closes none has = absurd (no_event events e none has)
@@ -143,8 +143,8 @@ module _ (t : Topology) (mode : Mode) (w : ℕ) (all : List Record) (e : Event) 
       let closes : AreClosing all w (length all) p.closing = subst (λ (rs : List Record). AreClosing rs w (length all) p.closing) (append-nil all) p.closes in
       in_closing all p.closing events (take-length all) closes p.diagnoses has
 
-  -- among what comes of an entry between others
-  in_entry : (before : List Entry) (entry : Entry) (later : List Entry) (events : List Event) → all ≡ records_of (before ++ entry ∷ later)
+  -- among what results from an entry between others
+  in_entry : (before : List LogEntry) (entry : LogEntry) (later : List LogEntry) (events : List Event) → all ≡ records_of (before ++ entry ∷ later)
       → EntryGives t mode w (records_of before) entry events → Contains events e → TellsThin t mode w all e
   in_entry before (skipped line why) later events whole is has = absurd (one_event events _ e is refl has thin)
   in_entry before blank later events whole is has = absurd (no_event events e is has)
@@ -162,7 +162,7 @@ module _ (t : Topology) (mode : Mode) (w : ℕ) (all : List Record) (e : Event) 
         | inr late ↦ absurd (body_has_none t mode records line r.body here.refusals e here.body late thin)
       ]
 
-  in_entries : (before entries : List Entry) (events : List Event) → all ≡ records_of (before ++ entries) → EntriesGive t mode w before entries events
+  in_entries : (before entries : List LogEntry) (events : List Event) → all ≡ records_of (before ++ entries) → EntriesGive t mode w before entries events
       → Contains events e → TellsThin t mode w all e
   in_entries before [] events whole none has = absurd (no_event events e none has)
   in_entries before (entry ∷ later) events whole (first, rest, here, there, is) has =
@@ -171,7 +171,7 @@ module _ (t : Topology) (mode : Mode) (w : ℕ) (all : List Record) (e : Event) 
         | inr late ↦ in_entries (before ++ entry ∷ []) later rest (whole ∙ ap records_of (sym (append_assoc before (entry ∷ []) later))) there late
       ]
 
-pub thins_are_close : (t : Topology) (mode : Mode) (w : ℕ) (entries : List Entry) (events ends : List Event)
+pub thins_are_close : (t : Topology) (mode : Mode) (w : ℕ) (entries : List LogEntry) (events ends : List Event)
     → EntriesGive t mode w [] entries events → EndGives t mode w (records_of entries) ends
     → (event : Event) → Contains (events ++ ends) event → IsTrue (is_thin event) → TellsThin t mode w (records_of entries) event
 thins_are_close t mode w entries events ends gives ending event has thin =
@@ -180,6 +180,6 @@ thins_are_close t mode w entries events ends gives ending event has thin =
       | inr late ↦ in_end t mode w (records_of entries) event thin ends ending late
     ]
 
-pub thins_so_far_are_close : (t : Topology) (mode : Mode) (w : ℕ) (entries : List Entry) (events : List Event) → EntriesGive t mode w [] entries events
+pub thins_so_far_are_close : (t : Topology) (mode : Mode) (w : ℕ) (entries : List LogEntry) (events : List Event) → EntriesGive t mode w [] entries events
     → (event : Event) → Contains events event → IsTrue (is_thin event) → TellsThin t mode w (records_of entries) event
 thins_so_far_are_close t mode w entries events gives event has thin = in_entries t mode w (records_of entries) event thin [] entries events refl gives has

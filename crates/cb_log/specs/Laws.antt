@@ -16,7 +16,7 @@ use Rattle.cb_log.specs.declared.record.Body.TheVariants.{Raise, Clear, Change}
 use Rattle.cb_log.specs.declared.record.Record.{Record}
 use Rattle.cb_log.specs.Basis.{Mode, wanted, Basis, IsDiagnosis}
 use Rattle.cb_log.specs.Closing.{ClosesAt, AreClosing}
-use Rattle.cb_log.specs.Entries.{Entry, records_of}
+use Rattle.cb_log.specs.Entries.{LogEntry, records_of}
 use Rattle.cb_log.specs.Events.{HasBook, EntryGives, EntriesGive, EndGives}
 use Rattle.cb_log.specs.Kept.{Kept, fresh, StandsFor}
 use Rattle.cb_log.specs.Network.{then_edits, IsNow, IsAcceptedAt}
@@ -76,26 +76,26 @@ ClosingStays = (records later : List Record) (w place : ℕ) (closing : List Clo
 
 -- from a topology of a checked model, one list of events comes of entries, and one of the end
 abbrev pub EventsAreOne : Type 0
-EventsAreOne = (t : Topology) (mode : Mode) (w : ℕ) (before entries : List Entry) (xs ys : List Event) → IsRegular t.model
+EventsAreOne = (t : Topology) (mode : Mode) (w : ℕ) (before entries : List LogEntry) (xs ys : List Event) → IsRegular t.model
     → (EntriesGive t mode w before entries xs → EntriesGive t mode w before entries ys → xs ≡ ys)
     × (EndGives t mode w (records_of before) xs → EndGives t mode w (records_of before) ys → xs ≡ ys)
 
 -- the events of a log have one diagnosis for each window, in the order in which the windows close, by the topology of that moment
 abbrev pub EachWindowIsDiagnosed : Type 0
-EachWindowIsDiagnosed = (t : Topology) (mode : Mode) (w : ℕ) (entries : List Entry) (events ends : List Event)
+EachWindowIsDiagnosed = (t : Topology) (mode : Mode) (w : ℕ) (entries : List LogEntry) (events ends : List Event)
     → EntriesGive t mode w [] entries events → EndGives t mode w (records_of entries) ends
     → OneForEach t mode w (records_of entries) (events ++ ends)
 
 -- each event of a log that says that two groups are too close names two that are, with their distance, by the topology of that moment; none
 -- comes where all groups are as far apart as wanted, nor where 1 is wanted
 abbrev pub ThinsAreClose : Type 0
-ThinsAreClose = (t : Topology) (mode : Mode) (w : ℕ) (entries : List Entry) (events ends : List Event)
+ThinsAreClose = (t : Topology) (mode : Mode) (w : ℕ) (entries : List LogEntry) (events ends : List Event)
     → EntriesGive t mode w [] entries events → EndGives t mode w (records_of entries) ends
     → (event : Event) → Contains (events ++ ends) event → IsTrue (is_thin event) → TellsThin t mode w (records_of entries) event
 
 -- the same of the events so far, while a log goes on
 abbrev pub ThinsSoFarAreClose : Type 0
-ThinsSoFarAreClose = (t : Topology) (mode : Mode) (w : ℕ) (entries : List Entry) (events : List Event) → EntriesGive t mode w [] entries events
+ThinsSoFarAreClose = (t : Topology) (mode : Mode) (w : ℕ) (entries : List LogEntry) (events : List Event) → EntriesGive t mode w [] entries events
     → (event : Event) → Contains events event → IsTrue (is_thin event) → TellsThin t mode w (records_of entries) event
 
 -- over the codebook for a wanted distance the groups are as far apart as it says
@@ -111,22 +111,22 @@ CauseIsNamedAlone = (network : Topology) (mode : Mode) (basis : Basis network mo
 
 -- the diagnoses of a source are those of the log in which the other sources say nothing, line by line and at the end
 abbrev pub SourcesAreIndependent : Type 0
-SourcesAreIndependent = (t : Topology) (mode : Mode) (w : ℕ) (source : List ℕ) (before entries : List Entry) (events quiet : List Event)
+SourcesAreIndependent = (t : Topology) (mode : Mode) (w : ℕ) (source : List ℕ) (before entries : List LogEntry) (events quiet : List Event)
     → IsRegular t.model
     → (EntriesGive t mode w before entries events → EntriesGive t mode w (quieted source before) (quieted source entries) quiet
     → diagnoses_of source events ≡ diagnoses_of source quiet)
     × (EndGives t mode w (records_of before) events → EndGives t mode w (records_of (quieted source before)) quiet
     → diagnoses_of source events ≡ diagnoses_of source quiet)
 
--- a codebook is in use behind a record exactly where it was before, or the record closes a window, and the record isn't an accepted edit
+-- a codebook is in use after a record exactly where it was before, or the record closes a window, and the record isn't an accepted edit
 abbrev pub BookInUseSteps : Type 0
 BookInUseSteps = (t : Topology) (records : List Record) (r : Record) (w : ℕ) → HasBook t w (records ++ r ∷ [])
     ↔ ((HasBook t w records ⊎ ((c : Closed) × ClosesAt (records ++ r ∷ []) w (length records) c))
     × ¬ IsAcceptedAt t (records ++ r ∷ []) (length records))
 
--- the events of entries with one more are those of the entries, and then those of the one behind them
+-- the events of entries with one more are those of the entries, and then those of the one after them
 abbrev pub EventsGoOn : Type 0
-EventsGoOn = (t : Topology) (mode : Mode) (w : ℕ) (before entries : List Entry) (entry : Entry) (events more : List Event)
+EventsGoOn = (t : Topology) (mode : Mode) (w : ℕ) (before entries : List LogEntry) (entry : LogEntry) (events more : List Event)
     → EntriesGive t mode w before entries events → EntryGives t mode w (records_of (before ++ entries)) entry more
     → EntriesGive t mode w before (entries ++ entry ∷ []) (events ++ more)
 
@@ -138,5 +138,5 @@ TopologyGoesOn = (t u : Topology) (records : List Record) (r : Record) → IsNow
 
 -- the diagnoses of a source in a log are those in the log in which the other sources say nothing, which has events too
 abbrev pub SourceStandsAlone : Type 0
-SourceStandsAlone = (t : Topology) (mode : Mode) (w : ℕ) (source : List ℕ) (entries : List Entry) (events ends : List Event) → IsRegular t.model
+SourceStandsAlone = (t : Topology) (mode : Mode) (w : ℕ) (source : List ℕ) (entries : List LogEntry) (events ends : List Event) → IsRegular t.model
     → EntriesGive t mode w [] entries events → EndGives t mode w (records_of entries) ends → SourceAlone t mode w source entries (events ++ ends)

@@ -9,7 +9,7 @@ abbrev pub log_time : List Record → ℕ
 log_time [] = 0
 log_time (r ∷ records) = max r.at (log_time records)
 
--- the log time at the record of this place; behind the last record it stays
+-- the log time at the record of this place; after the last record it stays
 abbrev pub time_at : List Record → ℕ → ℕ
 time_at records place = log_time (take (suc place) records)
 

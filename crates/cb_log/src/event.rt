@@ -1,4 +1,4 @@
-//! What comes of the lines of a log.
+//! What results from the lines of a log.
 use cb_finding::Finding;
 use cb_model::{GroupName, Name};
 use cb_network::EditRefusal;
@@ -41,7 +41,7 @@ pub enum RefusedWhy {
 }
 
 /// One thing that comes of a log.
-#[derive(Debug, Drop)]
+#[derive(Drop)]
 pub enum Event {
     /// The line of this number has no record.
     Skipped {

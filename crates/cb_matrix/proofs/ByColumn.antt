@@ -5,10 +5,10 @@ use Rattle.std.proofs.lemmas.Bool.{cases_eq}
 use Rattle.std.proofs.lemmas.List.{length-set, length-replicate}
 use Rattle.std.proofs.lemmas.Option.{slice_get_within}
 use Rattle.cb_nodes.specs.declared.id.NodeId.{NodeId}
-use Rattle.cb_reach.specs.Rows.{Has}
-use Rattle.cb_reach.proofs.Marks.{has_set, set_cases, nothing}
+use Rattle.cb_successors.specs.Rows.{Has}
+use Rattle.cb_successors.proofs.Marks.{has_set, set_cases, nothing}
 use Rattle.cb_graph.specs.Edges.{number}
-use Rattle.cb_matrix.specs.Codes.{ArePlaces, IsBelow, IsCodeOf}
+use Rattle.cb_matrix.specs.Codes.{IsColumnIndex, IsBelow, IsCodeOf}
 use Rattle.cb_matrix.proofs.Passed.{same_number, still}
 
 -- for each of the first columns, whether the row has it; none of the others yet
@@ -72,7 +72,7 @@ all_columns_coded columns reached to code all old = record {
 }
 
 -- columns that have places have numbers below the room
-pub columns_below : (room : ℕ) (columns : List NodeId) (places : List (Option ℕ)) → ArePlaces room columns places → IsBelow room columns
+pub columns_below : (room : ℕ) (columns : List NodeId) (places : List (Option ℕ)) → IsColumnIndex room columns places → IsBelow room columns
 columns_below room columns places are i id is =
     let low = slice_get_within places id.0 (Some i) (are.all id.0 i is) in
     let size = are.size in

@@ -12,7 +12,7 @@ use Rattle.cb_network.specs.Topology.{Topology}
 use Rattle.cb_finding.proofs.Nearest.{coded_are_wide}
 use Rattle.cb_topo.specs.Numbered.{Numbered, IsNodeNamed, AreNamed}
 use Rattle.cb_codes.specs.declared.grouping.Grouping.{Grouping}
-use Rattle.cb_codes.specs.Grouped.{group, AddsProblem, IsSound, Holds, groups_in}
+use Rattle.cb_codes.specs.Grouped.{group, AddsProblem, FitsTogether, Holds, groups_in}
 use Rattle.cb_matrix.specs.Coded.{IsProblemAt, AreProblemsAt, AreGroupedAt}
 use Rattle.cb_matrix.specs.declared.problems.GroupedProblems.{GroupedProblems}
 use Rattle.cb_matrix.specs.Problems.{AreAllGrouped}
@@ -26,7 +26,7 @@ length_zip R [] (y ∷ ys) zip = absurd zip
 length_zip R (x ∷ xs) [] zip = absurd zip
 length_zip R (x ∷ xs) (y ∷ ys) zip = ap suc (length_zip R xs ys zip.1)
 
--- a front that ends with an item
+-- a prefix that ends with an item
 front : {X : Type 0} (all xs : List X) (x : X) → take (suc (length xs)) all ≡ xs ++ x ∷ [] → (take (length xs) all ≡ xs) × (slice_get all (length xs) ≡ Some x)
 front [] [] x e = absurd (cc e)
 front (a ∷ all) [] x e = (refl, cc e)
@@ -37,16 +37,16 @@ front (a ∷ all) (y ∷ xs) x e =
     let rest = front all xs x tail in
     (ap (λ zs. a ∷ zs) rest.0 ∙ ap (λ z. z ∷ xs) head, rest.1)
 
--- the problems of the first numbers, and their groups, whatever problems come behind them
+-- the problems of the first numbers, and their groups, whatever problems come after them
 pub record AreHeld (n : Numbered) (columns ids : List NodeId) (i : ℕ) (grouping : Grouping) : Type 0 where
   pub problems : List Problem
   pub coded : AreProblemsAt n columns (take i ids) problems
   pub holds : Holds problems grouping
-  pub sound : IsSound (length columns) grouping
+  pub sound : FitsTogether (length columns) grouping
   pub groups : (all : List Problem) → AreProblems (length columns) all → take i all ≡ problems → AreGrouped (length columns) all i (groups_in grouping)
 
 module _ (n : Numbered) (columns ids : List NodeId) where
-  pub none_held : (grouping : Grouping) → IsSound (length columns) grouping → groups_in grouping ≡ group (zeros (length columns)) [] ∷ [] → Holds [] grouping
+  pub none_held : (grouping : Grouping) → FitsTogether (length columns) grouping → groups_in grouping ≡ group (zeros (length columns)) [] ∷ [] → Holds [] grouping
       → AreHeld n columns ids 0 grouping
   none_held grouping sound quiet none = record {
     problems = [];
@@ -57,7 +57,7 @@ module _ (n : Numbered) (columns ids : List NodeId) where
   }
 
   pub one_more_held : (i : ℕ) (id : NodeId) (p : Problem) (old new : Grouping) → slice_get ids i ≡ Some id → IsProblemAt n columns id p
-      → IsSound (length p.code) new → AddsProblem p (groups_in old) (groups_in new) → ((before : List Problem) → Holds before old → Holds (before ++ p ∷ []) new)
+      → FitsTogether (length p.code) new → AddsProblem p (groups_in old) (groups_in new) → ((before : List Problem) → Holds before old → Holds (before ++ p ∷ []) new)
       → AreHeld n columns ids i old → AreHeld n columns ids (i + 1) new
   one_more_held i id p old new at is sound added holds held =
       let within = slice_get_within ids i id at in
@@ -69,7 +69,7 @@ module _ (n : Numbered) (columns ids : List NodeId) where
         coded = subst (λ front. AreProblemsAt n columns front (held.problems ++ p ∷ [])) (sym (take_more ids i id at))
             (zip_push (IsProblemAt n columns) (take i ids) held.problems id p held.coded is);
         holds = holds held.problems held.holds;
-        sound = subst (λ width. IsSound width new) is.coded.width sound;
+        sound = subst (λ width. FitsTogether width new) is.coded.width sound;
         groups = λ all are same.
             let next : suc (length held.problems) ≡ i + 1 = omega arith in
             let parts = front all held.problems p (ap (λ k. take k all) next ∙ same) in
@@ -106,7 +106,7 @@ all_in_groups n t columns ids made grouped named coded =
       problems_are = coded.problems_are;
       groups_are = subst (λ width. AreGroups width problems (groups_in made.grouping)) size (grouped.groups are);
       holds = grouped.holds;
-      sound = subst (λ width. IsSound width made.grouping) size grouped.sound;
+      sound = subst (λ width. FitsTogether width made.grouping) size grouped.sound;
       few_columns = coded.few_columns;
       few_problems = coded.few_problems;
       few_groups = grouped.few are;

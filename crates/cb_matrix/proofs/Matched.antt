@@ -16,8 +16,8 @@ use Rattle.cb_network.specs.Nodes.{IsColumn, IsProblem, IsSymptomNode, AreColumn
 use Rattle.cb_finding.specs.Matrix.{IsCode, AreCoded}
 use Rattle.cb_network.specs.Sound.{Sound, problem_limit, symptom_limit}
 use Rattle.cb_nodes.specs.declared.id.NodeId.{NodeId}
-use Rattle.cb_reach.specs.Rows.{Has}
-use Rattle.cb_reach.specs.Graphs.{LeadsTo}
+use Rattle.cb_successors.specs.Rows.{Has}
+use Rattle.cb_successors.specs.Graphs.{LeadsTo}
 use Rattle.cb_topo.specs.Numbered.{Numbered, topology_of, IsNodeNamed, IsLiveNode, AreNamed, IsWhole}
 use Rattle.cb_graph.specs.Edges.{EdgeAt, number}
 use Rattle.cb_graph.proofs.Chains.{named_once, lead_to_caused}
@@ -34,7 +34,7 @@ code_from n columns id reached code found coded = record {
   each = λ place node is. (λ has. (found node).0 ((coded.each place node is).0 has), λ leads. (coded.each place node is).1 ((found node).1 leads));
 }
 
--- one more pair, at the place behind the first ones
+-- one more pair, at the place after the first ones
 pub zip_more : {X Y : Type 0} (R : X → Y → Type 0) (xs : List X) (ys : List Y) (i : ℕ) (d : X) (y : Y) → i < length xs → AllZip R (take i xs) ys
     → R (slice_index_or xs i d) y → AllZip R (take (i + 1) xs) (ys ++ y ∷ [])
 zip_more R xs ys i d y lt zip here =

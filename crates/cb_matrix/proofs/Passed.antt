@@ -6,10 +6,10 @@ use Rattle.std.proofs.lemmas.List.{length-set, length-replicate, get_or-set_othe
 use Rattle.std.proofs.lemmas.Option.{slice_get_within}
 use Rattle.cb_nodes.specs.declared.id.NodeId.{NodeId}
 use Rattle.cb_bits.specs.Bits.{IsNextOne, HasNoneFrom}
-use Rattle.cb_reach.specs.Rows.{Has}
-use Rattle.cb_reach.proofs.Marks.{has_set, set_cases, nothing}
+use Rattle.cb_successors.specs.Rows.{Has}
+use Rattle.cb_successors.proofs.Marks.{has_set, set_cases, nothing}
 use Rattle.cb_graph.specs.Edges.{number}
-use Rattle.cb_matrix.specs.Codes.{ArePlaces, IsCodeOf}
+use Rattle.cb_matrix.specs.Codes.{IsColumnIndex, IsCodeOf}
 
 -- for each column, whether the row has it among the numbers below this one
 pub record IsCodedTo (columns : List NodeId) (reached : List Bool) (to : ℕ) (code : List Bool) : Type 0 where
@@ -80,7 +80,7 @@ module _ (columns : List NodeId) (reached : List Bool) (to : ℕ) (code : List B
     );
   }
 
-  module _ (room : ℕ) (places : List (Option ℕ)) (are : ArePlaces room columns places) where
+  module _ (room : ℕ) (places : List (Option ℕ)) (are : IsColumnIndex room columns places) where
     -- the next node is a column
     pub coded_here : (place : ℕ) → slice_get places node ≡ Some (Some place) → IsCodedTo columns reached (node + 1) (slice_set code place true)
     coded_here place at = coded_more place (are.each node place at) (λ k is.

@@ -7,7 +7,7 @@ use Rattle.std.proofs.lemmas.Option.{slice_get_within}
 use Rattle.cb_model.proofs.Numbers.{slice_get-set_other, slice_get-set_same, slice_get-set_here, slice_get-replicate}
 use Rattle.cb_nodes.specs.declared.id.NodeId.{NodeId}
 use Rattle.cb_graph.specs.Edges.{number}
-use Rattle.cb_matrix.specs.Codes.{IsOnce, IsBelow, ArePlaces}
+use Rattle.cb_matrix.specs.Codes.{IsOnce, IsBelow, IsColumnIndex}
 
 -- for the number of each node its place among the first columns, if it is one
 pub record ArePlacesTo (room : ℕ) (columns : List NodeId) (to : ℕ) (places : List (Option ℕ)) : Type 0 where
@@ -52,7 +52,7 @@ place_more room columns to places id once below old here = record {
       | inr not_same ↦ elim (cases_lt place to) [ inl low ↦ low | inr high ↦ absurd (not_same (omega arith)) ]
     ]
 
-pub all_places : (room : ℕ) (columns : List NodeId) (to : ℕ) (places : List (Option ℕ)) → length columns ≤ to → ArePlacesTo room columns to places → ArePlaces room columns places
+pub all_places : (room : ℕ) (columns : List NodeId) (to : ℕ) (places : List (Option ℕ)) → length columns ≤ to → ArePlacesTo room columns to places → IsColumnIndex room columns places
 all_places room columns to places end old = record {
   size = old.size;
   each = old.each;

@@ -8,8 +8,8 @@ use Rattle.cb_lanes.specs.Words.{bit_of, in_not}
 use Rattle.cb_bits.specs.Bits.{IsNextOne}
 use Rattle.cb_bits.proofs.Values.{length-values, value-at}
 use Rattle.cb_bits.proofs.Zeros.{zero_bit}
-use Rattle.cb_reach.specs.Rows.{Has}
-use Rattle.cb_reach.specs.Graphs.{LeadsTo}
+use Rattle.cb_successors.specs.Rows.{Has}
+use Rattle.cb_successors.specs.Graphs.{LeadsTo}
 use Rattle.cb_topo.specs.Numbered.{Numbered}
 use Rattle.cb_graph.specs.Edges.{EdgeAt}
 use Rattle.cb_graph.proofs.Listing.{has_within}

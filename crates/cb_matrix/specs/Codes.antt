@@ -2,7 +2,7 @@
 use Rattle.std.specs.Prelude.{◌≡◌, ◌↔◌, ◌<◌, ◌*◌, ℕ, List, Bool, Option, Some, length, slice_get}
 use Rattle.cb_bits.specs.Bits.{values}
 use Rattle.cb_nodes.specs.declared.id.NodeId.{NodeId}
-use Rattle.cb_reach.specs.Rows.{Has}
+use Rattle.cb_successors.specs.Rows.{Has}
 use Rattle.cb_graph.specs.Edges.{number}
 use Rattle.cb_matrix.specs.declared.codes.Columns.{Columns}
 
@@ -15,7 +15,7 @@ abbrev pub IsBelow : ℕ → List NodeId → Type 0
 IsBelow room ids = (i : ℕ) (id : NodeId) → slice_get ids i ≡ Some id → id.0 < room
 
 -- for the number of each node its place among the columns, if it is one
-pub record ArePlaces (room : ℕ) (columns : List NodeId) (places : List (Option ℕ)) : Type 0 where
+pub record IsColumnIndex (room : ℕ) (columns : List NodeId) (places : List (Option ℕ)) : Type 0 where
   pub size : length places ≡ room
   pub each : (node place : ℕ) → slice_get places node ≡ Some (Some place) → slice_get columns place ≡ Some (number node)
   pub all : (node place : ℕ) → slice_get columns place ≡ Some (number node) → slice_get places node ≡ Some (Some place)
@@ -23,7 +23,7 @@ pub record ArePlaces (room : ℕ) (columns : List NodeId) (places : List (Option
 -- the columns of these numbers, with their places
 pub record AreIndexed (room : ℕ) (ids : List NodeId) (columns : Columns) : Type 0 where
   pub nodes : columns.nodes ≡ ids
-  pub places : ArePlaces room ids columns.places.items
+  pub places : IsColumnIndex room ids columns.places.items
 
 -- for each column, whether the set of nodes has it
 pub record IsCodeOf (columns : List NodeId) (reached code : List Bool) : Type 0 where

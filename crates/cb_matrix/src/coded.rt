@@ -3,7 +3,7 @@ ghost use Rattle.std.specs.Prelude.{◌≡◌, ◌≤◌, ◌*◌, replicate, If
 ghost use Rattle.std.specs.List.{All};
 ghost use Rattle.cb_lanes.specs.Words.{word_limit};
 ghost use Rattle.cb_cache.specs.Numbers.{IsProblemNumber};
-ghost use Rattle.cb_matrix.specs.Codes.{ArePlaces};
+ghost use Rattle.cb_matrix.specs.Codes.{IsColumnIndex};
 ghost use Rattle.cb_matrix.specs.Coded.{IsProblemAt, AreGroupedAt};
 
 use crate::codes::{Columns, code_of};
@@ -15,13 +15,13 @@ use cb_nodes::NodeId;
 use std::alloc::{AllocError, Global};
 
 /// The problems of these numbers in the groups of their codes over the columns.
-pub fn grouped(
+pub(crate) fn grouped(
     alloc: Global,
     cache: &Cache,
     columns: &Columns,
     nodes: &List<NodeId>,
 ) -> Result<Grouping, AllocError>
-    requires columns { ArePlaces (64 * cache.now.pool.width) columns.now.nodes columns.now.places.items }
+    requires columns { IsColumnIndex (64 * cache.now.pool.width) columns.now.nodes columns.now.places.items }
     requires few { cache.now.pool.width ≤ word_limit }
     requires problems { All (IsProblemNumber cache.now.graph) nodes.now }
     ensures { IfOk result (AreGroupedAt cache.now.graph columns.now.nodes nodes.now) }
@@ -43,7 +43,7 @@ fn coded_problem(
     node: NodeId,
     none: &[u64],
 ) -> Result<Problem, AllocError>
-    requires columns { ArePlaces (64 * cache.now.pool.width) columns.now.nodes columns.now.places.items }
+    requires columns { IsColumnIndex (64 * cache.now.pool.width) columns.now.nodes columns.now.places.items }
     requires few { cache.now.pool.width ≤ word_limit }
     requires problem { IsProblemNumber cache.now.graph node }
     requires none { none.now ≡ replicate cache.now.pool.width 0 }

@@ -2,7 +2,7 @@
 ghost use Rattle.std.specs.Prelude.{◌≡◌, ◌<◌, ◌≤◌, ◌+◌, ◌*◌, length, replicate, IfOk, IfSome, IfNone};
 ghost use Rattle.cb_lanes.specs.Words.{bit_of, word_limit};
 ghost use Rattle.cb_bits.specs.Bits.{IsNextOne, HasNoneFrom};
-ghost use Rattle.cb_matrix.specs.Codes.{IsOnce, IsBelow, ArePlaces, AreIndexed, IsCodeOf, bits};
+ghost use Rattle.cb_matrix.specs.Codes.{IsOnce, IsBelow, IsColumnIndex, AreIndexed, IsCodeOf, bits};
 
 use cb_bits::Row;
 use cb_lanes::next_in_a_not_b;
@@ -37,7 +37,7 @@ fn places_of(
 ) -> Result<Vec<Option<usize>>, AllocError>
     requires once { IsOnce columns.now }
     requires below { IsBelow room columns.now }
-    ensures { IfOk result (λ places. ArePlaces room columns.now places.items) }
+    ensures { IfOk result (λ places. IsColumnIndex room columns.now places.items) }
 {
     let mut places = vec![in alloc; None; room]?;
     for place in 0..columns.len() {
@@ -48,13 +48,13 @@ fn places_of(
 
 /// For each column, whether the row has it. Only what the row has is looked at, or each column, whichever is less. `none` has
 /// zeros alone.
-pub fn code_of(
+pub(crate) fn code_of(
     alloc: Global,
     columns: &Columns,
     reached: &[u64],
     none: &[u64],
 ) -> Result<Row, AllocError>
-    requires places { ArePlaces (64 * length reached.now) columns.now.nodes columns.now.places.items }
+    requires places { IsColumnIndex (64 * length reached.now) columns.now.nodes columns.now.places.items }
     requires few { length reached.now ≤ word_limit }
     requires none { none.now ≡ replicate (length reached.now) 0 }
     ensures { IfOk result (IsCodeOf columns.now.nodes (bits reached.now)) }
@@ -99,7 +99,7 @@ fn code_by_nodes(
     reached: &[u64],
     none: &[u64],
 ) -> Result<Row, AllocError>
-    requires places { ArePlaces (64 * length reached.now) columns.now.nodes columns.now.places.items }
+    requires places { IsColumnIndex (64 * length reached.now) columns.now.nodes columns.now.places.items }
     requires few { length reached.now ≤ word_limit }
     requires none { none.now ≡ replicate (length reached.now) 0 }
     ensures { IfOk result (IsCodeOf columns.now.nodes (bits reached.now)) }

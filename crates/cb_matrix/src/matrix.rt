@@ -5,7 +5,7 @@ ghost use Rattle.cb_codes.specs.Groups.{named_of};
 ghost use Rattle.cb_network.specs.Sound.{problem_limit, symptom_limit};
 ghost use Rattle.cb_finding.specs.Matrix.{AreCoded, IsMatrix};
 ghost use Rattle.cb_topo.specs.Numbered.{topology_of};
-ghost use Rattle.cb_codes.specs.Grouped.{IsSound, groups_in};
+ghost use Rattle.cb_codes.specs.Grouped.{FitsTogether, groups_in};
 ghost use Rattle.cb_matrix.specs.Parts.{problems_with, HavePlaces};
 
 use crate::problems::GroupedProblems;
@@ -19,7 +19,7 @@ use std::marker::Model;
 /// What each problem makes visible: the columns in order, the problems in order, each with its code over the columns, and the
 /// groups of problems that no column tells apart, each with its code. The first group is the quiet one, whose problems no
 /// column shows. A code is kept once, with its group.
-#[derive(Debug, Drop)]
+#[derive(Drop)]
 pub struct Matrix {
     columns: List<NodeName>,
     problems: List<NodeName>,
@@ -99,7 +99,7 @@ impl Matrix {
 
 // The matrix of these columns, with the problems in their groups.
 fn matrix_of(columns: List<NodeName>, grouping: Grouping) -> Matrix
-    requires sound { IsSound (length columns) grouping }
+    requires sound { FitsTogether (length columns) grouping }
     requires places { HavePlaces grouping }
     ensures columns { result.columns ≡ columns }
     ensures problems { result.problems ≡ problems_with grouping.codes.codes.rows grouping.problems grouping.places }

@@ -8,6 +8,7 @@ use Rattle.cb_model.specs.declared.id.EventId.{EventId}
 use Rattle.cb_model.specs.declared.id.RelId.{RelId}
 use Rattle.cb_model.specs.declared.tables.Tables.{Tables}
 use Rattle.cb_model.specs.declared.tables.EventRow.{EventRow}
+use Rattle.cb_model.specs.declared.tables.Place.{Place}
 use Rattle.cb_model.specs.declared.tables.RelRow.{RelRow}
 use Rattle.cb_model.specs.declared.tables.RuleRow.{RuleRow}
 use Rattle.cb_model.specs.Classes.{ancestor, IsA, HasEvent, HasRelation}
@@ -22,12 +23,16 @@ IsEvent t e = e.0 < length t.events
 abbrev pub IsRelation : Tables → RelId → Type 0
 IsRelation t r = r.0 < length t.relations
 
+-- the relation of the place of a path is a row's number
+abbrev pub IsPlace : Tables → Place → Type 0
+IsPlace t place = IsRelation t place.rel
+
 -- every number in a row is the place of a row
 pub record HasPlaces (t : Tables) : Type 0 where
   pub classes : All (λ row. IfSome row.parent (IsClass t)) t.classes
   pub events : All (λ row. IsClass t row.class) t.events
   pub relations : All (λ row. IsClass t row.class × IsClass t row.target × IsRelation t row.inverse) t.relations
-  pub rules : All (λ row. IsClass t row.class × IsEvent t row.cause × All (IsRelation t) row.path × IsEvent t row.effect) t.rules
+  pub rules : All (λ row. IsClass t row.class × IsEvent t row.cause × All (IsPlace t) row.path × IsEvent t row.effect) t.rules
   pub blocks : All (λ row. IsClass t row.class × (row.rule < length t.rules)) t.blocks
   pub hides : All (λ row. IsClass t row.class × IsEvent t row.event) t.hides
 
@@ -54,10 +59,18 @@ Declares t c (rule n) name = (row : RuleRow) × (slice_get t.rules n ≡ Some ro
 abbrev pub InheritsRule : Tables → ClassId → ℕ → Type 0
 InheritsRule t c n = (row : RuleRow) × (slice_get t.rules n ≡ Some row) × IsA t c row.class
 
--- the path leads from instances of c to instances of d: each of its relations is one that the class reached there has
-abbrev pub Reaches : Tables → ClassId → List RelId → ClassId → Type 0
+-- the path leads from instances of c to instances of d: the relation at each of its places is one that the class reached there has
+abbrev pub Reaches : Tables → ClassId → List Place → ClassId → Type 0
 Reaches t c [] d = c ≡ d
-Reaches t c (r ∷ rest) d = (has : HasRelation t c r) × Reaches t has.row.target rest d
+Reaches t c (place ∷ rest) d = (has : HasRelation t c place.rel) × Reaches t has.row.target rest d
+
+-- the relation's target is the class that declares it, or a descendant of that class, so an instance that a link leads to has the relation too
+abbrev pub LeadsOn : Tables → RelId → Type 0
+LeadsOn t r = (row : RelRow) × (slice_get t.relations r.0 ≡ Some row) × IsA t row.target row.class
+
+-- the relation of a place with the plus leads on
+abbrev pub MayRepeat : Tables → Place → Type 0
+MayRepeat t place = place.plus ≡ true → LeadsOn t place.rel
 
 -- no more than so many different things meet P
 abbrev pub AtMost : {X : Type 0} → ℕ → (X → Type 0) → Type 0
@@ -87,6 +100,8 @@ pub record KeepsTypeRules (t : Tables) : Type 0 where
   pub causes : All (λ row. HasEvent t row.class row.cause) t.rules
   -- the path of each rule leads to a class that has its effect
   pub effects : All (λ row. (d : ClassId) × Reaches t row.class row.path d × HasEvent t d row.effect) t.rules
+  -- a link can follow a link at each place with the plus
+  pub repeats : All (λ row. All (MayRepeat t) row.path) t.rules
   -- a class blocks only rules that it inherits or declares
   pub blocked : All (λ row. InheritsRule t row.class row.rule) t.blocks
   -- a class hides only events that it has, and that are marked symptom

@@ -12,8 +12,8 @@ mod name_map;
 mod node;
 mod roomy_list;
 mod rule;
-mod sample;
 mod tables;
+mod wish;
 
 pub use id::{ClassId, EventId, RelId};
 pub use limits::{MOST_ANCESTORS, MOST_CLASSES, MOST_EVENTS, MOST_RELATIONS, MOST_RULES};
@@ -24,5 +24,5 @@ pub use name_map::NameMap;
 pub use node::{GroupName, NamedGroup, NodeName};
 pub use roomy_list::RoomyList;
 pub use rule::{Marks, Rule};
-pub use sample::sample_model;
-pub use tables::{BlockRow, ClassRow, EventRow, HideRow, RelRow, RuleRow, Tables};
+pub use tables::{BlockRow, ClassRow, EventRow, HideRow, Place, RelRow, RuleRow, Tables};
+pub use wish::Wish;

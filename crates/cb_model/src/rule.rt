@@ -2,23 +2,23 @@
 ghost use Rattle.std.specs.Prelude.{◌≡◌, IfOk};
 ghost use Rattle.cb_model.specs.Views.{rule_of};
 
-use crate::id::{EventId, RelId};
+use crate::id::EventId;
 use crate::list::List;
-use crate::tables::RuleRow;
+use crate::tables::{Place, RuleRow};
 use std::alloc::{AllocError, Global};
 
 /// What an event is for a class.
-#[derive(Clone, Copy, Debug, PartialEq, Eq)]
+#[derive(Clone, Copy, PartialEq, Eq)]
 pub struct Marks {
     pub problem: bool,
     pub symptom: bool,
 }
 
 /// A rule of a class: the cause at an instance brings about the effect at each instance that the path leads to.
-#[derive(Debug, Drop)]
+#[derive(Drop)]
 pub struct Rule {
     pub cause: EventId,
-    pub path: List<RelId>,
+    pub path: List<Place>,
     pub effect: EventId,
 }
 

@@ -4,7 +4,7 @@ use crate::list::List;
 use crate::name::Name;
 
 /// All declarations of a model. A number in a row is the place of a row of another table.
-#[derive(Debug, Drop)]
+#[derive(Drop)]
 pub struct Tables {
     pub classes: List<ClassRow>,
     pub events: List<EventRow>,
@@ -15,14 +15,14 @@ pub struct Tables {
 }
 
 /// A class, with the class that it extends.
-#[derive(Debug, Drop)]
+#[derive(Drop)]
 pub struct ClassRow {
     pub name: Name,
     pub parent: Option<ClassId>,
 }
 
 /// An event, with its marks.
-#[derive(Debug, Drop)]
+#[derive(Drop)]
 pub struct EventRow {
     pub class: ClassId,
     pub name: Name,
@@ -31,7 +31,7 @@ pub struct EventRow {
 }
 
 /// A relation to instances of the target, with its inverse, which the target declares.
-#[derive(Debug, Drop)]
+#[derive(Drop)]
 pub struct RelRow {
     pub class: ClassId,
     pub name: Name,
@@ -40,25 +40,32 @@ pub struct RelRow {
     pub inverse: RelId,
 }
 
+/// A place of a path: one link by the relation, or with the plus one or more.
+#[derive(Clone, Copy, PartialEq, Eq)]
+pub struct Place {
+    pub rel: RelId,
+    pub plus: bool,
+}
+
 /// A rule: the cause at an instance brings about the effect at each instance that the path leads to.
-#[derive(Debug, Drop)]
+#[derive(Drop)]
 pub struct RuleRow {
     pub class: ClassId,
     pub name: Name,
     pub cause: EventId,
-    pub path: List<RelId>,
+    pub path: List<Place>,
     pub effect: EventId,
 }
 
 /// A class that does without a rule of its ancestors; the rule is its place among the rules.
-#[derive(Debug, Drop)]
+#[derive(Drop)]
 pub struct BlockRow {
     pub class: ClassId,
     pub rule: u32,
 }
 
 /// A class at which an event is no symptom.
-#[derive(Debug, Drop)]
+#[derive(Drop)]
 pub struct HideRow {
     pub class: ClassId,
     pub event: EventId,

@@ -1,3 +1,4 @@
+pub mod Runs
 pub mod Chains
 pub mod One
 pub mod Sets
@@ -6,3 +7,4 @@ pub mod Counts
 pub mod Kept
 pub mod Links
 pub mod Accepted
+pub mod Typed

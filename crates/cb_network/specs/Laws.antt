@@ -1,20 +1,36 @@
 -- What holds of topologies and causes, whatever the program does.
-use Rattle.std.specs.Prelude.{◌≡◌, ℕ, ◌<◌, ◌≤◌, List, [], ◌∷◌, length, Bool, IsTrue, ⊤, Result, Ok}
+use Rattle.std.specs.Prelude.{◌≡◌, ◌↔◌, ℕ, List, [], ◌∷◌, Bool, true, false, IsTrue, ⊤, Result, Ok}
 use Rattle.std.specs.FinSet as set
 use Rattle.std.specs.List.{Contains}
 use Rattle.cb_text.specs.Names.{IsInstance}
 use Rattle.cb_model.specs.declared.node.NodeName.{NodeName}
+use Rattle.cb_model.specs.declared.tables.Place.{Place}
 use Rattle.cb_model.specs.declared.tables.Tables.{Tables}
 use Rattle.cb_model.specs.NodeOrder.{node_cmp}
+use Rattle.cb_model.specs.WellTyped.{WellTyped}
 use Rattle.cb_network.specs.declared.edit.Edit.{Edit}
 use Rattle.cb_network.specs.declared.edit.Edit.TheVariants.{Create}
 use Rattle.cb_network.specs.declared.edit.EditRefusal.{EditRefusal}
-use Rattle.cb_network.specs.Topology.{Topology, empty_topology}
+use Rattle.cb_network.specs.Topology.{Topology, HasLink, empty_topology}
 use Rattle.cb_network.specs.Nodes.{IsNodeOf, IsProblem, IsSymptomNode, AreColumns, AreProblems, IsCount}
 use Rattle.cb_network.specs.Sound.{Sound}
 use Rattle.cb_network.specs.Regular.{IsRegular}
 use Rattle.cb_network.specs.Edits.{IsAfter, IsAfterAll}
-use Rattle.cb_network.specs.Causes.{Edge, Causes, Reaches}
+use Rattle.cb_network.specs.Causes.{Leads, Edge, Causes, Reaches}
+
+-- without the plus a place is one link
+abbrev pub PlainIsOne : Type 0
+PlainIsOne = (t : Topology) (place : Place) (a b : List ℕ) → place.plus ≡ false → Leads t a (place ∷ []) b ↔ HasLink t a place.rel b
+
+-- steps lead from a to the first of these items, from each to the next, and from the last one to b
+abbrev pub Linked : {X : Type 0} → (X → X → Type 0) → X → List X → X → Type 0
+Linked Step a [] b = Step a b
+Linked Step a (next ∷ rest) b = Step a next × Linked Step next rest b
+
+-- with the plus a place is one link or more: some list of at least two instances begins with a and ends with b, and each neighbouring pair is a link
+abbrev pub PlusIsOneOrMore : Type 0
+PlusIsOneOrMore = (t : Topology) (place : Place) (a b : List ℕ) → place.plus ≡ true
+    → Leads t a (place ∷ []) b ↔ ((between : List (List ℕ)) × Linked (λ x y. HasLink t x place.rel y) a between b)
 
 -- every node causes itself
 abbrev pub CausesItself : Type 0
@@ -54,6 +70,10 @@ abbrev pub CountIsOne : Type 0
 CountIsOne = (t : Topology) (m n : ℕ) → (IsCount (IsNodeOf t) m → IsCount (IsNodeOf t) n → m ≡ n)
     × (IsCount (IsProblem t) m → IsCount (IsProblem t) n → m ≡ n)
     × (IsCount (IsSymptomNode t) m → IsCount (IsSymptomNode t) n → m ≡ n)
+
+-- the tables of a checked model are as the laws of edits ask
+abbrev pub TypedIsRegular : Type 0
+TypedIsRegular = (tables : Tables) → WellTyped tables → IsRegular tables
 
 -- an edit comes out in one way
 abbrev pub AfterIsOne : Type 0

@@ -1,8 +1,18 @@
 //! What holds of topologies and causes, whatever the program does. Each law is the contract of a function that does
 //! nothing.
-ghost use Rattle.cb_network.specs.Laws.{CausesItself, EdgeCauses, CausesFurther, ClosedHasCaused, ReachedIsOne};
+ghost use Rattle.cb_network.specs.Laws.{PlainIsOne, PlusIsOneOrMore, CausesItself, EdgeCauses, CausesFurther, ClosedHasCaused, ReachedIsOne};
 ghost use Rattle.cb_network.specs.Laws.{ColumnsAreOne, ProblemsAreOne};
-ghost use Rattle.cb_network.specs.Laws.{CountIsOne, AfterIsOne, AfterAllIsOne, EmptyIsSound, EditKeepsSound, EditsKeepSound};
+ghost use Rattle.cb_network.specs.Laws.{CountIsOne, TypedIsRegular, AfterIsOne, AfterAllIsOne, EmptyIsSound, EditKeepsSound, EditsKeepSound};
+
+/// A place without the plus is followed by one link.
+pub fn plain_is_one()
+    ensures { PlainIsOne }
+{}
+
+/// A place with the plus is followed by one link or more.
+pub fn plus_is_one_or_more()
+    ensures { PlusIsOneOrMore }
+{}
 
 /// Every node causes itself, by the chain without an edge.
 pub fn causes_itself()
@@ -43,6 +53,11 @@ pub fn problems_are_one()
 /// A topology has one number of nodes, one of problems and one of symptom nodes.
 pub fn count_is_one()
     ensures { CountIsOne }
+{}
+
+/// The tables of a checked model are regular: its names, inverses and ancestors are as the laws below ask.
+pub fn typed_is_regular()
+    ensures { TypedIsRegular }
 {}
 
 /// An edit comes out in one way: one refusal, or one changed topology. The names of the model's classes and

@@ -14,7 +14,7 @@ use Rattle.cb_nodes.specs.declared.id.NodeId.{NodeId}
 use Rattle.cb_nodes.specs.declared.listed.Listed.{Listed}
 use Rattle.cb_nodes.specs.declared.node.Node.{Node}
 use Rattle.cb_nodes.specs.declared.numbers.Numbers.{Numbers}
-use Rattle.cb_nodes.specs.Kept.{AreKept, GivesBack, Lists, list_at, IsListOf, HaveNumbers, AreApart, IsAmong, Frees, IsSound}
+use Rattle.cb_nodes.specs.Kept.{AreKept, GivesBack, NodeLists, list_at, IsListOf, HaveNumbers, AreDistinct, IsAmong, Frees, IsTableOf}
 use Rattle.cb_nodes.specs.Table.{Table, IsNode, HasNumber, node_of, HasEvent, AreEventsAt, IsOne, Removes}
 use Rattle.cb_nodes.proofs.Apart.{no_more, pairs_at}
 use Rattle.cb_nodes.proofs.Listing.{one_node, SetsList, sound_sets}
@@ -51,7 +51,7 @@ frees_more first old new list x frees back = record {
 }
 
 -- a number that comes later in the list still has its node
-pub still_had : (first old : Numbers) (list : List Listed) (k : ℕ) (d : Listed) → k < length list → Frees first old (take k list) → HaveNumbers first.slots.items list → AreApart list
+pub still_had : (first old : Numbers) (list : List Listed) (k : ℕ) (d : Listed) → k < length list → Frees first old (take k list) → HaveNumbers first.slots.items list → AreDistinct list
     → HasNumber old.slots.items (get_or list k d).id
 still_had first old list k d lt frees have apart =
     let x = get_or list k d in
@@ -113,7 +113,7 @@ removed old new i list one is_list frees = record {
   room = frees.room;
 }
 
-pub removed_sound : (old new : Numbers) (lists lists' : Lists) (i : InstanceId) (list : List Listed) → list_at lists i ≡ list → Frees old new list → SetsList lists lists' i [] → IsSound old lists → IsSound new lists'
+pub removed_sound : (old new : Numbers) (lists lists' : NodeLists) (i : InstanceId) (list : List Listed) → list_at lists i ≡ list → Frees old new list → SetsList lists lists' i [] → IsTableOf old lists → IsTableOf new lists'
 removed_sound old new lists lists' i list is frees sets sound =
     let is_list : IsListOf old.slots.items i list = subst (IsListOf old.slots.items i) is (sound.listed i) in
     let now = removed old new i list sound.one is_list frees in
@@ -129,20 +129,20 @@ removed_sound old new lists lists' i list is frees sets sound =
     sound
 
 -- an instance without a list has no nodes
-pub removed_none : (numbers : Numbers) (lists : Lists) (i : InstanceId) → list_at lists i ≡ [] → IsSound numbers lists → Removes numbers.slots.items numbers.slots.items i
+pub removed_none : (numbers : Numbers) (lists : NodeLists) (i : InstanceId) → list_at lists i ≡ [] → IsTableOf numbers lists → Removes numbers.slots.items numbers.slots.items i
 removed_none numbers lists i none sound =
     let is_list : IsListOf numbers.slots.items i [] = subst (IsListOf numbers.slots.items i) none (sound.listed i) in
     removed numbers numbers i [] sound.one is_list (frees_none numbers sound.kept)
 
 -- the list of an instance, as it is read
-pub listed_there : (numbers : Numbers) (lists : Lists) (i : InstanceId) (list : List Listed) → list_at lists i ≡ list → IsSound numbers lists → IsListOf numbers.slots.items i list
+pub listed_there : (numbers : Numbers) (lists : NodeLists) (i : InstanceId) (list : List Listed) → list_at lists i ≡ list → IsTableOf numbers lists → IsListOf numbers.slots.items i list
 listed_there numbers lists i list is sound = subst (IsListOf numbers.slots.items i) is (sound.listed i)
 
-pub found_node : (numbers : Numbers) (lists : Lists) (i : InstanceId) (list : List Listed) (e : EventId) (r : Option NodeId) → list_at lists i ≡ list → IsSound numbers lists
+pub found_node : (numbers : Numbers) (lists : NodeLists) (i : InstanceId) (list : List Listed) (e : EventId) (r : Option NodeId) → list_at lists i ≡ list → IsTableOf numbers lists
     → IfSome r (λ id. Contains list (record { event = e; id = id })) → IfSome r (λ id. IsNode numbers.slots.items id (node_of i e))
 found_node numbers lists i list e r is sound found = IfSome_then r found (λ id has. (listed_there numbers lists i list is sound).listed (record { event = e; id = id }) has)
 
-pub no_node : (numbers : Numbers) (lists : Lists) (i : InstanceId) (list : List Listed) (e : EventId) → list_at lists i ≡ list → IsSound numbers lists
+pub no_node : (numbers : Numbers) (lists : NodeLists) (i : InstanceId) (list : List Listed) (e : EventId) → list_at lists i ≡ list → IsTableOf numbers lists
     → ((x : Listed) → Contains list x → x.event ≢ e) → ¬ HasEvent numbers.slots.items i e
 no_node numbers lists i list e is sound none (id, at) = let x : Listed = record { event = e; id = id } in none x ((listed_there numbers lists i list is sound).whole x at) refl
 

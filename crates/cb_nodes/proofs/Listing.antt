@@ -18,7 +18,7 @@ use Rattle.cb_nodes.specs.declared.id.NodeId.{NodeId}
 use Rattle.cb_nodes.specs.declared.listed.Listed.{Listed}
 use Rattle.cb_nodes.specs.declared.node.Node.{Node}
 use Rattle.cb_nodes.specs.declared.numbers.Numbers.{Numbers}
-use Rattle.cb_nodes.specs.Kept.{AreKept, Takes, Lists, list_at, items_in, SameLists, IsListOf, NumbersAll, IsSound}
+use Rattle.cb_nodes.specs.Kept.{AreKept, TakesNumber, NodeLists, list_at, items_in, SameLists, IsListOf, NumbersAll, IsTableOf}
 use Rattle.cb_nodes.specs.Table.{Table, IsNode, node_of, HasEvent, IsOne, Adds}
 use Rattle.cb_nodes.proofs.Apart.{pairs_more}
 use Rattle.cb_nodes.proofs.Taking.{same_number}
@@ -30,7 +30,7 @@ same_listed x y e n = λ k. record { event = e k; id = n k }
 pub one_node : (t : Table) (id : NodeId) (a b : Node) → IsNode t id a → IsNode t id b → a ≡ b
 one_node t id a b is also = same_inside a b (sym is ∙ also)
 
-module _ (old new : Numbers) (i : InstanceId) (e : EventId) (id : NodeId) (takes : Takes old new id (node_of i e)) where
+module _ (old new : Numbers) (i : InstanceId) (e : EventId) (id : NodeId) (takes : TakesNumber old new id (node_of i e)) where
   other : (x : NodeId) (n : Node) → IsNode old.slots.items x n → x.0 ≢ id.0
   other x n is same =
       let some : slot old.slots.items id.0 ≡ Some n = ap (λ k. slot old.slots.items k) (sym same) ∙ is in
@@ -108,7 +108,7 @@ not_before xs k d once lt (j, within, is) =
     once j k x below lt (at ∙ get_or_default xs k d x lt)
 
 pub numbers_more : (first old new : Numbers) (i : InstanceId) (list : List Listed) (es : List EventId) (e : EventId) (id : NodeId) → NumbersAll first old i list es
-    → ¬ HasEvent first.slots.items i e → ¬ Contains es e → Takes old new id (node_of i e) → NumbersAll first new i (list ++ record { event = e; id = id } ∷ []) (es ++ e ∷ [])
+    → ¬ HasEvent first.slots.items i e → ¬ Contains es e → TakesNumber old new id (node_of i e) → NumbersAll first new i (list ++ record { event = e; id = id } ∷ []) (es ++ e ∷ [])
 numbers_more first old new i list es e id all none off takes = record {
   kept = takes.kept;
   same_spare = record { slots = takes.same_spare.slots ∙ all.same_spare.slots; free = takes.same_spare.free ∙ all.same_spare.free };
@@ -126,18 +126,18 @@ same_list old new j list same was = record {
 }
 
 -- one instance's list is this one, and each other's is what it was
-pub record SetsList (old new : Lists) (i : InstanceId) (list : List Listed) : Type 0 where
+pub record SetsList (old new : NodeLists) (i : InstanceId) (list : List Listed) : Type 0 where
   pub this : list_at new i ≡ list
   pub others : (j : InstanceId) → j ≢ i → list_at new j ≡ list_at old j
 
-pub list_set : (lists : Lists) (i : InstanceId) (v : Vec Listed Global) → i.0 < length lists → SetsList lists (slice_set lists i.0 v) i v.items
+pub list_set : (lists : NodeLists) (i : InstanceId) (v : Vec Listed Global) → i.0 < length lists → SetsList lists (slice_set lists i.0 v) i v.items
 list_set lists i v lt = record {
   this = ap items_in (slice_get-get_or (slice_set lists i.0 v) i.0 v (omega (arith, length-set lists i.0 v)) ∙ ap Some (get_or-set_same lists i.0 v v lt));
   others = λ j ne. ap items_in (slice_get-set_other lists i.0 j.0 v (λ e. ne (same_id j i (sym e))));
 }
 
-pub sound_sets : (old new : Numbers) (lists lists' : Lists) (i : InstanceId) (list : List Listed) → AreKept new → IsOne new.slots.items → IsListOf new.slots.items i list → SetsList lists lists' i list
-    → ((j : InstanceId) → j ≢ i → (x : NodeId) (e : EventId) → IsNode new.slots.items x (node_of j e) ↔ IsNode old.slots.items x (node_of j e)) → IsSound old lists → IsSound new lists'
+pub sound_sets : (old new : Numbers) (lists lists' : NodeLists) (i : InstanceId) (list : List Listed) → AreKept new → IsOne new.slots.items → IsListOf new.slots.items i list → SetsList lists lists' i list
+    → ((j : InstanceId) → j ≢ i → (x : NodeId) (e : EventId) → IsNode new.slots.items x (node_of j e) ↔ IsNode old.slots.items x (node_of j e)) → IsTableOf old lists → IsTableOf new lists'
 sound_sets old new lists lists' i list kept one listed sets same sound = record {
   kept = kept;
   one = one;
@@ -147,7 +147,7 @@ sound_sets old new lists lists' i list kept one listed sets same sound = record 
   ];
 }
 
-pub numbered_sound : (old new : Numbers) (lists lists' : Lists) (i : InstanceId) (list : List Listed) (es : List EventId) → NumbersAll old new i list es → SetsList lists lists' i list → IsSound old lists → IsSound new lists'
+pub numbered_sound : (old new : Numbers) (lists lists' : NodeLists) (i : InstanceId) (list : List Listed) (es : List EventId) → NumbersAll old new i list es → SetsList lists lists' i list → IsTableOf old lists → IsTableOf new lists'
 numbered_sound old new lists lists' i list es all sets sound =
     sound_sets old new lists lists' i list all.kept all.one all.listed sets
     (λ j ne x e. (
@@ -157,7 +157,7 @@ numbered_sound old new lists lists' i list es all sets sound =
     sound
 
 -- nothing changed but what fits without memory
-pub same_sound : (old new : Numbers) (lists lists' : Lists) → AreKept new → new.slots.items ≡ old.slots.items → SameLists lists lists' → IsSound old lists → IsSound new lists'
+pub same_sound : (old new : Numbers) (lists lists' : NodeLists) → AreKept new → new.slots.items ≡ old.slots.items → SameLists lists lists' → IsTableOf old lists → IsTableOf new lists'
 same_sound old new lists lists' kept slots same sound = record {
   kept = kept;
   one = subst IsOne (sym slots) sound.one;
@@ -165,7 +165,7 @@ same_sound old new lists lists' kept slots same sound = record {
 }
 
 -- the list that is read there
-pub list_read : (lists : Lists) (i : InstanceId) (v : Vec Listed Global) → i.0 < length lists → v ≡ get_or lists i.0 v → slice_get lists i.0 ≡ Some v
+pub list_read : (lists : NodeLists) (i : InstanceId) (v : Vec Listed Global) → i.0 < length lists → v ≡ get_or lists i.0 v → slice_get lists i.0 ≡ Some v
 list_read lists i v lt read = slice_get_read lists (length lists) i.0 v refl lt read
 
 -- nothing that was said of an event's number changed

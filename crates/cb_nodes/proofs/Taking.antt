@@ -9,7 +9,7 @@ use Rattle.cb_instances.specs.Net.{slot, Once}
 use Rattle.cb_nodes.specs.declared.id.NodeId.{NodeId}
 use Rattle.cb_nodes.specs.declared.node.Node.{Node}
 use Rattle.cb_nodes.specs.declared.numbers.Numbers.{Numbers}
-use Rattle.cb_nodes.specs.Kept.{AreKept, SameSlots, Takes, GivesBack}
+use Rattle.cb_nodes.specs.Kept.{AreKept, SameSlots, TakesNumber, GivesBack}
 use Rattle.cb_nodes.specs.Table.{Table, HasNumber, count_of}
 use Rattle.cb_nodes.proofs.Apart.{pairs_last, pairs_front, pairs_more}
 
@@ -47,7 +47,7 @@ same_slots old new kept slots free room = record {
 
 -- the last of the free numbers is taken
 pub taken_free : (old new : Numbers) (id : NodeId) (node : Node) → AreKept old → old.free.items ≡ new.free.items ++ id ∷ [] → vec_capacity new.free ≡ vec_capacity old.free
-    → new.slots.items ≡ slice_set old.slots.items id.0 (Some node) → vec_capacity new.slots ≡ vec_capacity old.slots → Takes old new id node
+    → new.slots.items ≡ slice_set old.slots.items id.0 (Some node) → vec_capacity new.slots ≡ vec_capacity old.slots → TakesNumber old new id node
 taken_free old new id node kept popped free_room written slots_room =
     let has : Contains old.free.items id = subst (λ xs. Contains xs id) (sym popped) (Contains-push new.free.items id) in
     let lt = kept.within id has in

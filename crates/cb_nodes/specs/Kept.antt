@@ -36,7 +36,7 @@ pub record SameSlots (old new : Numbers) : Type 0 where
   pub kept : AreKept new
 
 -- a number that was free has the node
-pub record Takes (old new : Numbers) (id : NodeId) (node : Node) : Type 0 where
+pub record TakesNumber (old new : Numbers) (id : NodeId) (node : Node) : Type 0 where
   pub kept : AreKept new
   pub same_spare : SameSpare old new
   pub free : slot old.slots.items id.0 ≡ None
@@ -53,29 +53,29 @@ pub record GivesBack (old new : Numbers) (id : NodeId) : Type 0 where
   pub count : count_of new.slots.items + 1 ≡ count_of old.slots.items
   pub room : length new.slots.items ≡ length old.slots.items
 
-abbrev pub Lists : Type 0
-Lists = List (Vec Listed Global)
+abbrev pub NodeLists : Type 0
+NodeLists = List (Vec Listed Global)
 
 abbrev pub items_in : Option (Vec Listed Global) → List Listed
 items_in None = []
 items_in (Some list) = list.items
 
 -- what is listed of the instance
-abbrev pub list_at : Lists → InstanceId → List Listed
+abbrev pub list_at : NodeLists → InstanceId → List Listed
 list_at lists i = items_in (slice_get lists i.0)
 
-abbrev pub SameLists : Lists → Lists → Type 0
+abbrev pub SameLists : NodeLists → NodeLists → Type 0
 SameLists old new = (i : InstanceId) → list_at new i ≡ list_at old i
 
 -- the instance has a list, in which so many more fit without memory
-pub record HasSpareIn (lists : Lists) (i : InstanceId) (more : ℕ) : Type 0 where
+pub record HasSpareIn (lists : NodeLists) (i : InstanceId) (more : ℕ) : Type 0 where
   pub list : Vec Listed Global
   pub is : slice_get lists i.0 ≡ Some list
   pub spare : vec_len list + more ≤ vec_capacity list
 
 -- no number stands twice
-abbrev pub AreApart : List Listed → Type 0
-AreApart list = AllPairs (λ x y. x.id ≢ y.id) list
+abbrev pub AreDistinct : List Listed → Type 0
+AreDistinct list = AllPairs (λ x y. x.id ≢ y.id) list
 
 -- each listed number has a node
 abbrev pub HaveNumbers : Table → List Listed → Type 0
@@ -85,7 +85,7 @@ HaveNumbers nodes list = (x : Listed) → Contains list x → HasNumber nodes x.
 pub record IsListOf (nodes : Table) (i : InstanceId) (list : List Listed) : Type 0 where
   pub listed : (x : Listed) → Contains list x → IsNode nodes x.id (node_of i x.event)
   pub whole : (x : Listed) → IsNode nodes x.id (node_of i x.event) → Contains list x
-  pub apart : AreApart list
+  pub apart : AreDistinct list
 
 -- the events have numbers, and are listed with them
 pub record NumbersAll (old new : Numbers) (i : InstanceId) (list : List Listed) (events : List EventId) : Type 0 where
@@ -107,7 +107,7 @@ pub record Frees (old new : Numbers) (list : List Listed) : Type 0 where
   pub room : length new.slots.items ≡ length old.slots.items
 
 -- each number is kept, no node has two, and each instance's list has its events
-pub record IsSound (numbers : Numbers) (lists : Lists) : Type 0 where
+pub record IsTableOf (numbers : Numbers) (lists : NodeLists) : Type 0 where
   pub kept : AreKept numbers
   pub one : IsOne numbers.slots.items
   pub listed : (i : InstanceId) → IsListOf numbers.slots.items i (list_at lists i)

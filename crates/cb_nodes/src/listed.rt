@@ -3,7 +3,7 @@ use crate::id::NodeId;
 use cb_model::EventId;
 
 /// An event of an instance, and its number.
-#[derive(Clone, Copy, Debug)]
+#[derive(Clone, Copy)]
 pub struct Listed {
     pub event: EventId,
     pub id: NodeId,

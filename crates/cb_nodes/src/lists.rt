@@ -4,7 +4,7 @@ ghost use Rattle.std.specs.List.{Contains};
 ghost use Rattle.cb_model.specs.declared.id.EventId.{EventId as Event};
 ghost use Rattle.cb_instances.specs.Net.{Once};
 ghost use Rattle.cb_nodes.specs.declared.listed.Listed.{Listed as Item};
-ghost use Rattle.cb_nodes.specs.Kept.{AreKept, HasSpareFor, HasSpareIn, SameLists, IsListOf, HaveNumbers, AreApart, NumbersAll, Frees};
+ghost use Rattle.cb_nodes.specs.Kept.{AreKept, HasSpareFor, HasSpareIn, SameLists, IsListOf, HaveNumbers, AreDistinct, NumbersAll, Frees};
 ghost use Rattle.cb_nodes.specs.Table.{HasEvent, IsOne, room_with};
 
 use crate::id::NodeId;
@@ -15,8 +15,8 @@ use cb_instances::InstanceId;
 use cb_model::EventId;
 use std::alloc::{AllocError, Global};
 
-/// Makes room in the instance's list for so many events more.
-pub fn reserve(
+/// Makes room in the instance's list for `more` further events.
+pub(crate) fn reserve(
     alloc: Global,
     lists: &mut Vec<Vec<Listed>>,
     instance: InstanceId,
@@ -41,7 +41,7 @@ fn grow(alloc: Global, lists: &mut Vec<Vec<Listed>>, instance: InstanceId) -> Re
 }
 
 /// Gives each of the events a number, and lists it.
-pub fn number_events(
+pub(crate) fn number_events(
     numbers: &mut Numbers,
     list: &mut Vec<Listed>,
     instance: InstanceId,
@@ -67,7 +67,7 @@ pub fn number_events(
 }
 
 /// The number that the event is listed with.
-pub fn number_of(list: &[Listed], event: EventId) -> Option<NodeId>
+pub(crate) fn number_of(list: &[Listed], event: EventId) -> Option<NodeId>
     ensures found { IfSome result (λ id. Contains list.now (record { event = event; id = id })) }
     ensures absent { IfNone result ((x : Item) → Contains list.now x → x.event ≢ event) }
 {
@@ -76,10 +76,10 @@ pub fn number_of(list: &[Listed], event: EventId) -> Option<NodeId>
 }
 
 /// The numbers of the list are free again.
-pub fn free_all(numbers: &mut Numbers, list: &[Listed])
+pub(crate) fn free_all(numbers: &mut Numbers, list: &[Listed])
     requires kept { AreKept numbers.old }
     requires had { HaveNumbers numbers.old.slots.items list.now }
-    requires apart { AreApart list.now }
+    requires apart { AreDistinct list.now }
     ensures { Frees numbers.old numbers.new list.now }
 {
     for listed in list {

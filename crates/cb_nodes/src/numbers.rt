@@ -1,6 +1,6 @@
 //! Numbers that nodes have, and numbers that are free.
 ghost use Rattle.std.specs.Prelude.{◌≡◌, ◌≤◌, ◌<◌, ◌^◌, [], OnOk, vec_capacity};
-ghost use Rattle.cb_nodes.specs.Kept.{AreKept, HasSpareFor, Takes, GivesBack, SameSlots};
+ghost use Rattle.cb_nodes.specs.Kept.{AreKept, HasSpareFor, TakesNumber, GivesBack, SameSlots};
 ghost use Rattle.cb_nodes.specs.Table.{HasNumber, count_of, room_with};
 
 use crate::id::NodeId;
@@ -35,7 +35,7 @@ impl Numbers {
         self.slots.len() - self.free.len()
     }
 
-    /// How many numbers there are in use once so many nodes more have theirs.
+    /// How many numbers are in use once `more` further nodes have theirs.
     pub fn room_with(&self, more: usize) -> usize
         requires kept { AreKept self.now }
         requires fits { room_with self.now.slots.items more < 2 ^ 64 }
@@ -44,7 +44,7 @@ impl Numbers {
         self.slots.len().max(self.count() + more)
     }
 
-    /// Makes room for so many nodes more.
+    /// Makes room for `more` further nodes.
     pub fn reserve(&mut self, more: usize) -> Result<(), AllocError>
         requires kept { AreKept self.old }
         requires fits { room_with self.old.slots.items more < 2 ^ 64 }
@@ -61,7 +61,7 @@ impl Numbers {
         requires kept { AreKept self.old }
         requires spare { HasSpareFor self.old 1 }
         requires few { room_with self.old.slots.items 1 ≤ 2 ^ 32 }
-        ensures { Takes self.old self.new result node }
+        ensures { TakesNumber self.old self.new result node }
     {
         match self.free.pop() {
             Some(id) => {

@@ -31,11 +31,11 @@ impl std::marker::Model for NodeTable {
 
     ghost Value = { Table };
 
-    ghost use Rattle.cb_nodes.specs.Kept.{IsSound};
+    ghost use Rattle.cb_nodes.specs.Kept.{IsTableOf};
 
     ghost view = { λ s. s.numbers.slots.items };
 
-    ghost invariant = { λ s. IsSound s.numbers s.lists.items };
+    ghost invariant = { λ s. IsTableOf s.numbers s.lists.items };
 }
 
 impl NodeTable {
@@ -147,7 +147,7 @@ impl NodeTable {
         self.numbers.slots.len()
     }
 
-    /// What `room` is once so many nodes more have their numbers.
+    /// What `room` is once `more` further nodes have their numbers.
     pub fn room_with(&self, more: usize) -> usize
         requires { room_with self.now more < 2 ^ 64 }
         ensures { result ≡ room_with self.now more }

@@ -8,8 +8,8 @@ use Rattle.cb_cert.specs.Format.{IsCertificate}
 use Rattle.cb_cert.specs.Lines.{text_of}
 use Rattle.cb_cert.proofs.Sizes.{text_is_short, spelled_is_short}
 use Rattle.cb_cert.proofs.TextLines.{text_spells}
-use Rattle.cb_claim.specs.Valid.{IsValid}
-use Rattle.cb_claim.proofs.Codebooks.{codebook_is_valid, shortfall_is_valid}
+use Rattle.cb_validity.specs.Valid.{IsValid}
+use Rattle.cb_validity.proofs.Codebooks.{codebook_is_valid, shortfall_is_valid}
 use Rattle.cb_request.specs.declared.request.Request.TheVariants.{Codebook, Verify}
 use Rattle.cb_request.specs.Files.{Role}
 use Rattle.cb_report.specs.declared.fault.Fault.TheVariants as faults
@@ -59,7 +59,7 @@ module _ (left left' : Left) (model topology certificate : List ℕ) (distance :
   abbrev File_of : Role → List ℕ → List ℕ → File
   File_of role name text = record { role = role; name = name; text = text }
 
-  -- the certificate passes behind the model and the topology
+  -- the certificate passes after the model and the topology
   accepted_behind : (first : Known) (t : Topology) → Says nothing (File_of Role.model model (contents left [] model)) first
       → Says first (File_of Role.topology topology (contents left (model ∷ []) topology)) (network t) → IsAcceptable t a.out
       → IsOutcome (Some (Verify model topology certificate)) left' b → b.fault ≡ None

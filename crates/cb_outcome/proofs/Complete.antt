@@ -1,7 +1,7 @@
 -- Where nothing fails, the run answers the outcome, or memory ran out.
 use Rattle.std.proofs.Common.{refl, inl, inr}
 use Rattle.std.specs.Prelude.{Option}
-use Rattle.cb_claim.proofs.Canonicals.{contains_from_get}
+use Rattle.cb_validity.proofs.Canonicals.{contains_from_get}
 use Rattle.cb_request.specs.declared.request.Request.{Request}
 use Rattle.cb_request.specs.Files.{file_words}
 use Rattle.cb_report.specs.declared.status.Status.{Status}

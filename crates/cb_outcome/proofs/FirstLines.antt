@@ -17,11 +17,11 @@ use Rattle.cb_network.specs.Regular.{IsRegular}
 use Rattle.cb_network.proofs.Accepted.{after_is_one, model_stays}
 use Rattle.cb_edits.specs.Spelled.{SpellsEdit}
 use Rattle.cb_edits.proofs.Decoded.{spelled_once}
-use Rattle.cb_inputs.specs.declared.topology.LineFault.{LineFault}
-use Rattle.cb_inputs.specs.declared.topology.LineFault.TheVariants.{BadWords, Refused}
+use Rattle.cb_line_files.specs.declared.topology.LineFault.{LineFault}
+use Rattle.cb_line_files.specs.declared.topology.LineFault.TheVariants.{BadWords, Refused}
 use Rattle.cb_text.specs.Lines.{IsShort, HasShortLines, IsFirstLong}
-use Rattle.cb_inputs.specs.Topologies.{LineMakes, LinesMake, MakesTopology, IsWrong, IsFirstWrong}
-use Rattle.cb_inputs.specs.Symptoms.{IsSymptomLine, ListsNodes, IsFirstBad}
+use Rattle.cb_line_files.specs.Topologies.{LineMakes, LinesMake, MakesTopology, IsWrong, IsFirstWrong}
+use Rattle.cb_line_files.specs.Symptoms.{IsSymptomLine, ListsNodes, IsFirstBad}
 
 -- what holds of all items holds of one among them
 of_all : {X : Type 0} (P : X → Type 0) (xs before : List X) (x : X) (after : List X) → xs ≡ before ++ x ∷ after → All P xs → P x
@@ -77,7 +77,7 @@ nodes_are_one text xs ys a b =
     (λ n c. let (line, in_lines, spells) = a.each n c in b.all n line in_lines spells)
     (λ n c. let (line, in_lines, spells) = b.each n c in a.all n line in_lines spells)
 
--- a line whose first word begins with another byte than `#` isn't passed over
+-- a line whose first word begins with another byte than `#` isn't ignored
 not_passed : (line word : List ℕ) (words : List (List ℕ)) (b : ℕ) → words_of line ≡ word ∷ words → slice_get word 0 ≡ Some b → b ≢ 35 → ¬ IsPassedOver line
 not_passed line word words b is first other passed =
     let hash : slice_get word 0 ≡ Some 35 = subst (λ (ws : List (List ℕ)). MatchOption (slice_get ws 0) ⊤ (λ w. slice_get w 0 ≡ Some 35)) is passed in
@@ -86,7 +86,7 @@ not_passed line word words b is first other passed =
     same_Some : (x y : ℕ) → Some x ≡ Some y → x ≡ y
     same_Some x y e = cc
 
--- a line that is passed over spells no edit
+-- a line that is ignored spells no edit
 passed_is_no_edit : (line : List ℕ) (edit : Edit) → IsPassedOver line → ¬ SpellsEdit line edit
 passed_is_no_edit line (Create name class) passed spells = not_passed line _ _ 99 spells.says refl (λ e. omega arith) passed
 passed_is_no_edit line (Delete name) passed spells = not_passed line _ _ 100 spells.says refl (λ e. omega arith) passed

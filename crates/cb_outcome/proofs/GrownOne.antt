@@ -13,7 +13,7 @@ use Rattle.cb_gen.specs.Topology.{topology_text}
 use Rattle.cb_gen.specs.Log.{log_text}
 use Rattle.cb_log.specs.declared.event.Event.{Event}
 use Rattle.cb_log.specs.Basis.{Mode, wanted}
-use Rattle.cb_log.specs.Entries.{Entry, records_of}
+use Rattle.cb_log.specs.Entries.{LogEntry, records_of}
 use Rattle.cb_log.specs.Events.{IsNetwork}
 use Rattle.cb_log.proofs.EventsOne.{network_is_one}
 use Rattle.cb_alarm.specs.Lines.{log_lines}
@@ -146,10 +146,10 @@ log_is_one : (t : Topology) (mode : Mode) (w : ℕ) (log : List ℕ) (r s : Summ
 log_is_one t mode w log r s regular a b =
     let events = log_gives_one t mode w log b.events a.events regular b.gives a.gives in
     let entries = come_to_one (log_lines log) b.gives.entries a.gives.entries b.gives.come a.gives.come in
-    let last = subst (λ (es : List Entry). IsNetwork t mode (records_of es) b.last) entries b.last_is in
+    let last = subst (λ (es : List LogEntry). IsNetwork t mode (records_of es) b.last) entries b.last_is in
     let networks = network_is_one t regular mode (records_of a.gives.entries) b.last a.last last a.last_is in
     record {
-      records = a.records ∙ (sym (ap (λ (es : List Entry). length (records_of es)) entries) ∙ sym b.records);
+      records = a.records ∙ (sym (ap (λ (es : List LogEntry). length (records_of es)) entries) ∙ sym b.records);
       sizes = sizes_are_one a.last r s a.sizes (subst (λ (u : Topology). CountsNetwork u s) networks b.sizes);
       counts = counts_are_one a.events r s a.counted (subst (λ (es : List Event). CountsEvents es s) events b.counted);
     }

@@ -25,17 +25,17 @@ use Rattle.cb_cert.specs.declared.certificate.Side.TheVariants as side
 use Rattle.cb_cert.specs.declared.certificate.Span.{Span}
 use Rattle.cb_cert.specs.declared.certificate.Entry.{Entry}
 use Rattle.cb_cert.specs.Lines.{text_of}
-use Rattle.cb_claim.specs.declared.verdict.Accepted.{Accepted}
-use Rattle.cb_claim.specs.declared.verdict.Accepted.TheVariants as accepted
-use Rattle.cb_claim.specs.Canonical.{IsCanonicalThin}
-use Rattle.cb_claim.specs.Codebooks.{AreBookColumns, AreFirstClose, least_of}
-use Rattle.cb_claim.specs.Laws.{HavePlaces}
-use Rattle.cb_claim.specs.Spans.{StandsFor, BeginsWith}
-use Rattle.cb_claim.specs.Verdicts.{IsSideName, Shows}
-use Rattle.cb_claim.proofs.Firsts.{made_is_one}
-use Rattle.cb_claim.proofs.SpanLaws.{stands_for_one}
-use Rattle.cb_claim.proofs.Totals.{few_are_not_many}
-use Rattle.cb_claim.proofs.Wholes.{canonical_book_is_one, canonical_thin_is_one}
+use Rattle.cb_validity.specs.declared.verdict.Accepted.{Accepted}
+use Rattle.cb_validity.specs.declared.verdict.Accepted.TheVariants as accepted
+use Rattle.cb_validity.specs.Canonical.{IsCanonicalThin}
+use Rattle.cb_validity.specs.Codebooks.{AreBookColumns, AreFirstClose, least_of}
+use Rattle.cb_validity.specs.Laws.{HavePlaces}
+use Rattle.cb_validity.specs.Spans.{StandsFor, BeginsWith}
+use Rattle.cb_validity.specs.Verdicts.{IsSideName, Shows}
+use Rattle.cb_validity.proofs.Firsts.{made_is_one}
+use Rattle.cb_validity.proofs.SpanLaws.{stands_for_one}
+use Rattle.cb_validity.proofs.Totals.{few_are_not_many}
+use Rattle.cb_validity.proofs.Wholes.{canonical_book_is_one, canonical_thin_is_one}
 use Rattle.cb_report.specs.declared.fault.Fault.TheVariants as faults
 use Rattle.cb_report.specs.CertificateTexts.{accepted_text}
 use Rattle.cb_report.specs.Lines.{burst_text}

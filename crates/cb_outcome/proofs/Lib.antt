@@ -1,5 +1,4 @@
 pub mod FirstLines
-pub mod Regular
 pub mod Once
 pub mod JobsOne
 pub mod LogFronts

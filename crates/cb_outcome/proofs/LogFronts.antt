@@ -6,11 +6,11 @@ use Rattle.cb_network.specs.Regular.{IsRegular}
 use Rattle.cb_network.specs.Topology.{Topology}
 use Rattle.cb_log.specs.declared.event.Event.{Event}
 use Rattle.cb_log.specs.Basis.{Mode}
-use Rattle.cb_log.specs.Entries.{Entry}
+use Rattle.cb_log.specs.Entries.{LogEntry}
 use Rattle.cb_log.specs.Events.{EntriesGive}
 use Rattle.cb_log.proofs.EventsOne.{entries_give_one}
 use Rattle.cb_alarm.proofs.OneSkip.{come_to_one}
-use Rattle.cb_alarm.specs.Lines.{Line, line_of, ComeTo, ended_parts, ended_lines, log_lines}
+use Rattle.cb_alarm.specs.Lines.{NumberedLine, line_of, ComeTo, ended_parts, ended_lines, log_lines}
 use Rattle.cb_outcome.specs.Laws.{FrontIsFront}
 
 abbrev Parts : Type 0
@@ -70,15 +70,15 @@ ended_go_on (y ∷ []) first tail = refl
 ended_go_on (y ∷ z ∷ zs) first tail = ap (λ (v : Parts). y ∷ v) (ended_go_on (z ∷ zs) first tail)
 
 -- with their numbers, the first of some lines are the first
-pub numbered : (n : ℕ) (xs ys : Parts) → (rest : List Line) × (map line_of (enumerate_from n (xs ++ ys)) ≡ map line_of (enumerate_from n xs) ++ rest)
+pub numbered : (n : ℕ) (xs ys : Parts) → (rest : List NumberedLine) × (map line_of (enumerate_from n (xs ++ ys)) ≡ map line_of (enumerate_from n xs) ++ rest)
 numbered n [] ys = (map line_of (enumerate_from n ys), refl)
-numbered n (x ∷ xs) ys = let later = numbered (n + 1) xs ys in (later.0, ap (λ (v : List Line). line_of (n, x) ∷ v) later.1)
+numbered n (x ∷ xs) ys = let later = numbered (n + 1) xs ys in (later.0, ap (λ (v : List NumberedLine). line_of (n, x) ∷ v) later.1)
 
 abbrev lf : ℕ → Bool
 lf b = b == 10
 
 -- the lines that end within the first bytes of a log are its first
-pub front_lines : (front rest : List ℕ) → (later : List Line) × (log_lines (front ++ rest) ≡ ended_lines front ++ later)
+pub front_lines : (front rest : List ℕ) → (later : List NumberedLine) × (log_lines (front ++ rest) ≡ ended_lines front ++ later)
 front_lines front rest =
     let (first, tail, e) = split_front lf front rest in
     let before = ended_parts (slice_split lf front) in
@@ -87,7 +87,7 @@ front_lines front rest =
     (later, ap (λ (v : Parts). map line_of (enumerate_from 1 v)) parts ∙ l)
 
 -- and of those that end within more bytes
-pub front_ended : (front rest : List ℕ) → (later : List Line) × (ended_lines (front ++ rest) ≡ ended_lines front ++ later)
+pub front_ended : (front rest : List ℕ) → (later : List NumberedLine) × (ended_lines (front ++ rest) ≡ ended_lines front ++ later)
 front_ended front rest =
     let (first, tail, e) = split_front lf front rest in
     let before = ended_parts (slice_split lf front) in
@@ -102,15 +102,15 @@ onto_end : (body due rest ends : List Event) → body ≡ due ++ rest → body +
 onto_end body due rest ends e = ap (λ (v : List Event). v ++ ends) e ∙ simp append_assoc
 
 -- what the first of some lines come to is the first of what they come to
-pub first_come : (xs ys : List Line) (entries : List Entry) → ComeTo (xs ++ ys) entries
-    → (before : List Entry) × (after : List Entry) × (entries ≡ before ++ after) × ComeTo xs before
+pub first_come : (xs ys : List NumberedLine) (entries : List LogEntry) → ComeTo (xs ++ ys) entries
+    → (before : List LogEntry) × (after : List LogEntry) × (entries ≡ before ++ after) × ComeTo xs before
 first_come [] ys entries c = ([], entries, refl, tt)
 first_come (x ∷ xs) ys [] c = absurd c
 first_come (x ∷ xs) ys (entry ∷ entries) (d, c) =
-    let (before, after, e, k) = first_come xs ys entries c in (entry ∷ before, after, ap (λ (v : List Entry). entry ∷ v) e, (d, k))
+    let (before, after, e, k) = first_come xs ys entries c in (entry ∷ before, after, ap (λ (v : List LogEntry). entry ∷ v) e, (d, k))
 
 module _ (t : Topology) (mode : Mode) (w : ℕ) where
-  first_give : (before xs ys : List Entry) (all : List Event) → EntriesGive t mode w before (xs ++ ys) all
+  first_give : (before xs ys : List LogEntry) (all : List Event) → EntriesGive t mode w before (xs ++ ys) all
       → (first : List Event) × (rest : List Event) × EntriesGive t mode w before xs first × (all ≡ first ++ rest)
   first_give before [] ys all g = ([], all, refl, refl)
   first_give before (x ∷ xs) ys all (head, tail, g, later, e) =
@@ -118,22 +118,22 @@ module _ (t : Topology) (mode : Mode) (w : ℕ) where
       (head ++ first, rest, (head, first, g, k, refl), e ∙ onward head tail first rest f)
 
 module _ (t : Topology) (mode : Mode) (w : ℕ) (regular : IsRegular t.model) where
-  -- what comes of the first of some lines is the front of what comes of all
-  of_lines : (xs ys : List Line) (some entries : List Entry) (due all : List Event) → ComeTo xs some → EntriesGive t mode w [] some due
+  -- what results from the first of some lines is a prefix of what results from all
+  of_lines : (xs ys : List NumberedLine) (some entries : List LogEntry) (due all : List Event) → ComeTo xs some → EntriesGive t mode w [] some due
       → ComeTo (xs ++ ys) entries → EntriesGive t mode w [] entries all → (rest : List Event) × (all ≡ due ++ rest)
   of_lines xs ys some entries due all c g d h =
       let (before, after, e, k) = first_come xs ys entries d in
-      let (first, rest, f, is) = first_give t mode w [] before after all (subst (λ (v : List Entry). EntriesGive t mode w [] v all) e h) in
+      let (first, rest, f, is) = first_give t mode w [] before after all (subst (λ (v : List LogEntry). EntriesGive t mode w [] v all) e h) in
       let same : before ≡ some = come_to_one xs before some k c in
-      let one : first ≡ due = entries_give_one t regular mode w [] some first due (subst (λ (v : List Entry). EntriesGive t mode w [] v first) same f) g in
+      let one : first ≡ due = entries_give_one t regular mode w [] some first due (subst (λ (v : List LogEntry). EntriesGive t mode w [] v first) same f) g in
       (rest, is ∙ ap (λ (v : List Event). v ++ rest) one)
 
 pub front_is_front : FrontIsFront
 front_is_front t mode w front others due all regular (some, c, g) (inl (entries, d, h)) =
     let (later, e) = front_ended front others in
-    of_lines t mode w regular (ended_lines front) later some entries due all c g (subst (λ (v : List Line). ComeTo v entries) e d) h
+    of_lines t mode w regular (ended_lines front) later some entries due all c g (subst (λ (v : List NumberedLine). ComeTo v entries) e d) h
 front_is_front t mode w front others due all regular (some, c, g) (inr log) =
     let (later, e) = front_lines front others in
     let (rest, is) = of_lines t mode w regular (ended_lines front) later some log.entries due log.body c g
-    (subst (λ (v : List Line). ComeTo v log.entries) e log.come) log.body_is in
+    (subst (λ (v : List NumberedLine). ComeTo v log.entries) e log.come) log.body_is in
     (rest ++ log.ends, log.events_are ∙ onto_end log.body due rest log.ends is)

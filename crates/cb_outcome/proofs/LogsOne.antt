@@ -1,4 +1,4 @@
--- A log that is followed gives one outcome, and what its first bytes tell is a front of it.
+-- A log that is followed gives one outcome, and what its first bytes tell is a prefix of it.
 use Rattle.std.proofs.Common.{◌≡◌, ◌≤◌, ◌<◌, ℕ, zero, suc, min, take, drop, List, [], ◌∷◌, ◌++◌, append_assoc, length, refl, sym, ap, ◌∙◌, subst, inl, inr, arith}
 use Rattle.std.proofs.lemmas.List.{take-append-drop}
 use Rattle.std.proofs.lemmas.Grind.{flat_map-append}
@@ -10,11 +10,11 @@ use Rattle.cb_network.specs.Topology.{Topology}
 use Rattle.cb_network.proofs.One.{columns_are_one}
 use Rattle.cb_cert.specs.declared.certificate.Certificate.{Certificate}
 use Rattle.cb_cert.specs.declared.certificate.Certificate.TheVariants.{Book as BookClaim, Thin as ThinClaim}
-use Rattle.cb_claim.specs.Reading.{ArePlaces}
-use Rattle.cb_claim.proofs.Firsts.{places_found_once}
+use Rattle.cb_validity.specs.Reading.{ArePlaces}
+use Rattle.cb_validity.proofs.Firsts.{places_found_once}
 use Rattle.cb_log.specs.declared.event.Event.{Event}
 use Rattle.cb_log.specs.Basis.{Mode, fixed}
-use Rattle.cb_log.specs.Entries.{Entry}
+use Rattle.cb_log.specs.Entries.{LogEntry}
 use Rattle.cb_log.specs.Events.{EntriesGive}
 use Rattle.cb_log.proofs.EventsOne.{entries_give_one}
 use Rattle.cb_alarm.specs.Lines.{LogGives, FrontGives, ended_lines}
@@ -74,7 +74,7 @@ front_gives_one : (t : Topology) (mode : Mode) (w : ℕ) (front : List ℕ) (xs 
     → FrontGives t mode w front ys → xs ≡ ys
 front_gives_one t mode w front xs ys regular (some, come, gives) (other, come', gives') =
     let same = come_to_one (ended_lines front) other some come' come in
-    entries_give_one t regular mode w [] some xs ys gives (subst (λ (es : List Entry). EntriesGive t mode w [] es ys) same gives')
+    entries_give_one t regular mode w [] some xs ys gives (subst (λ (es : List LogEntry). EntriesGive t mode w [] es ys) same gives')
 
 module _ (watch : Watch) (regular : IsRegular watch.from.model) where
   whole_tells_one : (log x y : List ℕ) → WholeTells watch log x → WholeTells watch log y → x ≡ y
@@ -135,7 +135,7 @@ module _ (watch : Watch) (regular : IsRegular watch.from.model) (name log : List
       let (rest, is) = front_is_front watch.from watch.mode watch.window (take k log) (drop k cut) first all regular f (inl gives) in
       begins p.out due outcome (ap (λ (v : Outcome). v.out) p.gives) (text_front watch.opening due p.out first rest all d o is)
 
--- what the first bytes of a log tell is a front of what comes of it
+-- what the first bytes of a log tell is a prefix of what results from it
 pub follows_front : (left : Left) (request : Request) (name : List ℕ) (known : Known) (watch : Watch) (taken whole : ℕ) (due : List ℕ) (outcome : Outcome)
     → IsSound known → IsWatch request known watch → FrontTells watch (take (min taken log_limit) (log_from left request name)) due
     → Follows left request name known whole outcome → BeginsWith outcome.out due

@@ -4,7 +4,7 @@ use Rattle.cb_model.specs.declared.node.NodeName.{NodeName}
 use Rattle.cb_model.specs.declared.tables.Tables.{Tables}
 use Rattle.cb_grammar.specs.declared.tree.Tree.{Tree}
 use Rattle.cb_syntax.specs.declared.fault.SyntaxFault.{SyntaxFault}
-use Rattle.cb_syntax.specs.Spells.{Spells}
+use Rattle.cb_syntax.specs.Spells.{SpellsModel}
 use Rattle.cb_syntax.specs.Laws.{IsAnswer}
 use Rattle.cb_syntax.proofs.One.{one_answer, names_fit}
 use Rattle.cb_rules.specs.declared.rule.BrokenRule.{BrokenRule}
@@ -16,35 +16,35 @@ use Rattle.cb_check.proofs.One.{one_model}
 use Rattle.cb_check.proofs.Typed.{stands_is_typed}
 use Rattle.cb_network.specs.Regular.{IsRegular}
 use Rattle.cb_network.specs.Topology.{Topology}
-use Rattle.cb_inputs.specs.declared.topology.LineFault.{LineFault}
-use Rattle.cb_inputs.specs.declared.topology.LineFault.TheVariants.{BadWords, Refused}
-use Rattle.cb_inputs.specs.Topologies.{IsFirstWrong, MakesTopology}
-use Rattle.cb_inputs.specs.Symptoms.{ListsNodes, IsFirstBad}
+use Rattle.cb_line_files.specs.declared.topology.LineFault.{LineFault}
+use Rattle.cb_line_files.specs.declared.topology.LineFault.TheVariants.{BadWords, Refused}
+use Rattle.cb_line_files.specs.Topologies.{IsFirstWrong, MakesTopology}
+use Rattle.cb_line_files.specs.Symptoms.{ListsNodes, IsFirstBad}
 use Rattle.cb_cert.specs.declared.certificate.Certificate.{Certificate}
 use Rattle.cb_cert.specs.declared.fault.CertText.{CertText}
-use Rattle.cb_cert.specs.Format.{Spells as SpellsCertificate}
+use Rattle.cb_cert.specs.Format.{SpellsCertificate}
 use Rattle.cb_cert.specs.Fronts.{IsReading}
 use Rattle.cb_cert.proofs.Readings.{reading_is_one}
-use Rattle.cb_claim.specs.declared.verdict.Rejected.{Rejected}
-use Rattle.cb_claim.specs.Checks.{IsFirstFail}
-use Rattle.cb_claim.proofs.Firsts.{first_fail_is_one}
-use Rattle.cb_claim.proofs.Passing.{valid_is_not_rejected}
+use Rattle.cb_validity.specs.declared.verdict.Rejected.{Rejected}
+use Rattle.cb_validity.specs.Checks.{IsFirstFail}
+use Rattle.cb_validity.proofs.Firsts.{first_fail_is_one}
+use Rattle.cb_validity.proofs.Passing.{valid_is_not_rejected}
 use Rattle.cb_request.specs.Files.{Role}
 use Rattle.cb_report.specs.declared.fault.Fault.{Fault}
 use Rattle.cb_report.specs.declared.fault.Fault.TheVariants as faults
 use Rattle.cb_outcome.specs.Texts.{IsTreeText, IsTopologyText, IsValidText, IsBookKind}
 use Rattle.cb_outcome.specs.Judged.{File, Known, nothing, parsed, network, raised, certified, Means, Says, IsModelFault, IsWrongLine, IsTopologyFault, IsSymptomFault, IsCertificateFault, IsBookFault, HasFault, Refuses, PassFrom}
 use Rattle.cb_outcome.proofs.FirstLines.{long_is_one, long_or_short, bad_is_one, bad_or_listed, nodes_are_one, topology_is_one, made_of, wrong_is_one, wrong_or_makes}
-use Rattle.cb_outcome.proofs.Regular.{typed_is_regular}
+use Rattle.cb_network.proofs.Typed.{typed_is_regular}
 
 -- ---- a model
 
 -- a text spells one tree
-same_tree : (text : List ℕ) (one other : Tree) → Spells text one → Spells text other → one ≡ other
+same_tree : (text : List ℕ) (one other : Tree) → SpellsModel text one → SpellsModel text other → one ≡ other
 same_tree text one other s s' = let e = one_answer text (Ok one) (Ok other) s s' in cc
 
 -- a text doesn't both spell a tree and have a fault of its tokens
-no_tree : (text : List ℕ) (tree : Tree) (fault : SyntaxFault) → Spells text tree → IsAnswer text (Err fault) → ⊥
+no_tree : (text : List ℕ) (tree : Tree) (fault : SyntaxFault) → SpellsModel text tree → IsAnswer text (Err fault) → ⊥
 no_tree text tree fault s f = let e = one_answer text (Ok tree) (Err fault) s f in cc
 
 -- a fault of tokens
@@ -58,7 +58,7 @@ record OfRules (text : List ℕ) (fault : Fault) : Type 0 where
   broken : BrokenRule
   is : fault ≡ faults.Kind (Broken broken)
   tree : Tree
-  spelled : Spells text tree
+  spelled : SpellsModel text tree
   breaks : IsTypeFault tree broken
 
 kind_of : (text : List ℕ) (fault : Fault) → IsModelFault text fault → OfTokens text fault ⊎ OfRules text fault

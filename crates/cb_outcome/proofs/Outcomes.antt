@@ -1,4 +1,4 @@
--- The outcome of words and files is one, and what is due is a front of its output.
+-- The outcome of words and files is one, and what is due is a prefix of its output.
 use Rattle.std.proofs.Common.{◌≡◌, ◌≢◌, ℕ, ◌+◌, suc, min, take, List, [], ◌∷◌, ◌++◌, length, refl, sym, ap, ◌∙◌, subst, inl, inr, Some, arith}
 use Rattle.std.specs.Prelude.{◌⊎◌, Option, None, map, IsSome, T}
 use Rattle.std.proofs.lemmas.List.{length-append, length-map}
@@ -144,7 +144,7 @@ gives_all job n ends (file ∷ files) known whole a (inl (f, r, e)) none = absur
 gives_all job n ends (file ∷ files) known whole a (inr (next, s, p)) none =
     let e = gives_all job n ends files next (suc whole) a p none in omega (arith, e)
 
--- How a job may end, behind so many files: without a fault, the log being read too, if there is one; with groups that are too close; with
+-- How a job may end, after so many files: without a fault, the log being read too, if there is one; with groups that are too close; with
 -- too many entries, and then without output; with a log that is too long; or with a fault of what it made up, and then without output.
 pub data JobEnds (request : Request) (whole : ℕ) (outcome : Outcome) : Type 0 where
   well : outcome.fault ≡ None → outcome.whole ≡ whole + length (logs_of request) → JobEnds request whole outcome

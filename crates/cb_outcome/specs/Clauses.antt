@@ -38,7 +38,7 @@ pub record Answers (asked : Option Request) (status : Status) (s : Seen) (left :
 abbrev pub AnswersOutcome : Option Request → Status → Seen → Type 0
 AnswersOutcome asked status s = OnAnswer status (Told s.files (Answers asked status s))
 
--- what was written is a front of what was due at some point of the run
+-- what was written is a prefix of what was due at some point of the run
 abbrev pub WritesDue : Option Request → FilesTold → SinkTold → SinkTold → Type 0
 WritesDue asked old out out' = Told old (λ left. (point : Point) × (due : List ℕ) × IsDue asked left point due × WritesFront out out' due)
 
@@ -61,7 +61,7 @@ pub record HasComeToLog (asked : Option Request) (old new : FilesTold) : Type 0 
 abbrev pub IsQuietBeforeLog : Option Request → FilesTold → FilesTold → SinkTold → SinkTold → Type 0
 IsQuietBeforeLog asked old new out out' = WritesAll out out' [] ⊎ HasComeToLog asked old new
 
--- At 0 the whole output is written, at 6 an output beside the fault, at 9 a front. Where a read failed, something is too long or
+-- At 0 the whole output is written, at 6 an output beside the fault, at 9 a prefix. Where a read failed, something is too long or
 -- memory ran out, nothing was written before the log, and where the words or a judged file are to blame nothing at all.
 abbrev pub KeepsQuiet : Option Request → Status → FilesTold → FilesTold → SinkTold → SinkTold → Type 0
 KeepsQuiet asked statuses.Done old new out out' = Unit {0}
@@ -139,11 +139,11 @@ abbrev pub IsPastStart : Point → Type 0
 IsPastStart Point.start = ⊥
 IsPastStart point = Unit {0}
 
--- what was written is a front of what was due at a point past the start
+-- what was written is a prefix of what was due at a point past the start
 abbrev pub WritesPastStart : Option Request → SinkTold → SinkTold → Left → Type 0
 WritesPastStart asked out out' left = (point : Point) × IsPastStart point × ((due : List ℕ) × IsDue asked left point due × WritesFront out out' due)
 
--- the log is read at most so far behind a line whose events aren't written yet
+-- the log is read at most so far after a line whose events aren't written yet
 abbrev pub ahead_limit : ℕ
 ahead_limit = 65536
 
@@ -166,7 +166,7 @@ pub record BlamesWrite (asked : Option Request) (s : Seen) : Type 0 where
   pub due : Told s.files (WritesPastStart asked s.out s.out_after)
   pub ahead : Told s.files (ReadsNotFarAhead asked s)
 
--- at 8 a read failed, and at 9 a write; want of memory shows nothing
+-- at 8 a read failed, and at 9 a write; out of memory shows nothing
 abbrev pub Blames : Option Request → Status → Seen → Type 0
 Blames asked statuses.ReadFault s = BlamesRead asked s
 Blames asked statuses.WriteFault s = BlamesWrite asked s

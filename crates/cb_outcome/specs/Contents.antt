@@ -23,7 +23,7 @@ files_from left request = with_texts left [] (judged_of request)
 abbrev pub files_before : ℕ → Left → Request → List File
 files_before place left request = with_texts left [] (take place (judged_of request))
 
--- what the log of a request gives, by its name, behind the judged files
+-- what the log of a request gives, by its name, after the judged files
 abbrev pub log_from : Left → Request → List ℕ → List ℕ
 log_from left request name = contents left (map (λ file. file.1) (judged_of request)) name
 

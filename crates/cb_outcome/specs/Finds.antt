@@ -15,8 +15,8 @@ use Rattle.cb_finding.specs.declared.finding.Finding.{Finding}
 use Rattle.cb_finding.specs.Finding.{IsBurst, named_groups, word_of}
 use Rattle.cb_network.specs.Topology.{Topology}
 use Rattle.cb_cert.specs.declared.certificate.Certificate.{Certificate}
-use Rattle.cb_claim.specs.Canonical.{IsCanonicalThin}
-use Rattle.cb_claim.specs.Codebooks.{AreFirstClose, least_of}
+use Rattle.cb_validity.specs.Canonical.{IsCanonicalThin}
+use Rattle.cb_validity.specs.Codebooks.{AreFirstClose, least_of}
 use Rattle.cb_log.specs.declared.closed.Closed.{Closed}
 use Rattle.cb_log.specs.declared.event.Event.{Event}
 use Rattle.cb_log.specs.Entries.{records_of}

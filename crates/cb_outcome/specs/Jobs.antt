@@ -1,4 +1,4 @@
--- What comes of a request whose files have been judged.
+-- What results from a request whose files have been judged.
 use Rattle.std.specs.Prelude.{◌≡◌, ◌⊎◌, ℕ, List, length, Option}
 use Rattle.cb_model.specs.declared.node.GroupName.{GroupName}
 use Rattle.cb_model.specs.declared.node.GroupName.TheVariants.{Least}
@@ -15,11 +15,11 @@ use Rattle.cb_syntax.specs.Canonical.{canonical_text}
 use Rattle.cb_cert.specs.declared.certificate.Certificate.{Certificate}
 use Rattle.cb_cert.specs.Format.{IsCertificate}
 use Rattle.cb_cert.specs.Lines.{text_of}
-use Rattle.cb_claim.specs.declared.verdict.Accepted.{Accepted}
-use Rattle.cb_claim.specs.Canonical.{IsCanonicalBook, IsCanonicalThin}
-use Rattle.cb_claim.specs.Codebooks.{AreBookColumns, AreFirstClose, least_of}
-use Rattle.cb_claim.specs.Totals.{HasFewEntries, HasManyEntries}
-use Rattle.cb_claim.specs.Verdicts.{Shows}
+use Rattle.cb_validity.specs.declared.verdict.Accepted.{Accepted}
+use Rattle.cb_validity.specs.Canonical.{IsCanonicalBook, IsCanonicalThin}
+use Rattle.cb_validity.specs.Codebooks.{AreBookColumns, AreFirstClose, least_of}
+use Rattle.cb_validity.specs.Totals.{HasFewEntries, HasManyEntries}
+use Rattle.cb_validity.specs.Verdicts.{Shows}
 use Rattle.cb_report.specs.declared.fault.Fault.TheVariants as faults
 use Rattle.cb_report.specs.CertificateTexts.{accepted_text}
 use Rattle.cb_report.specs.Lines.{burst_text}

@@ -37,7 +37,7 @@ FrontIsFront = (t : Topology) (mode : Mode) (window : ℕ) (front more : List �
     → FrontGives t mode window front due → FrontGives t mode window (front ++ more) all ⊎ LogGives t mode window (front ++ more) all
     → (rest : List Event) × (all ≡ due ++ rest)
 
--- what is due at any point is a front of the outcome's output
+-- what is due at any point is a prefix of the outcome's output
 abbrev pub DueIsFront : Type 0
 DueIsFront = (asked : Option Request) (left : Left) (point : Point) (due : List ℕ) (outcome : Outcome)
     → IsOutcome asked left outcome → IsDue asked left point due → BeginsWith outcome.out due

@@ -1,4 +1,4 @@
--- What comes of a log, and of its first bytes.
+-- What results from a log, and from its first bytes.
 use Rattle.std.specs.Prelude.{◌≡◌, ◌⊎◌, ℕ, suc, ◌^◌, ◌<◌, ◌≤◌, ◌++◌, List, [], take, length}
 use Rattle.cb_model.specs.declared.node.NodeName.{NodeName}
 use Rattle.cb_coding.specs.declared.book.Book.{Book}
@@ -6,9 +6,9 @@ use Rattle.cb_network.specs.Nodes.{AreColumns}
 use Rattle.cb_network.specs.Topology.{Topology}
 use Rattle.cb_cert.specs.declared.certificate.Certificate.{Certificate}
 use Rattle.cb_cert.specs.declared.certificate.Certificate.TheVariants.{Book as BookClaim, Thin as ThinClaim}
-use Rattle.cb_claim.specs.declared.verdict.Accepted.{Accepted}
-use Rattle.cb_claim.specs.Reading.{ArePlaces}
-use Rattle.cb_claim.specs.Verdicts.{Shows}
+use Rattle.cb_validity.specs.declared.verdict.Accepted.{Accepted}
+use Rattle.cb_validity.specs.Reading.{ArePlaces}
+use Rattle.cb_validity.specs.Verdicts.{Shows}
 use Rattle.cb_log.specs.declared.event.Event.{Event}
 use Rattle.cb_log.specs.Basis.{Mode, wanted, fixed}
 use Rattle.cb_alarm.specs.Lines.{LogGives, FrontGives}
@@ -25,7 +25,7 @@ use Rattle.cb_outcome.specs.Contents.{Left, log_from}
 abbrev pub log_limit : ℕ
 log_limit = 2 ^ 40
 
--- how a log is followed: from a topology, in a mode, by windows of a length, behind some bytes of the output
+-- how a log is followed: from a topology, in a mode, by windows of a length, after some bytes of the output
 pub record Watch : Type 0 where
   pub opening : List ℕ
   pub from : Topology
@@ -44,7 +44,7 @@ abbrev pub States : Topology → Certificate → Book → Type 0
 States t (BookClaim distance nodes numbers spans) book = StatesBook t distance nodes numbers book
 States t (ThinClaim close distance nodes first second) book = ⊥
 
--- by the codebook of a certificate, behind the line that accepts it
+-- by the codebook of a certificate, after the line that accepts it
 pub record IsFixedWatch (t : Topology) (c : Certificate) (window : ℕ) (watch : Watch) : Type 0 where
   pub accepted : Accepted
   pub shows : Shows t c accepted

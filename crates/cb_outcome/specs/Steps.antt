@@ -5,9 +5,9 @@ use Rattle.cb_change.specs.InTurn.{IsCostInTurn}
 use Rattle.cb_gen.specs.Log.{log_text}
 use Rattle.cb_io.specs.Outside.{FilesTold, left_of}
 use Rattle.cb_network.specs.Topology.{Topology}
-use Rattle.cb_log.specs.Entries.{Entry, records_of}
+use Rattle.cb_log.specs.Entries.{LogEntry, records_of}
 use Rattle.cb_log.specs.Network.{edits_of}
-use Rattle.cb_alarm.specs.Lines.{Line, ended_lines, log_lines, ComeTo}
+use Rattle.cb_alarm.specs.Lines.{NumberedLine, ended_lines, log_lines, ComeTo}
 use Rattle.cb_request.specs.declared.request.Request.{Request}
 use Rattle.cb_request.specs.declared.request.Request.TheVariants.{Burst, Model, Matrix, Correlate, Grow}
 use Rattle.cb_outcome.specs.Contents.{Left, files_before, files_from, log_from}
@@ -16,15 +16,15 @@ use Rattle.cb_outcome.specs.Judged.{nothing, network, PassFrom}
 use Rattle.cb_outcome.specs.Reading.{Told, LeavesRest}
 
 -- what the edits in these lines cost together, each made of the topology that those before it leave
-abbrev pub AreLinesCost : Topology → List Line → ℕ → Type 0
-AreLinesCost t lines cost = (entries : List Entry) × ComeTo lines entries × IsCostInTurn t (edits_of (records_of entries)) cost
+abbrev pub AreLinesCost : Topology → List NumberedLine → ℕ → Type 0
+AreLinesCost t lines cost = (entries : List LogEntry) × ComeTo lines entries × IsCostInTurn t (edits_of (records_of entries)) cost
 
 -- no more steps are counted than the edits in these lines cost
-abbrev pub CountsLines : Topology → List Line → ℕ → ℕ → Type 0
+abbrev pub CountsLines : Topology → List NumberedLine → ℕ → ℕ → Type 0
 CountsLines t lines old new = (cost : ℕ) → AreLinesCost t lines cost → new ≤ old + cost
 
 -- no more steps are counted than the search of the topology costs, and then the edits in these lines
-abbrev pub CountsBoth : Topology → List Line → ℕ → ℕ → Type 0
+abbrev pub CountsBoth : Topology → List NumberedLine → ℕ → ℕ → Type 0
 CountsBoth t lines old new = (searched : ℕ) → IsOpenCost t searched → CountsLines t lines (old + searched) new
 
 -- the same of the lines of a log
@@ -32,7 +32,7 @@ abbrev pub CountsLog : Topology → List ℕ → ℕ → ℕ → Type 0
 CountsLog t log old new = CountsBoth t (log_lines log) old new
 
 -- the lines of a log of which the first bytes were taken and the others are left: all lines where none is left, and else those that ended
-abbrev pub lines_taken : List ℕ → List ℕ → List Line
+abbrev pub lines_taken : List ℕ → List ℕ → List NumberedLine
 lines_taken taken [] = log_lines taken
 lines_taken taken (byte ∷ left) = ended_lines taken
 
@@ -57,12 +57,12 @@ pub record CountsGrow (sites start old new : ℕ) : Type 0 where
 
 -- how many steps are counted, by what is asked for: none for `model`, which searches nothing. Of `codebook`, `verify` and `decode`, which make
 -- or check spans, nothing is said.
-abbrev pub Counts : Option Request → FilesTold → FilesTold → ℕ → ℕ → Type 0
-Counts None files after old new = new ≡ old
-Counts (Some (Model one)) files after old new = new ≡ old
-Counts (Some (Burst one two three)) files after old new = Told files (λ left. CountsSearch left (Burst one two three) old new)
-Counts (Some (Matrix one two)) files after old new = Told files (λ left. CountsSearch left (Matrix one two) old new)
-Counts (Some (Correlate one two log distance window)) files after old new =
+abbrev pub BoundsSteps : Option Request → FilesTold → FilesTold → ℕ → ℕ → Type 0
+BoundsSteps None files after old new = new ≡ old
+BoundsSteps (Some (Model one)) files after old new = new ≡ old
+BoundsSteps (Some (Burst one two three)) files after old new = Told files (λ left. CountsSearch left (Burst one two three) old new)
+BoundsSteps (Some (Matrix one two)) files after old new = Told files (λ left. CountsSearch left (Matrix one two) old new)
+BoundsSteps (Some (Correlate one two log distance window)) files after old new =
     Told files (λ left. CountsCorrelate left (Correlate one two log distance window) log after old new)
-Counts (Some (Grow sites start)) files after old new = CountsGrow sites start old new
-Counts asked files after old new = Unit {0}
+BoundsSteps (Some (Grow sites start)) files after old new = CountsGrow sites start old new
+BoundsSteps asked files after old new = Unit {0}

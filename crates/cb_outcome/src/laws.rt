@@ -12,7 +12,7 @@ pub fn front_is_front()
     ensures { FrontIsFront }
 {}
 
-/// What is due at any point of a run is a front of the outcome's output.
+/// What is due at any point of a run is a prefix of the outcome's output.
 pub fn due_is_front()
     ensures { DueIsFront }
 {}

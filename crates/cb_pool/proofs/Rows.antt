@@ -1,12 +1,12 @@
 -- Rows in a block of words.
-use Rattle.std.proofs.Common.{◌≡◌, ◌≢◌, ℕ, ◌+◌, ◌-◌, ◌*◌, ◌<◌, ◌≤◌, List, ◌++◌, length, min, drop, replicate, slice_index_or, sym, ap, subst, ◌∙◌, arith, inl, inr}
+use Rattle.std.proofs.Common.{◌≡◌, ◌≢◌, ℕ, zero, suc, [], ◌∷◌, refl, take, bit_or, ◌+◌, ◌-◌, ◌*◌, ◌<◌, ◌≤◌, List, ◌++◌, length, min, drop, replicate, slice_index_or, sym, ap, subst, ◌∙◌, arith, inl, inr}
 use Rattle.std.proofs.Math.Nat.{mul-le-mul_left}
-use Rattle.std.specs.Simd.Lanes.{put_chunk}
+use Rattle.std.specs.Simd.Lanes.{put_chunk, zip2}
 use borrow.Rule.Slice.PartMut.{put_mid}
-use Rattle.std.proofs.lemmas.List.{get_or-append_right, get_or_append_left, length-append, length-replicate, length-take, length-drop}
+use Rattle.std.proofs.lemmas.List.{get_or-take, get_or-append_right, get_or_append_left, length-append, length-replicate, length-take, length-drop}
 use Rattle.std.proofs.lemmas.Bool.{cases_lt}
 use Rattle.std.proofs.lemmas.Grind.{same_number_lists}
-use Rattle.std.proofs.lemmas.Simd.{length-chunk, get_or-chunk, length-put_chunk, get_or-put_chunk_below, get_or-put_chunk_at, get_or-put_chunk_above, put_chunk_is}
+use Rattle.std.proofs.lemmas.Simd.{length-chunk, get_or-chunk, length-zip2, length-put_chunk, get_or-put_chunk_below, get_or-put_chunk_at, get_or-put_chunk_above, put_chunk_is}
 use Rattle.cb_pool.specs.Pool.{row_at}
 use Rattle.cb_pool.specs.Kept.{Clears}
 
@@ -67,7 +67,7 @@ put_clears width i words new le is =
       others = λ j other fits. ap (λ ws. row_at width ws j) is ∙ others_stay width i words (replicate width 0) le wide j other fits;
     }
 
--- a row behind the block
+-- a row after the block
 module _ (width i : ℕ) (words row after : List ℕ) (block : length words ≡ width * i) (wide : length row ≡ width) (is : after ≡ words ++ row) where
   pub added_length : length after ≡ width * i + width
   added_length = ap length is ∙ length-append words row ∙ omega arith
@@ -86,7 +86,7 @@ module _ (width i : ℕ) (words row after : List ℕ) (block : length words ≡ 
       same_row width j words after fits (omega arith) (λ k lt.
       ap (λ ws. slice_index_or ws (width * j + k) 0) is ∙ get_or_append_left words row 0 (width * j + k) (omega arith))
 
--- a row of zeros behind the block
+-- a row of zeros after the block
 pub add_clears : (width i : ℕ) (words after : List ℕ) → length words ≡ width * i → after ≡ words ++ replicate width 0 → Clears width words after i
 add_clears width i words after block is =
     let wide = length-replicate width 0 in
@@ -95,7 +95,7 @@ add_clears width i words after block is =
       others = λ j other fits. rows_stay width i words (replicate width 0) after block wide is j fits;
     }
 
--- one more row with zeros behind it
+-- one more row with zeros after it
 pub wider_more : (width wider i : ℕ) (words made new row : List ℕ) → width ≤ wider → length made ≡ wider * i → row ≡ row_at width words i → length row ≡ width
     → new ≡ made ++ (row ++ replicate (wider - length row) 0) → ((j : ℕ) → j < i → row_at wider made j ≡ row_at width words j ++ replicate (wider - width) 0)
     → (length new ≡ wider * i + wider) × ((j : ℕ) → j < i + 1 → row_at wider new j ≡ row_at width words j ++ replicate (wider - width) 0)
@@ -139,3 +139,33 @@ put_there width i words row same =
     let most : length (row_at width words i) ≡ min width (length words - width * i) = length-take width (drop (width * i) words) ∙ ap (min width) (length-drop (width * i) words) in
     same_number_lists (row_at width new i) row (long ∙ sym same) (λ k lt.
     get_or-chunk (width * i) width new k 0 (omega arith) ∙ get_or-put_chunk_at (width * i) words row k 0 (omega arith) (omega arith))
+
+put_none : (zs : List ℕ) → put_chunk 0 zs [] ≡ zs
+put_none [] = refl
+put_none (z ∷ zs) = refl
+
+-- words that are put into the front of a list leave what stands after it
+pub put_front : (i : ℕ) (xs zs ys : List ℕ) → i + length ys ≤ length xs → put_chunk i (xs ++ zs) ys ≡ put_chunk i xs ys ++ zs
+put_front zero [] zs [] le = put_none zs
+put_front zero [] zs (y ∷ ys) le = absurd (omega arith)
+put_front (suc i) [] zs ys le = absurd (omega arith)
+put_front zero (x ∷ xs) zs [] le = refl
+put_front zero (x ∷ xs) zs (y ∷ ys) le = ap (λ l. y ∷ l) (put_front zero xs zs ys (omega arith))
+put_front (suc i) (x ∷ xs) zs ys le = ap (λ l. x ∷ l) (put_front i xs zs ys (omega arith))
+
+-- words before a place are those of the front up to it
+pub take_within : (at width later : ℕ) (xs : List ℕ) → at + width ≤ later → later ≤ length xs → take (at + width - at) (drop at (take later xs)) ≡ take width (drop at xs)
+take_within at width later xs apart within =
+    let e : at + width - at ≡ width = omega arith in
+    let long : length (take later xs) ≡ later = length-take later xs ∙ omega arith in
+    let wide : length (take width (drop at (take later xs))) ≡ width = length-chunk at width (take later xs) (omega arith) in
+    ap (λ n. take n (drop at (take later xs))) e
+    ∙ same_number_lists (take width (drop at (take later xs))) (take width (drop at xs)) (wide ∙ sym (length-chunk at width xs (omega arith))) (λ k lt.
+    get_or-chunk at width (take later xs) k 0 (omega arith) ∙ get_or-take later xs (at + k) 0 (omega arith) ∙ sym (get_or-chunk at width xs k 0 (omega arith)))
+
+-- how long the union of two rows is
+pub united_length : (at later width : ℕ) (xs : List ℕ) → at + width ≤ length xs → later + width ≤ length xs
+    → length (zip2 bit_or (take width (drop at xs)) (take width (drop later xs))) ≡ width
+united_length at later width xs le le' =
+    let a = length-chunk at width xs le in
+    length-zip2 bit_or (take width (drop at xs)) (take width (drop later xs)) (a ∙ sym (length-chunk later width xs le')) ∙ a

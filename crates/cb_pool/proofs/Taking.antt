@@ -7,7 +7,7 @@ use Rattle.std.proofs.lemmas.Bool.{cases_lt}
 use Rattle.std.proofs.lemmas.List.Sums.{sum_by-set, sum_by-append}
 use Rattle.cb_pool.specs.declared.slot.Slot.{Slot}
 use Rattle.cb_pool.specs.declared.slots.Slots.{Slots}
-use Rattle.cb_pool.specs.Kept.{AreKept, Takes, IsOut}
+use Rattle.cb_pool.specs.Kept.{AreKept, TakesSlot, IsOut}
 use Rattle.cb_pool.proofs.Apart.{pairs_last, pairs_front, pairs_more}
 
 same_slot : (i j : Slot) → i.0 ≡ j.0 → i ≡ j
@@ -97,15 +97,15 @@ roomier old new kept same same_free more noted listed few =
     }
 
 -- a slot within the list that is set is taken
-pub set_takes : (old new : List Bool) (i : ℕ) → i < length old → slice_index_or old i false ≡ false → new ≡ slice_set old i true → Takes old new i
+pub set_takes : (old new : List Bool) (i : ℕ) → i < length old → slice_index_or old i false ≡ false → new ≡ slice_set old i true → TakesSlot old new i
 set_takes old new i lt free written = record {
   free = free;
   out = ap (λ t. slice_index_or t i false) written ∙ get_or-set_same old i true false lt;
   others = λ j other. ap (λ t. slice_index_or t j false) written ∙ get_or-set_other old i j true false other;
 }
 
--- so is one behind the list
-pub push_takes : (old new : List Bool) (i : ℕ) → i ≡ length old → new ≡ old ++ true ∷ [] → Takes old new i
+-- so is one after the list
+pub push_takes : (old new : List Bool) (i : ℕ) → i ≡ length old → new ≡ old ++ true ∷ [] → TakesSlot old new i
 push_takes old new i end pushed = record {
   free = get_or_past old i false (omega arith);
   out = ap (λ t. slice_index_or t i false) pushed ∙ get_or_push old true false i (sym end);
@@ -116,7 +116,7 @@ push_takes old new i end pushed = record {
 }
 
 -- one that is cleared was taken
-pub set_gives : (old new : List Bool) (i : ℕ) → i < length old → IsOut old i → new ≡ slice_set old i false → Takes new old i
+pub set_gives : (old new : List Bool) (i : ℕ) → i < length old → IsOut old i → new ≡ slice_set old i false → TakesSlot new old i
 set_gives old new i lt out written = record {
   free = ap (λ t. slice_index_or t i false) written ∙ get_or-set_same old i false false lt;
   out = out;

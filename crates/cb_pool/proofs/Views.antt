@@ -4,7 +4,7 @@ use Rattle.std.specs.Global.{Vec}
 use Rattle.cb_pool.specs.declared.slot.Slot.{Slot}
 use Rattle.cb_pool.specs.declared.slots.Slots.{Slots}
 use Rattle.cb_pool.specs.Pool.{Pool, IsTaken, SameOthers, WiderRows, row_at, row_of}
-use Rattle.cb_pool.specs.Kept.{IsOut, IsKept, Takes, spare_of}
+use Rattle.cb_pool.specs.Kept.{IsOut, IsPoolOf, TakesSlot, spare_of}
 use Rattle.cb_pool.proofs.Rows.{row_fits}
 use Rattle.cb_pool.proofs.Taking.{out_within}
 
@@ -16,14 +16,14 @@ pub slots_apart : (a b : Slot) → a ≢ b → a.0 ≢ b.0
 slots_apart a b other same = other (λ k. record { 0 = same k })
 
 -- a slot's row lies within the block
-pub slot_fits : (width : ℕ) (words : Vec ℕ) (s : Slots) (p : Pool) (slot : Slot) → IsKept width words s → pool_of width words.items s.taken.items (spare_of s) ≡ p → IsTaken p slot
+pub slot_fits : (width : ℕ) (words : Vec ℕ) (s : Slots) (p : Pool) (slot : Slot) → IsPoolOf width words s → pool_of width words.items s.taken.items (spare_of s) ≡ p → IsTaken p slot
     → width * slot.0 + width ≤ length words.items
 slot_fits width words s p slot kept view_is taken =
     let out : IsOut s.taken.items slot.0 = ap (λ (q : Pool). slice_index_or q.taken slot.0 false) view_is ∙ taken in
     row_fits width slot.0 (length s.taken.items) words.items kept.block (out_within s.taken.items slot.0 out)
 
 -- a slot that was free is taken
-module _ (width spare spare' : ℕ) (words after : List ℕ) (taken taken' : List Bool) (slot : Slot) (block : length words ≡ width * length taken) (takes : Takes taken taken' slot.0) where
+module _ (width spare spare' : ℕ) (words after : List ℕ) (taken taken' : List Bool) (slot : Slot) (block : length words ≡ width * length taken) (takes : TakesSlot taken taken' slot.0) where
   pub was_free : ¬ IsTaken (pool_of width words taken spare) slot
   was_free out = let e = takes.free in absurd (cc)
 
@@ -39,7 +39,7 @@ module _ (width spare spare' : ℕ) (words after : List ℕ) (taken taken' : Lis
       )
 
 -- a slot that was taken is free
-module _ (width spare spare' : ℕ) (words : List ℕ) (taken taken' : List Bool) (slot : Slot) (gives : Takes taken' taken slot.0) where
+module _ (width spare spare' : ℕ) (words : List ℕ) (taken taken' : List Bool) (slot : Slot) (gives : TakesSlot taken' taken slot.0) where
   pub is_free : ¬ IsTaken (pool_of width words taken' spare') slot
   is_free out = let e = gives.free in absurd (cc)
 
@@ -48,7 +48,7 @@ module _ (width spare spare' : ℕ) (words : List ℕ) (taken taken' : List Bool
       let same = gives.others other.0 (slots_apart other slot apart) in
       (λ has. (same ∙ has.0, has.1), λ has. (sym same ∙ has.0, has.1))
 
--- each row has zeros behind it
+-- each row has zeros after it
 pub wider_rows : (width wider spare : ℕ) (words after : List ℕ) (taken : List Bool)
     → ((i : ℕ) → i < length taken → row_at wider after i ≡ row_at width words i ++ replicate (wider - width) 0)
     → WiderRows (pool_of width words taken spare) (pool_of wider after taken spare)

@@ -26,7 +26,7 @@ abbrev pub spare_of : Slots → ℕ
 spare_of s = length s.free.items + (s.room - length s.taken.items)
 
 -- the slot at a place is taken, which was free, and others are as they were
-pub record Takes (old new : List Bool) (i : ℕ) : Type 0 where
+pub record TakesSlot (old new : List Bool) (i : ℕ) : Type 0 where
   pub free : slice_index_or old i false ≡ false
   pub out : IsOut new i
   pub others : (j : ℕ) → j ≢ i → slice_index_or new j false ≡ slice_index_or old j false
@@ -37,7 +37,7 @@ pub record Clears (width : ℕ) (old new : List ℕ) (i : ℕ) : Type 0 where
   pub others : (j : ℕ) → j ≢ i → width * j + width ≤ length old → row_at width new j ≡ row_at width old j
 
 -- the block has the words of all slots that were ever taken, and room for those of all others
-pub record IsKept (width : ℕ) (words : Vec ℕ) (s : Slots) : Type 0 where
+pub record IsPoolOf (width : ℕ) (words : Vec ℕ) (s : Slots) : Type 0 where
   pub block : length words.items ≡ width * length s.taken.items
   pub room : width * s.room ≤ vec_capacity words
   pub slots : AreKept s

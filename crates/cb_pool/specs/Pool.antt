@@ -38,7 +38,7 @@ SameRows old new = (slot : Slot) (row : List ℕ) → HasRow new slot row ↔ Ha
 abbrev pub SameOthers : Pool → Pool → Slot → Type 0
 SameOthers old new slot = (other : Slot) → other ≢ slot → (row : List ℕ) → HasRow new other row ↔ HasRow old other row
 
--- the same slots are taken, and each row has zeros behind it
+-- the same slots are taken, and each row has zeros after it
 abbrev pub WiderRows : Pool → Pool → Type 0
 WiderRows old new = (slot : Slot) (row : List ℕ) → HasRow new slot row ↔ (IsTaken old slot × (row ≡ row_of old slot ++ replicate (new.width - old.width) 0))
 

@@ -1,12 +1,18 @@
 //! Rows of one width in a block of words, one after the other.
-ghost use Rattle.std.specs.Prelude.{◌≡◌, ◌<◌, ◌≤◌, ◌+◌, ◌-◌, ◌*◌, ◌++◌, ℕ, length, replicate, vec_capacity, OnOk, IfOk};
+ghost use Rattle.std.specs.Prelude.{◌≡◌, ◌≢◌, ◌<◌, ◌≤◌, ◌+◌, ◌-◌, ◌*◌, ◌++◌, ℕ, length, take, drop, replicate, bit_or, vec_capacity, OnOk, IfOk};
+ghost use Rattle.std.specs.Simd.Lanes.{put_chunk, zip2};
 ghost use Rattle.cb_pool.specs.Pool.{row_at};
 ghost use Rattle.cb_pool.specs.Kept.{Clears};
 
+use cb_lanes::or_into;
 use std::alloc::{AllocError, Global};
 
 /// Makes room for this many rows.
-pub fn reserve_rows(words: &mut Vec<u64>, width: usize, rows: usize) -> Result<(), AllocError>
+pub(crate) fn reserve_rows(
+    words: &mut Vec<u64>,
+    width: usize,
+    rows: usize,
+) -> Result<(), AllocError>
     ensures words { words.new.items ≡ words.old.items }
     ensures more { vec_capacity words.old ≤ vec_capacity words.new }
     ensures room { OnOk result (width * rows ≤ vec_capacity words.new) }
@@ -18,7 +24,7 @@ pub fn reserve_rows(words: &mut Vec<u64>, width: usize, rows: usize) -> Result<(
 }
 
 /// The words of a row.
-pub fn row_in(words: &[u64], width: usize, i: usize) -> &[u64]
+pub(crate) fn row_in(words: &[u64], width: usize, i: usize) -> &[u64]
     requires { width * i + width ≤ length words.now }
     ensures row { result.now ≡ row_at width words.now i }
     ensures width { length result.now ≡ width }
@@ -28,7 +34,7 @@ pub fn row_in(words: &[u64], width: usize, i: usize) -> &[u64]
 }
 
 /// Makes the words of a row zero.
-pub fn wipe_row(words: &mut [u64], width: usize, i: usize)
+pub(crate) fn wipe_row(words: &mut [u64], width: usize, i: usize)
     requires { width * i + width ≤ length words.old }
     ensures { Clears width words.old words.new i }
 {
@@ -43,8 +49,42 @@ fn wipe(words: &mut [u64])
     words.fill(0);
 }
 
+/// Makes one in a row what is one in another row.
+pub(crate) fn unite_rows(words: &mut [u64], width: usize, into: usize, from: usize)
+    requires apart { into ≢ from }
+    requires into { width * into + width ≤ length words.old }
+    requires from { width * from + width ≤ length words.old }
+    ensures { words.new ≡ put_chunk (width * into) words.old (zip2 bit_or (row_at width words.old into) (row_at width words.old from)) }
+{
+    if into < from {
+        unite_with_later(words, width, width * into, width * from);
+    } else {
+        unite_with_earlier(words, width, width * from, width * into);
+    }
+}
+
+// The words at a place, united with those at a later one.
+fn unite_with_later(words: &mut [u64], width: usize, at: usize, later: usize)
+    requires apart { at + width ≤ later }
+    requires within { later + width ≤ length words.old }
+    ensures { words.new ≡ put_chunk at words.old (zip2 bit_or (take width (drop at words.old)) (take width (drop later words.old))) }
+{
+    let (front, back) = words.split_at_mut(later);
+    or_into(&mut front[at..at + width], &back[..width]);
+}
+
+// The words at a later place, united with those at an earlier one.
+fn unite_with_earlier(words: &mut [u64], width: usize, at: usize, later: usize)
+    requires apart { at + width ≤ later }
+    requires within { later + width ≤ length words.old }
+    ensures { words.new ≡ put_chunk later words.old (zip2 bit_or (take width (drop later words.old)) (take width (drop at words.old))) }
+{
+    let (front, back) = words.split_at_mut(later);
+    or_into(&mut back[..width], &front[at..at + width]);
+}
+
 /// Adds a row of zeros, for which there is room.
-pub fn add_row(words: &mut Vec<u64>, width: usize, i: usize)
+pub(crate) fn add_row(words: &mut Vec<u64>, width: usize, i: usize)
     requires behind { length words.old.items ≡ width * i }
     requires room { width * i + width ≤ vec_capacity words.old }
     ensures clears { Clears width words.old.items words.new.items i }
@@ -54,8 +94,8 @@ pub fn add_row(words: &mut Vec<u64>, width: usize, i: usize)
     words.resize(words.len() + width, 0).unwrap();
 }
 
-/// The rows with zeros behind each, in a block with room for more.
-pub fn widened(
+/// The rows with zeros after each, in a block with room for more.
+pub(crate) fn widened(
     alloc: Global,
     words: &[u64],
     width: usize,
@@ -78,7 +118,7 @@ pub fn widened(
     Ok(made)
 }
 
-// Adds a row with zeros behind it, for which there is room.
+// Adds a row with zeros after it, for which there is room.
 fn add_wider(made: &mut Vec<u64>, row: &[u64], wider: usize, i: usize)
     requires behind { length made.old.items ≡ wider * i }
     requires room { wider * i + wider ≤ vec_capacity made.old }

@@ -5,7 +5,7 @@
 //!
 //! A pool is seen as a width in words, the words of its rows, for each slot whether it is taken, and `spare`, the number of
 //! further rows that can be taken without memory. A row that is taken is zero at first. `reserve` and `widen` leave everything
-//! as it was where memory is wanting.
+//! as it was where memory runs out.
 //!
 //! Memory is only reserved at first: the words of a row are written, and so taken from the system, when a slot is first taken.
 //! Nothing is promised of the numbers of slots, nor of the words of a slot that is free.

@@ -1,10 +1,11 @@
 //! The block and its slots.
-ghost use Rattle.std.specs.Prelude.{◌≡◌, ◌≢◌, ◌<◌, ◌≤◌, ◌+◌, ◌^◌, [], length, replicate, OnOk, OnErr, IfOk};
+ghost use Rattle.std.specs.Prelude.{◌≡◌, ◌≢◌, ◌<◌, ◌≤◌, ◌+◌, ◌^◌, [], length, replicate, OnOk, OnErr, bit_or, IfOk};
+ghost use Rattle.std.specs.Simd.Lanes.{zip2};
 ghost use Rattle.std.specs.Borrow.{sem, Lends, Array, u64 as word};
 ghost use Rattle.cb_pool.specs.Pool.{HasRow, IsTaken, SameRows, SameOthers, WiderRows, row_of, taken_count, with_row};
 ghost use Rattle.cb_pool.specs.contracts.pool.RowPool.{the_row};
 
-use crate::block::{add_row, reserve_rows, row_in, widened, wipe_row};
+use crate::block::{add_row, reserve_rows, row_in, unite_rows, widened, wipe_row};
 use crate::slot::Slot;
 use crate::slots::Slots;
 use std::alloc::{AllocError, Global};
@@ -25,11 +26,11 @@ impl Model for RowPool {
 
     ghost Value = { Pool };
 
-    ghost use Rattle.cb_pool.specs.Kept.{spare_of, IsKept};
+    ghost use Rattle.cb_pool.specs.Kept.{spare_of, IsPoolOf};
 
     ghost view = { λ p. record { width = p.width; words = p.words.items; taken = p.slots.taken.items; spare = spare_of p.slots } };
 
-    ghost invariant = { λ p. IsKept p.width p.words p.slots };
+    ghost invariant = { λ p. IsPoolOf p.width p.words p.slots };
 }
 
 impl RowPool {
@@ -61,7 +62,7 @@ impl RowPool {
         self.slots.spare()
     }
 
-    /// Makes room, so that this many rows can be taken without memory. More slots than 32 bits can number are want of memory.
+    /// Makes room, so that this many rows can be taken without memory. More slots than 32 bits can number count as out of memory.
     pub fn reserve(&mut self, rows: usize) -> Result<(), AllocError>
         ensures width { self.new.width ≡ self.old.width }
         ensures rows { SameRows self.old self.new }
@@ -91,7 +92,7 @@ impl RowPool {
     }
 
     /// A copy under the same slots whose rows are longer, by zeros, with room so that this many further rows can be taken without memory.
-    /// More slots than 32 bits can number are want of memory.
+    /// More slots than 32 bits can number count as out of memory.
     pub fn wider(&self, alloc: Global, width: usize, rows: usize) -> Result<RowPool, AllocError>
         requires { self.now.width ≤ width }
         ensures width { IfOk result (λ copy. copy.width ≡ width) }
@@ -165,5 +166,20 @@ impl RowPool {
     {
         let start = self.width * slot.0 as usize;
         self.words.slice_mut(start..start + self.width)
+    }
+
+    /// Makes one in a row what is one in another row.
+    pub fn unite(&mut self, into: Slot, from: Slot)
+        requires apart { into ≢ from }
+        requires into { IsTaken self.old into }
+        requires from { IsTaken self.old from }
+        ensures { self.new ≡ with_row self.old into (zip2 bit_or (row_of self.old into) (row_of self.old from)) }
+    {
+        unite_rows(
+            &mut self.words,
+            self.width,
+            into.0 as usize,
+            from.0 as usize,
+        );
     }
 }

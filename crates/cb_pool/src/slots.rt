@@ -1,6 +1,6 @@
 //! Slots that are taken, slots that are free, and room for slots that were never taken.
 ghost use Rattle.std.specs.Prelude.{◌≡◌, ◌<◌, ◌≤◌, ◌+◌, ◌^◌, [], length, vec_capacity, OnOk, OnErr, IfOk};
-ghost use Rattle.cb_pool.specs.Kept.{AreKept, Takes, IsOut, spare_of};
+ghost use Rattle.cb_pool.specs.Kept.{AreKept, TakesSlot, IsOut, spare_of};
 
 use crate::slot::Slot;
 use std::alloc::{AllocError, Global};
@@ -41,7 +41,7 @@ impl Slots {
         self.free.len() + (self.room - self.taken.len())
     }
 
-    /// How many slots there are to be so that this many can be taken. More than 32 bits can number are want of memory.
+    /// How many slots there are to be so that this many can be taken. More than 32 bits can number count as out of memory.
     pub fn room_for(&self, rows: usize) -> Result<usize, AllocError>
         requires { AreKept self.now }
         ensures more { IfOk result (λ room. self.now.room ≤ room) }
@@ -94,7 +94,7 @@ impl Slots {
         requires spare { 0 < length self.old.free.items }
         ensures kept { AreKept self.new }
         ensures within { result.0 < length self.old.taken.items }
-        ensures takes { Takes self.old.taken.items self.new.taken.items result.0 }
+        ensures takes { TakesSlot self.old.taken.items self.new.taken.items result.0 }
         ensures slots { length self.new.taken.items ≡ length self.old.taken.items }
         ensures free { length self.old.free.items ≡ length self.new.free.items + 1 }
         ensures room { self.new.room ≡ self.old.room }
@@ -110,7 +110,7 @@ impl Slots {
         requires spare { length self.old.taken.items < self.old.room }
         ensures kept { AreKept self.new }
         ensures next { result.0 ≡ length self.old.taken.items }
-        ensures takes { Takes self.old.taken.items self.new.taken.items result.0 }
+        ensures takes { TakesSlot self.old.taken.items self.new.taken.items result.0 }
         ensures slots { length self.new.taken.items ≡ length self.old.taken.items + 1 }
         ensures free { length self.old.free.items ≡ length self.new.free.items }
         ensures room { self.new.room ≡ self.old.room }
@@ -125,7 +125,7 @@ impl Slots {
         requires kept { AreKept self.old }
         requires taken { IsOut self.old.taken.items slot.0 }
         ensures kept { AreKept self.new }
-        ensures gives { Takes self.new.taken.items self.old.taken.items slot.0 }
+        ensures gives { TakesSlot self.new.taken.items self.old.taken.items slot.0 }
         ensures slots { length self.new.taken.items ≡ length self.old.taken.items }
         ensures free { length self.new.free.items ≡ length self.old.free.items + 1 }
         ensures room { self.new.room ≡ self.old.room }

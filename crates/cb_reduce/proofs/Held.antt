@@ -8,10 +8,11 @@ use Rattle.cb_model.proofs.Rising.{contains_cases, contains_head, nothing_in_emp
 use Rattle.cb_coding.specs.Distance.{differ, bit, distance, all_columns, code_at, apart}
 use Rattle.cb_coding.specs.Pairs.{IsPair}
 use Rattle.cb_reduce.specs.declared.moves.Waiter.{Waiter}
-use Rattle.cb_reduce.specs.declared.place.Place.{Place}
-use Rattle.cb_reduce.specs.declared.place.Place.TheVariants.{Nowhere, At, Close}
-use Rattle.cb_reduce.specs.Places.{IsPlace}
-use Rattle.cb_reduce.specs.Moves.{waiter, at_column, IsSafe, IsHeld, Grows}
+use Rattle.cb_reduce.specs.declared.place.WaitingPlace.{WaitingPlace}
+use Rattle.cb_reduce.specs.declared.place.WaitingPlace.TheVariants.{Nowhere, At, Close}
+use Rattle.cb_reduce.specs.Places.{IsPlace, kept_of}
+use Rattle.cb_reduce.specs.Moves.{waiter, at_column, IsSafe, IsHeld, IsCovered, Grows}
+use Rattle.cb_reduce.proofs.Forcing.{more_marked}
 use Rattle.cb_reduce.proofs.Places.{code_at_is}
 use Rattle.cb_reduce.proofs.Fronts.{front, front_more, front_rises, step_where}
 
@@ -21,6 +22,9 @@ list_is lists c pairs lt at = at ∙ get_or_default lists c pairs [] lt
 
 -- lists that grow
 module _ (codes : List (List Bool)) where
+  pub none_grow : (a : List (List Waiter)) → Grows codes a a
+  none_grow a = record { all = refl; stay = λ k pair there. there; come = λ k pair there. inl there }
+
   pub grows_on : (a b c : List (List Waiter)) → Grows codes a b → Grows codes b c → Grows codes a c
   grows_on a b c one two = record {
     all = two.all ∙ one.all;
@@ -101,13 +105,29 @@ module _ (codes : List (List Bool)) (i j : ℕ) (v w : List Bool) (at : slice_ge
   pub close_isnt_safe : IsPlace v w kept before d Close → IsSafe codes kept d before i j → ⊥
   close_isnt_safe close safe = let same = behind in let front_is = before_is before in omega arith
 
-  pub others_are_safe : (place : Place) → (place ≡ Close → ⊥) → IsPlace v w kept before d place → IsSafe codes kept d before i j
+  pub others_are_safe : (place : WaitingPlace) → (place ≡ Close → ⊥) → IsPlace v w kept before d place → IsSafe codes kept d before i j
   others_are_safe Nowhere other far = let same = behind in omega arith
   others_are_safe (At c) other place =
       let safe = at_is_safe c place in
       let rise = front_rises codes i j (c + 1) before (let lt = place.0 in omega arith) in
       omega arith
   others_are_safe Close other far = absurd (other refl)
+
+-- a pair is held, or safe, as far apart as it needs to be
+abbrev pub IsPairHeld : List (List Bool) → List ℕ → (ℕ → ℕ → ℕ) → List (List Waiter) → ℕ → Waiter → Type 0
+IsPairHeld codes kept need lists c w = IsHeld codes kept (need w.first w.second) lists c w.first w.second
+
+abbrev pub IsPairSafe : List (List Bool) → List ℕ → (ℕ → ℕ → ℕ) → ℕ → Waiter → Type 0
+IsPairSafe codes kept need c w = IsSafe codes kept (need w.first w.second) c w.first w.second
+
+-- what is covered stays so, as lists grow and more columns are forced
+pub still_covered : (codes : List (List Bool)) (old_forced new_forced : List Bool) (kept : List ℕ) (d : ℕ) (old new : List (List Waiter))
+    → length new_forced ≡ length old_forced → ((k : ℕ) → bit old_forced k ≡ true → bit new_forced k ≡ true) → Grows codes old new → (c i j : ℕ)
+    → IsCovered codes (kept_of old_forced) kept d old c i j → IsCovered codes (kept_of new_forced) kept d new c i j
+still_covered codes old_forced new_forced kept d old new long stay grows c i j covered = elim covered [
+  | inl settled ↦ inl (let more = more_marked codes i j old_forced new_forced long stay in omega arith)
+  | inr held ↦ inr (still_held codes kept d old new grows c i j held)
+]
 
 -- an item is the same whatever stands for items past the end
 pub item_is : (items : List Waiter) (a b : ℕ) (v w : Waiter) → a ≡ b → a < length items → get_or items a v ≡ get_or items b w

@@ -1,8 +1,12 @@
 //! The columns that keep codes apart.
-ghost use Rattle.std.specs.Prelude.{◌≡◌, ◌≤◌, ◌<◌, ◌^◌, length, replicate, [], IfOk, IfSome, IfNone};
+ghost use Rattle.std.specs.Prelude.{◌≡◌, ◌≤◌, ◌<◌, ◌^◌, ℕ, length, replicate, [], false, IsTrue, IfOk, IfSome, IfNone};
 ghost use Rattle.cb_coding.specs.Distance.{all_columns, HaveWidth};
-ghost use Rattle.cb_coding.specs.Pairs.{Good};
-ghost use Rattle.cb_coding.specs.Books.{IsBook, IsInUse};
+ghost use Rattle.cb_coding.specs.Needs.{need_of};
+ghost use Rattle.cb_coding.specs.Pairs.{IsPair, Good, GoodFor};
+ghost use Rattle.cb_coding.specs.Books.{IsChoice, IsBook, IsCapBook, IsInUse};
+ghost use Rattle.cb_reduce.specs.Forced.{Forces};
+ghost use Rattle.cb_reduce.specs.Moves.{Grows, IsCovered};
+ghost use Rattle.cb_reduce.specs.Pairs.{MustWait, StartsWithZero};
 ghost use Rattle.cb_reduce.specs.Places.{kept_of};
 ghost use Rattle.cb_reduce.specs.Reduced.{IsReduced};
 
@@ -10,15 +14,16 @@ use crate::close::first_close;
 use crate::least_pair::closest_from;
 use crate::moves::{Waiter, decide, move_on};
 use crate::sharing::starts_with_zero;
+use crate::tolerance::radii;
 use crate::waiting::wait_all;
 use cb_bits::Row;
 use cb_codes::Codes;
-use cb_coding::{Book, Pair};
-use cb_model::List;
+use cb_coding::{Book, CapBook, Pair};
+use cb_model::{List, Wish};
 use std::alloc::{AllocError, Global};
 use std::mem::replace;
 
-/// Why there is no book: the first pair that is too close, or want of memory.
+/// Why there is no book: the first pair that is too close, or out of memory.
 #[derive(Clone, Copy, Debug)]
 pub enum Refused {
     TooClose(Pair),
@@ -55,6 +60,22 @@ pub fn book_in_use(alloc: Global, codes: &Codes, wanted: u32) -> Result<Book, Al
     }
 }
 
+/// The book for a cap, with the radius of each code. It is never refused.
+pub fn reduce_cap(alloc: Global, codes: &Codes, cap: u32) -> Result<CapBook, AllocError>
+    requires places_fit { length codes.now.rows ≤ 2 ^ 16 }
+    requires columns_fit { codes.now.width ≤ 2 ^ 16 }
+    ensures book { IfOk result (IsCapBook codes.now.width codes.now.rows) }
+    ensures cap { IfOk result (λ book. book.cap ≡ cap) }
+{
+    let columns = choice_of(alloc, codes, codes.width(), Wish::Cap(cap))?;
+    let radii = radii(alloc, codes, cap)?;
+    Ok(CapBook {
+        columns,
+        cap,
+        radii,
+    })
+}
+
 // The book at a distance at which the codes are good.
 fn book_of_good(
     alloc: Global,
@@ -63,23 +84,66 @@ fn book_of_good(
     distance: u32,
 ) -> Result<Book, AllocError>
     requires have_width { HaveWidth width codes.now.rows }
+    requires wide { width ≡ codes.now.width }
     requires places_fit { length codes.now.rows ≤ 2 ^ 16 }
     requires columns_fit { width ≤ 2 ^ 16 }
     requires good { Good codes.now.rows (all_columns width) distance }
     ensures book { IfOk result (IsBook width codes.now.rows) }
     ensures distance { IfOk result (λ book. book.distance ≡ distance) }
 {
+    let columns = choice_of(alloc, codes, width, Wish::Plain(distance))?;
+    Ok(Book { columns, distance })
+}
+
+// The columns that a wish keeps which all columns meet.
+fn choice_of(
+    alloc: Global,
+    codes: &Codes,
+    width: usize,
+    wish: Wish,
+) -> Result<List<u32>, AllocError>
+    requires have_width { HaveWidth width codes.now.rows }
+    requires wide { width ≡ codes.now.width }
+    requires places_fit { length codes.now.rows ≤ 2 ^ 16 }
+    requires columns_fit { width ≤ 2 ^ 16 }
+    requires good { GoodFor codes.now.rows (all_columns width) (need_of codes.now.width codes.now.rows wish) }
+    ensures { IfOk result (IsChoice width codes.now.rows (need_of codes.now.width codes.now.rows wish)) }
+{
     let mut waiting = empty_lists(alloc, width)?;
     let quiet = starts_with_zero(codes);
-    wait_all(alloc, codes, quiet, width, distance, &mut waiting)?;
+    let forced = wait_all(alloc, codes, quiet, width, wish, &mut waiting)?;
+    let kept = keep(alloc, codes, width, wish, quiet, &forced, &mut waiting)?;
+    columns_of(alloc, &kept)
+}
+
+// The columns that a wish keeps, as a mask, where pairs wait and columns are forced as long as none is kept.
+fn keep(
+    alloc: Global,
+    codes: &Codes,
+    width: usize,
+    wish: Wish,
+    quiet: bool,
+    forced: &Row,
+    waiting: &mut Vec<List<Waiter>>,
+) -> Result<Row, AllocError>
+    requires have_width { HaveWidth width codes.now.rows }
+    requires wide { width ≡ codes.now.width }
+    requires good { GoodFor codes.now.rows (all_columns width) (need_of codes.now.width codes.now.rows wish) }
+    requires quiet { IsTrue quiet → StartsWithZero codes.now.rows }
+    requires forces { Forces codes.now.width codes.now.rows (need_of codes.now.width codes.now.rows wish) (replicate width false) forced.now }
+    requires pairs { Grows codes.now.rows (replicate width []) waiting.old.items }
+    requires held { (i j : ℕ) → IsPair codes.now.rows i j → MustWait quiet codes.now.rows i j
+        → IsCovered codes.now.rows (kept_of forced.now) [] (need_of codes.now.width codes.now.rows wish i j) waiting.old.items width i j }
+    ensures long { IfOk result (λ kept. length kept ≡ width) }
+    ensures choice { IfOk result (λ kept. IsChoice width codes.now.rows (need_of codes.now.width codes.now.rows wish) (kept_of kept)) }
+{
     let mut kept = Row::zeroed(alloc, width)?;
     for column in (0..width).rev() {
         let pairs = replace(&mut waiting[column], List::new(alloc));
-        decide(codes, &pairs, &mut kept, column, distance);
-        move_on(codes, &pairs, &kept, column, distance, &mut waiting)?;
+        decide(codes, wish, &pairs, forced, &mut kept, column);
+        move_on(codes, wish, &pairs, &kept, column, waiting)?;
     }
-    let columns = columns_of(alloc, &kept)?;
-    Ok(Book { columns, distance })
+    Ok(kept)
 }
 
 // So many empty lists.

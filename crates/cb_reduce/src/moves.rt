@@ -2,26 +2,28 @@
 ghost use Rattle.std.specs.Prelude.{◌≡◌, ◌<◌, ◌≤◌, ◌^◌, [], false, length, IsTrue, OnOk};
 ghost use Rattle.std.specs.List.{Contains};
 ghost use Rattle.cb_coding.specs.Distance.{HaveWidth};
+ghost use Rattle.cb_coding.specs.Needs.{need_of};
 ghost use Rattle.cb_coding.specs.Pairs.{IsPair};
 ghost use Rattle.cb_reduce.specs.Places.{kept_of};
 ghost use Rattle.cb_reduce.specs.declared.moves.Waiter.{Waiter as W};
-ghost use Rattle.cb_reduce.specs.Moves.{IsSafe, SomeAreClose, IsHeld, Grows, ArePairs, AreSafe, Decides};
+ghost use Rattle.cb_reduce.specs.Moves.{IsSafe, SomeAreClose, IsHeld, Grows, ArePairs, AreSafe, IsNeeded, IsIdle, Decides};
 
-use crate::place::{Place, differ_often, first_place, place_of};
+use crate::need::need;
+use crate::place::{WaitingPlace, differ_often, first_place, place_of};
 use cb_bits::Row;
 use cb_codes::Codes;
-use cb_model::List;
+use cb_model::{List, Wish};
 use std::alloc::AllocError;
 
 /// Two codes by their places, the lesser first.
-#[derive(Clone, Copy, Debug)]
+#[derive(Clone, Copy)]
 pub struct Waiter {
     pub first: u16,
     pub second: u16,
 }
 
 /// Lets a pair wait at its place before a column.
-pub fn wait(
+pub(crate) fn wait(
     codes: &Codes,
     pair: Waiter,
     kept: &Row,
@@ -40,17 +42,17 @@ pub fn wait(
     let a = codes.row(pair.first as usize);
     let b = codes.row(pair.second as usize);
     match place_of(a, b, kept, before, distance) {
-        Place::Nowhere => Ok(()),
-        Place::At(column) => {
+        WaitingPlace::Nowhere => Ok(()),
+        WaitingPlace::At(column) => {
             waiting[column].push(pair)?;
             Ok(())
         }
-        Place::Close => Ok(()),
+        WaitingPlace::Close => Ok(()),
     }
 }
 
 /// Lets a pair wait at its place among all columns, as long as none is kept.
-pub fn wait_first(
+pub(crate) fn wait_first(
     codes: &Codes,
     pair: Waiter,
     width: usize,
@@ -67,24 +69,25 @@ pub fn wait_first(
     let a = codes.row(pair.first as usize);
     let b = codes.row(pair.second as usize);
     match first_place(a, b, width, distance) {
-        Place::Nowhere => Ok(()),
-        Place::At(column) => {
+        WaitingPlace::Nowhere => Ok(()),
+        WaitingPlace::At(column) => {
             waiting[column].push(pair)?;
             Ok(())
         }
-        Place::Close => Ok(()),
+        WaitingPlace::Close => Ok(()),
     }
 }
 
 // Whether some of these pairs are too close with the columns before one and the kept ones.
-fn are_close(codes: &Codes, pairs: &List<Waiter>, kept: &Row, column: usize, distance: u32) -> bool
+fn are_close(codes: &Codes, wish: Wish, pairs: &List<Waiter>, kept: &Row, column: usize) -> bool
     requires have_width { HaveWidth (length kept.now) codes.now.rows }
     requires pairs { ArePairs codes.now.rows pairs.now }
     requires within { column ≤ length kept.now }
-    ensures close { IsTrue result → SomeAreClose codes.now.rows (kept_of kept.now) distance column }
-    ensures far { result ≡ false → AreSafe codes.now.rows (kept_of kept.now) distance column pairs.now }
+    ensures close { IsTrue result → SomeAreClose codes.now.rows (kept_of kept.now) (need_of codes.now.width codes.now.rows wish) column }
+    ensures far { result ≡ false → AreSafe codes.now.rows (kept_of kept.now) (need_of codes.now.width codes.now.rows wish) column pairs.now }
 {
     for pair in pairs.as_slice() {
+        let distance = need(codes, wish, pair.first as usize, pair.second as usize);
         if is_close(codes, *pair, kept, column, distance) {
             return true;
         }
@@ -106,40 +109,71 @@ fn is_close(codes: &Codes, pair: Waiter, kept: &Row, column: usize, distance: u3
     if differ_often(a, b, column, distance) {
         return false;
     }
-    matches!(place_of(a, b, kept, column, distance), Place::Close)
+    matches!(place_of(a, b, kept, column, distance), WaitingPlace::Close)
 }
 
-/// Keeps a column where some of these pairs are too close without it.
-pub fn decide(codes: &Codes, pairs: &List<Waiter>, kept: &mut Row, column: usize, distance: u32)
+// Whether a column is forced, or some of these pairs are too close without it.
+fn is_needed(
+    codes: &Codes,
+    wish: Wish,
+    pairs: &List<Waiter>,
+    forced: &Row,
+    kept: &Row,
+    column: usize,
+) -> bool
+    requires have_width { HaveWidth (length kept.now) codes.now.rows }
+    requires pairs { ArePairs codes.now.rows pairs.now }
+    requires forced { length forced.now ≡ length kept.now }
+    requires within { column < length kept.now }
+    ensures needed { IsTrue result → IsNeeded codes.now.rows (kept_of kept.now) (need_of codes.now.width codes.now.rows wish) forced.now column }
+    ensures idle { result ≡ false → IsIdle codes.now.rows (kept_of kept.now) (need_of codes.now.width codes.now.rows wish) forced.now column pairs.now }
+{
+    if forced.get(column) {
+        return true;
+    }
+    are_close(codes, wish, pairs, kept, column)
+}
+
+/// Keeps a column where it is forced, or some of these pairs are too close without it.
+pub(crate) fn decide(
+    codes: &Codes,
+    wish: Wish,
+    pairs: &List<Waiter>,
+    forced: &Row,
+    kept: &mut Row,
+    column: usize,
+)
     requires have_width { HaveWidth (length kept.old) codes.now.rows }
     requires pairs { ArePairs codes.now.rows pairs.now }
+    requires forced { length forced.now ≡ length kept.old }
     requires within { column < length kept.old }
-    ensures { Decides codes.now.rows distance column pairs.now kept.old kept.new }
+    ensures { Decides codes.now.rows (need_of codes.now.width codes.now.rows wish) forced.now column pairs.now kept.old kept.new }
 {
-    if are_close(codes, pairs, kept, column, distance) {
+    if is_needed(codes, wish, pairs, forced, kept, column) {
         kept.set(column);
     }
 }
 
 /// Lets pairs that waited at a column wait at their places before it.
-pub fn move_on(
+pub(crate) fn move_on(
     codes: &Codes,
+    wish: Wish,
     pairs: &List<Waiter>,
     kept: &Row,
     column: usize,
-    distance: u32,
     waiting: &mut Vec<List<Waiter>>,
 ) -> Result<(), AllocError>
     requires have_width { HaveWidth (length kept.now) codes.now.rows }
     requires pairs { ArePairs codes.now.rows pairs.now }
-    requires far { AreSafe codes.now.rows (kept_of kept.now) distance column pairs.now }
+    requires far { AreSafe codes.now.rows (kept_of kept.now) (need_of codes.now.width codes.now.rows wish) column pairs.now }
     requires within { column ≤ length kept.now }
     requires lists { length waiting.old.items ≡ length kept.now }
     ensures grows { OnOk result (Grows codes.now.rows waiting.old.items waiting.new.items) }
     ensures held { OnOk result ((pair : W) → Contains pairs.now pair
-        → IsHeld codes.now.rows (kept_of kept.now) distance waiting.new.items column pair.first pair.second) }
+        → IsHeld codes.now.rows (kept_of kept.now) (need_of codes.now.width codes.now.rows wish pair.first pair.second) waiting.new.items column pair.first pair.second) }
 {
     for pair in pairs.as_slice() {
+        let distance = need(codes, wish, pair.first as usize, pair.second as usize);
         wait(codes, *pair, kept, column, distance, waiting)?;
     }
     Ok(())

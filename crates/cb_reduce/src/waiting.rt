@@ -1,37 +1,54 @@
-//! Which pairs wait at first.
-ghost use Rattle.std.specs.Prelude.{◌≡◌, ◌<◌, ℕ, [], true, length, OnOk, IsTrue};
-ghost use Rattle.cb_coding.specs.Distance.{bit};
+//! Which pairs wait at first, and which columns are forced.
+ghost use Rattle.std.specs.Prelude.{◌≡◌, ◌⊎◌, ◌<◌, ◌≤◌, ◌^◌, ℕ, [], true, false, length, replicate, IfOk, OnOk, IsTrue};
+ghost use Rattle.cb_coding.specs.Distance.{bit, HaveWidth, all_columns, apart};
+ghost use Rattle.cb_coding.specs.Needs.{need_of, capped_need};
 ghost use Rattle.cb_coding.specs.Pairs.{IsPair};
-ghost use Rattle.cb_reduce.specs.Pairs.{Counts, MustWait};
-ghost use Rattle.cb_reduce.specs.Moves.{MayWait, IsHeld, Grows};
+ghost use Rattle.cb_reduce.specs.Pairs.{MayBeClose, MustWait};
+ghost use Rattle.cb_reduce.specs.Forced.{Forces, MarksApart};
+ghost use Rattle.cb_reduce.specs.Moves.{MayWait, IsCovered, Grows};
+ghost use Rattle.cb_reduce.specs.Places.{kept_of};
 
+use crate::force::mark_alone;
 use crate::marked::mark_sharing;
 use crate::moves::{Waiter, wait_first};
 use cb_bits::Row;
 use cb_codes::Codes;
-use cb_model::List;
+use cb_model::{List, Wish};
 use std::alloc::{AllocError, Global};
 
-/// Lets all pairs wait while no column is kept. Behind a zero code, those with it and those that share a column suffice.
-pub fn wait_all(
+/// Lets all pairs wait while no column is kept, but for those that need to be as far apart as they are: it gives the columns that these
+/// force. After a zero code, the pairs with it and those that share a column suffice.
+pub(crate) fn wait_all(
     alloc: Global,
     codes: &Codes,
     quiet: bool,
     width: usize,
-    distance: u32,
+    wish: Wish,
     waiting: &mut Vec<List<Waiter>>,
-) -> Result<(), AllocError>
-    requires may { MayWait width codes.now.rows distance }
+) -> Result<Row, AllocError>
+    requires may { MayWait width codes.now.rows (need_of codes.now.width codes.now.rows wish) }
+    requires wide { width ≡ codes.now.width }
     requires lists { length waiting.old.items ≡ width }
+    ensures forces { IfOk result (Forces codes.now.width codes.now.rows (need_of codes.now.width codes.now.rows wish) (replicate width false)) }
     ensures grows { OnOk result (Grows codes.now.rows waiting.old.items waiting.new.items) }
-    ensures held { OnOk result ((i j : ℕ) → IsPair codes.now.rows i j → MustWait quiet codes.now.rows i j
-        → IsHeld codes.now.rows [] distance waiting.new.items width i j) }
+    ensures held { IfOk result (λ forced. (i j : ℕ) → IsPair codes.now.rows i j → MustWait quiet codes.now.rows i j
+        → IsCovered codes.now.rows (kept_of forced) [] (need_of codes.now.width codes.now.rows wish i j) waiting.new.items width i j) }
 {
     let mut marked = Row::zeroed(alloc, codes.len())?;
+    let mut forced = Row::zeroed(alloc, width)?;
     for second in 0..codes.len() {
-        wait_for(codes, quiet, second, width, distance, &mut marked, waiting)?;
+        wait_for(
+            codes,
+            quiet,
+            second,
+            width,
+            wish,
+            &mut marked,
+            &mut forced,
+            waiting,
+        )?;
     }
-    Ok(())
+    Ok(forced)
 }
 
 // Lets the pairs of a code with those before it wait. `marked` has a place for each code.
@@ -40,32 +57,36 @@ fn wait_for(
     quiet: bool,
     second: usize,
     width: usize,
-    distance: u32,
+    wish: Wish,
     marked: &mut Row,
+    forced: &mut Row,
     waiting: &mut Vec<List<Waiter>>,
 ) -> Result<(), AllocError>
-    requires may { MayWait width codes.now.rows distance }
+    requires may { MayWait width codes.now.rows (need_of codes.now.width codes.now.rows wish) }
+    requires wide { width ≡ codes.now.width }
+    requires forced { length forced.old ≡ width }
     requires within { second < length codes.now.rows }
     requires long { length marked.old ≡ length codes.now.rows }
     requires lists { length waiting.old.items ≡ width }
     ensures long { length marked.new ≡ length marked.old }
+    ensures forces { OnOk result (Forces codes.now.width codes.now.rows (need_of codes.now.width codes.now.rows wish) forced.old forced.new) }
     ensures grows { OnOk result (Grows codes.now.rows waiting.old.items waiting.new.items) }
     ensures held { OnOk result ((i : ℕ) → i < second → MustWait quiet codes.now.rows i second
-        → IsHeld codes.now.rows [] distance waiting.new.items width i second) }
+        → IsCovered codes.now.rows (kept_of forced.new) [] (need_of codes.now.width codes.now.rows wish i second) waiting.new.items width i second) }
 {
     if quiet && mark_counting(codes, second, marked) {
-        wait_with_marked(codes, second, marked, width, distance, waiting)
+        wait_with_marked(codes, second, marked, width, wish, forced, waiting)
     } else {
-        wait_with_earlier(codes, second, width, distance, waiting)
+        wait_with_earlier(codes, second, width, wish, forced, waiting)
     }
 }
 
 // Marks the first code and those that share a column with one. It answers false where it is quicker to go through all codes.
-fn mark_counting(codes: &Codes, place: usize, marked: &mut Row) -> bool
+pub(crate) fn mark_counting(codes: &Codes, place: usize, marked: &mut Row) -> bool
     requires within { place < length codes.now.rows }
     requires long { length marked.old ≡ length codes.now.rows }
     ensures long { length marked.new ≡ length marked.old }
-    ensures counting { IsTrue result → (i : ℕ) → i < length codes.now.rows → Counts codes.now.rows i place → bit marked.new i ≡ true }
+    ensures counting { IsTrue result → (i : ℕ) → i < length codes.now.rows → MayBeClose codes.now.rows i place → bit marked.new i ≡ true }
 {
     marked.wipe();
     marked.set(0);
@@ -78,21 +99,25 @@ fn wait_with_marked(
     second: usize,
     marked: &Row,
     width: usize,
-    distance: u32,
+    wish: Wish,
+    forced: &mut Row,
     waiting: &mut Vec<List<Waiter>>,
 ) -> Result<(), AllocError>
-    requires may { MayWait width codes.now.rows distance }
+    requires may { MayWait width codes.now.rows (need_of codes.now.width codes.now.rows wish) }
+    requires wide { width ≡ codes.now.width }
+    requires forced { length forced.old ≡ width }
     requires within { second < length codes.now.rows }
     requires lists { length waiting.old.items ≡ width }
+    ensures forces { OnOk result (Forces codes.now.width codes.now.rows (need_of codes.now.width codes.now.rows wish) forced.old forced.new) }
     ensures grows { OnOk result (Grows codes.now.rows waiting.old.items waiting.new.items) }
     ensures held { OnOk result ((i : ℕ) → bit marked.now i ≡ true → i < second
-        → IsHeld codes.now.rows [] distance waiting.new.items width i second) }
+        → IsCovered codes.now.rows (kept_of forced.new) [] (need_of codes.now.width codes.now.rows wish i second) waiting.new.items width i second) }
 {
-    // A length fits its type, and so does the place behind a code.
+    // A length fits its type, and so does the place after a code.
     let _count = marked.len();
     let mut from = 0;
     while let Some(first) = marked.next_one(from) {
-        wait_before(codes, first, second, width, distance, waiting)?;
+        wait_before(codes, first, second, width, wish, forced, waiting)?;
         from = first + 1;
     }
     Ok(())
@@ -103,18 +128,22 @@ fn wait_with_earlier(
     codes: &Codes,
     second: usize,
     width: usize,
-    distance: u32,
+    wish: Wish,
+    forced: &mut Row,
     waiting: &mut Vec<List<Waiter>>,
 ) -> Result<(), AllocError>
-    requires may { MayWait width codes.now.rows distance }
+    requires may { MayWait width codes.now.rows (need_of codes.now.width codes.now.rows wish) }
+    requires wide { width ≡ codes.now.width }
+    requires forced { length forced.old ≡ width }
     requires within { second < length codes.now.rows }
     requires lists { length waiting.old.items ≡ width }
+    ensures forces { OnOk result (Forces codes.now.width codes.now.rows (need_of codes.now.width codes.now.rows wish) forced.old forced.new) }
     ensures grows { OnOk result (Grows codes.now.rows waiting.old.items waiting.new.items) }
     ensures held { OnOk result ((i : ℕ) → i < second
-        → IsHeld codes.now.rows [] distance waiting.new.items width i second) }
+        → IsCovered codes.now.rows (kept_of forced.new) [] (need_of codes.now.width codes.now.rows wish i second) waiting.new.items width i second) }
 {
     for first in 0..second {
-        wait_before(codes, first, second, width, distance, waiting)?;
+        wait_before(codes, first, second, width, wish, forced, waiting)?;
     }
     Ok(())
 }
@@ -125,22 +154,81 @@ fn wait_before(
     first: usize,
     second: usize,
     width: usize,
-    distance: u32,
+    wish: Wish,
+    forced: &mut Row,
     waiting: &mut Vec<List<Waiter>>,
 ) -> Result<(), AllocError>
-    requires may { MayWait width codes.now.rows distance }
+    requires may { MayWait width codes.now.rows (need_of codes.now.width codes.now.rows wish) }
+    requires wide { width ≡ codes.now.width }
+    requires forced { length forced.old ≡ width }
     requires within { second < length codes.now.rows }
     requires lists { length waiting.old.items ≡ width }
+    ensures forces { OnOk result (Forces codes.now.width codes.now.rows (need_of codes.now.width codes.now.rows wish) forced.old forced.new) }
     ensures grows { OnOk result (Grows codes.now.rows waiting.old.items waiting.new.items) }
     ensures held { OnOk result (first < second
-        → IsHeld codes.now.rows [] distance waiting.new.items width first second) }
+        → IsCovered codes.now.rows (kept_of forced.new) [] (need_of codes.now.width codes.now.rows wish first second) waiting.new.items width first second) }
 {
     if second <= first {
+        return Ok(());
+    }
+    match wish {
+        Wish::Plain(distance) => {
+            let pair = Waiter {
+                first: first as u16,
+                second: second as u16,
+            };
+            wait_first(codes, pair, width, distance, waiting)
+        }
+        Wish::Cap(cap) => force_or_wait(codes, first, second, width, cap, forced, waiting),
+    }
+}
+
+// Marks the columns at which two codes differ, where they are no farther apart than a cap, and else lets them wait.
+fn force_or_wait(
+    codes: &Codes,
+    first: usize,
+    second: usize,
+    width: usize,
+    cap: u32,
+    forced: &mut Row,
+    waiting: &mut Vec<List<Waiter>>,
+) -> Result<(), AllocError>
+    requires have_width { HaveWidth width codes.now.rows }
+    requires wide { width ≡ codes.now.width }
+    requires pair { IsPair codes.now.rows first second }
+    requires places_fit { length codes.now.rows ≤ 2 ^ 16 }
+    requires forced { length forced.old ≡ width }
+    requires lists { length waiting.old.items ≡ width }
+    ensures forces { OnOk result (Forces codes.now.width codes.now.rows (capped_need codes.now.width codes.now.rows cap) forced.old forced.new) }
+    ensures grows { OnOk result (Grows codes.now.rows waiting.old.items waiting.new.items) }
+    ensures held { OnOk result (IsCovered codes.now.rows (kept_of forced.new) [] (capped_need codes.now.width codes.now.rows cap first second)
+        waiting.new.items width first second) }
+{
+    if let Some(distance) = codes.distance_below(first, second, cap as usize + 1) {
+        force_apart(codes, first, second, distance, forced);
         return Ok(());
     }
     let pair = Waiter {
         first: first as u16,
         second: second as u16,
     };
-    wait_first(codes, pair, width, distance, waiting)
+    wait_first(codes, pair, width, cap, waiting)
+}
+
+// Marks the columns at which two codes differ, where some of them aren't marked yet. The distance is their number.
+fn force_apart(codes: &Codes, first: usize, second: usize, distance: usize, forced: &mut Row)
+    requires have_width { HaveWidth (length forced.old) codes.now.rows }
+    requires first { first < length codes.now.rows }
+    requires second { second < length codes.now.rows }
+    requires distance { distance ≡ apart (all_columns (length forced.old)) codes.now.rows first second }
+    ensures marks { MarksApart codes.now.rows first second forced.old forced.new }
+    ensures enough { distance ≤ apart (kept_of forced.new) codes.now.rows first second }
+{
+    let a = codes.row(first);
+    let b = codes.row(second);
+    if let None = a.distance_under_below(b, forced, distance) {
+        return;
+    }
+    mark_alone(a, b, forced);
+    mark_alone(b, a, forced);
 }

@@ -1,11 +1,11 @@
 -- The words for what is wrong.
 use Rattle.std.specs.Prelude.{ℕ, List, codes}
 use Rattle.cb_rules.specs.declared.rule.TypeRule.{TypeRule}
-use Rattle.cb_rules.specs.declared.rule.TypeRule.TheVariants.{TwoClasses, NoParent, Loop, Depth, TwoNames, NoTarget, BadInverse, NoCause, NoRelation, NoEffect, NoBlocked, NoHidden, TooManyClasses, TooManyMembers}
+use Rattle.cb_rules.specs.declared.rule.TypeRule.TheVariants.{TwoClasses, NoParent, Loop, Depth, TwoNames, NoTarget, BadInverse, NoCause, NoRelation, NoEffect, NoBlocked, NoHidden, TooManyClasses, TooManyMembers, NoRepeat}
 use Rattle.cb_network.specs.declared.edit.EditRefusal.{EditRefusal}
 use Rattle.cb_network.specs.declared.edit.EditRefusal.TheVariants as refusals
 
--- the line for want of memory
+-- the line for out of memory
 abbrev pub memory_text : List ℕ
 memory_text = codes "error 10 memory\n"
 
@@ -25,6 +25,7 @@ rule_word NoBlocked = codes "no-blocked"
 rule_word NoHidden = codes "no-hidden"
 rule_word TooManyClasses = codes "too-many-classes"
 rule_word TooManyMembers = codes "too-many-members"
+rule_word NoRepeat = codes "no-repeat"
 
 -- the word of a refusal
 abbrev pub refusal_word : EditRefusal → List ℕ

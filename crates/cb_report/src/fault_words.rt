@@ -6,7 +6,7 @@ use cb_network::EditRefusal;
 use cb_rules::TypeRule;
 
 /// The word of a type rule.
-pub fn rule_word(rule: TypeRule) -> &'static [u8]
+pub(crate) fn rule_word(rule: TypeRule) -> &'static [u8]
     ensures { result.now ≡ word_of_rule rule }
 {
     match rule {
@@ -24,11 +24,12 @@ pub fn rule_word(rule: TypeRule) -> &'static [u8]
         TypeRule::NoHidden => b"no-hidden",
         TypeRule::TooManyClasses => b"too-many-classes",
         TypeRule::TooManyMembers => b"too-many-members",
+        TypeRule::NoRepeat => b"no-repeat",
     }
 }
 
 /// The word of a refusal.
-pub fn refusal_word(why: EditRefusal) -> &'static [u8]
+pub(crate) fn refusal_word(why: EditRefusal) -> &'static [u8]
     ensures { result.now ≡ word_of_refusal why }
 {
     match why {

@@ -24,7 +24,7 @@ mapped : {X : Type 0} (f : X → Request) (P : X → Type 0) → ((x : X) → P 
 mapped f P keeps None holds request e = cc
 mapped f P keeps (Some x) holds request e = let same : f x ≡ request = cc in subst IsInRange same (keeps x (holds x refl))
 
--- what the words behind each command ask for
+-- what the words after each command ask for
 burst_keeps : Keeps burst_of
 burst_keeps [] request e = cc
 burst_keeps (one ∷ []) request e = cc

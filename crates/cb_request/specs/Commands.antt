@@ -11,7 +11,7 @@ use Rattle.cb_request.specs.declared.request.Request.TheVariants as requests
 abbrev pub texts : List (String Global) → List (List ℕ)
 texts words = map string_bytes words
 
--- what the words behind each command ask for
+-- what the words after each command ask for
 abbrev pub burst_of : List (List ℕ) → Option Request
 burst_of (one ∷ two ∷ three ∷ []) = Some (requests.Burst one two three)
 burst_of words = None
@@ -45,7 +45,7 @@ abbrev pub grow_of : List (List ℕ) → Option Request
 grow_of (sites ∷ start ∷ []) = option_and_then (λ n. option_map (requests.Grow n) (start_in start)) (sites_in sites)
 grow_of words = None
 
--- the commands, each with what the words behind it ask for
+-- the commands, each with what the words after it ask for
 abbrev pub commands : List (List ℕ × (List (List ℕ) → Option Request))
 commands =
     (codes "burst", burst_of) ∷ (codes "model", model_of) ∷ (codes "matrix", matrix_of) ∷ (codes "codebook", codebook_of)

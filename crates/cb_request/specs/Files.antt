@@ -33,7 +33,7 @@ judged_of (requests.Decode one two three log w) = (Role.model, one) ∷ (Role.to
 judged_of (requests.Correlate one two log d w) = (Role.model, one) ∷ (Role.topology, two) ∷ []
 judged_of (requests.Grow sites start) = []
 
--- the log that is read behind them, if there is one
+-- the log that is read after them, if there is one
 abbrev pub logs_of : Request → List (List ℕ)
 logs_of (requests.Decode one two three log w) = log ∷ []
 logs_of (requests.Correlate one two log d w) = log ∷ []

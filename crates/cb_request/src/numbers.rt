@@ -5,28 +5,28 @@ ghost use Rattle.cb_request.specs.Numbers.{number_in as number_of, distance_in a
 use cb_text::decimal_of;
 
 /// A wanted distance.
-pub fn distance_in(word: &str) -> Option<u64>
+pub(crate) fn distance_in(word: &str) -> Option<u64>
     ensures { result ≡ distance_of word.now }
 {
     number_in(1, 9_999, word)
 }
 
 /// The length of a window.
-pub fn window_in(word: &str) -> Option<u64>
+pub(crate) fn window_in(word: &str) -> Option<u64>
     ensures { result ≡ window_of word.now }
 {
     number_in(1, 1_000_000_000_000, word)
 }
 
 /// A number of sites.
-pub fn sites_in(word: &str) -> Option<u64>
+pub(crate) fn sites_in(word: &str) -> Option<u64>
     ensures { result ≡ sites_of word.now }
 {
     number_in(1, 256, word)
 }
 
 /// Where a generator starts.
-pub fn start_in(word: &str) -> Option<u64>
+pub(crate) fn start_in(word: &str) -> Option<u64>
     ensures { result ≡ start_of word.now }
 {
     number_in(0, u64::MAX, word)

@@ -2,7 +2,7 @@
 use crate::file_name::FileName;
 
 /// A command with the names of its files and with its numbers, in the order of its words.
-#[derive(Debug, Drop)]
+#[derive(Drop)]
 pub enum Request<'w> {
     /// What causes the symptoms of a file.
     Burst {

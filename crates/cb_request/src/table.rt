@@ -18,7 +18,7 @@ impl<'w> Request<'w> {
     }
 }
 
-// What the words behind a command ask for.
+// What the words after a command ask for.
 fn read<'w>(command: &str, words: &'w [String]) -> Option<Request<'w>>
     ensures { result ≡ request_of (command.now ∷ texts words.now) }
 {

@@ -1,14 +1,15 @@
--- The fourteen type rules: what each forbids, and the line that is blamed. Six are of a class, at place k of the text, and
--- eight of a member, at place i of that class. A rule is of interest only where those before it are kept.
-use Rattle.std.specs.Prelude.{◌≡◌, ◌≢◌, ◌⊎◌, ℕ, suc, ◌<◌, List, length, take, Some, slice_get}
+-- The fifteen type rules: what each forbids, and the line that is blamed. Six are of a class, at place k of the text, and
+-- nine of a member, at place i of that class. A rule is of interest only where those before it are kept.
+use Rattle.std.specs.Prelude.{◌≡◌, ◌≢◌, ◌⊎◌, ℕ, suc, ◌<◌, List, length, take, Some, slice_get, true}
 use Rattle.std.specs.List.{All, AllPairs}
 use Rattle.cb_model.specs.Limits.{class_limit, ancestor_limit, event_limit, relation_limit, rule_limit}
 use Rattle.cb_grammar.specs.declared.tree.Token.{Token}
+use Rattle.cb_grammar.specs.declared.tree.PlaceToken.{PlaceToken}
 use Rattle.cb_grammar.specs.declared.tree.Tree.{Tree}
 use Rattle.cb_grammar.specs.declared.tree.ClassDecl.{ClassDecl}
 use Rattle.cb_grammar.specs.declared.tree.Member.{Member}
 use Rattle.cb_grammar.specs.declared.tree.Member.TheVariants.{Relation, Rule, Block, Hide}
-use Rattle.cb_rules.specs.Classes.{ClassAt, IsNamed, IsAbove, MemberAt, HasAt, Has, declared, IsEvent, IsEventNamed, IsSymptomNamed, IsRelation, IsRelationNamed, IsRelationBack, IsRule, IsRuleNamed, Leads, IsNamedBefore, DeclaresBefore, Inherits, IsOnLoop}
+use Rattle.cb_rules.specs.Classes.{ClassAt, IsNamed, IsAbove, MemberAt, HasAt, Has, Declares, declared, IsEvent, IsEventNamed, IsSymptomNamed, IsRelation, IsRelationNamed, IsRelationTo, IsRelationBack, IsRule, IsRuleNamed, Leads, IsNamedBefore, DeclaresBefore, Inherits, IsOnLoop}
 
 -- an earlier class has the class's name
 abbrev pub IsSecondClass : Tree → ℕ → ClassDecl → ℕ → Type 0
@@ -61,9 +62,9 @@ HasNoCause tree k i (Rule name cause path effect) line = (line ≡ cause.line) �
 HasNoCause tree k i member line = ⊥
 
 -- the path stops at a place whose name is no relation of the class that is reached there, and this line is blamed
-abbrev pub StopsAt : Tree → ℕ → List Token → ℕ → Type 0
-StopsAt tree k path line = (m : ℕ) × (step : Token) × (j : ℕ) × (slice_get path m ≡ Some step) × Leads tree k (take m path) j × (line ≡ step.line)
-    × (¬ Has tree j (IsRelationNamed step.name))
+abbrev pub StopsAt : Tree → ℕ → List PlaceToken → ℕ → Type 0
+StopsAt tree k path line = (m : ℕ) × (step : PlaceToken) × (j : ℕ) × (slice_get path m ≡ Some step) × Leads tree k (take m path) j × (line ≡ step.name.line)
+    × (¬ Has tree j (IsRelationNamed step.name.name))
 
 -- a place of the rule's path is no relation of the class that is reached there
 abbrev pub HasNoRelation : Tree → ℕ → ℕ → Member → ℕ → Type 0
@@ -71,7 +72,7 @@ HasNoRelation tree k i (Rule name cause path effect) line = StopsAt tree k path 
 HasNoRelation tree k i member line = ⊥
 
 -- the effect is no event of the class that the path reaches, and this line is blamed
-abbrev pub IsBadEffect : Tree → ℕ → List Token → Token → ℕ → Type 0
+abbrev pub IsBadEffect : Tree → ℕ → List PlaceToken → Token → ℕ → Type 0
 IsBadEffect tree k path effect line = (j : ℕ) × Leads tree k path j × (line ≡ effect.line) × (¬ Has tree j (IsEventNamed effect.name))
 
 -- the rule's effect is no event of the class that its path reaches
@@ -102,3 +103,23 @@ HasMoreThan tree k most P = (places : List (ℕ × ℕ)) × AllPairs (λ one oth
 abbrev pub HasTooMany : Tree → ℕ → ClassDecl → ℕ → Type 0
 HasTooMany tree k decl line = (line ≡ decl.name.line)
     × (HasMoreThan tree k event_limit IsEvent ⊎ HasMoreThan tree k relation_limit IsRelation ⊎ HasMoreThan tree k rule_limit IsRule)
+
+-- the relation of this name that the class at place k has leads to the class that declares it, which stands at place `home`, or to a descendant of that class
+abbrev pub LeadsHome : Tree → ℕ → List ℕ → Type 0
+LeadsHome tree k name = (home : ℕ) × (i : ℕ) × (to : List ℕ) × (next : ℕ) × (n : ℕ) × HasAt tree k (Declares name) home i
+    × Has tree k (IsRelationTo name to) × IsNamed tree to next × IsAbove tree next n home
+
+-- place m of the path has the plus, and its relation doesn't lead home
+abbrev pub CannotRepeatAt : Tree → ℕ → List PlaceToken → ℕ → Type 0
+CannotRepeatAt tree k path m = (step : PlaceToken) × (j : ℕ) × (slice_get path m ≡ Some step) × Leads tree k (take m path) j × (step.plus ≡ true)
+    × (¬ LeadsHome tree j step.name.name)
+
+-- the first such place of the path, and its line is blamed
+abbrev pub CannotRepeat : Tree → ℕ → List PlaceToken → ℕ → Type 0
+CannotRepeat tree k path line = (m : ℕ) × (step : PlaceToken) × (slice_get path m ≡ Some step) × (line ≡ step.name.line) × CannotRepeatAt tree k path m
+    × ((earlier : ℕ) → earlier < m → ¬ CannotRepeatAt tree k path earlier)
+
+-- a place of the rule's path with the plus can't repeat
+abbrev pub HasNoRepeat : Tree → ℕ → ℕ → Member → ℕ → Type 0
+HasNoRepeat tree k i (Rule name cause path effect) line = CannotRepeat tree k path line
+HasNoRepeat tree k i member line = ⊥

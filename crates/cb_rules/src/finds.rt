@@ -1,17 +1,18 @@
 //! What the rules ask of a directory.
-ghost use Rattle.std.specs.Prelude.{◌≡◌, ◌↔◌, ◌<◌, length, IfOk, IfSome, IfNone, IfErr, IsTrue};
+ghost use Rattle.std.specs.Prelude.{ℕ, ◌≡◌, ◌↔◌, ◌<◌, length, IfOk, IfSome, IfNone, IfErr, IsTrue};
 ghost use Rattle.cb_rules.specs.declared.rule.TypeRule.TheVariants.{TwoNames, BadInverse, NoTarget};
-ghost use Rattle.cb_rules.specs.Classes.{Has, IsEventNamed, IsSymptomNamed, IsRuleNamed, IsRelationNamed, IsRelationBack, Leads, IsNamedBefore, DeclaresBefore, Inherits};
-ghost use Rattle.cb_rules.specs.Rules.{Owns, StopsAt};
+ghost use Rattle.cb_rules.specs.Classes.{Has, IsAbove, IsEventNamed, IsSymptomNamed, IsRuleNamed, IsRelationNamed, IsRelationBack, Leads, IsNamedBefore, DeclaresBefore, Inherits};
+ghost use Rattle.cb_rules.specs.Rules.{Owns, StopsAt, LeadsHome};
 ghost use Rattle.cb_rules.specs.Fault.{KeepsBefore};
 ghost use Rattle.cb_rules.specs.Finds.{is_symptom as counts_symptom, LeadsOn, LooksBack};
 
 use crate::directory::Directory;
-use crate::entry::Kind;
-use cb_grammar::{Member, Token};
+use crate::entry::MemberKind;
+use cb_grammar::{Member, PlaceToken};
+use cb_model::MOST_ANCESTORS;
 
 /// Whether a class before this place has the name.
-pub fn is_named_before(directory: &Directory<'_>, class: usize, name: &[u8]) -> bool
+pub(crate) fn is_named_before(directory: &Directory<'_>, class: usize, name: &[u8]) -> bool
     ensures { IsTrue result ↔ IsNamedBefore directory.now class name.now }
 {
     match directory.class_named(name) {
@@ -21,7 +22,12 @@ pub fn is_named_before(directory: &Directory<'_>, class: usize, name: &[u8]) -> 
 }
 
 /// Whether the class declares the name before this place of its members.
-pub fn declares_before(directory: &Directory<'_>, class: usize, place: usize, name: &[u8]) -> bool
+pub(crate) fn declares_before(
+    directory: &Directory<'_>,
+    class: usize,
+    place: usize,
+    name: &[u8],
+) -> bool
     requires { class < length directory.now.classes }
     ensures { IsTrue result ↔ DeclaresBefore directory.now class place name.now }
 {
@@ -32,7 +38,7 @@ pub fn declares_before(directory: &Directory<'_>, class: usize, place: usize, na
 }
 
 /// Whether an ancestor of the class declares the name.
-pub fn inherits(directory: &Directory<'_>, class: usize, name: &[u8]) -> bool
+pub(crate) fn inherits(directory: &Directory<'_>, class: usize, name: &[u8]) -> bool
     requires class { class < length directory.now.classes }
     requires keeps { KeepsBefore directory.now TwoNames }
     ensures { IsTrue result ↔ Inherits directory.now class name.now }
@@ -44,19 +50,19 @@ pub fn inherits(directory: &Directory<'_>, class: usize, name: &[u8]) -> bool
 }
 
 /// Whether the class has an event of this name.
-pub fn has_event(directory: &Directory<'_>, class: usize, name: &[u8]) -> bool
+pub(crate) fn has_event(directory: &Directory<'_>, class: usize, name: &[u8]) -> bool
     requires class { class < length directory.now.classes }
     requires keeps { KeepsBefore directory.now NoTarget }
     ensures { IsTrue result ↔ Has directory.now class (IsEventNamed name.now) }
 {
     match directory.member(class, name) {
-        Some(member) => Kind::Event.has(member),
+        Some(member) => MemberKind::Event.has(member),
         None => false,
     }
 }
 
 /// Whether the class has an event of this name that is marked symptom.
-pub fn has_symptom(directory: &Directory<'_>, class: usize, name: &[u8]) -> bool
+pub(crate) fn has_symptom(directory: &Directory<'_>, class: usize, name: &[u8]) -> bool
     requires class { class < length directory.now.classes }
     requires keeps { KeepsBefore directory.now NoTarget }
     ensures { IsTrue result ↔ Has directory.now class (IsSymptomNamed name.now) }
@@ -68,19 +74,19 @@ pub fn has_symptom(directory: &Directory<'_>, class: usize, name: &[u8]) -> bool
 }
 
 /// Whether the class has a rule of this name.
-pub fn has_rule(directory: &Directory<'_>, class: usize, name: &[u8]) -> bool
+pub(crate) fn has_rule(directory: &Directory<'_>, class: usize, name: &[u8]) -> bool
     requires class { class < length directory.now.classes }
     requires keeps { KeepsBefore directory.now NoTarget }
     ensures { IsTrue result ↔ Has directory.now class (IsRuleNamed name.now) }
 {
     match directory.member(class, name) {
-        Some(member) => Kind::Rule.has(member),
+        Some(member) => MemberKind::Rule.has(member),
         None => false,
     }
 }
 
 /// The class to which the relation of this name leads that the class has.
-pub fn target_of(directory: &Directory<'_>, class: usize, name: &[u8]) -> Option<usize>
+pub(crate) fn target_of(directory: &Directory<'_>, class: usize, name: &[u8]) -> Option<usize>
     requires class { class < length directory.now.classes }
     requires keeps { KeepsBefore directory.now BadInverse }
     ensures found { IfSome result (LeadsOn directory.now class name.now) }
@@ -95,9 +101,47 @@ pub fn target_of(directory: &Directory<'_>, class: usize, name: &[u8]) -> Option
     directory.class_named(target.name.bytes())
 }
 
+/// Whether the class is the other one or descends from it.
+pub(crate) fn is_heir(directory: &Directory<'_>, class: usize, of: usize) -> bool
+    requires class { class < length directory.now.classes }
+    requires keeps { KeepsBefore directory.now TwoNames }
+    ensures { IsTrue result ↔ ((n : ℕ) × IsAbove directory.now class n of) }
+{
+    let mut at = class;
+    for _step in 0..=MOST_ANCESTORS {
+        if at == of {
+            return true;
+        }
+        let Some(parent) = directory.parent(at) else {
+            return false;
+        };
+        at = parent;
+    }
+    false
+}
+
+/// Whether the relation of this name that the class has leads to the class that declares it, or to a descendant of that.
+pub(crate) fn leads_home(directory: &Directory<'_>, class: usize, name: &[u8]) -> bool
+    requires class { class < length directory.now.classes }
+    requires keeps { KeepsBefore directory.now BadInverse }
+    ensures { IsTrue result ↔ LeadsHome directory.now class name.now }
+{
+    let Some(next) = target_of(directory, class, name) else {
+        return false;
+    };
+    let Some(place) = directory.member_named(class, name) else {
+        return false;
+    };
+    is_heir(directory, next, place.class)
+}
+
 /// The class that a path reaches from this one, or the line of its first place that is no relation of the class reached
 /// there.
-pub fn follow(directory: &Directory<'_>, class: usize, path: &[Token]) -> Result<usize, u32>
+pub(crate) fn follow(
+    directory: &Directory<'_>,
+    class: usize,
+    path: &[PlaceToken],
+) -> Result<usize, u32>
     requires class { class < length directory.now.classes }
     requires keeps { KeepsBefore directory.now BadInverse }
     ensures reached { IfOk result (Leads directory.now class path.now) }
@@ -105,8 +149,8 @@ pub fn follow(directory: &Directory<'_>, class: usize, path: &[Token]) -> Result
 {
     let mut at = class;
     for step in path {
-        let Some(next) = target_of(directory, at, step.name.bytes()) else {
-            return Err(step.line);
+        let Some(next) = target_of(directory, at, step.name.name.bytes()) else {
+            return Err(step.name.line);
         };
         at = next;
     }
@@ -115,7 +159,7 @@ pub fn follow(directory: &Directory<'_>, class: usize, path: &[Token]) -> Result
 
 /// Whether the class itself declares a relation of this name that leads to the class named `home` and has an inverse
 /// named `back`.
-pub fn leads_back(
+pub(crate) fn leads_back(
     directory: &Directory<'_>,
     class: usize,
     name: &[u8],

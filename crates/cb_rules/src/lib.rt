@@ -1,4 +1,4 @@
-//! The fourteen type rules of models, over the tree of a text.
+//! The fifteen type rules of models, over the tree of a text.
 #![tactic(auto)]
 
 mod blame;
@@ -14,7 +14,7 @@ mod member_rules;
 mod places;
 mod rule;
 
-pub use directory::{Directory, Place};
+pub use directory::{Directory, MemberPosition};
 pub use fault::first_fault;
 pub use laws::one_fault;
 pub use rule::{BrokenRule, TypeRule};

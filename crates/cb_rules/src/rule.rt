@@ -33,11 +33,14 @@ pub enum TypeRule {
     TooManyClasses,
     /// A class has more than 256 events, more than 256 relations or more than 1,024 rules.
     TooManyMembers,
+    /// A place with the plus has a relation whose target is neither the class that declares it nor a descendant of
+    /// that class.
+    NoRepeat,
 }
 
 impl TypeRule {
     /// All rules, in the order in which they are read.
-    pub const ALL: [TypeRule; 14] = [
+    pub const ALL: [TypeRule; 15] = [
         TypeRule::TwoClasses,
         TypeRule::NoParent,
         TypeRule::Loop,
@@ -52,6 +55,7 @@ impl TypeRule {
         TypeRule::NoHidden,
         TypeRule::TooManyClasses,
         TypeRule::TooManyMembers,
+        TypeRule::NoRepeat,
     ];
 
     /// The place of the rule in that order, from 1.
@@ -73,6 +77,7 @@ impl TypeRule {
             TypeRule::NoHidden => 12,
             TypeRule::TooManyClasses => 13,
             TypeRule::TooManyMembers => 14,
+            TypeRule::NoRepeat => 15,
         }
     }
 }

@@ -5,13 +5,13 @@ use Rattle.cb_network.specs.Topology.{Topology}
 use Rattle.cb_log.specs.declared.event.Event.{Event}
 use Rattle.cb_log.specs.declared.record.Record.{Record}
 use Rattle.cb_log.specs.Basis.{Mode}
-use Rattle.cb_log.specs.Entries.{Entry, records_of}
+use Rattle.cb_log.specs.Entries.{LogEntry, records_of}
 use Rattle.cb_log.specs.Events.{EntryGives, EndGives}
 use Rattle.cb_log.proofs.Independent.{entries_same, end_same, records_quiet}
 use Rattle.cb_session.specs.Sources.{StandsAlone, EndsAlone}
 
-module _ (t : Topology) (mode : Mode) (w : ℕ) (before : List Entry) (regular : IsRegular t.model) where
-  pub stands_alone : (entry : Entry) (events : List Event) → EntryGives t mode w (records_of before) entry events → StandsAlone t mode w before entry events
+module _ (t : Topology) (mode : Mode) (w : ℕ) (before : List LogEntry) (regular : IsRegular t.model) where
+  pub stands_alone : (entry : LogEntry) (events : List Event) → EntryGives t mode w (records_of before) entry events → StandsAlone t mode w before entry events
   stands_alone entry events gives = λ source quiet quiet_gives.
       entries_same source t regular mode w before (entry ∷ []) events quiet (events, [], gives, refl, sym (append-nil events))
       (quiet, [], quiet_gives, refl, sym (append-nil quiet))

@@ -80,7 +80,7 @@ has_name network ready mode is i within =
     (named_at is.matrix.problems (group_of is.matrix.problems (zeros (length ready.matrix.columns))) are.others are.each i
     (subst (λ (gs : List Group). i < length gs) are.quiet inside))
 
--- the diagnoses of these windows stand behind the events
+-- the diagnoses of these windows stand after the events
 abbrev pub Diagnosed : Ready → List Closed → List Event → List Event → Type 0
 Diagnosed ready closing before events = (network : Topology) (mode : Mode) (basis : Basis network mode) → HasBasis basis ready
     → (diagnoses : List Event) × AllZip (IsDiagnosis basis) closing diagnoses × (events ≡ before ++ diagnoses)

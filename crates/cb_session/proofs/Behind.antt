@@ -1,4 +1,4 @@
--- What stands for entries, with one more behind them.
+-- What stands for entries, with one more after them.
 use Rattle.std.proofs.Common.{◌≡◌, ◌≢◌, ◌++◌, ℕ, List, [], ◌∷◌, length, Bool, true, false, Result, Ok, Err, refl, sym, ap, subst, ◌∙◌, append-nil}
 use Rattle.std.proofs.Math.Seq.{take-append_seam}
 use Rattle.cb_network.specs.declared.edit.Edit.{Edit}
@@ -11,7 +11,7 @@ use Rattle.cb_log.specs.declared.record.Body.{Body}
 use Rattle.cb_log.specs.declared.record.Body.TheVariants.{Raise, Clear, Change, Tick}
 use Rattle.cb_log.specs.declared.record.Record.{Record}
 use Rattle.cb_log.specs.Basis.{wanted}
-use Rattle.cb_log.specs.Entries.{Entry, said, records_of}
+use Rattle.cb_log.specs.Entries.{LogEntry, said, records_of}
 use Rattle.cb_log.specs.Events.{BodyGives}
 use Rattle.cb_log.specs.Network.{then_edits, IsNow, IsAcceptedAt}
 use Rattle.cb_log.proofs.EventsOne.{network_is_one}
@@ -20,11 +20,11 @@ use Rattle.cb_log.proofs.OneForEach.{records_of_both}
 use Rattle.cb_log.proofs.OneMore.{now_edited, now_stays}
 use Rattle.cb_session.specs.Acts.{Leaves, Acts}
 
--- the records behind a said one, and behind any other entry
-pub records_said : (before : List Entry) (line : ℕ) (r : Record) → records_of (before ++ said line r ∷ []) ≡ records_of before ++ r ∷ []
+-- the records after a said one, and after any other entry
+pub records_said : (before : List LogEntry) (line : ℕ) (r : Record) → records_of (before ++ said line r ∷ []) ≡ records_of before ++ r ∷ []
 records_said before line r = records_of_both before (said line r ∷ [])
 
-pub records_stay : (before : List Entry) (entry : Entry) → records_of (entry ∷ []) ≡ [] → records_of (before ++ entry ∷ []) ≡ records_of before
+pub records_stay : (before : List LogEntry) (entry : LogEntry) → records_of (entry ∷ []) ≡ [] → records_of (before ++ entry ∷ []) ≡ records_of before
 records_stay before entry none =
     records_of_both before (entry ∷ []) ∙ (ap (λ (rs : List Record). records_of before ++ rs) none ∙ append-nil (records_of before))
 
@@ -93,7 +93,7 @@ module _ (t : Topology) (regular : IsRegular t.model) (records : List Record) (n
   changed_by (Change edit) is line new changed events acts = edited edit is acts.0 acts.1 new changed acts.3
   changed_by Tick is line new changed events acts = aside Tick is refl (λ edit e. absurd (cc)) new changed acts.0 acts.1
 
-  -- and what comes of it is told
+  -- and what results from it is told
   pub body_gives : (d : ℕ) (body : Body) (line : ℕ) (new : Topology) (changed : Bool) (events : List Event)
       → Acts network line body new changed events → BodyGives t (wanted d) records line body events
   body_gives d (Raise source node) line new changed events acts = acts.2

@@ -10,7 +10,7 @@ use Rattle.cb_log.specs.declared.record.Body.TheVariants.{Raise, Clear, Change, 
 use Rattle.cb_log.specs.declared.record.Record.{Record}
 use Rattle.cb_log.specs.Basis.{fixed, Basis, IsDiagnosis}
 use Rattle.cb_log.specs.Closing.{AreClosing}
-use Rattle.cb_log.specs.Entries.{Entry, said, records_of}
+use Rattle.cb_log.specs.Entries.{LogEntry, said, records_of}
 use Rattle.cb_log.specs.Events.{BodyGives, ClosingGives, Diagnoses}
 use Rattle.cb_log.specs.Kept.{Kept, StandsFor}
 use Rattle.cb_session.specs.declared.basis.Ready.{Ready}
@@ -27,7 +27,7 @@ none_told : (P : Closed → Event → Type 0) (events : List Event) → AllZip P
 none_told P [] each = refl
 none_told P (e ∷ events) each = absurd each
 
--- a refusal is what comes of the body
+-- a refusal is what results from the body
 refusal_comes : (t : Topology) (book : Book) (records : List Record) (line : ℕ) (body : Body) (events : List Event) → RefusesEdit line body events
     → BodyGives t (fixed book) records line body events
 refusal_comes t book records line (Raise source node) events told = told
@@ -50,7 +50,7 @@ module _ (network : Topology) (ready : Ready) where
     events_are = refl;
   }
 
-  -- what is told is what comes of the windows
+  -- what is reported is what results from the windows
   closing_comes : (opening : Topology) → network ≡ opening → (w : ℕ) (records next : List Record) (closing : List Closed)
       → AreClosing (records ++ next) w (length records) closing → (events : List Event) → TellsInUse network (fixed ready.book) ready closing events
       → ClosingGives opening (fixed ready.book) w records next events

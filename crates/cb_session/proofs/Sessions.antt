@@ -7,7 +7,7 @@ use Rattle.cb_network.specs.Regular.{IsRegular}
 use Rattle.cb_log.specs.declared.closed.Closed.{Closed}
 use Rattle.cb_log.specs.declared.event.Event.{Event}
 use Rattle.cb_log.specs.Basis.{fixed}
-use Rattle.cb_log.specs.Entries.{Entry, records_of}
+use Rattle.cb_log.specs.Entries.{LogEntry, records_of}
 use Rattle.cb_log.specs.Events.{EndGives}
 use Rattle.cb_log.specs.Kept.{Kept}
 use Rattle.cb_session.specs.declared.basis.Ready.{Ready}
@@ -19,7 +19,7 @@ use Rattle.cb_session.specs.Settled.{IsOverSome, IsSettled, IsFixed, Fits}
 use Rattle.cb_session.specs.Sources.{EndsAlone}
 use Rattle.cb_session.specs.State.{State, StandsForEntries}
 use Rattle.cb_session.specs.Steps.{ClosesAtEnd, TellsAtEnd}
-use Rattle.cb_session.specs.Told.{TellsInUse, Tells}
+use Rattle.cb_session.specs.Told.{TellsInUse, ReportsWindows}
 use Rattle.cb_session.proofs.Alone.{ends_alone}
 use Rattle.cb_session.proofs.ByOne.{fixed_ends}
 use Rattle.cb_session.proofs.Stepping.{HasRisingNodes, end_rise, end_tells}
@@ -42,7 +42,7 @@ module _ (network : Topology) (windows : Kept) (course : Course) (s : State) (vi
     pub wanted_rise : (closing : List Closed) → ClosesAtEnd s.windows closing → All HasRisingNodes closing
     wanted_rise closing closes = end_rise windows closing wanted_fits.over (closes_wanted closing closes)
 
-    pub wanted_tells : (closing : List Closed) → ClosesAtEnd s.windows closing → (told : Told) → Tells network d ready closing told → TellsAtEnd s told.events
+    pub wanted_tells : (closing : List Closed) → ClosesAtEnd s.windows closing → (told : Told) → ReportsWindows network d ready closing told → TellsAtEnd s told.events
     wanted_tells closing closes told tells =
         subst (λ (x : State). TellsAtEnd x told.events) wanted_view
         (λ opening before stands. end_tells network d windows ready closing told (closes_wanted closing closes) tells opening before stands)
@@ -65,9 +65,9 @@ module _ (network : Topology) (windows : Kept) (course : Course) (s : State) (vi
     fixed_tells_end closing closes events tells =
         subst (λ (x : State). TellsAtEnd x events) fixed_view (fixed_ends network ready windows closing (closes_fixed closing closes) events tells)
 
--- what is told at the end stands alone
+-- what is reported at the end stands alone
 pub if_ends_alone : {E : Type 0} (s : State) (result : Result (List Event) E) → IfOk result (TellsAtEnd s)
-    → IfOk result (λ events. (opening : Topology) (before : List Entry) → IsRegular opening.model → StandsForEntries s opening before
+    → IfOk result (λ events. (opening : Topology) (before : List LogEntry) → IsRegular opening.model → StandsForEntries s opening before
     → EndsAlone opening s.mode s.windows.length before events)
 if_ends_alone s (Ok events) tells = λ opening before regular stands.
     ends_alone opening s.mode s.windows.length before regular events (tells opening before stands)

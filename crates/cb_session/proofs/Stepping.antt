@@ -20,12 +20,12 @@ use Rattle.cb_log.specs.declared.record.Body.TheVariants.{Raise, Clear, Change, 
 use Rattle.cb_log.specs.declared.record.Record.{Record}
 use Rattle.cb_log.specs.Basis.{Mode, wanted, fixed}
 use Rattle.cb_log.specs.Closing.{ClosesAt, AreClosing}
-use Rattle.cb_log.specs.Entries.{Entry, said, records_of}
+use Rattle.cb_log.specs.Entries.{LogEntry, said, records_of}
 use Rattle.cb_log.specs.Events.{IsNetwork, HasBook, EntryGives, EndGives}
 use Rattle.cb_log.specs.Kept.{Kept, StandsFor}
 use Rattle.cb_log.specs.Network.{IsNow}
-use Rattle.cb_alarm.specs.Lines.{Line, text, long, ComesTo}
-use Rattle.cb_alarm.specs.Spelled.{Spells, SaysBody}
+use Rattle.cb_alarm.specs.Lines.{NumberedLine, text, long, ComesTo}
+use Rattle.cb_alarm.specs.Spelled.{SpellsRecord, SaysBody}
 use Rattle.cb_alarm.proofs.OneSkip.{comes_to_one}
 use Rattle.cb_session.specs.declared.basis.Ready.{Ready}
 use Rattle.cb_session.specs.declared.told.Told.{Told}
@@ -35,7 +35,7 @@ use Rattle.cb_session.specs.Course.{wanted_state}
 use Rattle.cb_session.specs.Settled.{IsOverSome, IsSettled}
 use Rattle.cb_session.specs.State.{State, IsBookOf, KeepsBook, StandsForEntries}
 use Rattle.cb_session.specs.Steps.{EntryTells, EntryStands, ClosesAtEnd}
-use Rattle.cb_session.specs.Told.{Tells, kept_of}
+use Rattle.cb_session.specs.Told.{ReportsWindows, kept_of}
 use Rattle.cb_session.proofs.Bases.{ready_has_basis}
 use Rattle.cb_session.proofs.Behind.{records_said, records_stay, IsChangedBy, changed_by, body_gives}
 use Rattle.cb_session.specs.Sources.{StandsAlone}
@@ -51,28 +51,28 @@ good_name (Unlink a rel b) names = tt
 good_name (Mute event name) names = tt
 good_name (Unmute event name) names = tt
 
-spelled_named : (line : List ℕ) (r : Record) → Spells line r → (body : Body) → r.body ≡ body → IsWellNamed body
+spelled_named : (line : List ℕ) (r : Record) → SpellsRecord line r → (body : Body) → r.body ≡ body → IsWellNamed body
 spelled_named line r spells (Raise source node) is = tt
 spelled_named line r spells (Clear source node) is = tt
 spelled_named line r spells (Change edit) is = let says = subst (SaysBody spells.members) is spells.body in good_name edit says.2.names
 spelled_named line r spells Tick is = tt
 
 -- so has that of an edit that a line comes to
-pub well_named : (line : Line) (number : ℕ) (r : Record) → ComesTo line (said number r) → IsWellNamed r.body
+pub well_named : (line : NumberedLine) (number : ℕ) (r : Record) → ComesTo line (said number r) → IsWellNamed r.body
 well_named (long k) number r comes = absurd (cc)
 well_named (text k bytes) number r (inl (is_blank, e)) = absurd (cc)
 well_named (text k bytes) number r (inr (some, inl (s, spells, e))) =
     let same : s ≡ r = cc in
-    spelled_named bytes r (subst (Spells bytes) same spells) r.body refl
+    spelled_named bytes r (subst (SpellsRecord bytes) same spells) r.body refl
 well_named (text k bytes) number r (inr (some, inr (kind, is_skipped, e))) = absurd (cc)
 
 -- an entry without a record leaves what is stood for
-keeps_same : (opening : Topology) (mode : Mode) (w : ℕ) (s : State) (xs ys : List Entry) → records_of xs ≡ records_of ys
+keeps_same : (opening : Topology) (mode : Mode) (w : ℕ) (s : State) (xs ys : List LogEntry) → records_of xs ≡ records_of ys
     → KeepsBook opening mode w s xs → KeepsBook opening mode w s ys
 keeps_same opening (wanted d) w s xs ys same keeps = (subst (λ (rs : List Record). IsSome s.book ↔ HasBook opening w rs) same keeps.0, keeps.1)
 keeps_same opening (fixed book) w s xs ys same keeps = keeps
 
-pub aside_stands : (s : State) (entry : Entry) → records_of (entry ∷ []) ≡ [] → EntryStands s s entry
+pub aside_stands : (s : State) (entry : LogEntry) → records_of (entry ∷ []) ≡ [] → EntryStands s s entry
 aside_stands s entry none = λ opening before regular stands.
     let same : records_of before ≡ records_of (before ++ entry ∷ []) = sym (records_stay before entry none) in
     record {
@@ -81,13 +81,13 @@ aside_stands s entry none = λ opening before regular stands.
       book = keeps_same opening s.mode s.windows.length s before (before ++ entry ∷ []) same stands.book;
     }
 
--- what is told of the entry that a line comes to is told of each that it comes to
-pub all_tell : (line : Line) (entry : Entry) → ComesTo line entry → (s : State) (events : List Event) → EntryTells s entry events
-    → (other : Entry) → ComesTo line other → EntryTells s other events
-all_tell line entry comes s events tells other too = subst (λ (e : Entry). EntryTells s e events) (comes_to_one line entry other comes too) tells
+-- what is reported of the entry that a line comes to is told of each that it comes to
+pub all_tell : (line : NumberedLine) (entry : LogEntry) → ComesTo line entry → (s : State) (events : List Event) → EntryTells s entry events
+    → (other : LogEntry) → ComesTo line other → EntryTells s other events
+all_tell line entry comes s events tells other too = subst (λ (e : LogEntry). EntryTells s e events) (comes_to_one line entry other comes too) tells
 
-pub all_stand : (line : Line) (entry : Entry) → ComesTo line entry → (old new : State) → EntryStands old new entry
-    → (other : Entry) → ComesTo line other → EntryStands old new other
+pub all_stand : (line : NumberedLine) (entry : LogEntry) → ComesTo line entry → (old new : State) → EntryStands old new entry
+    → (other : LogEntry) → ComesTo line other → EntryStands old new other
 all_stand line entry comes old new stands other too = subst (EntryStands old new) (comes_to_one line entry other comes too) stands
 
 -- what is ready has a basis, so its codebook is one of the topology
@@ -104,7 +104,7 @@ module _ (d number : ℕ) (r : Record) (network new : Topology) (windows later :
   -- a record closes windows, is told, and acts
   pub record Goes (closing : List Closed) (told : Told) (changed : Bool) (acted : List Event) : Type 0 where
     pub closes : Closes windows r.at closing
-    pub tells : Tells network d ready closing told
+    pub tells : ReportsWindows network d ready closing told
     pub acts : Acts network number r.body new changed acted
     pub on : GoesOn windows later r
     pub same_length : later.length ≡ windows.length
@@ -180,9 +180,9 @@ due_rise windows r closing over closes =
 pub end_rise : (windows : Kept) (closing : List Closed) → IsOverSome windows → ClosesAtEnd windows closing → All HasRisingNodes closing
 end_rise windows closing over closes = all_rise over.0 windows.length (length over.0) closing (closes over.0 over.1)
 
--- what is told of them is what comes of the end
+-- what is reported of them is what results from the end
 pub end_tells : (network : Topology) (d : ℕ) (windows : Kept) (ready : Option Ready) (closing : List Closed) (told : Told) → ClosesAtEnd windows closing
-    → Tells network d ready closing told → (opening : Topology) (before : List Entry) → StandsForEntries (wanted_state network d windows ready) opening before
+    → ReportsWindows network d ready closing told → (opening : Topology) (before : List LogEntry) → StandsForEntries (wanted_state network d windows ready) opening before
     → EndGives opening (wanted d) windows.length (records_of before) told.events
 end_tells network d windows ready closing told closes tells opening before stands =
     told_comes opening d windows.length (records_of before) [] network stands.network ready stands.book.0 closing
@@ -199,41 +199,41 @@ opened_stands network d windows stands = record { network = refl; windows = stan
 pub opened_settled : (network : Topology) (d : ℕ) (windows : Kept) → IsWanted d → StandsFor windows [] → IsSettled network d windows None
 opened_settled network d windows distance stands = record { distance = distance; over = ([], stands); ready_is = tt }
 
--- what comes of a line, whatever it comes to
-abbrev pub LineTells : Line → State → List Event → Type 0
-LineTells line s events = (opening : Topology) (before : List Entry) (entry : Entry) → IsRegular opening.model → ComesTo line entry
+-- what results from a line, whatever it comes to
+abbrev pub LineTells : NumberedLine → State → List Event → Type 0
+LineTells line s events = (opening : Topology) (before : List LogEntry) (entry : LogEntry) → IsRegular opening.model → ComesTo line entry
     → StandsForEntries s opening before → EntryGives opening s.mode s.windows.length (records_of before) entry events
 
--- what is stood for behind it
-abbrev pub LineStands : Line → State → State → Type 0
-LineStands line old new = (opening : Topology) (before : List Entry) (entry : Entry) → IsRegular opening.model → ComesTo line entry
+-- what is stood for after it
+abbrev pub LineStands : NumberedLine → State → State → Type 0
+LineStands line old new = (opening : Topology) (before : List LogEntry) (entry : LogEntry) → IsRegular opening.model → ComesTo line entry
     → StandsForEntries old opening before → StandsForEntries new opening (before ++ entry ∷ [])
 
-pub line_tells : (line : Line) (entry : Entry) → ComesTo line entry → (s : State) (events : List Event) → EntryTells s entry events → LineTells line s events
+pub line_tells : (line : NumberedLine) (entry : LogEntry) → ComesTo line entry → (s : State) (events : List Event) → EntryTells s entry events → LineTells line s events
 line_tells line entry comes s events tells = λ opening before other regular too stands. all_tell line entry comes s events tells other too opening before regular stands
 
-pub line_stands : (line : Line) (entry : Entry) → ComesTo line entry → (old new : State) → EntryStands old new entry → LineStands line old new
+pub line_stands : (line : NumberedLine) (entry : LogEntry) → ComesTo line entry → (old new : State) → EntryStands old new entry → LineStands line old new
 line_stands line entry comes old new goes = λ opening before other regular too stands. all_stand line entry comes old new goes other too opening before regular stands
 
-pub if_line_tells : {E : Type 0} (line : Line) (entry : Entry) → ComesTo line entry → (s : State) (result : Result (List Event) E) → IfOk result (EntryTells s entry)
+pub if_line_tells : {E : Type 0} (line : NumberedLine) (entry : LogEntry) → ComesTo line entry → (s : State) (result : Result (List Event) E) → IfOk result (EntryTells s entry)
     → IfOk result (LineTells line s)
 if_line_tells line entry comes s (Ok events) tells = line_tells line entry comes s events tells
 if_line_tells line entry comes s (Err e) tells = tt
 
-pub if_line_stands : {E : Type 0} (line : Line) (entry : Entry) → ComesTo line entry → (old new : State) (result : Result (List Event) E)
+pub if_line_stands : {E : Type 0} (line : NumberedLine) (entry : LogEntry) → ComesTo line entry → (old new : State) (result : Result (List Event) E)
     → OnOk result (EntryStands old new entry) → OnOk result (LineStands line old new)
 if_line_stands line entry comes old new (Ok events) stands = line_stands line entry comes old new stands
 if_line_stands line entry comes old new (Err e) stands = tt
 
 -- and of each source, what other sources say leaves it
-abbrev pub LineAlone : Line → State → List Event → Type 0
-LineAlone line s events = (opening : Topology) (before : List Entry) (entry : Entry) → IsRegular opening.model → ComesTo line entry
+abbrev pub LineAlone : NumberedLine → State → List Event → Type 0
+LineAlone line s events = (opening : Topology) (before : List LogEntry) (entry : LogEntry) → IsRegular opening.model → ComesTo line entry
     → StandsForEntries s opening before → StandsAlone opening s.mode s.windows.length before entry events
 
-pub line_alone : (line : Line) (s : State) (events : List Event) → LineTells line s events → LineAlone line s events
+pub line_alone : (line : NumberedLine) (s : State) (events : List Event) → LineTells line s events → LineAlone line s events
 line_alone line s events tells = λ opening before entry regular comes stands.
     stands_alone opening s.mode s.windows.length before regular entry events (tells opening before entry regular comes stands)
 
-pub if_line_alone : {E : Type 0} (line : Line) (s : State) (result : Result (List Event) E) → IfOk result (LineTells line s) → IfOk result (LineAlone line s)
+pub if_line_alone : {E : Type 0} (line : NumberedLine) (s : State) (result : Result (List Event) E) → IfOk result (LineTells line s) → IfOk result (LineAlone line s)
 if_line_alone line s (Ok events) tells = line_alone line s events tells
 if_line_alone line s (Err e) tells = tt

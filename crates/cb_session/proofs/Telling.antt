@@ -1,4 +1,4 @@
--- What is told of windows that close is what comes of them, and when a codebook is in use behind it.
+-- What is reported of windows that close is what results from them, and when a codebook is in use after it.
 use Rattle.std.proofs.Common.{◌≡◌, ◌≢◌, ◌↔◌, ◌⊎◌, ◌++◌, ℕ, List, [], ◌∷◌, length, Bool, true, false, Option, Some, None, IsSome, refl, sym, subst, inl, inr}
 use Rattle.std.specs.Prelude.{option_map, IfSome}
 use Rattle.cb_model.proofs.Rising.{nothing_in_empty, contains_head}
@@ -15,7 +15,7 @@ use Rattle.cb_log.proofs.BookSteps.{book_steps}
 use Rattle.cb_session.specs.declared.basis.Ready.{Ready}
 use Rattle.cb_session.specs.declared.told.Told.{Told}
 use Rattle.cb_session.specs.Ready.{IsReady}
-use Rattle.cb_session.specs.Told.{TellsMade, Tells, kept_of}
+use Rattle.cb_session.specs.Told.{TellsMade, ReportsWindows, kept_of}
 
 -- the codebook of what is ready
 abbrev pub book_of : Option Ready → Option Book
@@ -30,7 +30,7 @@ module _ (t : Topology) (d w : ℕ) (records : List Record) where
   KeepsReady ready rs = IsSome (book_of ready) ↔ HasBook t w rs
 
   diagnosed : (network : Topology) → IsNow t records network → (ready : Option Ready) → KeepsReady ready records
-      → (closing : List Closed) (told : Told) → Tells network d ready closing told → Diagnoses t (wanted d) w records closing told.events
+      → (closing : List Closed) (told : Told) → ReportsWindows network d ready closing told → Diagnoses t (wanted d) w records closing told.events
   diagnosed network now ready keeps [] told tells = tells.0
   diagnosed network now (Some ready) keeps (c ∷ closing) told tells = record {
     network = network;
@@ -53,9 +53,9 @@ module _ (t : Topology) (d w : ℕ) (records : List Record) where
     events_are = tells.3.events_are;
   }
 
-  -- what is told is what comes of the windows
+  -- what is reported is what results from the windows
   pub told_comes : (next : List Record) (network : Topology) → IsNow t records network → (ready : Option Ready) → KeepsReady ready records
-      → (closing : List Closed) → AreClosing (records ++ next) w (length records) closing → (told : Told) → Tells network d ready closing told
+      → (closing : List Closed) → AreClosing (records ++ next) w (length records) closing → (told : Told) → ReportsWindows network d ready closing told
       → ClosingGives t (wanted d) w records next told.events
   told_comes next network now ready keeps closing closes told tells = record {
     closing = closing;
@@ -68,9 +68,9 @@ module _ (t : Topology) (d w : ℕ) (records : List Record) where
     abbrev pub ClosesSome : Type 0
     ClosesSome = (c : Closed) × ClosesAt (records ++ r ∷ []) w (length records) c
 
-    -- behind what is told a codebook is ready exactly where one was in use, or the record closes a window
+    -- after what is reported a codebook is ready exactly where one was in use, or the record closes a window
     ready_behind : (network : Topology) (ready : Option Ready) → KeepsReady ready records → (closing : List Closed)
-        → AreClosing (records ++ r ∷ []) w (length records) closing → (told : Told) → Tells network d ready closing told
+        → AreClosing (records ++ r ∷ []) w (length records) closing → (told : Told) → ReportsWindows network d ready closing told
         → IsSome (book_of (kept_of false ready told.made)) ↔ (HasBook t w records ⊎ ClosesSome)
     ready_behind network (Some ready) keeps [] closes told tells = (
       λ e. inl (keeps.0 refl),
@@ -92,9 +92,9 @@ module _ (t : Topology) (d w : ℕ) (records : List Record) where
       λ has. rw tells.1,
     )
 
-    -- what stays ready is so exactly where a codebook is in use behind the record
+    -- what stays ready is so exactly where a codebook is in use after the record
     pub keeps_behind : (network : Topology) (ready : Option Ready) → KeepsReady ready records → (closing : List Closed)
-        → AreClosing (records ++ r ∷ []) w (length records) closing → (told : Told) → Tells network d ready closing told → (changed : Bool)
+        → AreClosing (records ++ r ∷ []) w (length records) closing → (told : Told) → ReportsWindows network d ready closing told → (changed : Bool)
         → (changed ≡ true → IsAcceptedAt t (records ++ r ∷ []) (length records))
         → (changed ≡ false → ¬ IsAcceptedAt t (records ++ r ∷ []) (length records))
         → KeepsReady (kept_of changed ready told.made) (records ++ r ∷ [])
@@ -111,13 +111,13 @@ module _ (t : Topology) (d w : ℕ) (records : List Record) where
 
 -- what stays ready is ready for the topology
 pub ready_stays : (network new : Topology) (d : ℕ) (ready : Option Ready) → IfSome ready (IsReady network (wanted d)) → (closing : List Closed) (told : Told)
-    → Tells network d ready closing told → (changed : Bool) → (changed ≡ false → new ≡ network)
+    → ReportsWindows network d ready closing told → (changed : Bool) → (changed ≡ false → new ≡ network)
     → IfSome (kept_of changed ready told.made) (IsReady new (wanted d))
 ready_stays network new d ready is closing told tells true same = tt
 ready_stays network new d ready is closing told tells false same =
     subst (λ (u : Topology). IfSome (kept_of false ready told.made) (IsReady u (wanted d))) (sym (same refl)) (here ready is closing tells)
   where
-    here : (ready : Option Ready) → IfSome ready (IsReady network (wanted d)) → (closing : List Closed) → Tells network d ready closing told
+    here : (ready : Option Ready) → IfSome ready (IsReady network (wanted d)) → (closing : List Closed) → ReportsWindows network d ready closing told
         → IfSome (kept_of false ready told.made) (IsReady network (wanted d))
     here (Some ready) is [] tells = rw tells.1 is
     here (Some ready) is (c ∷ closing) tells = rw tells.1 is
@@ -127,7 +127,7 @@ ready_stays network new d ready is closing told tells false same =
 -- by a codebook that is made
 pub tells_made : (network : Topology) (d : ℕ) (ready : Option Ready) → ready ≡ None → (closing : List Closed) → length closing ≢ 0 → (made : Ready)
     → IsReady network (wanted d) made → (events : List Event) → TellsMade network d made closing events
-    → Tells network d ready closing (record { events = events; made = Some made })
+    → ReportsWindows network d ready closing (record { events = events; made = Some made })
 tells_made network d ready none [] some made is events tells = absurd (some refl)
 tells_made network d None none (c ∷ closing) some made is events tells = (made, refl, is, tells)
 tells_made network d (Some ready) none (c ∷ closing) some made is events tells = absurd (cc)

@@ -23,13 +23,13 @@ abbrev pub Leaves : Topology → Result Topology EditRefusal → Topology → Bo
 Leaves network (Ok u) new changed = (new ≡ u) × (changed ≡ true)
 Leaves network (Err why) new changed = (new ≡ network) × (changed ≡ false)
 
--- what the body does to the topology, whether that changes, and what is told
+-- what the body does to the topology, whether that changes, and what is reported
 abbrev pub Acts : Topology → ℕ → Body → Topology → Bool → List Event → Type 0
 Acts network line (Change edit) new changed events =
     (result : Result Topology EditRefusal) × IsAfter network edit result × IsRefusal line result events × Leaves network result new changed
 Acts network line body new changed events = (new ≡ network) × (changed ≡ false) × (events ≡ [])
 
--- the same, with what is told put behind the events so far
+-- the same, with what is reported put after the events so far
 abbrev pub ActsBehind : Topology → ℕ → Body → Topology → Bool → List Event → List Event → Type 0
 ActsBehind network line body new changed old events =
     (told : List Event) × Acts network line body new changed told × (events ≡ old ++ told)

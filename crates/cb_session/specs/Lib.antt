@@ -1,5 +1,5 @@
 pub mod State
-pub mod Codes
+pub mod Encoding
 pub mod Taken
 pub mod Ready
 pub mod Course

@@ -3,10 +3,10 @@ use Rattle.std.specs.Prelude.{◌≡◌, ◌↔◌, ◌≤◌, ℕ, List, length
 use Rattle.cb_coding.specs.declared.book.Book.{Book}
 use Rattle.cb_network.specs.Topology.{Topology}
 use Rattle.cb_log.specs.Basis.{Mode, wanted, fixed, Basis}
-use Rattle.cb_log.specs.Entries.{Entry, records_of}
+use Rattle.cb_log.specs.Entries.{LogEntry, records_of}
 use Rattle.cb_log.specs.Events.{IsNetwork, HasBook}
 use Rattle.cb_log.specs.Kept.{Kept, StandsFor}
-use Rattle.cb_alarm.specs.Lines.{Line, text, long, log_line_limit}
+use Rattle.cb_alarm.specs.Lines.{NumberedLine, text, long, log_line_limit}
 use Rattle.cb_session.specs.declared.line.LogLine.{LogLine}
 use Rattle.cb_session.specs.declared.line.LogLine.TheVariants.{Text, Long}
 
@@ -22,18 +22,18 @@ abbrev pub IsBookOf : Topology → Mode → Book → Type 0
 IsBookOf network mode book = (basis : Basis network mode) × (basis.book ≡ book)
 
 -- for a wanted distance a codebook is kept exactly where one is in use; a fixed one is kept always
-abbrev pub KeepsBook : Topology → Mode → ℕ → State → List Entry → Type 0
+abbrev pub KeepsBook : Topology → Mode → ℕ → State → List LogEntry → Type 0
 KeepsBook opening (wanted d) w s entries = (IsSome s.book ↔ HasBook opening w (records_of entries)) × IfSome s.book (IsBookOf s.network (wanted d))
 KeepsBook opening (fixed book) w s entries = s.book ≡ Some book
 
 -- it stands for an opening topology and what the lines come to
-pub record StandsForEntries (s : State) (opening : Topology) (entries : List Entry) : Type 0 where
+pub record StandsForEntries (s : State) (opening : Topology) (entries : List LogEntry) : Type 0 where
   pub network : IsNetwork opening s.mode (records_of entries) s.network
   pub windows : StandsFor s.windows (records_of entries)
   pub book : KeepsBook opening s.mode s.windows.length s entries
 
 -- the line of the log
-abbrev pub line_of : LogLine → Line
+abbrev pub line_of : LogLine → NumberedLine
 line_of (Text number bytes) = text number bytes.now
 line_of (Long number) = long number
 

@@ -1,4 +1,4 @@
--- What is told of windows that close, and by which codebook.
+-- What is reported of windows that close, and by which codebook.
 use Rattle.std.specs.Prelude.{◌≡◌, ◌++◌, ℕ, List, [], ◌∷◌, Bool, true, false, Option, None, Some}
 use Rattle.std.specs.List.{AllZip}
 use Rattle.cb_network.specs.Topology.{Topology}
@@ -15,7 +15,7 @@ pub record TellsInUse (network : Topology) (mode : Mode) (ready : Ready) (closin
   pub has : HasBasis basis ready
   pub each : AllZip (IsDiagnosis basis) closing events
 
--- by a codebook that is made for them, what is told of it, and then the diagnoses
+-- by a codebook that is made for them, what is reported of it, and then the diagnoses
 pub record TellsMade (network : Topology) (d : ℕ) (ready : Ready) (closing : List Closed) (events : List Event) : Type 0 where
   pub basis : Basis network (wanted d)
   pub has : HasBasis basis ready
@@ -25,11 +25,11 @@ pub record TellsMade (network : Topology) (d : ℕ) (ready : Ready) (closing : L
   pub each : AllZip (IsDiagnosis basis) closing diagnoses
   pub events_are : events ≡ announced ++ diagnoses
 
--- what is told of windows that close, by what is ready; where nothing is, by what is made ready for the topology
-abbrev pub Tells : Topology → ℕ → Option Ready → List Closed → Told → Type 0
-Tells network d ready [] told = (told.events ≡ []) × (told.made ≡ None)
-Tells network d (Some ready) (c ∷ closing) told = TellsInUse network (wanted d) ready (c ∷ closing) told.events × (told.made ≡ None)
-Tells network d None (c ∷ closing) told =
+-- what is reported of windows that close, by what is ready; where nothing is, by what is made ready for the topology
+abbrev pub ReportsWindows : Topology → ℕ → Option Ready → List Closed → Told → Type 0
+ReportsWindows network d ready [] told = (told.events ≡ []) × (told.made ≡ None)
+ReportsWindows network d (Some ready) (c ∷ closing) told = TellsInUse network (wanted d) ready (c ∷ closing) told.events × (told.made ≡ None)
+ReportsWindows network d None (c ∷ closing) told =
     (made : Ready) × (told.made ≡ Some made) × IsReady network (wanted d) made × TellsMade network d made (c ∷ closing) told.events
 
 -- what stays ready: nothing once the topology has changed, else what was made, and else what was there

@@ -18,7 +18,7 @@ use std::alloc::{AllocError, Global};
 use std::sync::ledger::Ledger;
 
 /// Makes the edit of a record, or raises or clears its node, and lets its time go by. Answers whether the topology has changed. A refusal
-/// is put behind the events so far. Where memory is wanting, topology and windows are as before, and no step is counted.
+/// is put after the events so far. Where memory runs out, topology and windows are as before, and no step is counted.
 pub(crate) fn act<L: Ledger>(
     alloc: Global,
     cache: &mut Cache,

@@ -135,7 +135,7 @@ impl Ready {
     }
 }
 
-/// The diagnoses of windows that close, in their order, put behind the events so far. Where memory is wanting, some of them may
+/// The diagnoses of windows that close, in their order, put after the events so far. Where memory runs out, some of them may
 /// stand there already.
 pub(crate) fn diagnose(
     alloc: Global,

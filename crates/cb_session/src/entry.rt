@@ -7,11 +7,11 @@ ghost use Rattle.cb_session.specs.Taken.{entry_of_taken};
 use crate::line::LogLine;
 use cb_alarm::{Skip, read_record};
 use cb_log::{Record, SkipWhy};
-use cb_text::words;
+use cb_text::has_no_word;
 use std::alloc::{AllocError, Global};
 
 /// What a line comes to.
-#[derive(Debug, Drop)]
+#[derive(Drop)]
 pub(crate) enum Taken {
     /// Nothing: it has no word.
     Blank,
@@ -55,5 +55,5 @@ fn entry_of_text(alloc: Global, number: u64, bytes: &[u8]) -> Result<Taken, Allo
 fn is_blank(line: &[u8]) -> bool
     ensures { IsTrue result ↔ IsBlank line.now }
 {
-    words(line).next().is_none()
+    has_no_word(line)
 }

@@ -17,7 +17,7 @@ use cb_model::List;
 use cb_window::Windows;
 use std::alloc::{AllocError, Global};
 
-/// What comes of the next record. An edit is refused, behind the windows that its record closes. Where memory is wanting, the windows are as
+/// What results from the next record. An edit is refused, after the windows that its record closes. Where memory runs out, the windows are as
 /// before.
 pub(crate) fn go_on_fixed(
     alloc: Global,
@@ -44,7 +44,7 @@ pub(crate) fn go_on_fixed(
     Ok(events)
 }
 
-// Raises or clears the node of a record, and lets its time go by; an edit is refused, which is put behind the events so far.
+// Raises or clears the node of a record, and lets its time go by; an edit is refused, which is put after the events so far.
 fn refuse_edit(
     alloc: Global,
     windows: &mut Windows,

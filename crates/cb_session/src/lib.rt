@@ -1,4 +1,4 @@
-//! A log taken line by line: what comes of each line, and of the end.
+//! A log taken line by line: what results from each line, and from the end.
 #![tactic(auto)]
 
 mod act;

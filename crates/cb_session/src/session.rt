@@ -6,7 +6,7 @@ ghost use Rattle.cb_cert.specs.Format.{IsWanted};
 ghost use Rattle.cb_coding.specs.declared.book.Book.{Book as BookOf};
 ghost use Rattle.cb_log.specs.declared.closed.Closed.{Closed as ClosedOf};
 ghost use Rattle.cb_log.specs.Basis.{wanted as for_wanted, fixed as by_fixed};
-ghost use Rattle.cb_log.specs.Entries.{Entry, said, records_of};
+ghost use Rattle.cb_log.specs.Entries.{LogEntry, said, records_of};
 ghost use Rattle.cb_log.specs.Events.{EntryGives, EndGives};
 ghost use Rattle.cb_network.specs.Regular.{IsRegular};
 ghost use Rattle.cb_network.specs.Topology.{Topology};
@@ -44,14 +44,14 @@ pub struct Session {
 
 impl Model for Session {
     ghost use Rattle.cb_topo.specs.Numbered.{topology_of};
-    ghost use Rattle.cb_session.specs.Codes.{state_code};
+    ghost use Rattle.cb_session.specs.Encoding.{state_encoding};
     ghost use Rattle.cb_session.specs.Course.{state_of};
     ghost use Rattle.cb_session.specs.Settled.{Fits};
     ghost use Rattle.cb_session.specs.State.{State};
 
     ghost Value = { State };
 
-    ghost coded = { state_code };
+    ghost coded = { state_encoding };
 
     ghost view = { λ s. state_of (topology_of s.cache.graph) s.windows s.course };
 
@@ -106,8 +106,8 @@ impl Session {
         })
     }
 
-    /// What comes of the next line: the diagnoses of the windows that it closes, and then what comes of its body. An edit is made behind
-    /// them, and that alone counts steps. Where memory is wanting the session is as before the call, and no step is counted.
+    /// What results from the next line: the diagnoses of the windows that it closes, and then what results from its body. An edit is made after
+    /// them, and that alone counts steps. Where memory runs out the session is as before the call, and no step is counted.
     pub fn step<L: Ledger>(
         &mut self,
         alloc: Global,
@@ -115,21 +115,21 @@ impl Session {
         steps: &mut Steps<L>,
     ) -> Result<List<Event>, AllocError>
         requires { IsFitting line }
-        ensures comes { IfOk result (λ events. (entry : Entry) × ComesTo (line_of line.entry) entry) }
-        ensures gives { IfOk result (λ events. (opening : Topology) (before : Items Entry) (entry : Entry) → IsRegular opening.model
+        ensures comes { IfOk result (λ events. (entry : LogEntry) × ComesTo (line_of line.entry) entry) }
+        ensures gives { IfOk result (λ events. (opening : Topology) (before : Items LogEntry) (entry : LogEntry) → IsRegular opening.model
             → ComesTo (line_of line.entry) entry → StandsForEntries self.old opening before
             → EntryGives opening self.old.mode self.old.windows.length (records_of before) entry events) }
-        ensures alone { IfOk result (λ events. (opening : Topology) (before : Items Entry) (entry : Entry) → IsRegular opening.model
+        ensures alone { IfOk result (λ events. (opening : Topology) (before : Items LogEntry) (entry : LogEntry) → IsRegular opening.model
             → ComesTo (line_of line.entry) entry → StandsForEntries self.old opening before
             → StandsAlone opening self.old.mode self.old.windows.length before entry events) }
-        ensures stands { OnOk result ((opening : Topology) (before : Items Entry) (entry : Entry) → IsRegular opening.model
+        ensures stands { OnOk result ((opening : Topology) (before : Items LogEntry) (entry : LogEntry) → IsRegular opening.model
             → ComesTo (line_of line.entry) entry → StandsForEntries self.old opening before
             → StandsForEntries self.new opening (before ++ entry ∷ [])) }
         ensures mode { self.new.mode ≡ self.old.mode }
         ensures length { self.new.windows.length ≡ self.old.windows.length }
         ensures same { OnErr result (self.new ≡ self.old) }
         ensures steps { OnErr result (steps.new ≡ steps.old) }
-        ensures cost { (entry : Entry) → ComesTo (line_of line.entry) entry → CountsEntry self.old.network entry steps.old steps.new }
+        ensures cost { (entry : LogEntry) → ComesTo (line_of line.entry) entry → CountsEntry self.old.network entry steps.old steps.new }
         ensures fixed { (book : BookOf) → self.old.mode ≡ by_fixed book → steps.new ≡ steps.old }
     {
         match entry_of(alloc, line)? {
@@ -143,7 +143,7 @@ impl Session {
         }
     }
 
-    // What comes of the next record. Its body acts behind the windows that it closes.
+    // What results from the next record. Its body acts after the windows that it closes.
     fn go_on<L: Ledger>(
         &mut self,
         alloc: Global,
@@ -178,12 +178,12 @@ impl Session {
         }
     }
 
-    /// What comes of the end of the log: the diagnoses of the windows that are open. A second call says the same.
+    /// What results from the end of the log: the diagnoses of the windows that are open. A second call says the same.
     pub fn finish(&self, alloc: Global) -> Result<List<Event>, AllocError>
-        ensures gives { IfOk result (λ events. (opening : Topology) (before : Items Entry) → IsRegular opening.model
+        ensures gives { IfOk result (λ events. (opening : Topology) (before : Items LogEntry) → IsRegular opening.model
             → StandsForEntries self.now opening before
             → EndGives opening self.now.mode self.now.windows.length (records_of before) events) }
-        ensures alone { IfOk result (λ events. (opening : Topology) (before : Items Entry) → IsRegular opening.model
+        ensures alone { IfOk result (λ events. (opening : Topology) (before : Items LogEntry) → IsRegular opening.model
             → StandsForEntries self.now opening before
             → EndsAlone opening self.now.mode self.now.windows.length before events) }
     {
@@ -193,7 +193,7 @@ impl Session {
         events
     }
 
-    // What is told of the windows that close at the end.
+    // What is reported of the windows that close at the end.
     fn told_of(&self, alloc: Global, closing: &List<Closed>) -> Result<List<Event>, AllocError>
         requires { ClosesAtEnd self.now.windows closing.now }
         ensures { IfOk result (TellsAtEnd self.now) }

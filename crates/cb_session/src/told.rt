@@ -1,4 +1,4 @@
-//! What is told of windows that close.
+//! What is reported of windows that close.
 ghost use Rattle.std.specs.Prelude.{◌≡◌, IfOk, IfSome};
 ghost use Rattle.std.specs.List.{All};
 ghost use Rattle.cb_cert.specs.Format.{IsWanted};
@@ -8,7 +8,7 @@ ghost use Rattle.cb_model.specs.Order.{Rises};
 ghost use Rattle.cb_network.specs.Topology.{Topology};
 ghost use Rattle.cb_topo.specs.Numbered.{topology_of};
 ghost use Rattle.cb_session.specs.Ready.{IsReady, IsReadyFor, IsSomewhereReady};
-ghost use Rattle.cb_session.specs.Told.{TellsInUse, TellsMade, Tells, kept_of};
+ghost use Rattle.cb_session.specs.Told.{TellsInUse, TellsMade, ReportsWindows, kept_of};
 
 use crate::basis::{Ready, diagnose};
 use cb_cache::Cache;
@@ -23,7 +23,7 @@ pub(crate) struct Told {
     pub made: Option<Ready>,
 }
 
-/// What is told of windows that close, by what is ready for the topology. Where no window closes, nothing is made ready.
+/// The events of the closing windows, by the codebook at hand or one made now. Where no window closes, nothing is made ready.
 pub(crate) fn tell(
     alloc: Global,
     cache: &Cache,
@@ -34,7 +34,7 @@ pub(crate) fn tell(
     requires wanted { IsWanted wanted }
     requires ready { IfSome ready.now (IsReady (topology_of cache.now.graph) (for_wanted wanted)) }
     requires rise { All (λ c. Rises node_cmp c.nodes) closing.now }
-    ensures { IfOk result (Tells (topology_of cache.now.graph) wanted ready.now closing.now) }
+    ensures { IfOk result (ReportsWindows (topology_of cache.now.graph) wanted ready.now closing.now) }
 {
     if closing.len() == 0 {
         return Ok(Told {
@@ -74,7 +74,7 @@ pub(crate) fn told_in_use(
     Ok(events)
 }
 
-// What is told of a codebook that is made for them, and the diagnoses.
+// What is reported of a codebook that is made for them, and the diagnoses.
 fn told_made(
     alloc: Global,
     ready: &Ready,

@@ -19,7 +19,7 @@ use cb_window::Windows;
 use std::alloc::{AllocError, Global};
 use std::sync::ledger::Ledger;
 
-/// What comes of the next record. Its body acts behind the windows that it closes. Where memory is wanting, all is as before.
+/// What results from the next record. Its body acts after the windows that it closes. Where memory runs out, all is as before.
 pub(crate) fn go_on_wanted<L: Ledger>(
     alloc: Global,
     cache: &mut Cache,

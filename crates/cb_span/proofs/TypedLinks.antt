@@ -22,10 +22,10 @@ use Rattle.cb_model.specs.declared.tables.RuleRow.{RuleRow}
 use Rattle.cb_model.specs.declared.tables.BlockRow.{BlockRow}
 use Rattle.cb_model.specs.declared.tables.HideRow.{HideRow}
 use Rattle.cb_model.specs.Classes.{ancestor, parent_of, parent_of_some, HasEvent, HasRelation}
-use Rattle.cb_model.specs.WellTyped.{IsClass, IsEvent, IsRelation, HasPlaces, HasNames, HasInverse, InheritsRule, Declares, Member, Reaches, KeepsTypeRules, WellTyped}
+use Rattle.cb_model.specs.WellTyped.{IsClass, IsEvent, IsRelation, IsPlace, HasPlaces, HasNames, HasInverse, InheritsRule, Declares, Member, Reaches, MayRepeat, KeepsTypeRules, WellTyped}
 use Rattle.cb_model.specs.WellTyped as members
 use Rattle.cb_model.proofs.Numbers.{at_most_numbered}
-use Rattle.cb_span.specs.Links.{link, port, links, link_row, port_row, link_classes, link_events, ends, link_relations, link_rules}
+use Rattle.cb_span.specs.Links.{link, port, links, link_row, port_row, link_classes, link_events, ends, to_ends, link_relations, link_rules}
 
 -- each item in turn is such that P
 abbrev Each : {X : Type 0} → (X → Type 0) → List X → Type 0
@@ -49,11 +49,11 @@ have_places = record {
   events = all_of (λ (row : EventRow). IsClass links row.class) link_events (omega arith, (omega arith, (omega arith, (omega arith, tt))));
   relations = all_of (λ (row : RelRow). IsClass links row.class × IsClass links row.target × IsRelation links row.inverse) link_relations
       ((omega arith, omega arith, omega arith), ((omega arith, omega arith, omega arith), tt));
-  rules = all_of (λ (row : RuleRow). IsClass links row.class × IsEvent links row.cause × All (IsRelation links) row.path × IsEvent links row.effect) link_rules (
-    (omega arith, omega arith, All-nil (IsRelation links), omega arith),
+  rules = all_of (λ (row : RuleRow). IsClass links row.class × IsEvent links row.cause × All (IsPlace links) row.path × IsEvent links row.effect) link_rules (
+    (omega arith, omega arith, All-nil (IsPlace links), omega arith),
     (
-      (omega arith, omega arith, all_of (IsRelation links) (ends ∷ []) (omega arith, tt), omega arith),
-      ((omega arith, omega arith, All-nil (IsRelation links), omega arith), tt),
+      (omega arith, omega arith, all_of (IsPlace links) (to_ends ∷ []) (omega arith, tt), omega arith),
+      ((omega arith, omega arith, All-nil (IsPlace links), omega arith), tt),
     ),
   );
   blocks = All-nil (λ (row : BlockRow). IsClass links row.class × (row.rule < length links.rules));
@@ -151,6 +151,8 @@ keep_rules = record {
   causes = all_of (λ (row : RuleRow). HasEvent links row.class row.cause) link_rules (has_cut, (has_cut, (has_fail, tt)));
   effects = all_of (λ (row : RuleRow). (d : ClassId) × Reaches links row.class row.path d × HasEvent links d row.effect) link_rules
       ((link, refl, has_loss), ((port, (has_ends, refl), has_no_signal), ((port, refl, has_no_signal), tt)));
+  repeats = all_of (λ (row : RuleRow). All (MayRepeat links) row.path) link_rules
+      (All-nil (MayRepeat links), (all_of (MayRepeat links) (to_ends ∷ []) (λ e. cc, tt), (All-nil (MayRepeat links), tt)));
   blocked = All-nil (λ (row : BlockRow). InheritsRule links row.class row.rule);
   hidden = All-nil (λ (row : HideRow). (has : HasEvent links row.class row.event) × (has.row.symptom ≡ true));
   few_classes = omega arith;

@@ -7,8 +7,15 @@
 
 ghost use Rattle.std.specs.Prelude.{◌≡◌, ◌+◌, ◌<◌, ◌^◌, ℕ};
 
+mod seal;
+
 use std::marker::Model;
 use std::sync::ledger::{Blank, Book, Ledger, Share};
+
+/// What a count is started with: the runtime, which only `main` and the tests are handed. No other crate can make another type one.
+pub trait MayCount: seal::Sealed {}
+
+impl MayCount for HostRuntime {}
 
 /// How many steps were counted. Contracts see the number itself. The ledger `L` only names the count, so that the
 /// tokens of two counts cannot be mixed: code that counts takes any `L`, and who starts a count picks one.
@@ -31,8 +38,9 @@ impl<L: Ledger> Model for Steps<L> {
 }
 
 impl<L: Ledger> Steps<L> {
-    /// A count from 0 on, in the ledger that the blank is for: `Steps::new(Blank::new(1))` where `L` is picked.
-    pub fn new(blank: Blank) -> Self
+    /// A count from 0 on, in the ledger that the blank is for: `Steps::new(&rt, Blank::new(1))` where `L` is picked. Only what is
+    /// handed the runtime can start a count, so code that is handed none counts on the count that it is given, or on none.
+    pub fn new<R: MayCount>(_rt: &R, blank: Blank) -> Self
         requires name { blank.name ≡ L.name }
         requires parts { blank.parts ≡ L.parts }
         requires some { 0 < L.parts }

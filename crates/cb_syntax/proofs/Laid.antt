@@ -1,4 +1,4 @@
--- Tokens that are written one behind the other, with gaps, are read again.
+-- Tokens that are written one after the other, with gaps, are read again.
 use Rattle.std.proofs.Common.{◌≡◌, refl, ap, sym, ◌∙◌, subst, ℕ, ◌+◌, ◌-◌, List, [], ◌∷◌, ◌++◌, length, drop, false, Some, arith, append-nil, append_assoc, length-append, take_at, drop_at}
 use Rattle.std.specs.Prelude.{slice_range, IsSome}
 use Rattle.std.specs.List.{flat_map, count_by}
@@ -9,10 +9,10 @@ use Rattle.cb_grammar.specs.declared.lexeme.Lexeme.TheVariants as lexemes
 use Rattle.cb_grammar.specs.Bare.{bare}
 use Rattle.cb_lexer.specs.Places.{line_of}
 use Rattle.cb_lexer.specs.Gaps.{gap, IsGap, IsLastGap}
-use Rattle.cb_lexer.specs.Tokens.{Stands, Reads, EndsRun, IsTokenAt, bytes_of}
+use Rattle.cb_lexer.specs.Tokens.{Stands, ReadsTokens, EndsRun, IsTokenAt, bytes_of}
 use Rattle.cb_lexer.proofs.Bytes.{gap-append}
 
--- a token with the gaps before and behind it
+-- a token with the gaps before and after it
 pub record Piece : Type 0 where
   pub lead : List ℕ
   pub token : Lexeme
@@ -21,7 +21,7 @@ pub record Piece : Type 0 where
 abbrev pub piece_text : Piece → List ℕ
 piece_text p = p.lead ++ (bytes_of p.token ++ p.trail)
 
--- a token where it stands behind these bytes
+-- a token where it stands after these bytes
 abbrev pub placed : List ℕ → Lexeme → Lexeme
 placed before (lexemes.Name t) = lexemes.Name (record { name = t.name; line = line_of before (length before); start = length before })
 placed before k = k
@@ -30,7 +30,7 @@ abbrev pub lay : List ℕ → List Piece → List Lexeme
 lay before [] = []
 lay before (p ∷ ps) = placed (before ++ p.lead) p.token ∷ lay (before ++ p.lead ++ bytes_of p.token ++ p.trail) ps
 
--- where the tokens behind these bytes end; `at` if there are none
+-- where the tokens after these bytes end; `at` if there are none
 abbrev pub last_end : ℕ → List ℕ → List Piece → ℕ
 last_end at before [] = at
 last_end at before (p ∷ ps) = last_end (length (before ++ p.lead ++ bytes_of p.token)) (before ++ p.lead ++ bytes_of p.token ++ p.trail) ps
@@ -56,8 +56,9 @@ placed_bytes before lexemes.Semicolon = refl
 placed_bytes before lexemes.Colon = refl
 placed_bytes before lexemes.Dot = refl
 placed_bytes before lexemes.Arrow = refl
+placed_bytes before lexemes.Plus = refl
 
--- what a token asks of what stands behind it
+-- what a token asks of what stands after it
 abbrev pub EndsToken : Lexeme → List ℕ → Type 0
 EndsToken lexemes.Open rest = Unit {0}
 EndsToken lexemes.Close rest = Unit {0}
@@ -65,6 +66,7 @@ EndsToken lexemes.Semicolon rest = Unit {0}
 EndsToken lexemes.Colon rest = Unit {0}
 EndsToken lexemes.Dot rest = Unit {0}
 EndsToken lexemes.Arrow rest = Unit {0}
+EndsToken lexemes.Plus rest = Unit {0}
 EndsToken (lexemes.Name t) rest = EndsRun rest × IsName t.name
 EndsToken k rest = EndsRun rest
 
@@ -79,6 +81,7 @@ placed_token before rest behind lexemes.Semicolon e = tt
 placed_token before rest behind lexemes.Colon e = tt
 placed_token before rest behind lexemes.Dot e = tt
 placed_token before rest behind lexemes.Arrow e = tt
+placed_token before rest behind lexemes.Plus e = tt
 placed_token before rest behind lexemes.Class e = e
 placed_token before rest behind lexemes.Extends e = e
 placed_token before rest behind lexemes.Problem e = e
@@ -93,7 +96,7 @@ placed_token before rest behind lexemes.Rule e = e
 placed_token before rest behind lexemes.Block e = e
 placed_token before rest behind lexemes.Hide e = e
 
--- the range behind some bytes
+-- the range after some bytes
 range_behind : (before middle rest : List ℕ) → slice_range (before ++ (middle ++ rest)) (length before) (length (before ++ middle)) ≡ middle
 range_behind before middle rest =
     let size : length (before ++ middle) - length before ≡ length middle = omega (arith, length-append before middle) in
@@ -129,7 +132,7 @@ Good [] tail = Unit {0}
 Good (p ∷ ps) tail = IsGap p.lead × IsGap p.trail × EndsToken p.token (p.trail ++ (flat_map piece_text ps ++ tail)) × Good ps tail
 
 pub laid : (ps : List Piece) (text before pending tail : List ℕ) → text ≡ before ++ (pending ++ (flat_map piece_text ps ++ tail)) → IsGap pending → Good ps tail →
-    Reads text (length before) (lay (before ++ pending) ps) (last_end (length before) (before ++ pending) ps)
+    ReadsTokens text (length before) (lay (before ++ pending) ps) (last_end (length before) (before ++ pending) ps)
 laid [] text before pending tail is gap good = refl
 laid (p ∷ ps) text before pending tail is pend good =
     let rest = flat_map piece_text ps ++ tail in
@@ -169,6 +172,7 @@ bare_placed before lexemes.Semicolon = refl
 bare_placed before lexemes.Colon = refl
 bare_placed before lexemes.Dot = refl
 bare_placed before lexemes.Arrow = refl
+bare_placed before lexemes.Plus = refl
 
 pub same_bare : (ps : List Piece) (before : List ℕ) → map bare (lay before ps) ≡ map (λ p. bare p.token) ps
 same_bare [] before = refl

@@ -6,9 +6,9 @@ use Rattle.cb_grammar.specs.declared.lexeme.Lexeme.{Lexeme}
 use Rattle.cb_grammar.specs.declared.lexeme.Lexeme.TheVariants as lexemes
 use Rattle.cb_grammar.specs.Grammar.{IsFront}
 use Rattle.cb_lexer.specs.Places.{IsSpot}
-use Rattle.cb_lexer.specs.Tokens.{Stands, IsTokenAt, Reads, bytes_of}
+use Rattle.cb_lexer.specs.Tokens.{Stands, IsTokenAt, ReadsTokens, bytes_of}
 
-pub reads_more : (text : List ℕ) (ks : List Lexeme) (from mid start : ℕ) (k : Lexeme) (to : ℕ) → Reads text from ks mid → Stands text mid start k to → Reads text from (ks ++ k ∷ []) to
+pub reads_more : (text : List ℕ) (ks : List Lexeme) (from mid start : ℕ) (k : Lexeme) (to : ℕ) → ReadsTokens text from ks mid → Stands text mid start k to → ReadsTokens text from (ks ++ k ∷ []) to
 reads_more text [] from mid start k to reads stands = (start, to, subst (λ f. Stands text f start k to) (sym reads) stands, refl)
 reads_more text (x ∷ xs) from mid start k to reads stands = (reads.0, reads.1, reads.2, reads_more text xs reads.1 mid start k to reads.3 stands)
 
@@ -37,6 +37,7 @@ token_some text rest start lexemes.Semicolon at = omega arith
 token_some text rest start lexemes.Colon at = omega arith
 token_some text rest start lexemes.Dot at = omega arith
 token_some text rest start lexemes.Arrow at = omega arith
+token_some text rest start lexemes.Plus at = omega arith
 token_some text rest start (lexemes.Name t) at = run_some t.name at.name.run
 
 pub goes_on : (text : List ℕ) (from start : ℕ) (k : Lexeme) (to : ℕ) → Stands text from start k to → from < to

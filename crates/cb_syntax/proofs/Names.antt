@@ -5,7 +5,7 @@ use Rattle.cb_grammar.specs.declared.tree.Token.{Token}
 use Rattle.cb_grammar.specs.declared.lexeme.Lexeme.{Lexeme}
 use Rattle.cb_grammar.specs.declared.lexeme.Lexeme.TheVariants as lexemes
 use Rattle.cb_lexer.specs.Places.{line_of}
-use Rattle.cb_lexer.specs.Tokens.{Stands, Reads, IsTokenAt}
+use Rattle.cb_lexer.specs.Tokens.{Stands, ReadsTokens, IsTokenAt}
 use Rattle.cb_grammar.specs.Grammar.{NameFits}
 use Rattle.std.specs.List.{All}
 use Rattle.std.proofs.lemmas.List.Elements.{All-cons}
@@ -27,7 +27,7 @@ onward : (text : List ℕ) (from start : ℕ) (k : Lexeme) (mid : ℕ) → Stand
 onward text from start k mid s = omega (arith, s.after, s.length)
 
 -- the names of tokens that stand in a text stand there
-pub reads_names : (text : List ℕ) (ks : List Lexeme) (from' from to : ℕ) → from' ≤ from → Reads text from ks to → NamesStand text from' ks
+pub reads_names : (text : List ℕ) (ks : List Lexeme) (from' from to : ℕ) → from' ≤ from → ReadsTokens text from ks to → NamesStand text from' ks
 reads_names text [] from' from to low reads = tt
 reads_names text (lexemes.Name t ∷ ks) from' from to low reads =
     let here = name_stands text from from' reads.0 t reads.1 low reads.2 in (here.0, reads_names text ks (t.start + length t.name) reads.1 to here.1 reads.3)
@@ -50,6 +50,7 @@ reads_names text (lexemes.Semicolon ∷ ks) from' from to low reads = reads_name
 reads_names text (lexemes.Colon ∷ ks) from' from to low reads = reads_names text ks from' reads.1 to (omega (arith, low, onward text from reads.0 lexemes.Colon reads.1 reads.2)) reads.3
 reads_names text (lexemes.Dot ∷ ks) from' from to low reads = reads_names text ks from' reads.1 to (omega (arith, low, onward text from reads.0 lexemes.Dot reads.1 reads.2)) reads.3
 reads_names text (lexemes.Arrow ∷ ks) from' from to low reads = reads_names text ks from' reads.1 to (omega (arith, low, onward text from reads.0 lexemes.Arrow reads.1 reads.2)) reads.3
+reads_names text (lexemes.Plus ∷ ks) from' from to low reads = reads_names text ks from' reads.1 to (omega (arith, low, onward text from reads.0 lexemes.Plus reads.1 reads.2)) reads.3
 
 token_fits : (text rest : List ℕ) (start : ℕ) (k : Lexeme) → IsTokenAt text start k rest → NameFits k
 token_fits text rest start (lexemes.Name t) at = at.name
@@ -72,8 +73,9 @@ token_fits text rest start lexemes.Semicolon at = tt
 token_fits text rest start lexemes.Colon at = tt
 token_fits text rest start lexemes.Dot at = tt
 token_fits text rest start lexemes.Arrow at = tt
+token_fits text rest start lexemes.Plus at = tt
 
 -- the names of tokens that stand in a text are names
-pub reads_fit : (text : List ℕ) (ks : List Lexeme) (from to : ℕ) → Reads text from ks to → All NameFits ks
+pub reads_fit : (text : List ℕ) (ks : List Lexeme) (from to : ℕ) → ReadsTokens text from ks to → All NameFits ks
 reads_fit text [] from to reads = λ k d low. absurd (omega (arith, low))
 reads_fit text (k ∷ ks) from to reads = All-cons NameFits k ks (token_fits text (drop reads.1 text) reads.0 k reads.2.whole) (reads_fit text ks reads.1 to reads.3)

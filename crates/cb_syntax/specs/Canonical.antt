@@ -5,18 +5,19 @@ use Rattle.cb_grammar.specs.declared.tree.Member.{Member}
 use Rattle.cb_grammar.specs.declared.tree.ClassDecl.{ClassDecl}
 use Rattle.cb_grammar.specs.declared.tree.Tree.{Tree}
 use Rattle.cb_grammar.specs.declared.lexeme.Lexeme.{Lexeme}
-use Rattle.cb_grammar.specs.declared.lexeme.Lexeme.TheVariants.{Class, Open, Close, Semicolon, Colon, Dot, Name}
+use Rattle.cb_grammar.specs.declared.lexeme.Lexeme.TheVariants.{Class, Open, Close, Semicolon, Colon, Dot, Plus, Name}
 use Rattle.cb_grammar.specs.Grammar.{member_tokens, parent_tokens}
 use Rattle.cb_lexer.specs.Tokens.{bytes_of}
 
--- `;`, `:` and `.` have no space before them
+-- `;`, `:`, `.` and `+` have no space before them
 abbrev pub joins_before : Lexeme → Bool
 joins_before Semicolon = true
 joins_before Colon = true
 joins_before Dot = true
+joins_before Plus = true
 joins_before k = false
 
--- `.` has no space behind it
+-- `.` has no space after it
 abbrev pub joins_behind : Lexeme → Bool
 joins_behind Dot = true
 joins_behind k = false

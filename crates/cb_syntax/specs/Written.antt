@@ -2,6 +2,7 @@
 use Rattle.std.specs.Prelude.{ℕ, List, [], ◌++◌, codes, Bool, true, false, Option, None, Some}
 use Rattle.std.specs.List.{flat_map}
 use Rattle.cb_grammar.specs.declared.tree.Token.{Token}
+use Rattle.cb_grammar.specs.declared.tree.PlaceToken.{PlaceToken}
 use Rattle.cb_grammar.specs.declared.tree.ClassDecl.{ClassDecl}
 
 -- the words before an event's name
@@ -23,14 +24,19 @@ named_written words n = words ++ n.name ++ codes ";\n"
 abbrev pub relation_written : Token → Token → Bool → Token → List ℕ
 relation_written n g m i = codes "  relation " ++ n.name ++ codes " to " ++ g.name ++ named_written (count_words m) i
 
--- a relation of a path
-abbrev pub step_written : Token → List ℕ
-step_written t = t.name ++ codes "."
+-- what follows the name at a place of a path
+abbrev pub dot_written : Bool → List ℕ
+dot_written true = codes "+."
+dot_written false = codes "."
 
-abbrev pub rule_written : Token → Token → List Token → Token → List ℕ
+-- a place of a path
+abbrev pub step_written : PlaceToken → List ℕ
+step_written p = p.name.name ++ dot_written p.plus
+
+abbrev pub rule_written : Token → Token → List PlaceToken → Token → List ℕ
 rule_written n c path e = codes "  rule " ++ n.name ++ codes ": " ++ c.name ++ codes " => " ++ flat_map step_written path ++ named_written [] e
 
--- the class that is extended, behind the class's name
+-- the class that is extended, after the class's name
 abbrev pub parent_written : Option Token → List ℕ
 parent_written None = []
 parent_written (Some t) = codes " extends " ++ t.name

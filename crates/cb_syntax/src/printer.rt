@@ -1,10 +1,10 @@
 //! Writes a model.
 ghost use Rattle.std.specs.Prelude.{◌≡◌, ◌++◌, IfOk, OnOk};
 ghost use Rattle.cb_syntax.specs.Canonical.{canonical_text, class_text, member_text};
-ghost use Rattle.cb_syntax.specs.Written.{event_words, count_words, named_written, relation_written, rule_written, parent_written, head_written};
+ghost use Rattle.cb_syntax.specs.Written.{event_words, count_words, named_written, relation_written, rule_written, dot_written, parent_written, head_written};
 ghost use Rattle.cb_syntax.specs.Laws.{CanonicalSpells, OneCanonical};
 
-use cb_grammar::{ClassDecl, Member, Token, Tree};
+use cb_grammar::{ClassDecl, Member, PlaceToken, Token, Tree};
 use std::alloc::{AllocError, Global};
 
 /// The canonical text of a tree.
@@ -129,12 +129,23 @@ fn push_relation(
     push_named(out, count_words(many), inverse)
 }
 
+// What follows the name at a place of a path.
+fn dot_words(plus: bool) -> &'static [u8]
+    ensures { result.now ≡ dot_written plus }
+{
+    if plus {
+        b"+.".as_slice()
+    } else {
+        b".".as_slice()
+    }
+}
+
 // Adds a rule.
 fn push_rule(
     out: &mut Vec<u8>,
     name: &Token,
     cause: &Token,
-    path: &[Token],
+    path: &[PlaceToken],
     effect: &Token,
 ) -> Result<(), AllocError>
     ensures { OnOk result (out.new.items ≡ out.old.items ++ rule_written name.now cause.now path.now effect.now) }
@@ -144,9 +155,9 @@ fn push_rule(
     out.extend_from_slice(b": ")?;
     out.extend_from_slice(cause.name.bytes())?;
     out.extend_from_slice(b" => ")?;
-    for relation in path {
-        out.extend_from_slice(relation.name.bytes())?;
-        out.extend_from_slice(b".")?;
+    for place in path {
+        out.extend_from_slice(place.name.name.bytes())?;
+        out.extend_from_slice(dot_words(place.plus))?;
     }
     push_named(out, b"", effect)
 }

@@ -156,7 +156,7 @@ fn told_lines(
     Ok(told)
 }
 
-// The file and the most bytes in all, where a line has at most 3; the piece, the call that fails, if not 0, and what is told.
+// The file and the most bytes in all, where a line has at most 3; the piece, the call that fails, if not 0, and what is reported.
 const LINE_CASES: [(&str, u64, usize, u64, &str); 19] = [
     ("ab\nabcd\nx", 8, 1, 0, "1:ab, 2 long, too much"),
     ("ab\nabcd\nx", 8, 2, 0, "1:ab, 2 long, too much"),
@@ -179,7 +179,7 @@ const LINE_CASES: [(&str, u64, usize, u64, &str); 19] = [
     ("ab\ncd", 99, 1, 6, "1:ab, read fault"),
 ];
 
-// What is told of a file that is read in such pieces and fails at one call, if not 0.
+// What is reported of a file that is read in such pieces and fails at one call, if not 0.
 fn told_by(
     alloc: Global,
     text: &str,

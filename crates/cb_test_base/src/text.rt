@@ -1,5 +1,6 @@
 use cb_text::{
-    LineAt, decimal_of, is_instance, is_name, is_passed_over, line_from, node_parts, words,
+    LineAt, decimal_of, has_no_word, is_instance, is_name, is_passed_over, line_from, node_parts,
+    words,
 };
 
 const LONG: &[u8] = b"a234567890123456789012345678901234567890123456789012345678901234";
@@ -62,6 +63,7 @@ fn lines_of_words(rt: HostRuntime) {
     for (line, count, first, passed) in table {
         assert_eq!(rt; words(line).count(), count, "{line:?}");
         assert_eq!(rt; words(line).next().unwrap_or(b""), first, "{line:?}");
+        assert_eq!(rt; has_no_word(line), count == 0, "{line:?}");
         assert_eq!(rt; is_passed_over(line), passed, "{line:?}");
     }
 }

@@ -1,9 +1,9 @@
 //! The model of the tests: a cut link silences both its ports, and a port that fails itself.
 ghost use Rattle.std.specs.Prelude.{◌≡◌, [], ◌∷◌, IfOk};
-ghost use Rattle.cb_span.specs.Links.{links, link_classes, link_events, link_relations, link_rules, ends as to_ends};
+ghost use Rattle.cb_span.specs.Links.{links, link_classes, link_events, link_relations, link_rules, to_ends};
 
 use cb_model::{
-    ClassId, ClassRow, EventId, EventRow, List, Model, Name, RelId, RelRow, RuleRow, Tables,
+    ClassId, ClassRow, EventId, EventRow, List, Model, Name, Place, RelId, RelRow, RuleRow, Tables,
 };
 use std::alloc::{AllocError, Global};
 
@@ -90,11 +90,14 @@ fn relations(alloc: Global) -> Result<List<RelRow>, AllocError>
     Ok(rows)
 }
 
-fn to_ports(alloc: Global) -> Result<List<RelId>, AllocError>
+fn to_ports(alloc: Global) -> Result<List<Place>, AllocError>
     ensures { IfOk result (λ path. path ≡ to_ends ∷ []) }
 {
     let mut path = List::new(alloc);
-    path.push(ENDS)?;
+    path.push(Place {
+        rel: ENDS,
+        plus: false,
+    })?;
     Ok(path)
 }
 
@@ -140,6 +143,6 @@ fn tables(alloc: Global) -> Result<Tables, AllocError>
 }
 
 /// The model of these tables.
-pub fn model(alloc: Global) -> Result<Model, AllocError> {
+pub(crate) fn model(alloc: Global) -> Result<Model, AllocError> {
     Model::seal(alloc, tables(alloc)?)
 }

@@ -3,7 +3,7 @@ ghost use Rattle.std.specs.Prelude.{◌≡◌, [], ◌∷◌, IfOk};
 ghost use Rattle.cb_graph.specs.Pipes.{pipes, pipe_classes, pipe_events, pipe_relations, pipe_rules, next as to_next};
 
 use cb_model::{
-    ClassId, ClassRow, EventId, EventRow, List, Model, Name, RelId, RelRow, RuleRow, Tables,
+    ClassId, ClassRow, EventId, EventRow, List, Model, Name, Place, RelId, RelRow, RuleRow, Tables,
 };
 use std::alloc::{AllocError, Global};
 
@@ -12,6 +12,11 @@ const PIPE: ClassId = ClassId(0);
 const NEXT: RelId = RelId(0);
 
 const BACK: RelId = RelId(1);
+
+const TO_NEXT: Place = Place {
+    rel: NEXT,
+    plus: false,
+};
 
 fn classes(alloc: Global) -> Result<List<ClassRow>, AllocError>
     ensures { IfOk result (λ rows. rows ≡ pipe_classes) }
@@ -64,20 +69,20 @@ fn relations(alloc: Global) -> Result<List<RelRow>, AllocError>
     Ok(rows)
 }
 
-fn one_step(alloc: Global) -> Result<List<RelId>, AllocError>
+fn one_step(alloc: Global) -> Result<List<Place>, AllocError>
     ensures { IfOk result (λ path. path ≡ to_next ∷ []) }
 {
     let mut path = List::new(alloc);
-    path.push(NEXT)?;
+    path.push(TO_NEXT)?;
     Ok(path)
 }
 
-fn two_steps(alloc: Global) -> Result<List<RelId>, AllocError>
+fn two_steps(alloc: Global) -> Result<List<Place>, AllocError>
     ensures { IfOk result (λ path. path ≡ to_next ∷ to_next ∷ []) }
 {
     let mut path = List::new(alloc);
-    path.push(NEXT)?;
-    path.push(NEXT)?;
+    path.push(TO_NEXT)?;
+    path.push(TO_NEXT)?;
     Ok(path)
 }
 
@@ -118,6 +123,6 @@ fn tables(alloc: Global) -> Result<Tables, AllocError>
 }
 
 /// The model of these tables.
-pub fn model(alloc: Global) -> Result<Model, AllocError> {
+pub(crate) fn model(alloc: Global) -> Result<Model, AllocError> {
     Model::seal(alloc, tables(alloc)?)
 }

@@ -11,7 +11,7 @@ use cb_edits::{EditText, read_edit};
 use cb_graph::Graph;
 use cb_model::Model;
 use cb_network::{Edit, EditRefusal};
-use cb_steps::Steps;
+use cb_steps::{MayCount, Steps};
 use cb_syntax::parse;
 use cb_text::is_instance;
 use cb_topo::{EditFault, Topology};
@@ -29,6 +29,9 @@ const CYCLE: &[u8] =
 const PATH: &[u8] =
     b"class A { problem P; relation mid to B many inverse top; rule r: P => mid.low.S; } class B { relation top to A many inverse mid; relation low to C many inverse up; } class C { symptom S; relation up to B many inverse low; }";
 
+const SITES: &[u8] =
+    b"class Site { problem Power; symptom Dark; relation feeds to Site many inverse fed; relation fed to Site one inverse feeds; rule all: Power => feeds+.Dark; }";
+
 const TWO_PORTS: [&[u8]; 5] = [
     b"create L1 Link",
     b"create a Port",
@@ -43,6 +46,14 @@ const THREE_NODES: [&[u8]; 5] = [
     b"create n3 Node",
     b"link n1 near n2",
     b"link n2 near n3",
+];
+
+const THREE_SITES: [&[u8]; 5] = [
+    b"create s1 Site",
+    b"create s2 Site",
+    b"create s3 Site",
+    b"link s1 feeds s2",
+    b"link s2 feeds s3",
 ];
 
 const OPEN_PATH: [&[u8]; 4] = [
@@ -64,7 +75,7 @@ struct Case {
     exactly: bool,
 }
 
-const CASES: [Case; 3] = [
+const CASES: [Case; 4] = [
     // Four nodes of the cut, and two of each port's failure.
     Case {
         model: LINK,
@@ -103,6 +114,15 @@ const CASES: [Case; 3] = [
         opening: 9,
         then: &[(b"link n1 near n3", None, 6)],
         exactly: false,
+    },
+    // Each site causes itself and what it feeds, through the others too: three nodes, two and one. Without the last link
+    // the rows of the first two sites have two and one.
+    Case {
+        model: SITES,
+        first: &THREE_SITES,
+        opening: 6,
+        then: &[(b"unlink s2 feeds s3", None, 3)],
+        exactly: true,
     },
 ];
 
@@ -161,8 +181,8 @@ fn make_all(
     Ok(())
 }
 
-// The graph of a model after these edits.
-fn graph_of(
+/// The graph of a model after these edits.
+pub(crate) fn graph_of(
     rt: &impl Abort,
     alloc: Global,
     text: &[u8],
@@ -228,7 +248,7 @@ fn count_edits<L: Ledger>(
 
 // Opens a cache on the network of a case, and makes its edits.
 fn count_case<L: Ledger>(
-    rt: &impl Abort,
+    rt: &(impl Abort + MayCount),
     alloc: Global,
     blank: Blank,
     graph: Graph,
@@ -238,7 +258,7 @@ fn count_case<L: Ledger>(
     requires parts { blank.parts ≡ L.parts }
     requires some { 0 < L.parts }
 {
-    let mut steps = Steps::<L>::new(blank);
+    let mut steps = Steps::<L>::new(rt, blank);
     let mut cache = Cache::open(alloc, graph, &mut steps)?;
     let opening = steps.count();
     let done = count_edits(rt, alloc, &mut cache, case, &mut steps);
@@ -247,13 +267,13 @@ fn count_case<L: Ledger>(
     done
 }
 
-// Whether the edit of a line touches just this node.
+// Whether the edit of a line touches just the nodes of the event at these instances.
 fn touches_just(
     alloc: Global,
     graph: &mut Graph,
     line: &[u8],
     event: &[u8],
-    instance: &[u8],
+    instances: &[&[u8]],
 ) -> Result<bool, AllocError> {
     let Some(edit) = edit_of(alloc, line)? else {
         return Ok(false);
@@ -261,7 +281,7 @@ fn touches_just(
     let mut row = Row::zeroed(alloc, graph.topology().node_room())?;
     let accepted = ask(graph, &edit, &mut row);
     drop(edit);
-    Ok(accepted && has_just(graph.topology(), &row, event, &[instance]))
+    Ok(accepted && has_just(graph.topology(), &row, event, instances))
 }
 
 #[test]
@@ -278,7 +298,23 @@ fn steps_under_edits(rt: HostRuntime) -> Result<(), AllocError> {
 fn the_second_place_of_a_path_is_touched(rt: HostRuntime) -> Result<(), AllocError> {
     let alloc = rt.alloc();
     let mut graph = graph_of(&rt, alloc, PATH, &OPEN_PATH)?;
-    let right = touches_just(alloc, &mut graph, b"link b1 low c1", b"P", b"a1");
+    let right = touches_just(alloc, &mut graph, b"link b1 low c1", b"P", &[b"a1"]);
+    drop(graph);
+    assert!(rt; right?);
+    Ok(())
+}
+
+#[test]
+fn all_that_a_run_of_links_comes_through_is_touched(rt: HostRuntime) -> Result<(), AllocError> {
+    let alloc = rt.alloc();
+    let mut graph = graph_of(&rt, alloc, SITES, &THREE_SITES)?;
+    let right = touches_just(
+        alloc,
+        &mut graph,
+        b"unlink s2 feeds s3",
+        b"Power",
+        &[b"s1", b"s2"],
+    );
     drop(graph);
     assert!(rt; right?);
     Ok(())

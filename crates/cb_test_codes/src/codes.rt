@@ -1,6 +1,6 @@
 //! Codes as they were put in, and problems in the groups of their codes.
 ghost use Rattle.std.specs.Prelude.{◌≡◌, length, IfOk};
-ghost use Rattle.cb_codes.specs.Grouped.{IsSound};
+ghost use Rattle.cb_codes.specs.Grouped.{FitsTogether};
 
 use cb_bits::Row;
 use cb_codes::{Codes, Grouping};
@@ -42,7 +42,7 @@ fn codes_stand_where_they_were_put(rt: HostRuntime) -> Result<(), Fail> {
 
 // Five problems in order, of which two have no symptom and two others have the same.
 fn five_problems(alloc: Global) -> Result<Grouping, AllocError>
-    ensures { IfOk result (IsSound 3) }
+    ensures { IfOk result (FitsTogether 3) }
 {
     let mut grouping = Grouping::quiet(alloc, 3)?;
     for (event, instance, code) in [

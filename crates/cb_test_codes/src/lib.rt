@@ -4,6 +4,7 @@
 #![tactic(auto)]
 
 #[cfg(test)]
+#[cfg(test)]
 mod codes;
 #[cfg(test)]
 mod decode;

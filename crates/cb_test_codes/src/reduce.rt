@@ -122,7 +122,7 @@ fn next(state: &mut u64) -> u64 {
     *state >> 33
 }
 
-// Codes with a column in `of` on average, behind a zero code where `quiet`.
+// Codes with a column in `of` on average, after a zero code where `quiet`.
 fn drawn(
     alloc: Global,
     state: &mut u64,

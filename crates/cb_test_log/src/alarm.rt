@@ -182,7 +182,7 @@ fn reads_lines(rt: HostRuntime) -> Result<(), Fail> {
     Ok(())
 }
 
-// What stands before and behind a piece, the piece, how often it is doubled, and what the line says.
+// What stands before and after a piece, the piece, how often it is doubled, and what the line says.
 type Long = (
     &'static [u8],
     &'static [u8],

@@ -1,13 +1,14 @@
-//! A log over the sample model, with the texts of what comes of each line.
+//! A log over the sample model, with the texts of what results from each line.
 ghost use Rattle.std.specs.Prelude.{◌≡◌, ◌<◌};
 ghost use Rattle.cb_session.specs.State.{IsFitting};
 
 use cb_cache::Cache;
 use cb_graph::Graph;
 use cb_log::Event;
-use cb_model::{GroupName, List, NamedGroup, NodeName, sample_model};
+use cb_model::{GroupName, List, NamedGroup, NodeName};
+use cb_sample::sample_model;
 use cb_session::{LogLine, Session};
-use cb_steps::Steps;
+use cb_steps::{MayCount, Steps};
 use cb_topo::Topology;
 use std::alloc::{AllocError, Global};
 use std::marker::Brand;
@@ -15,7 +16,7 @@ use std::process::Abort;
 use std::sync::ledger::{Blank, Ledger};
 use std::test::Fail;
 
-// The lines of a log, of which `None` has too many bytes, each with what comes of it.
+// The lines of a log, of which `None` has too many bytes, each with what results from it.
 const LOG: [(Option<&str>, &str); 18] = [
     (Some("{\"at\":0,\"edit\":\"create a Base\"}"), ""),
     (Some("{\"at\":0,\"edit\":\"create b Base\"}"), ""),
@@ -189,12 +190,16 @@ fn check_log<L: Ledger>(
     Ok(())
 }
 
-fn ran<L: Ledger>(rt: &impl Abort, alloc: Global, blank: Blank) -> Result<(), AllocError>
+fn ran<L: Ledger>(
+    rt: &(impl Abort + MayCount),
+    alloc: Global,
+    blank: Blank,
+) -> Result<(), AllocError>
     requires name { blank.name ≡ L.name }
     requires parts { blank.parts ≡ L.parts }
     requires some { 0 < L.parts }
 {
-    let mut steps = Steps::<L>::new(blank);
+    let mut steps = Steps::<L>::new(rt, blank);
     let mut session = opened(alloc, &mut steps)?;
     let done = check_log(rt, alloc, &mut session, &mut steps);
     drop(session);

@@ -5,7 +5,7 @@ ghost use Rattle.cb_grammar.specs.Grammar.{NameFits, NamesFit};
 
 use cb_check::{TypeFault, check};
 use cb_grammar::{Lexeme, Machine, Token, Tree};
-use cb_model::{Name, Tables};
+use cb_model::{Name, Place, Tables};
 use cb_text::{is_name, words};
 use std::alloc::{AllocError, Global};
 use std::test::Fail;
@@ -32,7 +32,7 @@ const TEXT: [&[u8]; 17] = [
 ];
 
 const ROWS: &str =
-    "class None\nclass Some(ClassId(0))\nclass None\nevent 0 true false\nevent 0 false true\nevent 1 false true\nevent 2 false false\nrelation (1, 2, true, 1)\nrelation (2, 1, false, 0)\nrule (0, 0, 1) []\nrule (1, 0, 3) [RelId(0)]\nrule (2, 3, 1) [RelId(1)]\nblock 1 0\nhide 1 1\n";
+    "class None\nclass Some(ClassId(0))\nclass None\nevent 0 true false\nevent 0 false true\nevent 1 false true\nevent 2 false false\nrelation (1, 2, true, 1)\nrelation (2, 1, false, 0)\nrule (0, 0, 1)\nrule (1, 0, 3) 0\nrule (2, 3, 1) 1\nblock 1 0\nhide 1 1\n";
 
 // The token of a word that is no name.
 fn sign(word: &[u8]) -> Lexeme
@@ -74,6 +74,8 @@ fn sign(word: &[u8]) -> Lexeme
         Lexeme::Colon
     } else if word == b".".as_slice() {
         Lexeme::Dot
+    } else if word == b"+".as_slice() {
+        Lexeme::Plus
     } else {
         Lexeme::Arrow
     }
@@ -144,6 +146,16 @@ fn tree_of(alloc: Global, place: usize, instead: &[u8]) -> Result<Option<Tree>, 
     Ok(tree)
 }
 
+// The places of a path: the numbers of their relations, each with its plus.
+fn path_shown(alloc: Global, path: &[Place]) -> Result<String, AllocError> {
+    let mut out = String::new(alloc);
+    for place in path {
+        let sign = if place.plus { "+" } else { "" };
+        out.push_str(format!(in alloc; " {}{sign}", place.rel.0)?.as_str())?;
+    }
+    Ok(out)
+}
+
 // The rows of the tables but for their names, a line each.
 fn shown(alloc: Global, tables: &Tables) -> Result<String, AllocError> {
     let mut out = String::new(alloc);
@@ -160,8 +172,8 @@ fn shown(alloc: Global, tables: &Tables) -> Result<String, AllocError> {
     }
     for row in tables.rules.as_slice() {
         let ends = (row.class.0, row.cause.0, row.effect.0);
-        let line = format!(in alloc; "rule {ends:?} {:?}\n", row.path.as_slice())?;
-        out.push_str(line.as_str())?;
+        let path = path_shown(alloc, row.path.as_slice())?;
+        out.push_str(format!(in alloc; "rule {ends:?}{}\n", path.as_str())?.as_str())?;
     }
     for row in tables.blocks.as_slice() {
         out.push_str(format!(in alloc; "block {} {}\n", row.class.0, row.rule)?.as_str())?;
@@ -199,6 +211,8 @@ fn checks_trees(rt: HostRuntime) -> Result<(), Fail> {
             "BadInverse 8",
         ),
         (8, b"  rule far : Down => on . Alarm ;", "NoEffect 9"),
+        // The relation leads to a class that doesn't have it.
+        (8, b"  rule far : Down => on + . Cut ;", "NoRepeat 9"),
         (9, b"  block back ;", "NoBlocked 10"),
     ];
     for (place, instead, wanted) in cases {

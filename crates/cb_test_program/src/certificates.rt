@@ -1,6 +1,7 @@
 //! Certificates: written, checked, changed and decoded with, over files and sinks in memory.
 
 use crate::top::{Case, LINK, LINKED, Wanted, check};
+use cb_steps::MayCount;
 use std::alloc::{AllocError, Global};
 use std::process::Abort;
 use std::test::Fail;
@@ -55,7 +56,7 @@ fn changed(alloc: Global, certificate: &str, parts: &[(&str, &str)]) -> Result<S
 
 // Checks the certificate of a topology.
 fn is_checked<'a>(
-    rt: &impl Abort,
+    rt: &(impl Abort + MayCount),
     alloc: Global,
     topology: &'a str,
     certificate: &'a str,
@@ -187,7 +188,7 @@ fn a_changed_certificate_is_refused(rt: HostRuntime) -> Result<(), Fail> {
 
 #[test]
 fn a_certificate_of_another_topology_is_refused(rt: HostRuntime) -> Result<(), Fail> {
-    // The edits behind those that the certificate knows of, the certificate, and why it is refused.
+    // The edits after those that the certificate knows of, the certificate, and why it is refused.
     let cases: [(&str, &str, &str); 5] = [
         ("delete L1\ndelete a\ndelete b\n", BOOK, "bad-node place 1"),
         ("mute NoSignal@b\n", BOOK, "bad-column place 2"),

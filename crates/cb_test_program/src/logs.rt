@@ -3,7 +3,7 @@ ghost use Rattle.std.specs.Prelude.{◌≡◌, ◌<◌};
 
 use crate::top::{Case, LINK, LINKED, Wanted, check, words_of};
 use cb_io::{MemFiles, MemSink, read_whole};
-use cb_steps::Steps;
+use cb_steps::{MayCount, Steps};
 use cb_top::run;
 use std::alloc::{AllocError, Global};
 use std::marker::Brand;
@@ -17,7 +17,7 @@ const PATH: &str =
 
 const PATHS: &str = "create a1 A\ncreate b1 B\ncreate c1 C\nlink a1 mid b1\n";
 
-/// A log, what it is followed over, and what comes of it.
+/// A log, what it is followed over, and what results from it.
 #[derive(Clone, Copy)]
 struct Followed {
     model: &'static str,
@@ -140,7 +140,7 @@ const LOGS: [Followed; 12] = [
 
 // Follows the log in pieces of so many bytes.
 fn is_followed(
-    rt: &impl Abort,
+    rt: &(impl Abort + MayCount),
     alloc: Global,
     row: &Followed,
     piece: usize,
@@ -226,7 +226,7 @@ fn in_parts(
 
 // What a run over these files answers and writes, and how many bytes are left of the log, where a write fails, if not 0.
 fn ends<L: Ledger>(
-    rt: &impl Abort,
+    rt: &(impl Abort + MayCount),
     alloc: Global,
     files: &mut MemFiles,
     failing_write: u64,
@@ -241,7 +241,7 @@ fn ends<L: Ledger>(
     let mut out = MemSink::new(alloc, 4096)?;
     let mut err = MemSink::new(alloc, 4096)?;
     out.fail_at(failing_write)?;
-    let mut steps = Steps::<L>::new(blank);
+    let mut steps = Steps::<L>::new(rt, blank);
     let status = run(alloc, &words, files, &mut out, &mut err, &mut steps);
     assert_eq!(rt; status.code(), wanted.code);
     assert_eq!(rt; out.bytes(), wanted.out.as_bytes());
@@ -251,7 +251,7 @@ fn ends<L: Ledger>(
 
 // The same, in a ledger of its own.
 fn ends_so(
-    rt: &impl Abort,
+    rt: &(impl Abort + MayCount),
     alloc: Global,
     files: &mut MemFiles,
     failing_write: u64,

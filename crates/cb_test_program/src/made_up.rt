@@ -3,7 +3,7 @@ ghost use Rattle.std.specs.Prelude.{◌≤◌};
 
 use cb_check::check;
 use cb_gen::{log_text, model_text, topology_text};
-use cb_inputs::read_topology;
+use cb_line_files::read_topology;
 use cb_model::Model;
 use cb_syntax::parse;
 use std::alloc::{AllocError, Global};

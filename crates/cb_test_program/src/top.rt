@@ -2,7 +2,7 @@
 ghost use Rattle.std.specs.Prelude.{◌≡◌, ◌<◌};
 
 use cb_io::{MemFiles, MemSink};
-use cb_steps::Steps;
+use cb_steps::{MayCount, Steps};
 use cb_top::{Status, run};
 use std::alloc::{AllocError, Global};
 use std::marker::Brand;
@@ -103,7 +103,7 @@ fn files_of(alloc: Global, case: &Case<'_>) -> Result<MemFiles, AllocError> {
 
 // What a run over files and sinks in memory answers and writes.
 fn ran<L: Ledger>(
-    rt: &impl Abort,
+    rt: &(impl Abort + MayCount),
     alloc: Global,
     case: &Case<'_>,
     wanted: &Wanted<'_>,
@@ -121,7 +121,7 @@ fn ran<L: Ledger>(
         out.piece(case.piece);
     }
     out.fail_at(case.failing_write)?;
-    let mut steps = Steps::<L>::new(blank);
+    let mut steps = Steps::<L>::new(rt, blank);
     let status = run(alloc, &words, &mut files, &mut out, &mut err, &mut steps);
     assert_eq!(rt; status.code(), wanted.code);
     assert_eq!(rt; out.bytes(), wanted.out.as_bytes());
@@ -131,7 +131,7 @@ fn ran<L: Ledger>(
 
 // Runs the case in a ledger of its own.
 pub(crate) fn check(
-    rt: &impl Abort,
+    rt: &(impl Abort + MayCount),
     alloc: Global,
     case: &Case<'_>,
     wanted: &Wanted<'_>,
@@ -284,7 +284,11 @@ fn in_pieces<'a>(worked: &Worked<'a>, failing_read: u64, failing_write: u64) -> 
 }
 
 // Each read fails in turn: the line names its file, and there is no output.
-fn each_read_fails(rt: &impl Abort, alloc: Global, worked: &Worked<'_>) -> Result<(), AllocError> {
+fn each_read_fails(
+    rt: &(impl Abort + MayCount),
+    alloc: Global,
+    worked: &Worked<'_>,
+) -> Result<(), AllocError> {
     let mut read = 0_u64;
     for (name, text) in worked.files {
         let err = format!(in alloc; "error 8 read {name}\n")?;
@@ -313,7 +317,11 @@ fn each_read_fails(rt: &impl Abort, alloc: Global, worked: &Worked<'_>) -> Resul
 }
 
 // Each write fails in turn: the output has the pieces before it.
-fn each_write_fails(rt: &impl Abort, alloc: Global, worked: &Worked<'_>) -> Result<(), Fail> {
+fn each_write_fails(
+    rt: &(impl Abort + MayCount),
+    alloc: Global,
+    worked: &Worked<'_>,
+) -> Result<(), Fail> {
     let mut write = 0_u64;
     let mut front = Vec::new(alloc);
     for piece in worked.out.as_bytes().chunks(PIECE) {

@@ -1,15 +1,16 @@
-//! Files line by line, over the sample model of cb_model.
+//! Files line by line, over the model of cb_sample.
 ghost use Rattle.std.specs.Prelude.{◌≡◌, IfOk};
 
-use cb_inputs::{LineFault, SymptomStop, TopologyStop, read_symptoms, read_topology};
-use cb_model::{RelId, sample_model};
+use cb_line_files::{LineFault, SymptomStop, TopologyStop, read_symptoms, read_topology};
+use cb_model::RelId;
 use cb_network::EditRefusal;
+use cb_sample::sample_model;
 use cb_topo::Topology;
 use std::alloc::{AllocError, Global};
 use std::process::Abort;
 use std::test::Fail;
 
-// A front, spaces and a back, with what is wanted of them.
+// A beginning, spaces and an end, with what is wanted of them.
 type Spaced<T> = ((&'static [u8], usize, &'static [u8]), T);
 
 // An instance's name of 63 bytes, the longest one, and one byte more.

@@ -4,7 +4,8 @@ ghost use Rattle.cb_model.specs.WellTyped.{IsClass, IsRelation};
 ghost use Rattle.cb_instances.specs.Net.{IsLive, HasEventAt};
 
 use cb_instances::{InstanceId, Net};
-use cb_model::{ClassId, EventId, Model, RelId, sample_model};
+use cb_model::{ClassId, EventId, Model, RelId};
+use cb_sample::sample_model;
 use std::alloc::{AllocError, Global};
 use std::process::Abort;
 

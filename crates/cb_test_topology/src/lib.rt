@@ -4,6 +4,8 @@
 #![tactic(auto)]
 
 #[cfg(test)]
+mod accept;
+#[cfg(test)]
 mod edits;
 #[cfg(test)]
 mod inputs;

@@ -2,9 +2,10 @@
 ghost use Rattle.std.specs.Prelude.{◌≡◌, IfOk, IsTrue};
 ghost use Rattle.cb_network.specs.Laws.{HasGoodName};
 
-use cb_model::{Name, sample_model};
+use cb_model::Name;
 use cb_network::{Edit, EditRefusal};
 use cb_nodes::NodeId;
+use cb_sample::sample_model;
 use cb_text::is_instance;
 use cb_topo::{EditFault, Topology};
 use std::alloc::{AllocError, Global};
@@ -12,7 +13,7 @@ use std::process::Abort;
 
 // Kinds of edits, by their words.
 #[derive(Clone, Copy)]
-enum Kind {
+pub enum EditKind {
     Create,
     Delete,
     Link,
@@ -22,27 +23,31 @@ enum Kind {
 }
 
 // The words of an edit: one, two or three of these.
-type Words = [&'static [u8]; 3];
+pub type Words = [&'static [u8]; 3];
 
-fn edit_of(alloc: Global, kind: Kind, words: Words) -> Result<Edit, AllocError> {
+pub(crate) fn edit_of(
+    alloc: Global,
+    kind: EditKind,
+    words: [&[u8]; 3],
+) -> Result<Edit, AllocError> {
     let [a, b, c] = words;
     let a = Name::of(alloc, a)?;
     let b = Name::of(alloc, b)?;
     Ok(match kind {
-        Kind::Create => Edit::Create { name: a, class: b },
-        Kind::Delete => Edit::Delete { name: a },
-        Kind::Link => Edit::Link {
+        EditKind::Create => Edit::Create { name: a, class: b },
+        EditKind::Delete => Edit::Delete { name: a },
+        EditKind::Link => Edit::Link {
             a,
             rel: b,
             b: Name::of(alloc, c)?,
         },
-        Kind::Unlink => Edit::Unlink {
+        EditKind::Unlink => Edit::Unlink {
             a,
             rel: b,
             b: Name::of(alloc, c)?,
         },
-        Kind::Mute => Edit::Mute { event: a, name: b },
-        Kind::Unmute => Edit::Unmute { event: a, name: b },
+        EditKind::Mute => Edit::Mute { event: a, name: b },
+        EditKind::Unmute => Edit::Unmute { event: a, name: b },
     })
 }
 
@@ -64,11 +69,11 @@ fn try_edit(alloc: Global, topology: &mut Topology, edit: &Edit) -> Option<EditF
 }
 
 // Why the edit of these words isn't made, if it isn't.
-fn fault_of(
+pub(crate) fn fault_of(
     alloc: Global,
     topology: &mut Topology,
-    kind: Kind,
-    words: Words,
+    kind: EditKind,
+    words: [&[u8]; 3],
 ) -> Result<Option<EditFault>, AllocError> {
     let edit = edit_of(alloc, kind, words)?;
     let fault = try_edit(alloc, topology, &edit);
@@ -77,103 +82,107 @@ fn fault_of(
 }
 
 // What is done in turn, and why it isn't done.
-const STEPS: [(Kind, Words, Option<EditRefusal>); 30] = [
+const STEPS: [(EditKind, Words, Option<EditRefusal>); 30] = [
     (
-        Kind::Create,
+        EditKind::Create,
         [b"hub", b"Hub", b""],
         Some(EditRefusal::NoClass),
     ),
-    (Kind::Create, [b"hub", b"Base", b""], None),
+    (EditKind::Create, [b"hub", b"Base", b""], None),
     (
-        Kind::Create,
+        EditKind::Create,
         [b"hub", b"Port", b""],
         Some(EditRefusal::Exists),
     ),
-    (Kind::Create, [b"p1", b"Port", b""], None),
-    (Kind::Create, [b"p2", b"Port", b""], None),
-    (Kind::Create, [b"other", b"Mid", b""], None),
+    (EditKind::Create, [b"p1", b"Port", b""], None),
+    (EditKind::Create, [b"p2", b"Port", b""], None),
+    (EditKind::Create, [b"other", b"Mid", b""], None),
     (
-        Kind::Link,
+        EditKind::Link,
         [b"hub", b"ports", b"p3"],
         Some(EditRefusal::NoInstance),
     ),
     (
-        Kind::Link,
+        EditKind::Link,
         [b"hub", b"links", b"p1"],
         Some(EditRefusal::NoRelation),
     ),
     (
-        Kind::Link,
+        EditKind::Link,
         [b"hub", b"ports", b"other"],
         Some(EditRefusal::WrongKind),
     ),
-    (Kind::Link, [b"hub", b"ports", b"p1"], None),
+    (EditKind::Link, [b"hub", b"ports", b"p1"], None),
     (
-        Kind::Link,
+        EditKind::Link,
         [b"hub", b"ports", b"p1"],
         Some(EditRefusal::Linked),
     ),
     (
-        Kind::Link,
+        EditKind::Link,
         [b"p1", b"owner", b"hub"],
         Some(EditRefusal::Linked),
     ),
     (
-        Kind::Link,
+        EditKind::Link,
         [b"other", b"ports", b"p1"],
         Some(EditRefusal::Occupied),
     ),
-    (Kind::Link, [b"hub", b"ports", b"p2"], None),
+    (EditKind::Link, [b"hub", b"ports", b"p2"], None),
     (
-        Kind::Unlink,
+        EditKind::Unlink,
         [b"other", b"ports", b"p1"],
         Some(EditRefusal::NotLinked),
     ),
     // Unlinked from the other side.
-    (Kind::Unlink, [b"p1", b"owner", b"hub"], None),
-    (Kind::Link, [b"other", b"ports", b"p1"], None),
-    (Kind::Mute, [b"S", b"hub", b""], None),
+    (EditKind::Unlink, [b"p1", b"owner", b"hub"], None),
+    (EditKind::Link, [b"other", b"ports", b"p1"], None),
+    (EditKind::Mute, [b"S", b"hub", b""], None),
     (
-        Kind::Mute,
+        EditKind::Mute,
         [b"S", b"hub", b""],
         Some(EditRefusal::AlreadyMuted),
     ),
     (
-        Kind::Mute,
+        EditKind::Mute,
         [b"P", b"hub", b""],
         Some(EditRefusal::NoSymptom),
     ),
-    (Kind::Mute, [b"S", b"p1", b""], Some(EditRefusal::NoSymptom)),
     (
-        Kind::Unmute,
+        EditKind::Mute,
+        [b"S", b"p1", b""],
+        Some(EditRefusal::NoSymptom),
+    ),
+    (
+        EditKind::Unmute,
         [b"T", b"hub", b""],
         Some(EditRefusal::NotMuted),
     ),
-    (Kind::Unmute, [b"S", b"hub", b""], None),
-    (Kind::Mute, [b"T", b"hub", b""], None),
+    (EditKind::Unmute, [b"S", b"hub", b""], None),
+    (EditKind::Mute, [b"T", b"hub", b""], None),
     (
-        Kind::Delete,
+        EditKind::Delete,
         [b"p3", b"", b""],
         Some(EditRefusal::NoInstance),
     ),
-    (Kind::Delete, [b"other", b"", b""], None),
+    (EditKind::Delete, [b"other", b"", b""], None),
     // Nothing is left of the link of an instance that is deleted.
-    (Kind::Link, [b"hub", b"ports", b"p1"], None),
+    (EditKind::Link, [b"hub", b"ports", b"p1"], None),
     // T is hidden in Low.
-    (Kind::Create, [b"low", b"Low", b""], None),
+    (EditKind::Create, [b"low", b"Low", b""], None),
     (
-        Kind::Mute,
+        EditKind::Mute,
         [b"T", b"low", b""],
         Some(EditRefusal::NoSymptom),
     ),
-    (Kind::Create, [b"alpha", b"Base", b""], None),
+    (EditKind::Create, [b"alpha", b"Base", b""], None),
 ];
 
 fn try_all(
     rt: &impl Abort,
     alloc: Global,
     topology: &mut Topology,
-    steps: &[(Kind, Words, Option<EditRefusal>)],
+    steps: &[(EditKind, Words, Option<EditRefusal>)],
 ) -> Result<(), AllocError> {
     for (kind, words, wanted) in steps {
         let fault = fault_of(alloc, topology, *kind, *words)?;
@@ -204,8 +213,8 @@ fn keep_numbers(alloc: Global, topology: &mut Topology) -> Result<bool, AllocErr
     let instance = topology.instance_named(b"hub");
     let node = topology.node_named(b"T", b"hub");
     let room = topology.node_room();
-    fault_of(alloc, topology, Kind::Delete, [b"low", b"", b""])?;
-    fault_of(alloc, topology, Kind::Create, [b"new", b"Mid", b""])?;
+    fault_of(alloc, topology, EditKind::Delete, [b"low", b"", b""])?;
+    fault_of(alloc, topology, EditKind::Create, [b"new", b"Mid", b""])?;
     Ok(
         topology.instance_named(b"hub") == instance
             && topology.node_named(b"T", b"hub") == node

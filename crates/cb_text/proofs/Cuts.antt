@@ -1,4 +1,4 @@
--- A list that is cut at a byte which its front lacks.
+-- A list that is cut at a byte which its prefix lacks.
 use Rattle.std.proofs.Common.{◌≡◌, ℕ, ◌+◌, ◌<◌, length, take, drop, true, false, nat_eq, get_or, List, [], ◌∷◌, ◌++◌, ap, sym, subst, refl, ◌∙◌, inl, inr, arith, rules, IsTrue, Some, codes}
 use Rattle.std.specs.List.{All, slice_split}
 use Rattle.std.proofs.lemmas.Bool.{cases_eq, false≢true, eqb-true, false_from_ne_true}
@@ -53,7 +53,7 @@ node_read_once bytes event instance other_event other_instance node other =
     cut_once 64 event instance other_event other_instance (name_lacks_at event node.event_is.run)
     (name_lacks_at other_event other.event_is.run) (sym (node_is_cut bytes event instance node) ∙ node_is_cut bytes other_event other_instance other)
 
--- a node's event ends at the first `@`, and its instance begins behind it
+-- a node's event ends at the first `@`, and its instance begins after it
 pub node_parts_are : (bytes event instance : List ℕ) (at : ℕ) → IsFirstByte (is_byte 64) bytes (Some at) → IsNode bytes event instance →
     (event ≡ take at bytes) × (instance ≡ drop (at + 1) bytes)
 node_parts_are bytes event instance at first node =

@@ -20,7 +20,7 @@ parts_cons (b ∷ bs) = elim (cases_Bool (nat_eq b 10)) [
   | inr other ↦ let rest = parts_cons bs in (b ∷ rest.0, rest.1, rw other (ap (onto_first b) rest.2))
 ]
 
--- a line that ends at a LF, and the lines behind it
+-- a line that ends at a LF, and the lines after it
 lines_of-front : (line rest : List ℕ) → Lacks 10 line → lines_of (line ++ 10 ∷ rest) ≡ line ∷ lines_of rest
 lines_of-front line rest lacks =
     let later = parts_cons rest in
@@ -70,7 +70,7 @@ absent_before cut n bytes before (k, low, is) =
     let same = get_or-take n bytes k cut (omega arith) ∙ get_or_default bytes k cut 0 (omega arith) in
     before k (omega arith) (omega arith) (eq-eqb (get_or bytes k 0) cut (sym same ∙ is))
 
--- the line from a place on, as the search for a LF behind it ends it
+-- the line from a place on, as the search for a LF after it ends it
 pub line_to_lf : (text : List ℕ) (from n : ℕ) → IsFirstByte (is_byte 10) (drop from text) (Some n) →
     IsLineAt text from (record { start = from; end = from + n; next = from + n + 1 })
 line_to_lf text from n found = record {

@@ -1,8 +1,9 @@
 -- How words come off the front of a line.
-use Rattle.std.proofs.Common.{◌≡◌, ℕ, suc, ◌<◌, one-add, true, false, List, [], ◌∷◌, length, get_or, take, drop, filter, refl, sym, ap, ◌∙◌, inl, inr, arith}
+use Rattle.std.proofs.Common.{◌≡◌, ◌↔◌, ℕ, suc, ◌<◌, one-add, true, false, List, [], ◌∷◌, length, get_or, take, drop, filter, refl, sym, ap, ◌∙◌, inl, inr, arith}
 use Rattle.std.specs.List.{All, slice_split, prefix_len, position_or_len, after_first}
 use Rattle.std.proofs.lemmas.Bool.{cases_lt, cases_Bool}
 use Rattle.std.proofs.lemmas.List.{drop_all, take_all, drop_more, length-drop}
+use Rattle.std.proofs.lemmas.List.Elements.{All-cons}
 use Rattle.std.proofs.lemmas.List.Splits.{slice_split-cons_yes, slice_split_none, slice_split_first}
 use Rattle.std.proofs.lemmas.List.Sums.{fails_before_first, passes_at_first, prefix_len_stops}
 use Rattle.cb_text.specs.Words.{is_blank, has_byte, words_of}
@@ -52,7 +53,7 @@ words_of-word b bs other =
           ap (filter has_byte) (slice_split_none is_blank line lacks) ∙ (ap (λ (w : List ℕ). w ∷ []) (sym whole) ∙ ap (λ (rest : List ℕ). take n line ∷ words_of rest) (sym none))
     ]
 
--- the first word of a line stands behind its blank bytes
+-- the first word of a line stands after its blank bytes
 pub words_of-first : (line rest : List ℕ) → rest ≡ drop (prefix_len is_blank line) line → 0 < length rest →
     words_of line ≡ take (position_or_len is_blank rest) rest ∷ words_of (drop (position_or_len is_blank rest) rest)
 words_of-first line [] is some = absurd (omega arith)
@@ -62,3 +63,21 @@ words_of-first line (b ∷ bs) is some =
     let here : b ≡ get_or line n 0 = ap (λ (l : List ℕ). get_or l 0 0) (is ∙ drop_more line n 0 within) in
     let other : is_blank b ≡ false = ap is_blank here ∙ prefix_len_stops is_blank line 0 within in
     sym (words_of-drop line) ∙ (ap words_of (sym is) ∙ words_of-word b bs other)
+
+-- blank bytes alone make no word
+no_word : (line : List ℕ) → All (λ b. is_blank b ≡ true) line → words_of line ≡ []
+no_word [] blank = refl
+no_word (b ∷ bs) blank =
+    words_of-blank b bs (blank 0 b (omega arith)) ∙ no_word bs (λ k d low. blank (suc k) d (omega arith))
+
+-- and without a word there are no others
+only_blanks : (line : List ℕ) → words_of line ≡ [] → All (λ b. is_blank b ≡ true) line
+only_blanks [] none = λ k d low. absurd (omega arith)
+only_blanks (b ∷ bs) none = elim (cases_Bool (is_blank b)) [
+  | inl blank ↦ All-cons (λ c. is_blank c ≡ true) b bs blank (only_blanks bs (sym (words_of-blank b bs blank) ∙ none))
+  | inr other ↦ let word = words_of-word b bs other in absurd (cc)
+]
+
+-- a line is blank where each of its bytes is
+pub blank_line : (line : List ℕ) → All (λ b. is_blank b ≡ true) line ↔ (words_of line ≡ [])
+blank_line line = (no_word line, only_blanks line)

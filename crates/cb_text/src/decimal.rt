@@ -1,32 +1,54 @@
 //! Numbers, as bytes.
-ghost use Rattle.std.specs.Prelude.{◌≡◌, ◌↔◌, ℕ, decimal, IfSome, IfNone, IsTrue};
-ghost use Rattle.cb_text.specs.Decimals.{IsDecimal};
-
-use itoa::Buffer;
-use std::str::from_utf8;
+ghost use Rattle.std.specs.Prelude.{◌≡◌, ◌↔◌, ◌+◌, ◌-◌, ◌*◌, ◌<◌, ◌^◌, ℕ, true, IfSome, IfNone, IsTrue};
+ghost use Rattle.std.specs.Char.{is_ascii_digit};
+ghost use Rattle.std.specs.Option.{SomeIff};
+ghost use Rattle.cb_text.specs.Decimals.{IsDecimal, AreDigits, HasZeroInFront, number_of};
 
 /// The number that is written with these bytes. Other forms of a number, with a plus or with zeros in front, are none.
 pub fn decimal_of(bytes: &[u8]) -> Option<u64>
     ensures number { IfSome result (IsDecimal bytes.now) }
     ensures none { IfNone result ((number : ℕ) → ¬ IsDecimal bytes.now number) }
 {
-    let Ok(text) = from_utf8(bytes) else {
+    if bytes.is_empty() {
         return None;
-    };
-    let Ok(number) = text.parse::<u64>() else {
-        return None;
-    };
-    if is_written(number, bytes) {
-        Some(number)
-    } else {
-        None
     }
+    if is_padded(bytes) {
+        return None;
+    }
+    read_digits(bytes)
 }
 
-// Whether the number is written with these bytes.
-fn is_written(number: u64, bytes: &[u8]) -> bool
-    ensures { IsTrue result ↔ (bytes.now ≡ decimal number) }
+// Whether a zero stands in front of other bytes.
+fn is_padded(bytes: &[u8]) -> bool
+    ensures { IsTrue result ↔ HasZeroInFront bytes.now }
 {
-    let mut digits = Buffer::new();
-    digits.format(number).as_bytes() == bytes
+    bytes.len() > 1 && bytes[0] == b'0'
+}
+
+// The number of these digits, of which some in front may be zeros.
+fn read_digits(bytes: &[u8]) -> Option<u64>
+    ensures number { IfSome result (λ number. AreDigits bytes.now × (number_of bytes.now ≡ number) × (number < 2 ^ 64)) }
+    ensures none { IfNone result (AreDigits bytes.now → ¬ (number_of bytes.now < 2 ^ 64)) }
+{
+    let mut number = 0;
+    for byte in bytes {
+        let Some(more) = with_digit(number, *byte) else {
+            return None;
+        };
+        number = more;
+    }
+    Some(number)
+}
+
+// The number with one digit more.
+fn with_digit(number: u64, byte: u8) -> Option<u64>
+    ensures { SomeIff result ((is_ascii_digit byte ≡ true) × (number * 10 + (byte - 48) < 2 ^ 64)) (number * 10 + (byte - 48)) }
+{
+    if !byte.is_ascii_digit() {
+        return None;
+    }
+    let Some(tens) = number.checked_mul(10) else {
+        return None;
+    };
+    tens.checked_add(u64::from(byte - b'0'))
 }

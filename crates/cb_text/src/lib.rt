@@ -13,4 +13,4 @@ pub use limits::{LONGEST_LINE, LONGEST_NAME};
 pub use line::{LineAt, LineIter, first_long, line_from, lines, lines_are_met};
 pub use name::{is_instance, is_name};
 pub use node::{node_parts, nodes_are_read_once};
-pub use word::{WordIter, is_passed_over, only_word, words};
+pub use word::{WordIter, has_no_word, is_passed_over, only_word, words};

@@ -42,6 +42,13 @@ pub fn words(line: &[u8]) -> WordIter<'_>
     WordIter { rest: line }
 }
 
+/// Whether the line has no word. No byte after the first one of a word is looked at.
+pub fn has_no_word(line: &[u8]) -> bool
+    ensures { IsTrue result ↔ (words_of line.now ≡ []) }
+{
+    line.iter().all(|byte| is_blank(*byte))
+}
+
 /// Whether the line has no word, or is a comment.
 pub fn is_passed_over(line: &[u8]) -> bool
     ensures { IsTrue result ↔ IsPassedOver line.now }

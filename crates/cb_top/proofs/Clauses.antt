@@ -1,4 +1,4 @@
--- The clauses of a run, by what comes of its words and how it ends.
+-- The clauses of a run, by what results from its words and how it ends.
 use Rattle.std.proofs.Common.{◌≡◌, ◌≢◌, ◌⊎◌, ◌∙◌, ◌≤◌, ℕ, List, [], ◌∷◌, ◌++◌, refl, sym, ap, subst, inl, inr, take, length, slice_get, arith, Result, Ok, Err}
 use Rattle.std.specs.Prelude.{Option, None, Some, map}
 use Rattle.std.specs.List.{Contains}
@@ -29,13 +29,13 @@ use Rattle.cb_outcome.specs.Ends.{HasRole, MayEnd}
 use Rattle.cb_outcome.specs.Clauses.{Answers, AnswersOutcome, WritesDue, ReadsJudged, HaveAllPassed, KeepsQuiet, NamesFileWord, SaysStatus, ReadsInOrder, Blames}
 use Rattle.cb_outcome.specs.Finds.{Finds}
 use Rattle.cb_outcome.proofs.Outcomes.{texts_count, names_count, some_name}
-use Rattle.cb_files.specs.declared.output.Output.{Output}
-use Rattle.cb_files.specs.Kinds.{file_of, IsWant, FailsToRead}
-use Rattle.cb_files.specs.Ending.{names, Makes, WantsMemory, IsRefusedThere, StopsAt, Comes, IsDelivered, IsCutOff, Delivers}
-use Rattle.cb_follow.specs.Following.{FollowsLog}
-use Rattle.cb_follow.specs.Ways.{DoesNothing, EndsAsked}
+use Rattle.cb_file_kinds.specs.declared.output.Output.{Output}
+use Rattle.cb_file_kinds.specs.Kinds.{file_of, IsWant, FailsToRead}
+use Rattle.cb_file_kinds.specs.Ending.{names, Makes, WantsMemory, IsRefusedThere, StopsAt, Comes, IsDelivered, IsCutOff, Delivers}
+use Rattle.cb_log_commands.specs.Following.{FollowsLog}
+use Rattle.cb_log_commands.specs.Ways.{DoesNothing, EndsAsked}
 use Rattle.cb_top.proofs.Followed as follow
-use Rattle.cb_files.proofs.Chain.{if_some, if_some2, of_all, map_append, take_front, take_whole, reads_all, reads_none}
+use Rattle.cb_file_kinds.proofs.Chain.{if_some, if_some2, of_all, map_append, take_front, take_whole, reads_all, reads_none}
 use Rattle.cb_top.proofs.Made.{gives_job, gives_refused}
 use Rattle.cb_top.proofs.Plain.{IsPlain, refused_plain, fit}
 

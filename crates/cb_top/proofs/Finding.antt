@@ -14,7 +14,7 @@ use Rattle.cb_coding.specs.Pairs.{least_or_one}
 use Rattle.cb_finding.specs.Finding.{IsBurst, IsFinding, named_groups}
 use Rattle.cb_finding.proofs.Nearest.{burst_finds_the_cause}
 use Rattle.cb_cert.specs.Lines.{text_of}
-use Rattle.cb_claim.proofs.Codebooks.{shortfall_is_valid}
+use Rattle.cb_validity.proofs.Codebooks.{shortfall_is_valid}
 use Rattle.cb_log.proofs.ThinEvents.{close_is_not_good, close_wants_more}
 use Rattle.cb_report.specs.declared.fault.Fault.{Fault}
 use Rattle.cb_report.specs.declared.fault.Fault.TheVariants as faults

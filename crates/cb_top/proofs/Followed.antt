@@ -14,7 +14,7 @@ use Rattle.cb_network.specs.Regular.{IsRegular}
 use Rattle.cb_network.specs.Topology.{Topology}
 use Rattle.cb_cert.specs.declared.certificate.Certificate.{Certificate}
 use Rattle.cb_cert.specs.Format.{IsCertificate}
-use Rattle.cb_claim.specs.Valid.{IsValid}
+use Rattle.cb_validity.specs.Valid.{IsValid}
 use Rattle.cb_log.specs.Basis.{fixed}
 use Rattle.cb_request.specs.declared.request.Request.{Request}
 use Rattle.cb_request.specs.declared.request.Request.TheVariants.{Burst, Model, Matrix, Codebook, Verify, Decode, Correlate, Grow}
@@ -41,11 +41,11 @@ use Rattle.cb_outcome.specs.Finds.{PrintsLog, FindsFor, Finds}
 use Rattle.cb_outcome.proofs.LogsOne.{watch_is_one, watch_is_regular}
 use Rattle.cb_outcome.proofs.Once.{pass_sound}
 use Rattle.cb_outcome.proofs.Outcomes.{texts_count, some_name}
-use Rattle.cb_files.specs.Ending.{names}
-use Rattle.cb_follow.specs.Following.{IsDueUpto, IsDueOfAll, TellsLog, GoesWrong, FollowsLog}
-use Rattle.cb_files.proofs.Chain.{if_some, if_some2, take_whole, take_front, at_front, reads_all, reads_front}
-use Rattle.cb_files.proofs.Searched.{pass_is_one}
-use Rattle.cb_follow.proofs.Decoded.{given_keeps_apart, known_is_valid}
+use Rattle.cb_file_kinds.specs.Ending.{names}
+use Rattle.cb_log_commands.specs.Following.{IsDueUpto, IsDueOfAll, TellsLog, GoesWrong, FollowsLog}
+use Rattle.cb_file_kinds.proofs.Chain.{if_some, if_some2, take_whole, take_front, at_front, reads_all, reads_front}
+use Rattle.cb_file_kinds.proofs.Searched.{pass_is_one}
+use Rattle.cb_log_commands.proofs.Decoded.{given_keeps_apart, known_is_valid}
 use Rattle.cb_top.proofs.Logged.{AllApart, wanted_apart, fixed_apart, prints_log}
 use Rattle.cb_top.proofs.Made.{gives_job}
 
@@ -150,7 +150,7 @@ module _ (request : Request) (s : Seen) (end : Option Fault)
 
   -- ---- what is due
 
-  -- what is told of the log, by the bytes left of each name
+  -- what is reported of the log, by the bytes left of each name
   in_log : (P : List ℕ → Type 0) → IfSome (left_of follows.now follows.name) P → Told s.files (λ left. P (log_from left request follows.name))
   in_log P told =
       if_some s.files.left _ _ (λ left known. there (left_of follows.now follows.name) P (log_from left request follows.name) (known follows.name) told) follows.read

@@ -6,8 +6,8 @@ use Rattle.cb_report.specs.declared.fault.Fault.{Fault}
 use Rattle.cb_outcome.specs.Outcome.{Outcome, refused}
 use Rattle.cb_outcome.specs.Judged.{File, Known, Refuses, Job, Gives, PassFrom}
 use Rattle.cb_outcome.specs.Contents.{Left, with_texts}
-use Rattle.cb_files.specs.Kinds.{file_of}
-use Rattle.cb_files.specs.Ending.{names}
+use Rattle.cb_file_kinds.specs.Kinds.{file_of}
+use Rattle.cb_file_kinds.specs.Ending.{names}
 
 -- where all files say something, the outcome is the job's
 pub gives_job : (job : Job) (files : List File) (known last : Known) (whole : ℕ) (outcome : Outcome) → PassFrom known files last
@@ -21,7 +21,7 @@ append_nil : {X : Type 0} (xs : List X) → xs ++ [] ≡ xs
 append_nil [] = refl
 append_nil {X} (x ∷ xs) = ap (λ (ys : List X). x ∷ ys) (append_nil xs)
 
--- a file that is refused behind others that say something decides the outcome
+-- a file that is refused after others that say something decides the outcome
 pub gives_refused : (job : Job) (left : Left) (before : List (List ℕ)) (earlier : List (Role × List ℕ)) (file : Role × List ℕ) (later : List (Role × List ℕ))
     (known last : Known) (whole : ℕ) (text : List ℕ) (fault : Fault) → PassFrom known (with_texts left before earlier) last
     → text ≡ contents left (before ++ names earlier) file.1 → Refuses last (file_of file.0 file.1 text) fault

@@ -1,4 +1,4 @@
--- What the end of a run is like that a refused file or a job brings about: it is no fault of a read or a write, nor want of memory.
+-- What the end of a run is like that a refused file or a job brings about: it is no fault of a read or a write, nor out of memory.
 use Rattle.std.proofs.Common.{◌≡◌, ◌≢◌, ◌⊎◌, ◌∙◌, ℕ, List, [], refl, sym, subst, inl, inr}
 use Rattle.std.specs.Prelude.{Option, None, Some}
 use Rattle.std.specs.List.{Contains}
@@ -10,9 +10,9 @@ use Rattle.cb_syntax.specs.declared.fault.SyntaxFault.TheVariants as syntax
 use Rattle.cb_cert.specs.declared.certificate.Certificate.{Certificate}
 use Rattle.cb_cert.specs.declared.certificate.Certificate.TheVariants.{Book, Thin}
 use Rattle.cb_cert.specs.declared.fault.CertText.TheVariants as texts
-use Rattle.cb_claim.specs.declared.verdict.Rejected.{Rejected}
-use Rattle.cb_claim.specs.declared.verdict.Rejected.TheVariants as rejected
-use Rattle.cb_claim.specs.Checks.{Check, node_check, column_check, root_check, parent_check, edge_check, new_check, closed_check, no_more_problems, no_more_spans, claim_check, Tells, IsFirstFail}
+use Rattle.cb_validity.specs.declared.verdict.Rejected.{Rejected}
+use Rattle.cb_validity.specs.declared.verdict.Rejected.TheVariants as rejected
+use Rattle.cb_validity.specs.Checks.{Check, node_check, column_check, root_check, parent_check, edge_check, new_check, closed_check, no_more_problems, no_more_spans, claim_check, ReportsCheck, IsFirstFail}
 use Rattle.cb_request.specs.declared.request.Request.{Request}
 use Rattle.cb_request.specs.Files.{Role, names_of}
 use Rattle.cb_report.specs.declared.fault.Fault.{Fault}
@@ -30,8 +30,8 @@ use Rattle.cb_outcome.specs.Finds.{FindsCause, RefusesAsked, Finds}
 use Rattle.cb_outcome.specs.Outcome.{Outcome}
 use Rattle.cb_outcome.specs.Reading.{Told}
 use Rattle.cb_outcome.proofs.Outcomes.{JobEnds, well, close, crowded, long, faulty, job_ends, some_name}
-use Rattle.cb_files.specs.Ending.{Makes}
-use Rattle.cb_files.proofs.Chain.{if_some}
+use Rattle.cb_file_kinds.specs.Ending.{Makes}
+use Rattle.cb_file_kinds.proofs.Chain.{if_some}
 use Rattle.cb_top.proofs.Finding.{finds_for, refuses_for}
 
 -- what is said of the end of a run with this fault, if there is one
@@ -43,8 +43,8 @@ pub record IsPlain (request : Request) (fault : Option Fault) (s : Seen) : Type 
 
 -- ---- a certificate
 
--- no check tells want of memory
-tells_no_want : (t : Topology) (c : Certificate) (check : Check) → Tells t c check rejected.NoMemory → ⊥
+-- no check tells out of memory
+tells_no_want : (t : Topology) (c : Certificate) (check : Check) → ReportsCheck t c check rejected.NoMemory → ⊥
 tells_no_want t c (node_check place) e = cc
 tells_no_want t c (column_check place) e = cc
 tells_no_want t c (root_check a) e = cc

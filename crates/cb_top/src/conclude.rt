@@ -3,13 +3,13 @@ ghost use Rattle.std.specs.Prelude.{◌≡◌};
 ghost use Rattle.cb_report.specs.Faults.{ending};
 ghost use Rattle.cb_report.specs.FaultTexts.{line_text};
 ghost use Rattle.cb_report.specs.Said.{TakesLine};
-ghost use Rattle.cb_files.specs.Ending.{wrong};
+ghost use Rattle.cb_file_kinds.specs.Ending.{wrong};
 
 use cb_io::Sink;
 use cb_report::{Fault, Status, say_fault};
 
 /// Tells on the error sink what is wrong, and answers the status. A failing error sink changes no status.
-pub fn conclude<E: Sink>(end: Result<(), Fault<'_>>, err: &mut E) -> Status
+pub(crate) fn conclude<E: Sink>(end: Result<(), Fault<'_>>, err: &mut E) -> Status
     ensures status { result ≡ ending (wrong end.entry) }
     ensures says { TakesLine (E.tells err.old) (E.tells err.new) (line_text (wrong end.entry)) }
 {

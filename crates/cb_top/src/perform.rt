@@ -2,20 +2,20 @@
 ghost use Rattle.std.specs.Prelude.{◌≡◌, [], Some};
 ghost use Rattle.cb_request.specs.Files.{names_of};
 ghost use Rattle.cb_request.specs.Ranges.{IsInRange};
-ghost use Rattle.cb_outcome.specs.Steps.{Counts};
-ghost use Rattle.cb_follow.specs.Ways.{EndsRequest};
-ghost use Rattle.cb_files.specs.Ending.{wrong};
+ghost use Rattle.cb_outcome.specs.Steps.{BoundsSteps};
+ghost use Rattle.cb_log_commands.specs.Ways.{EndsRequest};
+ghost use Rattle.cb_file_kinds.specs.Ending.{wrong};
 
-use cb_answers::burst::burst;
-use cb_answers::codebook::codebook;
-use cb_answers::matrix::matrix;
-use cb_answers::model::model;
-use cb_answers::verify::verify;
-use cb_files::deliver;
-use cb_follow::correlate::{Correlation, correlate};
-use cb_follow::decode::{DecodeFiles, decode};
-use cb_follow::grow::grow;
+use cb_file_kinds::deliver;
 use cb_io::{Files, Sink};
+use cb_log_commands::correlate::{Correlation, correlate};
+use cb_log_commands::decode::{DecodeFiles, decode};
+use cb_log_commands::grow::grow;
+use cb_network_commands::burst::burst;
+use cb_network_commands::codebook::codebook;
+use cb_network_commands::matrix::matrix;
+use cb_network_commands::model::model;
+use cb_network_commands::verify::verify;
 use cb_report::Fault;
 use cb_request::Request;
 use cb_steps::Steps;
@@ -23,7 +23,7 @@ use std::alloc::Global;
 use std::sync::ledger::Ledger;
 
 /// Reads and judges the files of a request, makes its output and writes it.
-pub fn perform<'w, F: Files, O: Sink, L: Ledger>(
+pub(crate) fn perform<'w, F: Files, O: Sink, L: Ledger>(
     alloc: Global,
     request: Request<'w>,
     files: &mut F,
@@ -33,7 +33,7 @@ pub fn perform<'w, F: Files, O: Sink, L: Ledger>(
     requires range { IsInRange request }
     ensures ends { EndsRequest request.entry (F.tells files.old) (F.tells files.new) (O.tells out.old) (O.tells out.new) (wrong result) }
     ensures unread { names_of request.entry ≡ [] → files.new ≡ files.old }
-    ensures steps { Counts (Some request.entry) (F.tells files.old) (F.tells files.new) steps.old steps.new }
+    ensures steps { BoundsSteps (Some request.entry) (F.tells files.old) (F.tells files.new) steps.old steps.new }
 {
     match request {
         Request::Burst {

@@ -6,9 +6,9 @@ ghost use Rattle.cb_outcome.specs.Clauses.{AnswersOutcome, WritesDue, KeepsQuiet
 ghost use Rattle.cb_outcome.specs.Ends.{MayEnd};
 ghost use Rattle.cb_outcome.specs.Finds.{Finds};
 ghost use Rattle.cb_outcome.specs.Seen.{seen};
-ghost use Rattle.cb_outcome.specs.Steps.{Counts};
-ghost use Rattle.cb_follow.specs.Ways.{EndsAsked};
-ghost use Rattle.cb_files.specs.Ending.{wrong};
+ghost use Rattle.cb_outcome.specs.Steps.{BoundsSteps};
+ghost use Rattle.cb_log_commands.specs.Ways.{EndsAsked};
+ghost use Rattle.cb_file_kinds.specs.Ending.{wrong};
 
 use crate::conclude::conclude;
 use crate::perform::perform;
@@ -31,7 +31,7 @@ pub fn run<F: Files, O: Sink, E: Sink, L: Ledger>(
 ) -> Status
     // What comes out. At every status but 8, 9 and 10 status, output, line and the files read are those of the outcome.
     ensures answer { AnswersOutcome (asked words.now) result (seen F.tells O.tells E.tells files.old files.new out.old out.new err.old err.new) }
-    // At each, what was written is a front of what was due at some point of the run.
+    // At each, what was written is a prefix of what was due at some point of the run.
     ensures front { WritesDue (asked words.now) (F.tells files.old) (O.tells out.old) (O.tells out.new) }
     // Nothing was written at any status but 0, 6 and 9; at 7, 8 and 10 unless the run has come to a log.
     ensures quiet { KeepsQuiet (asked words.now) result (F.tells files.old) (F.tells files.new) (O.tells out.old) (O.tells out.new) }
@@ -60,7 +60,7 @@ pub fn run<F: Files, O: Sink, E: Sink, L: Ledger>(
     // No step is counted by `model`, nor where no topology comes of the files; by `burst` and `matrix` no more than it costs to search from each
     // problem of the topology; by `correlate` and `grow` no more than that, and again after each edit of the log for the problems that it makes dirty or new, of
     // `correlate` as far as the log was read. Of the others nothing is said.
-    ensures steps { Counts (asked words.now) (F.tells files.old) (F.tells files.new) steps.old steps.new }
+    ensures steps { BoundsSteps (asked words.now) (F.tells files.old) (F.tells files.new) steps.old steps.new }
 {
     let end = answer(alloc, words, files, out, steps);
     conclude(end, err)
@@ -76,7 +76,7 @@ fn answer<'w, F: Files, O: Sink, L: Ledger>(
 ) -> Result<(), Fault<'w>>
     ensures ends { EndsAsked (asked words.now) (F.tells files.old) (F.tells files.new) (O.tells out.old) (O.tells out.new) (wrong result) }
     ensures unread { file_words (asked words.now) ≡ [] → files.new ≡ files.old }
-    ensures steps { Counts (asked words.now) (F.tells files.old) (F.tells files.new) steps.old steps.new }
+    ensures steps { BoundsSteps (asked words.now) (F.tells files.old) (F.tells files.new) steps.old steps.new }
 {
     match Request::of(words) {
         Some(request) => perform(alloc, request, files, out, steps),

@@ -7,7 +7,7 @@ use Rattle.cb_model.specs.Classes.{HasEvent, NamesClass}
 use Rattle.cb_model.specs.Views.{AreEventsOf}
 use Rattle.cb_model.specs.WellTyped.{WellTyped, IsClass}
 use Rattle.cb_model.proofs.Rising.{name_cmp_total, name_cmp_exact}
-use Rattle.cb_network.specs.Topology.{Topology, IsLive as IsLiveName, IsOf}
+use Rattle.cb_network.specs.Topology.{Topology, IsLive as IsLiveName, HasClass}
 use Rattle.cb_network.specs.Nodes.{IsNodeOf, IsCount, IsBeyond}
 use Rattle.cb_network.specs.Sound.{node_limit}
 use Rattle.cb_network.specs.Edits.{with_instance, Changes, IsAccepted}
@@ -21,10 +21,10 @@ use Rattle.cb_nodes.specs.declared.node.Node.{Node}
 use Rattle.cb_nodes.specs.Table.{Table, IsNode, HasEvent as HasEventIn, IsOne, Adds, count_of}
 use Rattle.cb_accept.proofs.Own.{event_is_listed, listed_is_event}
 use Rattle.cb_topo.specs.Applied.{KeepsInstances, KeepsNodes}
-use Rattle.cb_topo.specs.Kept.{FitsTable, IsKept}
+use Rattle.cb_topo.specs.Kept.{FitsTable, IsTopologyOf}
 use Rattle.cb_topo.specs.Made.{Makes}
-use Rattle.cb_topo.proofs.Regular.{typed_is_regular}
-use Rattle.cb_accept.specs.declared.counts.Counts.{Counts}
+use Rattle.cb_network.proofs.Typed.{typed_is_regular}
+use Rattle.cb_accept.specs.declared.counts.NodeCounts.{NodeCounts}
 use Rattle.cb_accept.specs.Counts.{CountWith}
 use Rattle.cb_nodes.specs.Created.{AddsAll}
 use Rattle.cb_network.specs.declared.edit.Edit.TheVariants.{Create}
@@ -41,18 +41,18 @@ created n name c names room next = record { topology = with_instance n.topology 
 
 -- of new instances, those before stay
 module _ (t : Topology) (name : List ℕ) (c : ClassId) (fresh : ¬ IsLiveName t name) where
-  pub class_stays : (q : List ℕ) (d : ClassId) → IsOf t q d → IsOf (with_instance t name c) q d
+  pub class_stays : (q : List ℕ) (d : ClassId) → HasClass t q d → HasClass (with_instance t name c) q d
   class_stays q d is =
       (got_insert name_cmp_total name_cmp_exact t.instances name c q d).1
-      (inr (λ e. fresh (live_of t name d (subst (λ n. IsOf t n d) e is)), is))
+      (inr (λ e. fresh (live_of t name d (subst (λ n. HasClass t n d) e is)), is))
 
-  pub class_before : (q : List ℕ) (d : ClassId) → IsOf (with_instance t name c) q d → ((q ≡ name) × (c ≡ d)) ⊎ IsOf t q d
+  pub class_before : (q : List ℕ) (d : ClassId) → HasClass (with_instance t name c) q d → ((q ≡ name) × (c ≡ d)) ⊎ HasClass t q d
   class_before q d is = elim ((got_insert name_cmp_total name_cmp_exact t.instances name c q d).0 is) [
     | inl now ↦ inl now
     | inr was ↦ inr was.1
   ]
 
-  pub class_new : IsOf (with_instance t name c) name c
+  pub class_new : HasClass (with_instance t name c) name c
   class_new = (got_insert name_cmp_total name_cmp_exact t.instances name c name c).1 (inl (refl, refl))
 
 module _ (n : Net) (name : List ℕ) (c : ClassId) (names : List (Option (List ℕ))) (room next : ℕ) (id : InstanceId)
@@ -72,16 +72,16 @@ module _ (n : Net) (name : List ℕ) (c : ClassId) (names : List (Option (List �
   pub had_stays : (i : InstanceId) (e : EventId) → IsLive n i → HasEventAt n i e → HasEventAt new i e
   had_stays i e (x, is) (d, of_d, has) =
       let same : name_at n i ≡ name_at new i = name_is n i x is ∙ sym (name_is new i x (named_stays i x is)) in
-      (d, subst (λ q. IsOf new.topology q d) same (class_stays n.topology name c fresh (name_at n i) d of_d), has)
+      (d, subst (λ q. HasClass new.topology q d) same (class_stays n.topology name c fresh (name_at n i) d of_d), has)
 
   had_new : (e : EventId) → HasEvent n.topology.model c e → HasEventAt new id e
-  had_new e has = (c, subst (λ q. IsOf new.topology q c) (sym (name_is new id name sets.this)) (class_new n.topology name c fresh), has)
+  had_new e has = (c, subst (λ q. HasClass new.topology q c) (sym (name_is new id name sets.this)) (class_new n.topology name c fresh), has)
 
   had_before : (i : InstanceId) (e : EventId) → i ≢ id → IsLive new i → HasEventAt new i e → IsLive n i × HasEventAt n i e
   had_before i e ne (x, is) (d, of_d, has) =
       let was : IsNamed n i x = sym (sets.others i ne) ∙ is in
       let same : name_at new i ≡ name_at n i = name_is new i x is ∙ sym (name_is n i x was) in
-      let of_name : IsOf new.topology (name_at n i) d = subst (λ q. IsOf new.topology q d) same of_d in (
+      let of_name : HasClass new.topology (name_at n i) d = subst (λ q. HasClass new.topology q d) same of_d in (
         (x, was),
         elim (class_before n.topology name c fresh (name_at n i) d of_name) [
           | inl here ↦ absurd (fresh (subst (IsLiveName n.topology) (sym (name_is n i x was) ∙ here.0) (old_whole.live i x was)))
@@ -92,7 +92,7 @@ module _ (n : Net) (name : List ℕ) (c : ClassId) (names : List (Option (List �
   -- what an instance of the name has of events, its class has
   events_of_new : (e : EventId) → HasEventAt new id e → HasEvent n.topology.model c e
   events_of_new e (d, of_d, has) =
-      let here : IsOf new.topology name d = subst (λ q. IsOf new.topology q d) (name_is new id name sets.this) of_d in
+      let here : HasClass new.topology name d = subst (λ q. HasClass new.topology q d) (name_is new id name sets.this) of_d in
       let same : d ≡ c = one_class_of new.topology name d c here (class_new n.topology name c fresh) in
       subst (λ b. HasEvent n.topology.model b e) same has
 
@@ -157,8 +157,8 @@ module _ (n : Net) (name : List ℕ) (c : ClassId) (names : List (Option (List �
   }
 
 -- an accepted instance is made on the whole
-pub create_makes : (n m : Net) (ns ms : Table) (counts counts' : Counts) (name class : List ℕ) (c : ClassId) (id : InstanceId)
-    → IsKept n ns counts → IsInstance name → IsAccepted n.topology (Create name class) → NamesClass n.topology.model class c
+pub create_makes : (n m : Net) (ns ms : Table) (counts counts' : NodeCounts) (name class : List ℕ) (c : ClassId) (id : InstanceId)
+    → IsTopologyOf n ns counts → IsInstance name → IsAccepted n.topology (Create name class) → NamesClass n.topology.model class c
     → Creates n m id name c → AddsAll n c ns ms id → IsWholeNet m → IsOne ms → CountWith n.topology.model counts c counts'
     → Makes n ns (Create name class) m ms counts'
 create_makes n m ns ms counts counts' name class c id kept good accepted named creates (events, are, adds) whole one with =

@@ -5,7 +5,7 @@ use Rattle.std.proofs.lemmas.List.{get_or-set_other}
 use Rattle.cb_model.specs.declared.id.ClassId.{ClassId}
 use Rattle.cb_model.specs.declared.id.EventId.{EventId}
 use Rattle.cb_model.proofs.Rising.{name_cmp_total, name_cmp_exact}
-use Rattle.cb_network.specs.Topology.{Topology, IsLive as IsLiveName, IsOf}
+use Rattle.cb_network.specs.Topology.{Topology, IsLive as IsLiveName, HasClass}
 use Rattle.cb_network.specs.Edits.{without_instance, Changes, IsAccepted}
 use Rattle.cb_network.specs.Sound.{node_limit}
 use Rattle.cb_network.proofs.Kept.{class_of}
@@ -16,10 +16,10 @@ use Rattle.cb_nodes.specs.declared.id.NodeId.{NodeId}
 use Rattle.cb_nodes.specs.declared.node.Node.{Node}
 use Rattle.cb_nodes.specs.Table.{Table, IsNode, HasEvent as HasEventIn, IsOne, Removes}
 use Rattle.cb_topo.specs.Applied.{KeepsInstances, KeepsNodes}
-use Rattle.cb_topo.specs.Kept.{FitsTable, IsKept}
+use Rattle.cb_topo.specs.Kept.{FitsTable, IsTopologyOf}
 use Rattle.cb_topo.specs.Made.{Makes}
-use Rattle.cb_topo.proofs.Regular.{typed_is_regular}
-use Rattle.cb_accept.specs.declared.counts.Counts.{Counts}
+use Rattle.cb_network.proofs.Typed.{typed_is_regular}
+use Rattle.cb_accept.specs.declared.counts.NodeCounts.{NodeCounts}
 use Rattle.cb_accept.specs.Counts.{AreCounts, CountWithout}
 use Rattle.cb_network.specs.declared.edit.Edit.TheVariants.{Delete}
 use Rattle.cb_network.proofs.Accepted.{edit_keeps_sound}
@@ -33,10 +33,10 @@ emptied (x ∷ xs) zero = refl
 emptied (x ∷ xs) (suc i) = emptied xs i
 
 module _ (t : Topology) (name : List ℕ) where
-  pub class_left : (q : List ℕ) (d : ClassId) → q ≢ name → IsOf t q d → IsOf (without_instance t name) q d
+  pub class_left : (q : List ℕ) (d : ClassId) → q ≢ name → HasClass t q d → HasClass (without_instance t name) q d
   class_left q d other is = (got_remove name_cmp_total name_cmp_exact t.instances name q d).1 (other, is)
 
-  pub class_was : (q : List ℕ) (d : ClassId) → IsOf (without_instance t name) q d → (q ≢ name) × IsOf t q d
+  pub class_was : (q : List ℕ) (d : ClassId) → HasClass (without_instance t name) q d → (q ≢ name) × HasClass t q d
   class_was q d is = (got_remove name_cmp_total name_cmp_exact t.instances name q d).0 is
 
 module _ (n : Net) (id : InstanceId) (here : IsLive n id) (whole : IsWholeNet n) where
@@ -67,16 +67,16 @@ module _ (n : Net) (id : InstanceId) (here : IsLive n id) (whole : IsWholeNet n)
   had_stays i e other (x, is) (d, of_d, has) =
       let was : name_at n i ≡ x = name_is n i x is in
       let now : name_at new i ≡ x = name_is new i x (named_stays i x other is) in
-      let left = class_left n.topology gone x d (other_name i x other is) (subst (λ q. IsOf n.topology q d) was of_d) in
-      (d, subst (λ q. IsOf new.topology q d) (sym now) left, has)
+      let left = class_left n.topology gone x d (other_name i x other is) (subst (λ q. HasClass n.topology q d) was of_d) in
+      (d, subst (λ q. HasClass new.topology q d) (sym now) left, has)
 
   had_was : (i : InstanceId) (e : EventId) → IsLive new i → HasEventAt new i e → IsLive n i × HasEventAt n i e
   had_was i e (x, is) (d, of_d, has) =
       let was = named_was i x is in
       let now : name_at new i ≡ x = name_is new i x is in
       let old : name_at n i ≡ x = name_is n i x was.1 in
-      let left = class_was n.topology gone x d (subst (λ q. IsOf new.topology q d) now of_d) in
-      ((x, was.1), (d, subst (λ q. IsOf n.topology q d) (sym old) left.1, has))
+      let left = class_was n.topology gone x d (subst (λ q. HasClass new.topology q d) now of_d) in
+      ((x, was.1), (d, subst (λ q. HasClass n.topology q d) (sym old) left.1, has))
 
   module _ (ns ms : Table) (fits : FitsTable n ns) (removes : Removes ns ms id) where
     one : IsOne ms
@@ -122,8 +122,8 @@ module _ (n : Net) (id : InstanceId) (here : IsLive n id) (whole : IsWholeNet n)
       }
 
 -- an accepted delete is made on the whole
-pub delete_makes : (n m : Net) (ns ms : Table) (counts counts' : Counts) (name : List ℕ) (c : ClassId) (id : InstanceId)
-    → IsKept n ns counts → IsAccepted n.topology (Delete name) → IsNamed n id name → IsOf n.topology name c → m ≡ without n id
+pub delete_makes : (n m : Net) (ns ms : Table) (counts counts' : NodeCounts) (name : List ℕ) (c : ClassId) (id : InstanceId)
+    → IsTopologyOf n ns counts → IsAccepted n.topology (Delete name) → IsNamed n id name → HasClass n.topology name c → m ≡ without n id
     → Removes ns ms id → IsWholeNet m → CountWithout n.topology.model counts c counts' → Makes n ns (Delete name) m ms counts'
 delete_makes n m ns ms counts counts' name c id kept accepted named of_class same removes whole less =
     let v : Net = without n id in

@@ -7,7 +7,7 @@ use Rattle.cb_model.specs.declared.id.EventId.{EventId}
 use Rattle.cb_model.specs.declared.tables.Tables.{Tables}
 use Rattle.cb_model.specs.Order.{name_cmp}
 use Rattle.cb_model.specs.WellTyped.{WellTyped}
-use Rattle.cb_network.specs.Topology.{link_cmp, IsOf}
+use Rattle.cb_network.specs.Topology.{link_cmp, HasClass}
 use Rattle.cb_network.specs.Edits.{link_of}
 use Rattle.cb_network.proofs.Accepted.{empty_is_sound}
 use Rattle.cb_network.proofs.Kept.{class_of}
@@ -16,9 +16,9 @@ use Rattle.cb_instances.specs.Net.{Net, empty_net, IsLive, HasEventAt, IsWhole a
 use Rattle.cb_nodes.specs.declared.id.NodeId.{NodeId}
 use Rattle.cb_nodes.specs.declared.node.Node.{Node}
 use Rattle.cb_nodes.specs.Table.{Table, IsNode, HasEvent as HasEventIn, IsOne}
-use Rattle.cb_accept.specs.declared.counts.Counts.{Counts}
+use Rattle.cb_accept.specs.declared.counts.NodeCounts.{NodeCounts}
 use Rattle.cb_accept.specs.Counts.{AreCounts}
-use Rattle.cb_topo.specs.Kept.{IsKept}
+use Rattle.cb_topo.specs.Kept.{IsTopologyOf}
 
 module _ (tables : Tables) (typed : WellTyped tables) where
   abbrev net : Net
@@ -27,7 +27,7 @@ module _ (tables : Tables) (typed : WellTyped tables) where
   abbrev nodes : Table
   nodes = []
 
-  no_class : (name : List ℕ) (c : ClassId) → IsOf net.topology name c → ⊥
+  no_class : (name : List ℕ) (c : ClassId) → HasClass net.topology name c → ⊥
   no_class name c is = let none = map.get-empty {X = ClassId} name_cmp name in cc
 
   whole : IsWholeNet net
@@ -50,7 +50,7 @@ module _ (tables : Tables) (typed : WellTyped tables) where
   all : (i : InstanceId) (e : EventId) → IsLive net i → HasEventAt net i e → HasEventIn nodes i e
   all i e (name, is) has = absurd (cc)
 
-  pub empty_kept : (counts : Counts) → AreCounts net.topology counts → IsKept net nodes counts
+  pub empty_kept : (counts : NodeCounts) → AreCounts net.topology counts → IsTopologyOf net nodes counts
   empty_kept counts are = record {
     sound = empty_is_sound tables;
     typed = typed;

@@ -1,4 +1,3 @@
-pub mod Regular
 pub mod Named
 pub mod Counted
 pub mod Creating

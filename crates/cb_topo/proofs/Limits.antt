@@ -12,16 +12,16 @@ use Rattle.cb_network.specs.Sound.{node_limit, problem_limit, symptom_limit}
 use Rattle.cb_network.proofs.Counts.{count_is_one}
 use Rattle.cb_instances.specs.Net.{Net}
 use Rattle.cb_nodes.specs.Table.{Table, count_of, room_with}
-use Rattle.cb_accept.specs.declared.counts.Counts.{Counts}
+use Rattle.cb_accept.specs.declared.counts.NodeCounts.{NodeCounts}
 use Rattle.cb_accept.specs.Counts.{AreWithin}
 use Rattle.cb_accept.proofs.Own.{few_events}
-use Rattle.cb_topo.specs.Kept.{IsKept}
+use Rattle.cb_topo.specs.Kept.{IsTopologyOf}
 
 -- the number itself is within the limit
 count_within : (P : NodeName → Type 0) (n limit : ℕ) → IsCount P n → IsWithin P limit → n ≤ limit
 count_within P n limit count (k, counted, few) = let same = count_is_one P n k count counted in omega arith
 
-pub kept_within : (net : Net) (nodes : Table) (counts : Counts) → IsKept net nodes counts → AreWithin counts
+pub kept_within : (net : Net) (nodes : Table) (counts : NodeCounts) → IsTopologyOf net nodes counts → AreWithin counts
 kept_within net nodes counts kept = record {
   nodes = count_within (IsNodeOf net.topology) counts.nodes node_limit kept.counted.nodes kept.sound.few_nodes;
   problems = count_within (IsProblem net.topology) counts.problems problem_limit kept.counted.problems kept.sound.few_problems;

@@ -16,8 +16,8 @@ use Rattle.cb_network.specs.Topology.{Topology}
 use Rattle.cb_nodes.specs.declared.id.NodeId.{NodeId}
 use Rattle.cb_nodes.specs.declared.node.Node.{Node}
 use Rattle.cb_nodes.specs.Table.{IsNode}
-use Rattle.cb_topo.specs.declared.kind.Kind.{Kind}
-use Rattle.cb_topo.specs.declared.kind.Kind.TheVariants.{Column, Problem, Any}
+use Rattle.cb_topo.specs.declared.kind.NodeKind.{NodeKind}
+use Rattle.cb_topo.specs.declared.kind.NodeKind.TheVariants.{Column, Problem, Any}
 use Rattle.cb_topo.specs.declared.order.NamedNode.{NamedNode}
 use Rattle.cb_topo.specs.Numbered.{Numbered, topology_of, IsNodeNamed, AreNamed, IsWhole}
 use Rattle.cb_topo.specs.Ordered.{IsOfKind, AreOfKind, called, number}
@@ -25,7 +25,7 @@ use Rattle.cb_topo.proofs.Naming.{one_name}
 use Rattle.cb_topo.proofs.Sorting.{rises_sorted}
 
 -- these are those of the kind whose numbers are below k, each once, with their names
-pub record AreBelow (n : Numbered) (kind : Kind) (k : ℕ) (nodes : List NamedNode) : Type 0 where
+pub record AreBelow (n : Numbered) (kind : NodeKind) (k : ℕ) (nodes : List NamedNode) : Type 0 where
   pub below : All (λ one. one.node.0 < k) nodes
   pub named : All (λ one. IsNodeNamed n one.node (called one)) nodes
   pub kinds : All (λ one. IsOfKind kind (topology_of n) (called one)) nodes
@@ -35,7 +35,7 @@ pub record AreBelow (n : Numbered) (kind : Kind) (k : ℕ) (nodes : List NamedNo
 same_number : (i j : NodeId) → i.0 ≡ j.0 → i ≡ j
 same_number i j e = λ k. record { 0 = e k }
 
-pub below_none : (n : Numbered) (kind : Kind) → AreBelow n kind 0 []
+pub below_none : (n : Numbered) (kind : NodeKind) → AreBelow n kind 0 []
 below_none n kind = record {
   below = All-nil (λ (one : NamedNode). one.node.0 < 0);
   named = All-nil (λ (one : NamedNode). IsNodeNamed n one.node (called one));
@@ -44,7 +44,7 @@ below_none n kind = record {
   all = λ name id below named is. absurd (omega arith);
 }
 
-module _ (n : Numbered) (kind : Kind) (k : ℕ) (old : List NamedNode) (are : AreBelow n kind k old) where
+module _ (n : Numbered) (kind : NodeKind) (k : ℕ) (old : List NamedNode) (are : AreBelow n kind k old) where
   all_below : All (λ one. one.node.0 < k + 1) old
   all_below = All-weaker (λ (one : NamedNode). one.node.0 < k) (λ (one : NamedNode). one.node.0 < k + 1) (λ one low. omega arith) old are.below
 
@@ -91,13 +91,13 @@ module _ (n : Numbered) (kind : Kind) (k : ℕ) (old : List NamedNode) (are : Ar
     }
 
 -- what is of a kind is a node
-of_topology : (kind : Kind) (t : Topology) (name : NodeName) → IsOfKind kind t name → IsNodeOf t name
+of_topology : (kind : NodeKind) (t : Topology) (name : NodeName) → IsOfKind kind t name → IsNodeOf t name
 of_topology Column t name is = (is.symptom.event, record { class = is.symptom.class; of_class = is.symptom.of_class; named = (is.symptom.symptom.has, is.symptom.named) })
 of_topology Problem t name is = (is.event, record { class = is.class; of_class = is.of_class; named = (is.problem.has, is.named) })
 of_topology Any t name is = is
 
 -- all numbers were gone through
-pub below_all : (n : Numbered) (kind : Kind) (k : ℕ) (nodes : List NamedNode) → IsWhole n → ((id : NodeId) (node : Node) → IsNode n.nodes id node → id.0 < k)
+pub below_all : (n : Numbered) (kind : NodeKind) (k : ℕ) (nodes : List NamedNode) → IsWhole n → ((id : NodeId) (node : Node) → IsNode n.nodes id node → id.0 < k)
     → AreBelow n kind k nodes → AreOfKind n kind nodes
 below_all n kind k nodes whole below are = record {
   named = are.named;
@@ -115,7 +115,7 @@ zipped n (one ∷ nodes) all =
     (All-head P one nodes all, zipped n nodes (All-tail P one nodes all))
 
 -- once they are sorted, their names are all of the kind, in order, and their numbers are those of the names
-module _ (n : Numbered) (kind : Kind) (found nodes : List NamedNode) (are : AreOfKind n kind found) (moved : IsPermutation found nodes) where
+module _ (n : Numbered) (kind : NodeKind) (found nodes : List NamedNode) (are : AreOfKind n kind found) (moved : IsPermutation found nodes) where
   pub names_are : IsSortedBy (λ a b. is_lt (node_cmp (called a) (called b))) nodes → AreInOrder (IsOfKind kind (topology_of n)) (map called nodes)
   names_are sorted =
       let of_kind : NodeName → Type 0 = IsOfKind kind (topology_of n) in

@@ -6,7 +6,7 @@ use Rattle.cb_model.specs.declared.node.NodeName.{NodeName}
 use Rattle.cb_model.specs.declared.tables.Tables.{Tables}
 use Rattle.cb_model.specs.Classes.{HasEvent, NamesEvent}
 use Rattle.cb_model.specs.WellTyped.{WellTyped}
-use Rattle.cb_network.specs.Topology.{Topology, IsOf}
+use Rattle.cb_network.specs.Topology.{Topology, HasClass}
 use Rattle.cb_network.specs.Nodes.{IsEventAt}
 use Rattle.cb_network.specs.Edits.{node_of as name_of}
 use Rattle.cb_instances.specs.declared.id.InstanceId.{InstanceId}
@@ -29,7 +29,7 @@ pub event_name_is : (tables : Tables) (c : ClassId) (e : EventId) (has : HasEven
 event_name_is tables c e has = ap name_in_row has.is
 
 -- an instance is of one class
-pub one_class_of : (t : Topology) (name : List ℕ) (c d : ClassId) → IsOf t name c → IsOf t name d → c ≡ d
+pub one_class_of : (t : Topology) (name : List ℕ) (c d : ClassId) → HasClass t name c → HasClass t name d → c ≡ d
 one_class_of t name c d is is' =
     let e : Some c ≡ Some d = sym is ∙ is' in
     cc
@@ -44,7 +44,7 @@ node_is net id e (c, is, has) =
 pub event_is : (net : Net) (id : InstanceId) (n : NodeName) (e : EventId) → IsNamed net id n.instance → IsEventAt net.topology n e
     → HasEventAt net id e × (event_name net.topology.model e ≡ n.event)
 event_is net id n e named at = (
-  (at.class, subst (λ name. IsOf net.topology name at.class) (sym (name_is net id n.instance named)) at.of_class, at.named.0),
+  (at.class, subst (λ name. HasClass net.topology name at.class) (sym (name_is net id n.instance named)) at.of_class, at.named.0),
   event_name_is net.topology.model at.class e at.named.0 ∙ at.named.1,
 )
 
@@ -62,7 +62,7 @@ same_node net typed whole x y live_x live_y (c, of_c, has_x) (d, of_d, has_y) sa
     let named_x = named_at net x.instance live_x in
     let named_y = subst (IsNamed net y.instance) (sym names) (named_at net y.instance live_y) in
     let instance : x.instance ≡ y.instance = whole.one x.instance y.instance (name_at net x.instance) named_x named_y in
-    let class : d ≡ c = one_class_of net.topology (name_at net x.instance) d c (subst (λ n. IsOf net.topology n d) (sym names) of_d) of_c in
+    let class : d ≡ c = one_class_of net.topology (name_at net x.instance) d c (subst (λ n. HasClass net.topology n d) (sym names) of_d) of_c in
     let there : NamesEvent tables d (event_name tables x.event) y.event = (has_y, sym (event_name_is tables d y.event has_y) ∙ sym events) in
     let here : NamesEvent tables c (event_name tables x.event) x.event = (has_x, sym (event_name_is tables c x.event has_x)) in
     let event : x.event ≡ y.event = one_event tables typed c (event_name tables x.event) x.event y.event here

@@ -10,7 +10,7 @@ use Rattle.cb_model.specs.declared.tables.EventRow.{EventRow}
 use Rattle.cb_model.specs.declared.tables.Tables.{Tables}
 use Rattle.cb_network.specs.Edits.{node_of as name_of}
 use Rattle.cb_network.specs.Nodes.{IsNodeOf, IsEventAt, IsProblem, IsSymptomNode}
-use Rattle.cb_network.specs.Topology.{Topology, IsOf}
+use Rattle.cb_network.specs.Topology.{Topology, HasClass}
 use Rattle.cb_network.proofs.Counts.{Kind, IsAt, of_problems, of_symptoms, problems_are, symptoms_are}
 use Rattle.cb_network.proofs.Kept.{live_of}
 use Rattle.cb_instances.specs.declared.id.InstanceId.{InstanceId}
@@ -20,8 +20,8 @@ use Rattle.cb_instances.proofs.Showing.{same_inside}
 use Rattle.cb_nodes.specs.declared.id.NodeId.{NodeId}
 use Rattle.cb_nodes.specs.declared.node.Node.{Node}
 use Rattle.cb_nodes.specs.Table.{IsNode, HasNumber, node_of}
-use Rattle.cb_accept.specs.declared.counts.Counts.{Counts}
-use Rattle.cb_topo.specs.Kept.{IsKept}
+use Rattle.cb_accept.specs.declared.counts.NodeCounts.{NodeCounts}
+use Rattle.cb_topo.specs.Kept.{IsTopologyOf}
 use Rattle.cb_topo.specs.Numbered.{Numbered, topology_of, IsNodeNamed, IsLiveNode, IsWhole}
 
 -- what follows from what a clause says of a `None`
@@ -42,7 +42,7 @@ pub event_name_is : (tables : Tables) (e : EventId) (row : EventRow) → slice_g
 event_name_is tables e row is = ap name_in_row is
 
 -- the class of the instance has its events
-pub has_event : (net : Net) (i : InstanceId) (c : ClassId) (e : EventId) → IsOf net.topology (name_at net i) c → HasEventAt net i e → HasEvent net.topology.model c e
+pub has_event : (net : Net) (i : InstanceId) (c : ClassId) (e : EventId) → HasClass net.topology (name_at net i) c → HasEventAt net i e → HasEvent net.topology.model c e
 has_event net i c e of_class (d, of_d, has) = subst (λ k. HasEvent net.topology.model k e) (same_inside d c (sym of_d ∙ of_class)) has
 
 -- a node is called by its event and its instance
@@ -59,10 +59,10 @@ pub one_name : (n : Numbered) (id : NodeId) (a b : NodeName) → IsNodeNamed n i
 one_name n id a b named other = sym (name_of_node n id named.node a named.is named) ∙ name_of_node n id named.node b named.is other
 
 -- an event that the class of an instance does not have is no node
-pub no_node : (t : Topology) (c : ClassId) (event instance : List ℕ) → IsOf t instance c → ((e : EventId) → ¬ NamesEvent t.model c event e) → ¬ IsNodeOf t (name_of event instance)
+pub no_node : (t : Topology) (c : ClassId) (event instance : List ℕ) → HasClass t instance c → ((e : EventId) → ¬ NamesEvent t.model c event e) → ¬ IsNodeOf t (name_of event instance)
 no_node t c event instance of_class none (e, at) = none e (subst (λ k. NamesEvent t.model k event e) (same_inside at.class c (sym at.of_class ∙ of_class)) at.named)
 
-module _ (n : Numbered) (counts : Counts) (kept : IsKept n.net n.nodes counts) where
+module _ (n : Numbered) (counts : NodeCounts) (kept : IsTopologyOf n.net n.nodes counts) where
   -- what has a number has a name
   pub named_node : (id : NodeId) (node : Node) → IsNode n.nodes id node → IsNodeNamed n id (node_at n.net node.instance node.event)
   named_node id node is = record { node = node; is = is; instance = is_named n.net node.instance (kept.table.live id node is); event = refl }
@@ -72,7 +72,7 @@ module _ (n : Numbered) (counts : Counts) (kept : IsKept n.net n.nodes counts) w
   one_number i j name a b =
       let instance : a.node.instance ≡ b.node.instance = kept.whole.one a.node.instance b.node.instance name.instance a.instance b.instance in
       let had = kept.table.had i a.node a.is in
-      let of_b : IsOf n.net.topology (name_at n.net b.node.instance) had.0 = subst (λ k. IsOf n.net.topology (name_at n.net k) had.0) instance had.1 in
+      let of_b : HasClass n.net.topology (name_at n.net b.node.instance) had.0 = subst (λ k. HasClass n.net.topology (name_at n.net k) had.0) instance had.1 in
       let has = has_event n.net b.node.instance had.0 b.node.event of_b (kept.table.had j b.node b.is) in
       let event : a.node.event ≡ b.node.event = event_told n.net.topology.model kept.typed had.0 a.node.event b.node.event had.2 has (a.event ∙ sym b.event) in
       let node : a.node ≡ b.node = λ k. record { instance = instance k; event = event k } in
@@ -84,7 +84,7 @@ module _ (n : Numbered) (counts : Counts) (kept : IsKept n.net n.nodes counts) w
       let had = kept.table.had id named.node named.is in
       let at : IsEventAt (topology_of n) name named.node.event = record {
         class = had.0;
-        of_class = subst (λ q. IsOf (topology_of n) q had.0) (name_is n.net named.node.instance name.instance named.instance) had.1;
+        of_class = subst (λ q. HasClass (topology_of n) q had.0) (name_is n.net named.node.instance name.instance named.instance) had.1;
         named = (had.2, sym (event_name_is n.net.topology.model named.node.event had.2.row had.2.is) ∙ named.event);
       } in
       (named.node.event, at)
@@ -93,7 +93,7 @@ module _ (n : Numbered) (counts : Counts) (kept : IsKept n.net n.nodes counts) w
   pub has_number : (name : NodeName) → IsNodeOf (topology_of n) name → (id : NodeId) × IsNodeNamed n id name
   has_number name (e, at) =
       let i = kept.whole.named name.instance (live_of n.net.topology name.instance at.class at.of_class) in
-      let of_class = subst (λ q. IsOf n.net.topology q at.class) (sym (name_is n.net i.0 name.instance i.1)) at.of_class in
+      let of_class = subst (λ q. HasClass n.net.topology q at.class) (sym (name_is n.net i.0 name.instance i.1)) at.of_class in
       let id = kept.table.all i.0 e (name.instance, i.1) (at.class, of_class, at.named.0) in
       (id.0, record { node = node_of i.0 e; is = id.1; instance = i.1; event = event_name_is n.net.topology.model e at.named.0.row at.named.0.is ∙ at.named.1 })
 
@@ -107,11 +107,11 @@ module _ (n : Numbered) (counts : Counts) (kept : IsKept n.net n.nodes counts) w
     had = kept.table.had;
   }
 
-  module _ (id : NodeId) (name : NodeName) (named : IsNodeNamed n id name) (c : ClassId) (of_class : IsOf n.net.topology name.instance c) where
+  module _ (id : NodeId) (name : NodeName) (named : IsNodeNamed n id name) (c : ClassId) (of_class : HasClass n.net.topology name.instance c) where
     -- its class has the node's event
     pub has_it : HasEvent n.net.topology.model c named.node.event
     has_it =
-        let own = subst (λ q. IsOf n.net.topology q c) (sym (name_is n.net named.node.instance name.instance named.instance)) of_class in
+        let own = subst (λ q. HasClass n.net.topology q c) (sym (name_is n.net named.node.instance name.instance named.instance)) of_class in
         has_event n.net named.node.instance c named.node.event own (kept.table.had id named.node named.is)
 
     -- a node is of a kind by the event of its number
@@ -141,12 +141,12 @@ module _ (n : Numbered) (counts : Counts) (kept : IsKept n.net n.nodes counts) w
 
   -- what the event of a number is for the class, the node of the number is
   module _ (id : NodeId) (at : Node) (is : IsNode n.nodes id at) (tables : Tables) (model : tables ≡ n.net.topology.model)
-      (c : ClassId) (of_class : (name : List ℕ) → IsNamed n.net at.instance name → IsOf n.net.topology name c)
+      (c : ClassId) (of_class : (name : List ℕ) → IsNamed n.net at.instance name → HasClass n.net.topology name c)
       (name : NodeName) (named : IsNodeNamed n id name) where
     own : at ≡ named.node
     own = same_inside at named.node (sym is ∙ named.is)
 
-    class : IsOf n.net.topology name.instance c
+    class : HasClass n.net.topology name.instance c
     class = of_class name.instance (subst (λ (k : Node). IsNamed n.net k.instance name.instance) (sym own) named.instance)
 
     pub told_problem : (b : Bool) → IsTrue b ↔ IsProblemOf tables c at.event → IsTrue b ↔ IsProblem n.net.topology name

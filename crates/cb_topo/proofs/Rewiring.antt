@@ -14,12 +14,12 @@ use Rattle.cb_network.proofs.Counts.{nodes_are, problems_are, symptoms_are, same
 use Rattle.cb_network.proofs.Kept.{live_of}
 use Rattle.cb_instances.specs.Net.{Net, IsWhole as IsWholeNet}
 use Rattle.cb_nodes.specs.Table.{Table}
-use Rattle.cb_accept.specs.declared.counts.Counts.{Counts}
+use Rattle.cb_accept.specs.declared.counts.NodeCounts.{NodeCounts}
 use Rattle.cb_accept.specs.Counts.{AreCounts}
 use Rattle.cb_topo.specs.Applied.{IsNodeRoomAfter, IsInstanceRoomAfter}
-use Rattle.cb_topo.specs.Kept.{IsKept, FitsTable}
+use Rattle.cb_topo.specs.Kept.{IsTopologyOf, FitsTable}
 use Rattle.cb_topo.specs.Made.{Makes, Rewires, rewired}
-use Rattle.cb_topo.proofs.Regular.{typed_is_regular}
+use Rattle.cb_network.proofs.Typed.{typed_is_regular}
 
 module _ (n : Net) (links : set.FinSet link_cmp) (mutes : set.FinSet node_cmp) where
   abbrev new : Net
@@ -43,7 +43,7 @@ module _ (n : Net) (links : set.FinSet link_cmp) (mutes : set.FinSet node_cmp) w
     λ is. (symptoms_are n.topology q).1 ((symptoms_are new.topology q).0 is),
   )
 
-  counts_stay : (counts : Counts) → AreCounts n.topology counts → AreCounts new.topology counts
+  counts_stay : (counts : NodeCounts) → AreCounts n.topology counts → AreCounts new.topology counts
   counts_stay counts are = record {
     nodes = same_count (IsNodeOf n.topology) (IsNodeOf new.topology) (λ q. (nodes_stay q, nodes_were q)) counts.nodes are.nodes;
     problems = same_count (IsProblem n.topology) (IsProblem new.topology) problems_same counts.problems are.problems;
@@ -71,7 +71,7 @@ module _ (n : Net) (links : set.FinSet link_cmp) (mutes : set.FinSet node_cmp) w
     few = fits.few;
   }
 
-  pub rewired_kept : (nodes : Table) (counts : Counts) → IsKept n nodes counts → Sound new.topology → IsKept new nodes counts
+  pub rewired_kept : (nodes : Table) (counts : NodeCounts) → IsTopologyOf n nodes counts → Sound new.topology → IsTopologyOf new nodes counts
   rewired_kept nodes counts kept sound = record {
     sound = sound;
     typed = kept.typed;
@@ -82,7 +82,7 @@ module _ (n : Net) (links : set.FinSet link_cmp) (mutes : set.FinSet node_cmp) w
   }
 
   -- an edit of links and mutes alone is made on the whole
-  pub rewired_makes : (nodes : Table) (counts : Counts) (edit : Edit) → IsKept n nodes counts → HasGoodName edit
+  pub rewired_makes : (nodes : Table) (counts : NodeCounts) (edit : Edit) → IsTopologyOf n nodes counts → HasGoodName edit
       → IsAccepted n.topology edit → IsNodeRoomAfter (record { net = n; nodes = nodes }) edit (length nodes) → IsInstanceRoomAfter (record { net = n; nodes = nodes }) edit n.room
       → Changes n.topology edit new.topology → Makes n nodes edit new nodes counts
   rewired_makes nodes counts edit kept good accepted room above changes =
@@ -98,7 +98,7 @@ module _ (n : Net) (links : set.FinSet link_cmp) (mutes : set.FinSet node_cmp) w
         kept = rewired_kept nodes counts kept sound;
       }
 
-pub rewires_makes : (n m : Net) (nodes : Table) (counts : Counts) (edit : Edit) → IsKept n nodes counts → HasGoodName edit
+pub rewires_makes : (n m : Net) (nodes : Table) (counts : NodeCounts) (edit : Edit) → IsTopologyOf n nodes counts → HasGoodName edit
     → IsAccepted n.topology edit → IsNodeRoomAfter (record { net = n; nodes = nodes }) edit (length nodes) → IsInstanceRoomAfter (record { net = n; nodes = nodes }) edit n.room
     → Rewires n edit m → Makes n nodes edit m nodes counts
 rewires_makes n m nodes counts edit kept good accepted room above rewires =

@@ -13,10 +13,10 @@ use Rattle.cb_network.specs.Laws.{HasGoodName}
 use Rattle.cb_instances.specs.declared.id.InstanceId.{InstanceId}
 use Rattle.cb_instances.specs.Net.{Net, IsLive, LinkAt, HasEventAt, IsMutedAt, name_at, linked, unlinked, muted, unmuted}
 use Rattle.cb_nodes.specs.Table.{Table}
-use Rattle.cb_accept.specs.declared.counts.Counts.{Counts}
+use Rattle.cb_accept.specs.declared.counts.NodeCounts.{NodeCounts}
 use Rattle.cb_accept.specs.declared.step.Step.TheVariants as step
 use Rattle.cb_accept.specs.Steps.{IsStepOf}
-use Rattle.cb_topo.specs.Kept.{IsKept}
+use Rattle.cb_topo.specs.Kept.{IsTopologyOf}
 use Rattle.cb_topo.specs.Made.{Makes}
 use Rattle.cb_topo.proofs.Asking.{is_relation, not_linked, link_rewires, unlink_rewires, not_muted, mute_rewires, unmute_rewires}
 use Rattle.cb_topo.proofs.Named.{name_is}
@@ -52,7 +52,7 @@ module _ (n : Net) (i : InstanceId) (r : RelId) (j : InstanceId) where
   link_is_new (Link a rel b) are accepted = not_linked n a rel b i r j are (accepted Linked)
   link_is_new edit is accepted = absurd is
 
-  module _ (m : Net) (nodes : Table) (counts : Counts) (kept : IsKept n nodes counts) where
+  module _ (m : Net) (nodes : Table) (counts : NodeCounts) (kept : IsTopologyOf n nodes counts) where
     pub link_makes : (edit : Edit) → HasGoodName edit → IsAccepted n.topology edit → IsStepOf n edit (step.Link i r j) → m ≡ linked n i r j → Makes n nodes edit m nodes counts
     link_makes (Link a rel b) good accepted are is =
         rewires_makes n m nodes counts (Link a rel b) kept good accepted refl refl (link_rewires n a rel b i r j are m is)
@@ -76,7 +76,7 @@ module _ (n : Net) (id : InstanceId) (e : EventId) where
   mute_is_new (Mute event name) are accepted = not_muted n event name id e are (accepted AlreadyMuted)
   mute_is_new edit is accepted = absurd is
 
-  module _ (m : Net) (nodes : Table) (counts : Counts) (kept : IsKept n nodes counts) where
+  module _ (m : Net) (nodes : Table) (counts : NodeCounts) (kept : IsTopologyOf n nodes counts) where
     pub mute_makes : (edit : Edit) → HasGoodName edit → IsAccepted n.topology edit → IsStepOf n edit (step.Mute id e) → m ≡ muted n id e → Makes n nodes edit m nodes counts
     mute_makes (Mute event name) good accepted are is =
         rewires_makes n m nodes counts (Mute event name) kept good accepted refl refl (mute_rewires n event name id e are m is)

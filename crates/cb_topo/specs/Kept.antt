@@ -3,14 +3,14 @@ use Rattle.std.specs.Prelude.{◌≤◌, ℕ, List, length}
 use Rattle.cb_model.specs.declared.id.ClassId.{ClassId}
 use Rattle.cb_model.specs.declared.id.EventId.{EventId}
 use Rattle.cb_model.specs.WellTyped.{WellTyped, IsClass}
-use Rattle.cb_network.specs.Topology.{Topology, IsOf}
+use Rattle.cb_network.specs.Topology.{Topology, HasClass}
 use Rattle.cb_network.specs.Sound.{Sound, node_limit}
 use Rattle.cb_instances.specs.declared.id.InstanceId.{InstanceId}
 use Rattle.cb_instances.specs.Net.{Net, IsLive, HasEventAt, IsWhole as IsWholeNet}
 use Rattle.cb_nodes.specs.declared.id.NodeId.{NodeId}
 use Rattle.cb_nodes.specs.declared.node.Node.{Node}
 use Rattle.cb_nodes.specs.Table.{Table, IsNode, HasEvent as HasEventIn, IsOne}
-use Rattle.cb_accept.specs.declared.counts.Counts.{Counts}
+use Rattle.cb_accept.specs.declared.counts.NodeCounts.{NodeCounts}
 use Rattle.cb_accept.specs.Counts.{AreCounts}
 
 -- exactly the events of live instances have numbers, each has one, and the numbers are below the limit of nodes
@@ -23,10 +23,10 @@ pub record FitsTable (net : Net) (nodes : Table) : Type 0 where
 
 -- instances are of classes of the model
 abbrev pub AreClassed : Topology → Type 0
-AreClassed t = (name : List ℕ) (c : ClassId) → IsOf t name c → IsClass t.model c
+AreClassed t = (name : List ℕ) (c : ClassId) → HasClass t name c → IsClass t.model c
 
 -- the topology is sound, its instances are of the model's classes, its nodes have numbers, and the counts are its own
-pub record IsKept (net : Net) (nodes : Table) (counts : Counts) : Type 0 where
+pub record IsTopologyOf (net : Net) (nodes : Table) (counts : NodeCounts) : Type 0 where
   pub sound : Sound net.topology
   pub typed : WellTyped net.topology.model
   pub whole : IsWholeNet net

@@ -1,5 +1,5 @@
 pub mod Numbered
-pub mod Codes
+pub mod Encoding
 pub mod Applied
 pub mod Kept
 pub mod Made

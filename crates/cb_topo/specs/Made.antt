@@ -7,14 +7,14 @@ use Rattle.cb_network.specs.Topology.{link_cmp}
 use Rattle.cb_network.specs.Edits.{Changes}
 use Rattle.cb_instances.specs.Net.{Net}
 use Rattle.cb_nodes.specs.Table.{Table}
-use Rattle.cb_accept.specs.declared.counts.Counts.{Counts}
+use Rattle.cb_accept.specs.declared.counts.NodeCounts.{NodeCounts}
 use Rattle.cb_topo.specs.Applied.{Applies}
-use Rattle.cb_topo.specs.Kept.{IsKept}
+use Rattle.cb_topo.specs.Kept.{IsTopologyOf}
 
 -- the edit makes the new parts of the old, and what is kept stays so with these counts
-pub record Makes (net : Net) (nodes : Table) (edit : Edit) (new_net : Net) (new_nodes : Table) (counts : Counts) : Type 0 where
+pub record Makes (net : Net) (nodes : Table) (edit : Edit) (new_net : Net) (new_nodes : Table) (counts : NodeCounts) : Type 0 where
   pub applies : Applies (record { net = net; nodes = nodes }) edit (record { net = new_net; nodes = new_nodes })
-  pub kept : IsKept new_net new_nodes counts
+  pub kept : IsTopologyOf new_net new_nodes counts
 
 -- the net with other links and mutes
 abbrev pub rewired : Net → set.FinSet link_cmp → set.FinSet node_cmp → Net

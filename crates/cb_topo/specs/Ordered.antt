@@ -5,13 +5,13 @@ use Rattle.cb_model.specs.declared.node.NodeName.{NodeName}
 use Rattle.cb_network.specs.Topology.{Topology}
 use Rattle.cb_network.specs.Nodes.{IsNodeOf, IsColumn, IsProblem}
 use Rattle.cb_nodes.specs.declared.id.NodeId.{NodeId}
-use Rattle.cb_topo.specs.declared.kind.Kind.{Kind}
-use Rattle.cb_topo.specs.declared.kind.Kind.TheVariants.{Column, Problem, Any}
+use Rattle.cb_topo.specs.declared.kind.NodeKind.{NodeKind}
+use Rattle.cb_topo.specs.declared.kind.NodeKind.TheVariants.{Column, Problem, Any}
 use Rattle.cb_topo.specs.declared.order.NamedNode.{NamedNode}
 use Rattle.cb_topo.specs.Numbered.{Numbered, topology_of, IsNodeNamed}
 
 -- what a node of this kind is
-abbrev pub IsOfKind : Kind → Topology → NodeName → Type 0
+abbrev pub IsOfKind : NodeKind → Topology → NodeName → Type 0
 IsOfKind Column = IsColumn
 IsOfKind Problem = IsProblem
 IsOfKind Any = IsNodeOf
@@ -24,7 +24,7 @@ abbrev pub number : NamedNode → NodeId
 number one = one.node
 
 -- these are exactly the nodes of the kind, each once, with their names
-pub record AreOfKind (n : Numbered) (kind : Kind) (nodes : List NamedNode) : Type 0 where
+pub record AreOfKind (n : Numbered) (kind : NodeKind) (nodes : List NamedNode) : Type 0 where
   pub named : All (λ one. IsNodeNamed n one.node (called one)) nodes
   pub kinds : All (λ one. IsOfKind kind (topology_of n) (called one)) nodes
   pub unlike : AllPairs (λ one other. called one ≢ called other) nodes

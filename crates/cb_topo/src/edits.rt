@@ -6,13 +6,13 @@ ghost use Rattle.cb_accept.specs.Steps.{IsStepOf};
 ghost use Rattle.cb_instances.specs.Net.{empty_net};
 ghost use Rattle.cb_topo.specs.Numbered.{topology_of};
 ghost use Rattle.cb_topo.specs.Applied.{Applies, Prevents, MayGrow, IsNodeRoomAfter, IsInstanceRoomAfter};
-ghost use Rattle.cb_topo.specs.Kept.{IsKept};
+ghost use Rattle.cb_topo.specs.Kept.{IsTopologyOf};
 ghost use Rattle.cb_topo.specs.Made.{Makes};
 
 use crate::fault::EditFault;
 use crate::instances::{create, delete};
 use crate::topology::Topology;
-use cb_accept::{Counts, Step, decide};
+use cb_accept::{NodeCounts, Step, decide};
 use cb_instances::Net;
 use cb_model::Model;
 use cb_network::{Edit, EditRefusal};
@@ -29,7 +29,7 @@ impl Topology {
         Topology {
             net: Net::new(alloc, model),
             nodes: NodeTable::new(alloc),
-            counts: Counts::none(),
+            counts: NodeCounts::none(),
         }
     }
 
@@ -69,7 +69,7 @@ impl Topology {
         Ok(())
     }
 
-    /// Makes the edit. Where it is refused, or memory is wanting, nothing is changed.
+    /// Makes the edit. Where it is refused, or memory runs out, nothing is changed.
     pub fn apply(&mut self, alloc: Global, edit: &Edit) -> Result<(), EditFault>
         requires { HasGoodName edit.now }
         ensures made { OnOk result (Applies self.old edit.now self.new) }
@@ -94,11 +94,11 @@ fn make(
     alloc: Global,
     net: &mut Net,
     nodes: &mut NodeTable,
-    counts: Counts,
+    counts: NodeCounts,
     edit: &Edit,
     step: Step,
-) -> Result<Counts, AllocError>
-    requires kept { IsKept net.old nodes.old counts }
+) -> Result<NodeCounts, AllocError>
+    requires kept { IsTopologyOf net.old nodes.old counts }
     requires name { HasGoodName edit.now }
     requires accepted { IsAccepted net.old.topology edit.now }
     requires step { IsStepOf net.old edit.now step }

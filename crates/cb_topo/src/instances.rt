@@ -6,10 +6,10 @@ ghost use Rattle.cb_network.specs.Laws.{HasGoodName};
 ghost use Rattle.cb_instances.specs.Net.{IsLive, name_at};
 ghost use Rattle.cb_accept.specs.Steps.{IsStepOf};
 ghost use Rattle.cb_accept.specs.declared.step.Step.TheVariants as step;
-ghost use Rattle.cb_topo.specs.Kept.{IsKept};
+ghost use Rattle.cb_topo.specs.Kept.{IsTopologyOf};
 ghost use Rattle.cb_topo.specs.Made.{Makes};
 
-use cb_accept::Counts;
+use cb_accept::NodeCounts;
 use cb_instances::{InstanceId, Net};
 use cb_model::ClassId;
 use cb_network::Edit;
@@ -21,11 +21,11 @@ pub(crate) fn create(
     alloc: Global,
     net: &mut Net,
     nodes: &mut NodeTable,
-    counts: Counts,
+    counts: NodeCounts,
     edit: &Edit,
     class: ClassId,
-) -> Result<Counts, AllocError>
-    requires kept { IsKept net.old nodes.old counts }
+) -> Result<NodeCounts, AllocError>
+    requires kept { IsTopologyOf net.old nodes.old counts }
     requires name { HasGoodName edit.now }
     requires accepted { IsAccepted net.old.topology edit.now }
     requires step { IsStepOf net.old edit.now (step.Create class) }
@@ -48,8 +48,13 @@ fn new_name(edit: &Edit) -> &[u8]
 }
 
 // The instance is gone; the counts are those without it.
-pub(crate) fn delete(net: &mut Net, nodes: &mut NodeTable, counts: Counts, id: InstanceId) -> Counts
-    requires kept { IsKept net.old nodes.old counts }
+pub(crate) fn delete(
+    net: &mut Net,
+    nodes: &mut NodeTable,
+    counts: NodeCounts,
+    id: InstanceId,
+) -> NodeCounts
+    requires kept { IsTopologyOf net.old nodes.old counts }
     requires live { IsLive net.old id }
     requires accepted { IsAccepted net.old.topology (Delete (name_at net.old id)) }
     ensures { Makes net.old nodes.old (Delete (name_at net.old id)) net.new nodes.new result }

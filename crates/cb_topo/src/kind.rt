@@ -1,8 +1,8 @@
 //! Kinds of nodes.
 
 /// Which nodes are listed.
-#[derive(Clone, Copy, Debug, PartialEq, Eq)]
-pub enum Kind {
+#[derive(Clone, Copy, PartialEq, Eq)]
+pub enum NodeKind {
     /// The symptoms that are not muted.
     Column,
     Problem,

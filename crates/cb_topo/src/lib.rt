@@ -6,8 +6,8 @@
 //! The specs see a topology as `Numbered`: the net of cb_instances with the table of cb_nodes. `topology_of` is what it
 //! shows without numbers, and `Applies` says what an edit makes of both.
 //!
-//! Promised: an edit gives what the definitions of cb_network make of it; one that is refused, or for which memory is
-//! wanting, changes nothing; what stays keeps its number; `instance_room` and `node_room` tell before and after an edit
+//! Promised: an edit gives what the definitions of cb_network make of it; one that is refused, or for which memory
+//! runs out, changes nothing; what stays keeps its number; `instance_room` and `node_room` tell before and after an edit
 //! how far numbers go. A topology is always sound and whole (`Topology::model`). Not promised: the numbers of new nodes.
 //!
 //! Read `specs/Numbered.antt` and `specs/Applied.antt` first. What is counted and listed inside may be changed freely.
@@ -22,6 +22,7 @@ mod order;
 mod readers;
 mod topology;
 
+pub use cb_edits::{EditText, read_edit};
 pub use cb_instances::InstanceId;
 pub use cb_network::{Edit, EditRefusal};
 pub use cb_nodes::NodeId;

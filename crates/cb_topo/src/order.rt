@@ -6,7 +6,7 @@ ghost use Rattle.cb_network.specs.Nodes.{AreInOrder, AreColumns, AreProblems, Is
 ghost use Rattle.cb_topo.specs.Numbered.{topology_of, IsNodeNamed, IsLiveNode, AreNamed};
 ghost use Rattle.cb_topo.specs.Ordered.{IsOfKind, AreOfKind, called};
 
-use crate::kind::Kind;
+use crate::kind::NodeKind;
 use crate::topology::Topology;
 use cb_model::{List, NodeName};
 use cb_nodes::NodeId;
@@ -38,25 +38,25 @@ impl Topology {
     pub fn columns(&self, alloc: Global) -> Result<List<NodeId>, AllocError>
         ensures { IfOk result (λ ids. (names : Items Node) × AreColumns (topology_of self.now) names × AreNamed self.now ids names) }
     {
-        self.listed(alloc, Kind::Column)
+        self.listed(alloc, NodeKind::Column)
     }
 
     /// The problems in order.
     pub fn problems(&self, alloc: Global) -> Result<List<NodeId>, AllocError>
         ensures { IfOk result (λ ids. (names : Items Node) × AreProblems (topology_of self.now) names × AreNamed self.now ids names) }
     {
-        self.listed(alloc, Kind::Problem)
+        self.listed(alloc, NodeKind::Problem)
     }
 
     /// All nodes in order, of any kind, muted or not.
     pub fn nodes(&self, alloc: Global) -> Result<List<NodeId>, AllocError>
         ensures { IfOk result (λ ids. (names : Items Node) × AreInOrder (IsNodeOf (topology_of self.now)) names × AreNamed self.now ids names) }
     {
-        self.listed(alloc, Kind::Any)
+        self.listed(alloc, NodeKind::Any)
     }
 
     // The nodes of the kind, in order.
-    fn listed(&self, alloc: Global, kind: Kind) -> Result<List<NodeId>, AllocError>
+    fn listed(&self, alloc: Global, kind: NodeKind) -> Result<List<NodeId>, AllocError>
         ensures { IfOk result (λ ids. (names : Items Node) × AreInOrder (IsOfKind kind (topology_of self.now)) names × AreNamed self.now ids names) }
     {
         let mut named = self.named(alloc, kind)?;
@@ -69,7 +69,7 @@ impl Topology {
     }
 
     // The nodes of the kind with their names, by their numbers.
-    fn named(&self, alloc: Global, kind: Kind) -> Result<Vec<NamedNode<'_>>, AllocError>
+    fn named(&self, alloc: Global, kind: NodeKind) -> Result<Vec<NamedNode<'_>>, AllocError>
         ensures { IfOk result (λ nodes. AreOfKind self.now kind nodes.items) }
     {
         let mut nodes = Vec::new(alloc);
@@ -87,14 +87,14 @@ impl Topology {
         Ok(nodes)
     }
 
-    fn is_of(&self, node: NodeId, kind: Kind) -> bool
+    fn is_of(&self, node: NodeId, kind: NodeKind) -> bool
         requires { IsLiveNode self.now node }
         ensures { (name : Node) → IsNodeNamed self.now node name → IsTrue result ↔ IsOfKind kind (topology_of self.now) name }
     {
         match kind {
-            Kind::Column => self.is_column(node),
-            Kind::Problem => self.is_problem(node),
-            Kind::Any => self.nodes.node(node).is_some(),
+            NodeKind::Column => self.is_column(node),
+            NodeKind::Problem => self.is_problem(node),
+            NodeKind::Any => self.nodes.node(node).is_some(),
         }
     }
 

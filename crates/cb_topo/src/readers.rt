@@ -3,9 +3,9 @@ ghost use Rattle.std.specs.Prelude.{◌≡◌, ◌<◌, ◌≤◌, ◌↔◌, Li
 ghost use Rattle.std.specs.List.{Contains};
 ghost use Rattle.std.specs.FinMap as fin_map;
 ghost use Rattle.cb_model.specs.declared.node.NodeName.{NodeName as Name};
-ghost use Rattle.cb_network.specs.Topology.{IsLive as IsLiveName, IsOf, IsMuted};
+ghost use Rattle.cb_network.specs.Topology.{IsLive as IsLiveName, HasClass, IsMuted};
 ghost use Rattle.cb_network.specs.Nodes.{IsNodeOf, IsColumn, IsProblem, IsSymptomNode, IsCount};
-ghost use Rattle.cb_model.specs.WellTyped.{WellTyped};
+ghost use Rattle.cb_model.specs.WellTyped.{IsClass, WellTyped};
 ghost use Rattle.cb_network.specs.Sound.{Sound, node_limit};
 ghost use Rattle.cb_network.specs.Edits.{node_of as name_of};
 ghost use Rattle.cb_instances.specs.declared.id.InstanceId.{InstanceId as Id};
@@ -47,10 +47,11 @@ impl Topology {
         self.net.name_of(id)
     }
 
-    /// The class that the instance was created with.
+    /// The class that the instance was created with, one of the model's.
     pub fn class_of(&self, id: InstanceId) -> ClassId
         requires { IsLive self.now.net id }
-        ensures { (name : Items ℕ) → IsNamed self.now.net id name → IsOf (topology_of self.now) name result }
+        ensures named { (name : Items ℕ) → IsNamed self.now.net id name → HasClass (topology_of self.now) name result }
+        ensures class { IsClass (topology_of self.now).model result }
     {
         self.net.class_of(id)
     }
@@ -126,6 +127,15 @@ impl Topology {
         self.marks_of(node).symptom && !self.is_muted(node)
     }
 
+    /// Whether the node is muted now.
+    pub fn is_muted(&self, node: NodeId) -> bool
+        requires { IsLiveNode self.now node }
+        ensures { (name : Name) → IsNodeNamed self.now node name → IsTrue result ↔ IsMuted (topology_of self.now) name }
+    {
+        let at = self.node_of(node);
+        self.net.is_muted(at.instance, at.event)
+    }
+
     /// Whether the event is marked as a problem. A node may be a column and a problem.
     pub fn is_problem(&self, node: NodeId) -> bool
         requires { IsLiveNode self.now node }
@@ -184,13 +194,5 @@ impl Topology {
         let at = self.node_of(node);
         let class = self.net.class_of(at.instance);
         self.net.model().marks(class, at.event)
-    }
-
-    fn is_muted(&self, node: NodeId) -> bool
-        requires { IsLiveNode self.now node }
-        ensures { (name : Name) → IsNodeNamed self.now node name → IsTrue result ↔ IsMuted (topology_of self.now) name }
-    {
-        let at = self.node_of(node);
-        self.net.is_muted(at.instance, at.event)
     }
 }

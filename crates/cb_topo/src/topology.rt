@@ -1,5 +1,5 @@
 //! The topology as it is kept.
-use cb_accept::Counts;
+use cb_accept::NodeCounts;
 use cb_instances::Net;
 use cb_nodes::NodeTable;
 
@@ -8,19 +8,19 @@ use cb_nodes::NodeTable;
 pub struct Topology {
     pub(crate) net: Net,
     pub(crate) nodes: NodeTable,
-    pub(crate) counts: Counts,
+    pub(crate) counts: NodeCounts,
 }
 
 impl std::marker::Model for Topology {
     ghost use Rattle.cb_topo.specs.Numbered.{Numbered};
-    ghost use Rattle.cb_topo.specs.Codes.{numbered_code};
-    ghost use Rattle.cb_topo.specs.Kept.{IsKept};
+    ghost use Rattle.cb_topo.specs.Encoding.{numbered_encoding};
+    ghost use Rattle.cb_topo.specs.Kept.{IsTopologyOf};
 
     ghost Value = { Numbered };
 
-    ghost coded = { numbered_code };
+    ghost coded = { numbered_encoding };
 
     ghost view = { λ s. record { net = s.net; nodes = s.nodes } };
 
-    ghost invariant = { λ s. IsKept s.net s.nodes s.counts };
+    ghost invariant = { λ s. IsTopologyOf s.net s.nodes s.counts };
 }

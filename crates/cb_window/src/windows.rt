@@ -37,11 +37,11 @@ pub struct Windows {
 
 impl Model for Windows {
     ghost use Rattle.cb_log.specs.Kept.{Kept};
-    ghost use Rattle.cb_window.specs.Codes.{kept_code};
+    ghost use Rattle.cb_window.specs.Encoding.{kept_encoding};
 
     ghost Value = { Kept };
 
-    ghost coded = { kept_code };
+    ghost coded = { kept_encoding };
 
     ghost use Rattle.cb_window.specs.Kept.{shown_map, IsQueued};
 

@@ -13,7 +13,7 @@ use Rattle.cb_topo.specs.Applied.{Applies}
 use Rattle.cb_topo.specs.Numbered.{Numbered, topology_of}
 use Rattle.cb_cache.specs.declared.agenda.Agenda.{Agenda}
 use Rattle.cb_cache.specs.Created.{IsNewProblem}
-use Rattle.cb_cache.specs.Kept.{IsKept}
+use Rattle.cb_cache.specs.Kept.{IsCacheOf}
 use Rattle.cb_cache.specs.Most.{HasEventsWithin}
 use Rattle.cb_cache.specs.Numbers.{AreOnce}
 use Rattle.cb_cache.proofs.Creating.{AreMoved, fits_in, moved_for, events_fit, more_within}
@@ -146,7 +146,7 @@ returns-clause-kept g c =
     (subst (λ (m : Numbered). Contains c.list_new.new.list.items id ↔ IsNewProblem m edit id) c.topology.ensures (c.list_new.ensures.problems id)) in
     let fit = fits_in old new edit c.requires.creates edited rows.slots.items there.slots.items rows.pool there.pool c.requires.kept.right moved read once listed in
     let there_agenda = c.move_in.new.store.agenda in
-    let kept : IsKept new record { rows = c.add_rows.new.rows; agenda = record { touched = there_agenda.touched; problems = c.list_new.new.list } } = record {
+    let kept : IsCacheOf new record { rows = c.add_rows.new.rows; agenda = record { touched = there_agenda.touched; problems = c.list_new.new.list } } = record {
       whole = edited.whole_after;
       right = fit.right c.add_rows.new.rows.slots.items c.add_rows.new.rows.pool c.add_rows.ensures.rows;
       room = c.add_rows.ensures.room;
@@ -155,7 +155,7 @@ returns-clause-kept g c =
         listed = (let e = c.list_new.ensures.room in let f = fits.agenda.listed in let h = ap (λ (a : Agenda). vec_capacity a.problems) c.move_in.ensures.agenda in omega arith);
       };
     } in
-    subst (λ (m : Numbered). IsKept m record { rows = c.add_rows.new.rows; agenda = record { touched = there_agenda.touched; problems = c.list_new.new.list } }) (sym c.add_rows.ensures.same) kept
+    subst (λ (m : Numbered). IsCacheOf m record { rows = c.add_rows.new.rows; agenda = record { touched = there_agenda.touched; problems = c.list_new.new.list } }) (sym c.add_rows.ensures.same) kept
 
 pub returns-clause-cost : goal.returns-clause-cost
 returns-clause-cost g c = λ cost is.

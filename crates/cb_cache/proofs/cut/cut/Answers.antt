@@ -1,7 +1,7 @@
 use Rattle.std.proofs.Common.{◌↔◌, ℕ, subst}
 use Rattle.cb_change.specs.Costs.{IsEditCost}
 use Rattle.cb_change.specs.Laws.{IsStep}
-use Rattle.cb_reach.specs.Rows.{Has}
+use Rattle.cb_successors.specs.Rows.{Has}
 use Rattle.cb_topo.specs.Numbered.{Numbered, topology_of}
 use Rattle.cb_graph.specs.Touched.{IsTouchedNumber}
 use Rattle.cb_cache.specs.Laws.{IsEdited}

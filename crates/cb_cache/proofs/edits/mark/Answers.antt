@@ -1,6 +1,6 @@
 use Rattle.std.proofs.Common.{◌≡◌, Result, Ok, Err, OnOk, OnErr, sym, subst}
 use Rattle.cb_topo.specs.Numbered.{Numbered}
-use Rattle.cb_cache.specs.Kept.{IsKept}
+use Rattle.cb_cache.specs.Kept.{IsCacheOf}
 use Rattle.cb_cache.specs.Laws.{IsEdited}
 use Rattle.cb_cache.proofs.Marked.{kept_marked}
 use Rattle.cb_cache.proofs.edits.mark.Goals as goal
@@ -15,6 +15,6 @@ returns-clause-kept c =
     let old = c.args.graph.now in
     let new = c.edit_graph.new.graph in
     let store = c.args.store.now in
-    either_way c.edit_graph.result (IsEdited old c.args.edit.now new) (new ≡ old) (IsKept new store) c.edit_graph.ensures.made c.edit_graph.ensures.kept
+    either_way c.edit_graph.result (IsEdited old c.args.edit.now new) (new ≡ old) (IsCacheOf new store) c.edit_graph.ensures.made c.edit_graph.ensures.kept
     (λ edited. kept_marked old new c.args.edit.now edited c.requires.marks store c.requires.kept)
-    (λ same. subst (λ (n : Numbered). IsKept n store) (sym same) c.requires.kept)
+    (λ same. subst (λ (n : Numbered). IsCacheOf n store) (sym same) c.requires.kept)

@@ -4,7 +4,7 @@ use Rattle.cb_change.specs.Laws.{IsStep}
 use Rattle.cb_network.specs.declared.edit.Edit.{Edit}
 use Rattle.cb_network.specs.declared.edit.Edit.TheVariants.{Create, Delete, Link, Unlink, Mute, Unmute}
 use Rattle.cb_pool.specs.declared.slot.Slot.{Slot}
-use Rattle.cb_reach.specs.Rows.{Has}
+use Rattle.cb_successors.specs.Rows.{Has}
 use Rattle.cb_topo.specs.Applied.{IsNodeRoomAfter}
 use Rattle.cb_topo.specs.Numbered.{Numbered, topology_of}
 use Rattle.cb_graph.specs.Touched.{IsTouchedNumber}

@@ -1,6 +1,6 @@
 use Rattle.std.proofs.Common.{◌≡◌, ◌↔◌, ◌⊎◌, ℕ, true, refl, subst, ◌∙◌, arith}
 use Rattle.cb_lanes.specs.Words.{bit_of}
-use Rattle.cb_reach.specs.Rows.{Has}
+use Rattle.cb_successors.specs.Rows.{Has}
 use Rattle.cb_cache.proofs.Expanding.{adds_none, adds_more, passed_more}
 use Rattle.cb_cache.proofs.Furthering.{has_low}
 use Rattle.cb_cache.proofs.Spreading.{counts_none}

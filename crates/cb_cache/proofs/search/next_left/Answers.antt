@@ -1,5 +1,5 @@
 use Rattle.std.proofs.Common.{Some}
-use Rattle.cb_reach.proofs.Sought.{left_found, all_found}
+use Rattle.cb_successors.proofs.Sought.{left_found, all_found}
 use Rattle.cb_cache.proofs.search.next_left.Goals as goal
 
 pub returns-in-Some-clause-left : goal.returns-in-Some-clause-left

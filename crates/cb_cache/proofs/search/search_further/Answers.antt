@@ -1,7 +1,7 @@
 use Rattle.std.proofs.Common.{◌≡◌, ◌↔◌, ℕ, List, true, sym, subst, ◌∙◌}
 use Rattle.cb_lanes.specs.Words.{bit_of}
 use Rattle.cb_pool.specs.Pool.{row_of}
-use Rattle.cb_reach.specs.Rows.{Has}
+use Rattle.cb_successors.specs.Rows.{Has}
 use Rattle.cb_cache.specs.Reached.{AreFollowed, IsMet, IsLedByMet, CountsOnly}
 use Rattle.cb_cache.proofs.Furthering.{adds_first, begun_followed, led_by_words, counts_expanded}
 use Rattle.cb_cache.proofs.search.search_further.Goals as goal

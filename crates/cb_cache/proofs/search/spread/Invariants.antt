@@ -1,5 +1,5 @@
 use Rattle.std.proofs.Common.{◌≡◌, ◌-◌, length}
-use Rattle.cb_reach.specs.Rows.{ones}
+use Rattle.cb_successors.specs.Rows.{ones}
 use Rattle.cb_cache.proofs.Spreading.{IsSpread}
 use Rattle.cb_cache.proofs.search.spread.Given as goal
 

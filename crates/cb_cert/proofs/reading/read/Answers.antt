@@ -1,7 +1,7 @@
 use Rattle.std.proofs.Common.{◌≡◌, ◌∷◌, [], inr, ◌⊎◌}
 use Rattle.std.specs.Prelude.{IfErr}
 use Rattle.cb_cert.specs.declared.fault.CertText.TheVariants.{NoMemory}
-use Rattle.cb_cert.specs.declared.line.Line.TheVariants as line
+use Rattle.cb_cert.specs.declared.line.CertificateLine.TheVariants as line
 use Rattle.cb_cert.specs.Ahead.{at_end}
 use Rattle.cb_cert.specs.Fronts.{IsFault}
 use Rattle.cb_cert.proofs.Loops.{exit}

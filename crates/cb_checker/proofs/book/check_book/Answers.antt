@@ -1,7 +1,7 @@
 use Rattle.std.proofs.Common.{◌≡◌, length, min, refl, sym, subst, ◌∙◌, arith}
 use Rattle.std.specs.Prelude.{Ok, Err}
 use Rattle.cb_cert.specs.declared.certificate.Certificate.TheVariants.{Book}
-use Rattle.cb_claim.specs.Checks.{IsGoodNode}
+use Rattle.cb_validity.specs.Checks.{IsGoodNode}
 use Rattle.cb_topo.specs.Numbered.{Numbered, topology_of, AreNamed}
 use Rattle.cb_checker.specs.Firsts.{AreAll, JudgesNodes}
 use Rattle.cb_checker.specs.Known.{AreLive, ended}

@@ -1,5 +1,5 @@
 use Rattle.std.proofs.Common.{map}
-use Rattle.cb_claim.specs.Checks.{Judges, node_check, places}
+use Rattle.cb_validity.specs.Checks.{Judges, node_check, places}
 use Rattle.cb_topo.specs.Numbered.{topology_of}
 use Rattle.cb_checker.specs.Known.{ended}
 use Rattle.cb_checker.proofs.Joined.{exit}

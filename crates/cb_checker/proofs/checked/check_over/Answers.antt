@@ -3,9 +3,9 @@ use Rattle.std.specs.Prelude.{OnOk, IfOk, IfErr, List, ℕ}
 use Rattle.cb_model.specs.declared.node.NodeName.{NodeName}
 use Rattle.cb_cert.specs.declared.certificate.Certificate.{Certificate}
 use Rattle.cb_cert.specs.declared.certificate.Certificate.TheVariants.{Book, Thin}
-use Rattle.cb_claim.specs.Checks.{book_checks, thin_checks}
-use Rattle.cb_claim.specs.Valid.{IsValid}
-use Rattle.cb_claim.specs.Verdicts.{IsCheckable, Shows, TellsWhy}
+use Rattle.cb_validity.specs.Checks.{book_checks, thin_checks}
+use Rattle.cb_validity.specs.Valid.{IsValid}
+use Rattle.cb_validity.specs.Verdicts.{IsCheckable, Shows, TellsWhy}
 use Rattle.cb_topo.specs.Numbered.{topology_of}
 use Rattle.cb_checker.specs.Known.{ended}
 use Rattle.cb_checker.specs.Thin.{JudgesThinOver, ShowsThinOver}

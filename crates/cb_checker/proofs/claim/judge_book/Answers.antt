@@ -1,6 +1,6 @@
 use Rattle.std.proofs.Common.{◌≡◌, ◌-◌, length, ap, subst, None}
 use Rattle.std.specs.Prelude.{◌/◌}
-use Rattle.cb_claim.specs.declared.verdict.Accepted.TheVariants as accepted
+use Rattle.cb_validity.specs.declared.verdict.Accepted.TheVariants as accepted
 use Rattle.cb_coding.specs.Groups.{AreGroups, codes_of}
 use Rattle.cb_group.specs.Close.{IsFirstCloseIfAny}
 use Rattle.cb_checker.proofs.Claiming.{have_members}

@@ -1,6 +1,6 @@
 use Rattle.std.proofs.Common.{length, ap, ◌∙◌, arith}
 use Rattle.std.proofs.lemmas.Result.{on_ok_weaker}
-use Rattle.cb_checker.specs.declared.marks.Marks.{Marks}
+use Rattle.cb_checker.specs.declared.marks.SpanNodes.{SpanNodes}
 use Rattle.cb_checker.specs.Listed.{AreListed, AreMarked}
 use Rattle.cb_checker.proofs.Naming.{live_below}
 use Rattle.cb_checker.proofs.Stating.{stated_live}
@@ -41,7 +41,7 @@ pub returns-clause-marked : goal.returns-clause-marked
 returns-clause-marked g c =
     let n = c.args.graph.now in
     let marks = c.list_entries-listed.new.marks in
-    let now : Marks = record marks { reasons = c.first_unled.new.reasons; found = c.first_unled.new.found } in
+    let now : SpanNodes = record marks { reasons = c.first_unled.new.reasons; found = c.first_unled.new.found } in
     let marked = c.requires.marked in
     let are : AreListed marks.listed marks.placed.items → AreMarked n now = λ listed. record {
       room = c.list_entries-listed.ensures.room ∙ marked.room;

@@ -1,6 +1,6 @@
 use Rattle.std.proofs.Common.{◌-◌, ◌+◌, length, sym, subst, ◌∙◌, refl, arith}
 use Rattle.std.specs.List.{flat_map, range_with_len}
-use Rattle.cb_claim.specs.Checks.{Judges, entry_checks}
+use Rattle.cb_validity.specs.Checks.{Judges, entry_checks}
 use Rattle.cb_topo.specs.Numbered.{topology_of}
 use Rattle.cb_checker.specs.Reasons.{AreStated}
 use Rattle.cb_checker.specs.Spans.{asked}

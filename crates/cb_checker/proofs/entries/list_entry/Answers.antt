@@ -3,8 +3,8 @@ use Rattle.std.specs.Prelude.{Err}
 use Rattle.std.specs.List.{All, Contains}
 use Rattle.std.proofs.lemmas.Bool.{false≢true}
 use Rattle.std.proofs.lemmas.List.Elements.{Contains-push}
-use Rattle.cb_claim.specs.declared.verdict.Rejected.TheVariants.{Repeated}
-use Rattle.cb_claim.specs.Checks.{Judges, Passes, entry_checks}
+use Rattle.cb_validity.specs.declared.verdict.Rejected.TheVariants.{Repeated}
+use Rattle.cb_validity.specs.Checks.{Judges, Passes, entry_checks}
 use Rattle.cb_topo.specs.Numbered.{topology_of}
 use Rattle.cb_checker.specs.Listed.{IsPlaced, ArePlaced}
 use Rattle.cb_checker.specs.Reasons.{AreStated}

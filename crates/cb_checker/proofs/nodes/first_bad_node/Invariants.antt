@@ -1,5 +1,5 @@
 use Rattle.cb_topo.specs.Numbered.{topology_of}
-use Rattle.cb_claim.specs.Checks.{IsGoodNode}
+use Rattle.cb_validity.specs.Checks.{IsGoodNode}
 use Rattle.cb_checker.specs.Firsts.{AreAll}
 use Rattle.cb_checker.proofs.nodes.first_bad_node.Given as goal
 

@@ -1,7 +1,7 @@
 use Rattle.std.proofs.Common.{subst}
 use Rattle.std.specs.Prelude.{Ok, Err, None}
 use Rattle.std.specs.List.{flat_map}
-use Rattle.cb_claim.specs.Checks.{Judges, asked_sides, span_checks}
+use Rattle.cb_validity.specs.Checks.{Judges, asked_sides, span_checks}
 use Rattle.cb_topo.specs.Numbered.{Numbered, topology_of}
 use Rattle.cb_checker.specs.Known.{ended}
 use Rattle.cb_checker.specs.Spans.{JudgesSpan}

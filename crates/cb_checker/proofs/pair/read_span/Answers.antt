@@ -1,4 +1,4 @@
-use Rattle.cb_claim.specs.Checks.{Judges, span_checks}
+use Rattle.cb_validity.specs.Checks.{Judges, span_checks}
 use Rattle.cb_topo.specs.Numbered.{topology_of}
 use Rattle.cb_checker.specs.Known.{ended}
 use Rattle.cb_checker.specs.Spans.{asked}

@@ -1,7 +1,7 @@
 use Rattle.std.proofs.Common.{◌≡◌, ◌<◌, ◌+◌, [], ◌∷◌, length, sym, subst, Some, arith}
 use Rattle.std.specs.Prelude.{Err, slice_get}
-use Rattle.cb_claim.specs.declared.verdict.Rejected.TheVariants.{ExtraSpan}
-use Rattle.cb_claim.specs.Checks.{Judges, no_more_problems, no_more_spans}
+use Rattle.cb_validity.specs.declared.verdict.Rejected.TheVariants.{ExtraSpan}
+use Rattle.cb_validity.specs.Checks.{Judges, no_more_problems, no_more_spans}
 use Rattle.cb_topo.specs.Numbered.{topology_of}
 use Rattle.cb_graph.proofs.Chains.{named_once}
 use Rattle.cb_checker.proofs.Spanning.{no_span, extra_span, right_count}

@@ -1,7 +1,7 @@
 use Rattle.std.proofs.Common.{◌≡◌, ◌≤◌, ◌+◌, length, min, refl, sym, subst, ◌∙◌, Some, arith}
 use Rattle.std.specs.Prelude.{Ok, Err}
 use Rattle.std.specs.List.{flat_map}
-use Rattle.cb_claim.specs.Checks.{Judges, asked_of, span_checks}
+use Rattle.cb_validity.specs.Checks.{Judges, asked_of, span_checks}
 use Rattle.cb_topo.specs.Numbered.{Numbered, topology_of, IsLiveNode}
 use Rattle.cb_checker.specs.Known.{ended}
 use Rattle.cb_checker.specs.Books.{AreReadTo, IsCodedBy, IsReadOff}

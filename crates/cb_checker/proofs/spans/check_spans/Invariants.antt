@@ -1,5 +1,5 @@
 use Rattle.std.proofs.Common.{◌≡◌, take}
-use Rattle.cb_claim.specs.Verdicts.{entries_of}
+use Rattle.cb_validity.specs.Verdicts.{entries_of}
 use Rattle.cb_checker.specs.Listed.{AreMarked}
 use Rattle.cb_checker.specs.Books.{AreReadTo}
 use Rattle.cb_checker.proofs.Spanning.{SpansPass}

@@ -2,10 +2,10 @@ use Rattle.std.proofs.Common.{◌++◌, [], ◌∷◌, length, map, refl, sym, s
 use Rattle.std.specs.Prelude.{Ok, Err}
 use Rattle.std.specs.List.{flat_map}
 use Rattle.cb_cert.specs.declared.certificate.Certificate.TheVariants.{Thin}
-use Rattle.cb_claim.specs.Checks.{IsGoodNode, Judges, thin_checks, node_check, places, asked_sides, span_checks, claim_check}
-use Rattle.cb_claim.specs.declared.verdict.Rejected.TheVariants.{NotThin}
-use Rattle.cb_claim.specs.Reading.{AreAt}
-use Rattle.cb_claim.proofs.Stages.{passed_go_on, failed_stop}
+use Rattle.cb_validity.specs.Checks.{IsGoodNode, Judges, thin_checks, node_check, places, asked_sides, span_checks, claim_check}
+use Rattle.cb_validity.specs.declared.verdict.Rejected.TheVariants.{NotThin}
+use Rattle.cb_validity.specs.Reading.{AreAt}
+use Rattle.cb_validity.proofs.Stages.{passed_go_on, failed_stop}
 use Rattle.cb_topo.specs.Numbered.{Numbered, topology_of, AreNamed}
 use Rattle.cb_checker.specs.Firsts.{AreAll, JudgesNodes}
 use Rattle.cb_checker.specs.Known.{AreLive, ended}

@@ -1,6 +1,6 @@
 use Rattle.std.proofs.Common.{◌*◌, ℕ, sym, subst, ◌∙◌}
 use Rattle.cb_topo.specs.Numbered.{Numbered, IsNodeNamed, IsLiveNode}
-use Rattle.cb_matrix.specs.Codes.{ArePlaces, bits}
+use Rattle.cb_matrix.specs.Codes.{IsColumnIndex, bits}
 use Rattle.cb_matrix.proofs.Matched.{code_from}
 use Rattle.cb_matrix.proofs.WordBits.{has_reached}
 use Rattle.cb_matrix.proofs.coded.coded_problem.Goals as goal
@@ -12,7 +12,7 @@ copy_name-requires c =
 
 pub code_of-requires-clause-places : goal.code_of-requires-clause-places
 code_of-requires-clause-places c =
-    subst (λ (width : ℕ). ArePlaces (64 * width) c.args.columns.now.nodes c.args.columns.now.places.items) (sym c.row.ensures.width) c.requires.columns
+    subst (λ (width : ℕ). IsColumnIndex (64 * width) c.args.columns.now.nodes c.args.columns.now.places.items) (sym c.row.ensures.width) c.requires.columns
 
 pub returns : goal.returns
 returns c =

@@ -2,7 +2,7 @@ use Rattle.std.proofs.Common.{◌≡◌, ◌<◌, length, slice_index_or, sym, a
 use Rattle.std.proofs.lemmas.Option.{slice_get-get_or}
 use Rattle.cb_nodes.specs.declared.id.NodeId.{NodeId}
 use Rattle.cb_cache.specs.Numbers.{IsProblemNumber}
-use Rattle.cb_codes.specs.Grouped.{IsSound}
+use Rattle.cb_codes.specs.Grouped.{FitsTogether}
 use Rattle.cb_matrix.specs.Coded.{IsProblemAt}
 use Rattle.cb_matrix.proofs.Held.{none_held, one_more_held, all_held}
 use Rattle.cb_matrix.proofs.coded.grouped.Goals as goal
@@ -11,7 +11,7 @@ pub loop-node-init : goal.loop-node-init
 loop-node-init c =
     let made = c.in_ok-grouping.grouping in
     let wide = c.len.ensures in
-    none_held c.args.cache.now.graph c.args.columns.now.nodes c.args.nodes.now made (subst (λ width. IsSound width made) wide c.in_ok-grouping.ensures.sound)
+    none_held c.args.cache.now.graph c.args.columns.now.nodes c.args.nodes.now made (subst (λ width. FitsTogether width made) wide c.in_ok-grouping.ensures.sound)
     (rw wide at c.in_ok-grouping.ensures.quiet) c.in_ok-grouping.ensures.none
 
 pub coded_problem-requires-clause-problem : goal.coded_problem-requires-clause-problem
@@ -22,7 +22,7 @@ coded_problem-requires-clause-problem c =
     (c.requires.problems i zero (omega (arith, c.loop-node-test.true, ap length c.as_slice-node-items.ensures)))
 
 pub add-requires : goal.add-requires
-add-requires c = record { sound = subst (λ width. IsSound width c.loop-node.grouping) (sym c.in_ok-problem.ensures.coded.width) c.loop-node.invariant.sound }
+add-requires c = record { sound = subst (λ width. FitsTogether width c.loop-node.grouping) (sym c.in_ok-problem.ensures.coded.width) c.loop-node.invariant.sound }
 
 pub loop-node-preserved : goal.loop-node-preserved
 loop-node-preserved c =

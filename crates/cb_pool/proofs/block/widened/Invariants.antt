@@ -2,7 +2,7 @@ use Rattle.std.proofs.Common.{◌≡◌, ◌<◌, ◌≤◌, ◌-◌, ◌*◌, �
 use Rattle.cb_pool.specs.Pool.{row_at}
 use Rattle.cb_pool.proofs.block.widened.Given as goal
 
--- the rows so far have zeros behind them, and there is room for the others
+-- the rows so far have zeros after them, and there is room for the others
 abbrev pub invariant-loop-i : goal.invariant-loop-i
 invariant-loop-i l = record {
   block : length l.made.items ≡ l.wider * l.i;

@@ -5,7 +5,7 @@ use Rattle.cb_network.specs.Edits.{IsAfter}
 use Rattle.cb_log.specs.declared.event.Event.TheVariants.{Refused}
 use Rattle.cb_log.specs.declared.event.RefusedWhy.TheVariants.{Edit as EditWhy}
 use Rattle.cb_topo.specs.Numbered.{Numbered, topology_of}
-use Rattle.cb_topo.proofs.Regular.{typed_is_regular}
+use Rattle.cb_network.proofs.Typed.{typed_is_regular}
 use Rattle.cb_session.proofs.act.change.Goals as goal
 
 pub returns-in-Err-clause-acts : goal.returns-in-Err-clause-acts

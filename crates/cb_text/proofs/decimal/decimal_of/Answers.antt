@@ -1,21 +1,28 @@
-use Rattle.std.proofs.Common.{◌≡◌, sym, ap, subst, ◌∙◌, decimal}
-use Rattle.std.specs.Str.{IsAscii}
-use Rattle.std.proofs.lemmas.Bool.{false≢true}
-use Rattle.std.proofs.lemmas.Fmt.{IsAscii-decimal, parse-decimal}
-use Rattle.std.proofs.lemmas.Str.{IsUtf8-from_ascii}
+use Rattle.std.proofs.Common.{◌<◌, length, sym, ◌∙◌, inl, inr, arith}
+use Rattle.std.proofs.lemmas.Bool.{cases_lt, eq-eqb, eqb-true, false≢true}
+use Rattle.std.proofs.lemmas.Option.{IfSome_then}
+use Rattle.cb_text.proofs.Digits.{written, digits_of, small_of, some_bytes, unpadded, none_then}
 use Rattle.cb_text.proofs.decimal.decimal_of.Goals as goal
 
-pub returns-in_default-clause-none : goal.returns-in_default-clause-none
-returns-in_default-clause-none c = λ n is.
-    c.in_default.ensures.cases.0 (IsUtf8-from_ascii _ (subst IsAscii (sym is.written) (IsAscii-decimal n is.small)))
+pub returns-then-is_empty-clause-none : goal.returns-then-is_empty-clause-none
+returns-then-is_empty-clause-none c = λ n is.
+    let some = some_bytes c.args.bytes.now n is in
+    let none = eqb-true (length c.args.bytes.now) 0 (sym c.is_empty.ensures ∙ c.if-is_empty.true) in
+    omega (arith, some, none)
 
-pub returns-in_default-parse-clause-none : goal.returns-in_default-parse-clause-none
-returns-in_default-parse-clause-none c = λ n is.
-    let read = parse-decimal 64 n c.in-Ok.text.now c.parse.result is.small is.small (c.in-Ok.ensures.cases.0 ∙ is.written) c.parse.ensures.value.0 in
-    cc
+pub returns-then-is_padded-clause-none : goal.returns-then-is_padded-clause-none
+returns-then-is_padded-clause-none c = λ n is. unpadded c.args.bytes.now n is (c.is_padded.ensures.0 c.if-is_padded.true)
 
-pub returns-else-is_written-clause-none : goal.returns-else-is_written-clause-none
-returns-else-is_written-clause-none c = λ n is.
-    let read = parse-decimal 64 n c.in-Ok.text.now c.parse.result is.small is.small (c.in-Ok.ensures.cases.0 ∙ is.written) c.parse.ensures.value.0 in
-    let same : c.in-Ok-parse.number ≡ n = cc in
-    false≢true (sym c.if-is_written.false ∙ c.is_written.ensures.1 (is.written ∙ ap decimal (sym same)))
+pub returns-clause-number : goal.returns-clause-number
+returns-clause-number c =
+    let bytes = c.args.bytes.now in
+    let some : 0 < length bytes = elim (cases_lt 0 (length bytes)) [
+      | inl some ↦ some
+      | inr none ↦ absurd (false≢true (sym c.if-is_empty.false ∙ (c.is_empty.ensures ∙ eq-eqb (length bytes) 0 (omega arith))))
+    ] in
+    IfSome_then c.read_digits.result c.read_digits.ensures.number
+    (λ n is. written bytes n some (λ padded. false≢true (sym c.if-is_padded.false ∙ c.is_padded.ensures.1 padded)) is)
+
+pub returns-clause-none : goal.returns-clause-none
+returns-clause-none c =
+    none_then c.read_digits.result (λ none n is. none (digits_of c.args.bytes.now n is) (small_of c.args.bytes.now n is)) c.read_digits.ensures.none

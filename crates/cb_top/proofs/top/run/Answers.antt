@@ -1,7 +1,7 @@
 use Rattle.cb_request.specs.Commands.{asked}
 use Rattle.cb_outcome.specs.Seen.{seen}
 use Rattle.cb_outcome.proofs.Complete.{complete}
-use Rattle.cb_files.specs.Ending.{wrong}
+use Rattle.cb_file_kinds.specs.Ending.{wrong}
 use Rattle.cb_top.proofs.Clauses.{story, answer, front, quiet, line, ends, order, fault, finds}
 use Rattle.cb_top.proofs.top.run.Goals as goal
 

@@ -2,7 +2,7 @@ use Rattle.std.proofs.Common.{◌≡◌, ◌∙◌, ◌∷◌, arith, sym, ap, s
 use Rattle.cb_text.proofs.LineLemmas.{lines_are_few}
 use Rattle.cb_cert.specs.Fronts.{IsFault}
 use Rattle.cb_cert.specs.Lines.{line_text}
-use Rattle.cb_cert.specs.declared.line.Line.TheVariants as line
+use Rattle.cb_cert.specs.declared.line.CertificateLine.TheVariants as line
 use Rattle.cb_cert.proofs.Ending.{empty, begun}
 use Rattle.cb_cert.proofs.Loops.{exit}
 use Rattle.std.specs.Prelude.{IfErr}

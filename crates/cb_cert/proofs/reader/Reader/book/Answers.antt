@@ -1,5 +1,5 @@
 use Rattle.std.proofs.Common.{◌++◌, ◌∷◌, [], length, sym, subst}
-use Rattle.cb_cert.specs.declared.line.Line.TheVariants as line
+use Rattle.cb_cert.specs.declared.line.CertificateLine.TheVariants as line
 use Rattle.cb_cert.specs.Ahead.{at_distance, at_nodes, at_columns, at_spans}
 use Rattle.cb_cert.specs.Format.{IsBetween, nodes_of, wanted_limit}
 use Rattle.cb_cert.specs.Lines.{claim_lines, node_lines, column_lines, all_span_lines}

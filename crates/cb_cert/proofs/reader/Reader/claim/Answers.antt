@@ -1,5 +1,5 @@
 use Rattle.std.proofs.Common.{◌≢◌, length, refl}
-use Rattle.cb_cert.specs.declared.line.Line.TheVariants as line
+use Rattle.cb_cert.specs.declared.line.CertificateLine.TheVariants as line
 use Rattle.cb_cert.specs.Ahead.{at_kind}
 use Rattle.cb_cert.specs.Format.{nodes_of}
 use Rattle.cb_cert.specs.Lines.{claim_lines, line_text}

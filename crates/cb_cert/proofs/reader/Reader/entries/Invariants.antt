@@ -1,5 +1,5 @@
 use Rattle.std.proofs.Common.{◌∷◌, ◌++◌, [], map, replicate}
-use Rattle.cb_cert.specs.declared.line.Line.TheVariants as line
+use Rattle.cb_cert.specs.declared.line.CertificateLine.TheVariants as line
 use Rattle.cb_cert.specs.Ahead.{at_entry}
 use Rattle.cb_cert.specs.Steps.{HasRead}
 use Rattle.cb_cert.proofs.Loops.{Looped}

@@ -2,7 +2,7 @@ use Rattle.std.proofs.Common.{◌≡◌, ◌≢◌, sym, subst}
 use Rattle.cb_cert.specs.Fronts.{IsFault}
 use Rattle.cb_cert.specs.Lines.{line_text}
 use Rattle.cb_cert.specs.Steps.{EndsWell}
-use Rattle.cb_cert.specs.declared.line.Line.TheVariants as line
+use Rattle.cb_cert.specs.declared.line.CertificateLine.TheVariants as line
 use Rattle.cb_cert.proofs.Ending.{no_end, other_end, spelt, further}
 use Rattle.cb_cert.proofs.Loops.{exit}
 use Rattle.cb_cert.proofs.reader.Reader.finish.Goals as goal

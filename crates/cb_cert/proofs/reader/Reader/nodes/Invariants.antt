@@ -1,5 +1,5 @@
 use Rattle.std.proofs.Common.{◌∷◌, ◌≤◌, map}
-use Rattle.cb_cert.specs.declared.line.Line.TheVariants as line
+use Rattle.cb_cert.specs.declared.line.CertificateLine.TheVariants as line
 use Rattle.cb_cert.specs.Ahead.{at_nodes, at_node}
 use Rattle.cb_cert.specs.Format.{node_limit}
 use Rattle.cb_cert.specs.Steps.{HasRead}

@@ -2,7 +2,7 @@ use Rattle.std.proofs.Common.{◌≢◌, ◌∙◌, ap, refl}
 use Rattle.cb_cert.specs.Ahead.{at_side}
 use Rattle.cb_cert.specs.Lines.{line_text, side_lines}
 use Rattle.cb_cert.specs.Steps.{ComesTo}
-use Rattle.cb_cert.specs.declared.line.Line.TheVariants as line
+use Rattle.cb_cert.specs.declared.line.CertificateLine.TheVariants as line
 use Rattle.cb_cert.proofs.Loops.{exit}
 use Rattle.cb_cert.proofs.Openings.{no_line, counted, counted_not, only_side, fixed}
 use Rattle.cb_cert.proofs.reader.Reader.side.Goals as goal

@@ -1,7 +1,7 @@
 use Rattle.std.proofs.Common.{◌≡◌, List, [], sym, ap, subst, arith}
 use Rattle.std.specs.Prelude.{slice_set}
 use Rattle.cb_instances.specs.Items.{Loses}
-use Rattle.cb_instances.specs.declared.links.Row.{Row}
+use Rattle.cb_instances.specs.declared.links.LinkRow.{LinkRow}
 use Rattle.cb_instances.specs.Rows.{is_of, items_of, Puts, row_of}
 use Rattle.cb_instances.proofs.Losing.{decides_id, loses_nothing}
 use Rattle.cb_instances.proofs.RowLemmas.{found_read, none_found, keeps_puts, read_passes, place_within, set_puts}
@@ -22,7 +22,7 @@ returns-in-Some c =
     let x = c.index_mut.result.now in
     let at = sym c.in-Some.ensures in
     let of_rel = read_passes (is_of c.args.rel) rows c.in-Some.place x at c.index_mut.ensures.value in
-    let new : Row = record { rel = x.rel; to = c.take_out.new.list } in
+    let new : LinkRow = record { rel = x.rel; to = c.take_out.new.list } in
     let puts = set_puts rows c.args.rel c.in-Some.place at new of_rel in
     let after = slice_set rows c.in-Some.place new in
     let before : x.to.items ≡ row_of rows c.args.rel = ap items_of (sym (found_read (is_of c.args.rel) rows c.in-Some.place x at c.index_mut.ensures.value)) in

@@ -2,7 +2,7 @@ use Rattle.std.proofs.Common.{arith, sym, ◌∙◌, refl, inl, inr, take, drop,
 use Rattle.cb_io.specs.declared.outside.FileStop.{FileStop}
 use Rattle.cb_io.specs.Pairs.{look_up}
 use Rattle.std.specs.Io.KnownBytes.{Keeps}
-use Rattle.cb_io.specs.Outside.{left_of, Reads, KeepsOthers, NoCountFalls, ReadFailed}
+use Rattle.cb_io.specs.Outside.{left_of, ReadsBytes, KeepsOthers, NoCountFalls, ReadFailed}
 use Rattle.cb_io.specs.Memory.{files_told, file_of}
 use Rattle.cb_io.proofs.Pairs.{at_place, look_up-at, look_up-absent}
 use Rattle.cb_io.proofs.Memory.{given, blamed, blamed-unknown, moved_none, KeepsOthers-with, NoCountFalls-with, Reads-after, Keeps-after_fault, NoCountFalls-after_fault, ReadFailed-after_fault}
@@ -96,7 +96,7 @@ returns-clause-bytes c =
     (rw c.deref.ensures.value at (sym c.in-Some.ensures)) c.index_mut-entry.ensures.value in
     let moved : (file_of c.args.self.now c.args.name.now).left ≡ take c.give.result c.give.new.buf ++ drop c.give.result (file_of c.args.self.now c.args.name.now).left =
     rw (← c.self.view_is, look_up-at at) (rw c.give.ensures.left at c.give.ensures.given) in
-    subst (λ state. Reads {E = FileStop} (files_told c.args.self.now) (files_told state) c.args.name.now
+    subst (λ state. ReadsBytes {E = FileStop} (files_told c.args.self.now) (files_told state) c.args.name.now
     (Ok c.give.result) c.give.new.buf) (sym (returns-clause-ok c))
     (Reads-after c.args.self.now c.args.name.now c.give.new.buf c.give.result moved
     (λ zero room. moved_none (file_of c.args.self.now c.args.name.now).left c.give.result c.args.self.now.piece

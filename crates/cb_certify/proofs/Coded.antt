@@ -1,0 +1,122 @@
+-- The code of the first of some visits.
+use Rattle.std.proofs.Common.{◌≡◌, ◌↔◌, ◌⊎◌, inl, inr, ℕ, ◌+◌, ◌<◌, ◌≤◌, List, Bool, false, true, length, replicate, Option, None, Some, slice_get, sym, subst, ◌∙◌, arith}
+use Rattle.std.specs.Prelude.{slice_set, IfSome}
+use Rattle.std.proofs.lemmas.Bool.{cases_lt}
+use Rattle.std.proofs.lemmas.List.{length-set, length-replicate}
+use Rattle.std.proofs.lemmas.Option.{same_Some, slice_get_within}
+use Rattle.cb_nodes.specs.declared.id.NodeId.{NodeId}
+use Rattle.cb_successors.specs.Rows.{Has}
+use Rattle.cb_successors.proofs.Marks.{has_set, set_cases, nothing}
+use Rattle.cb_breadth.specs.declared.visit.Visit.{Visit}
+use Rattle.cb_graph.specs.Edges.{number}
+use Rattle.cb_matrix.specs.Codes.{IsColumnIndex}
+use Rattle.cb_matrix.proofs.Passed.{same_number, still}
+use Rattle.cb_certify.specs.Groups.{IsCodeBy, with_one}
+
+-- one of the first visits has the node of this number
+pub record HasNodeTo (nodes : List ℕ) (visits : List Visit) (to node : ℕ) : Type 0 where
+  pub place : ℕ
+  pub low : place < to
+  pub v : Visit
+  pub is : slice_get visits place ≡ Some v
+  pub at : slice_get nodes v.node ≡ Some node
+
+-- for each column, whether one of the first visits has it
+pub record IsCodedTo (nodes : List ℕ) (columns : List NodeId) (visits : List Visit) (to : ℕ) (code : List Bool) : Type 0 where
+  pub width : length code ≡ length columns
+  pub each : (place node : ℕ) → slice_get columns place ≡ Some (number node) → Has code place ↔ HasNodeTo nodes visits to node
+
+pub none_coded : (nodes : List ℕ) (columns : List NodeId) (visits : List Visit) → IsCodedTo nodes columns visits 0 (replicate (length columns) false)
+none_coded nodes columns visits = record {
+  width = length-replicate (length columns) false;
+  each = λ place node is. (λ has. absurd (nothing (length columns) place has), λ there. absurd (let lt = there.low in omega arith));
+}
+
+module _ (nodes : List ℕ) (columns : List NodeId) (visits : List Visit) (to : ℕ) (code : List Bool) (v : Visit) (node : ℕ)
+    (is : slice_get visits to ≡ Some v) (at : slice_get nodes v.node ≡ Some node) (old : IsCodedTo nodes columns visits to code) where
+  before : (m : ℕ) → HasNodeTo nodes visits to m → HasNodeTo nodes visits (to + 1) m
+  before m has = record { place = has.place; low = (let lt = has.low in omega arith); v = has.v; is = has.is; at = has.at }
+
+  here : HasNodeTo nodes visits (to + 1) node
+  here = record { place = to; low = omega arith; v = v; is = is; at = at }
+
+  split : (m : ℕ) → HasNodeTo nodes visits (to + 1) m → HasNodeTo nodes visits to m ⊎ (node ≡ m)
+  split m has = elim (cases_lt has.place to) [
+    | inl low ↦ inl (record { place = has.place; low = low; v = has.v; is = has.is; at = has.at })
+    | inr on ↦
+        let last : has.place ≡ to = let lt = has.low in omega arith in
+        let same : v ≡ has.v = same_Some v has.v (sym is ∙ subst (λ k. slice_get visits k ≡ Some has.v) last has.is) in
+        inr (same_Some node m (sym at ∙ subst (λ (w : Visit). slice_get nodes w.node ≡ Some m) (sym same) has.at))
+  ]
+
+  module _ (room : ℕ) (places : List (Option ℕ)) (are : IsColumnIndex room columns places) where
+    place_low : (place : ℕ) → slice_get places node ≡ Some (Some place) → place < length code
+    place_low place there = let e = slice_get_within columns place (number node) (are.each node place there) in let f = old.width in omega arith
+
+    alone : (place k : ℕ) → slice_get places node ≡ Some (Some place) → slice_get columns k ≡ Some (number node) → k ≡ place
+    alone place k there column =
+        let both : Some (Some k) ≡ Some (Some place) = sym (are.all node k column) ∙ there in
+        cc
+
+    -- its node is a column
+    column_coded : (place : ℕ) → slice_get places node ≡ Some (Some place) → IsCodedTo nodes columns visits (to + 1) (slice_set code place true)
+    column_coded place there =
+        let low = place_low place there in
+        record {
+          width = length-set code place true ∙ old.width;
+          each = λ k m column. (
+            λ has. elim (set_cases code place k has) [
+              | inl same ↦
+                  let one : node ≡ m = same_number columns place node m (are.each node place there) (subst (λ p. slice_get columns p ≡ Some (number m)) same column) in
+                  subst (HasNodeTo nodes visits (to + 1)) one here
+              | inr had ↦ before m ((old.each k m column).0 had)
+            ],
+            λ has. elim (split m has) [
+              | inl earlier ↦ still code place k low ((old.each k m column).1 earlier)
+              | inr one ↦
+                  let same : k ≡ place = alone place k there (subst (λ n. slice_get columns k ≡ Some (number n)) (sym one) column) in
+                  subst (Has (slice_set code place true)) (sym same) (has_set code place low)
+            ],
+          );
+        }
+
+    -- it is none
+    other_coded : slice_get places node ≡ Some None → IsCodedTo nodes columns visits (to + 1) code
+    other_coded none = record {
+      width = old.width;
+      each = λ k m column. (
+        λ has. before m ((old.each k m column).0 has),
+        λ has. elim (split m has) [
+          | inl earlier ↦ (old.each k m column).1 earlier
+          | inr one ↦
+              let both : Some (Some k) ≡ Some None = sym (are.all node k (subst (λ n. slice_get columns k ≡ Some (number n)) (sym one) column)) ∙ none in
+              absurd (cc)
+        ],
+      );
+    }
+
+    -- one visit more
+    pub next_coded : (place : Option ℕ) → slice_get places node ≡ Some place → IsCodedTo nodes columns visits (to + 1) (with_one code place)
+    next_coded None none = other_coded none
+    next_coded (Some place) there = column_coded place there
+
+    pub place_fits : (place : Option ℕ) → slice_get places node ≡ Some place → IfSome place (λ k. k < length code)
+    place_fits None none = tt
+    place_fits (Some place) there = place_low place there
+
+pub all_coded : (nodes : List ℕ) (columns : List NodeId) (visits : List Visit) (to : ℕ) (code : List Bool) → length visits ≤ to
+    → IsCodedTo nodes columns visits to code → IsCodeBy nodes columns visits code
+all_coded nodes columns visits to code end old = record {
+  width = old.width;
+  each = λ k m column. (
+    λ has. let there = (old.each k m column).0 has in
+        record { rank = there.v.node; at = there.at; visited = record { place = there.place; parent = there.v.parent; is = there.is } },
+    λ has. (old.each k m column).1 (record {
+      place = has.visited.place;
+      low = (let lt = slice_get_within visits has.visited.place _ has.visited.is in omega arith);
+      v = record { node = has.rank; parent = has.visited.parent };
+      is = has.visited.is;
+      at = has.at;
+    }),
+  );
+}

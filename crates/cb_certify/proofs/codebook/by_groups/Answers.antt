@@ -1,0 +1,58 @@
+use Rattle.std.proofs.Common.{◌<◌, ℕ, length, sym, subst, subst₂, Err, List, arith}
+use Rattle.cb_reduce.specs.declared.codebook.Refused.{Refused}
+use Rattle.cb_reduce.specs.Reduced.{IsReduced}
+use Rattle.cb_codes.specs.Groups.{named_of}
+use Rattle.cb_model.specs.declared.node.NamedGroup.{NamedGroup}
+use Rattle.cb_topo.specs.Numbered.{Numbered, topology_of}
+use Rattle.cb_certify.specs.Members.{HasNode, IsCalledBy, IsMemberAt, IsPairOf}
+use Rattle.cb_certify.proofs.Reduced.{rows_fit, columns_fit, has_codebook, first_close, places_within, pair_far, first_pair, called_member, pair_called, has_node}
+use Rattle.cb_certify.proofs.codebook.by_groups.Goals as goal
+
+pub reduce-requires-clause-places_fit : goal.reduce-requires-clause-places_fit
+reduce-requires-clause-places_fit g c =
+    rows_fit (topology_of c.args.graph.now) c.args.groups.now c.requires.groups c.codes.result.now c.codes.ensures.width c.codes.ensures.rows
+
+pub reduce-requires-clause-columns_fit : goal.reduce-requires-clause-columns_fit
+reduce-requires-clause-columns_fit g c =
+    columns_fit (topology_of c.args.graph.now) c.args.groups.now c.requires.groups c.codes.result.now c.codes.ensures.width c.codes.ensures.rows
+
+pub returns-in-Ok : goal.returns-in-Ok
+returns-in-Ok g c = (
+  has_codebook (topology_of c.args.graph.now) c.args.groups.now c.requires.groups c.codes.result.now c.codes.ensures.width c.codes.ensures.rows c.args.wanted
+      c.in-Ok.book c.in-Ok.ensures,
+  c.requires.many,
+)
+
+pub close_named-close-requires : goal.close_named-close-requires
+close_named-close-requires g c =
+    let n = c.args.graph.now in
+    let made = c.args.groups.now in
+    let are = c.requires.groups in
+    let pair = c.in-Err-TooClose.pair in
+    let is = subst (λ (why : Refused). IsReduced c.codes.result.now c.args.wanted (Err why)) c.in-Err-TooClose.field-0-is c.in-Err-TooClose.ensures in
+    let (below, within) = places_within (topology_of n) made are c.codes.result.now c.codes.ensures.width c.codes.ensures.rows c.args.wanted pair is in
+    let node : (place : ℕ) → 0 < place → place < length made.groups → HasNode c.topology.result.now c.named.result.now place =
+    λ place later low. subst₂ (λ (m : Numbered) (named : List NamedGroup). HasNode m named place) (sym c.topology.ensures) (sym c.named.ensures)
+    (has_node n are.columns made.groups are.matrix place later low) in
+    record { first = λ later. node pair.first later (omega arith); second = node pair.second (omega arith) within; later = omega arith }
+
+pub shortfall-requires-clause-pair : goal.shortfall-requires-clause-pair
+shortfall-requires-clause-pair g c =
+    let n = c.args.graph.now in
+    let made = c.args.groups.now in
+    let are = c.requires.groups in
+    let pair = c.in-Err-TooClose.pair in
+    let is = subst (λ (why : Refused). IsReduced c.codes.result.now c.args.wanted (Err why)) c.in-Err-TooClose.field-0-is c.in-Err-TooClose.ensures in
+    let close = c.close_named-close.result in
+    let by_names = subst₂ (λ (m : Numbered) (named : List NamedGroup). IsPairOf (IsMemberAt m named) pair close) c.topology.ensures c.named.ensures c.close_named-close.ensures in
+    first_pair n made are c.args.wanted pair close
+    (first_close (topology_of n) made are c.codes.result.now c.codes.ensures.width c.codes.ensures.rows c.args.wanted pair is)
+    (pair_called (IsMemberAt n (named_of made.groups)) (IsCalledBy n made.groups) pair close (called_member n made.groups pair.first) (called_member n made.groups pair.second) by_names)
+
+pub shortfall-requires-clause-far : goal.shortfall-requires-clause-far
+shortfall-requires-clause-far g c =
+    let pair = c.in-Err-TooClose.pair in
+    let is = subst (λ (why : Refused). IsReduced c.codes.result.now c.args.wanted (Err why)) c.in-Err-TooClose.field-0-is c.in-Err-TooClose.ensures in
+    let far = pair_far (topology_of c.args.graph.now) c.args.groups.now c.requires.groups c.codes.result.now c.codes.ensures.width c.codes.ensures.rows c.args.wanted pair is in
+    let same = c.close_named-close.ensures.distance in
+    omega arith

@@ -1,0 +1,13 @@
+use Rattle.std.proofs.Common.{◌∙◌, IfOk, sym, subst}
+use Rattle.cb_validity.specs.Totals.{HasManyEntries}
+use Rattle.cb_topo.specs.Numbered.{Numbered, topology_of}
+use Rattle.cb_certify.specs.Made.{IsMadeOf}
+use Rattle.cb_certify.proofs.codebook.by_rows.Goals as goal
+
+pub of_matrix-requires-clause-many : goal.of_matrix-requires-clause-many
+of_matrix-requires-clause-many g c =
+    subst (λ (n : Numbered). HasManyEntries (topology_of n)) (sym (c.into_graph.ensures ∙ c.in_ok-cache.ensures.graph)) c.requires.many
+
+pub returns-in-Ok : goal.returns-in-Ok
+returns-in-Ok g c =
+    subst (λ (n : Numbered). IfOk c.of_matrix.result (IsMadeOf (topology_of n) c.args.wanted)) (c.into_graph.ensures ∙ c.in_ok-cache.ensures.graph) c.of_matrix.ensures

@@ -1,0 +1,91 @@
+use Rattle.std.proofs.Common.{◌∙◌, sym, subst, IfOk, Err, arith}
+use Rattle.cb_reduce.specs.declared.codebook.Refused.{Refused}
+use Rattle.cb_reduce.specs.Reduced.{IsReduced}
+use Rattle.cb_cert.specs.Format.{IsWanted}
+use Rattle.cb_span.specs.Orders.{IsOrderOf}
+use Rattle.cb_span.specs.Searched.{AreTreesOf}
+use Rattle.cb_topo.specs.Numbered.{Numbered, topology_of}
+use Rattle.cb_certify.specs.Columns.{AreColumnsIn}
+use Rattle.cb_certify.specs.Groups.{AreGroupsIn, IsLeastAt}
+use Rattle.cb_certify.specs.Made.{IsBookOf, IsMadeOf}
+use Rattle.cb_certify.specs.Members.{IsCalledBy}
+use Rattle.cb_certify.proofs.Reduced.{rows_fit, columns_fit, book_of, first_close, places_within, pair_far, first_pair, called_least, pair_called}
+use Rattle.cb_certify.proofs.codebook.by_trees.Goals as goal
+
+pub all_columns-requires : goal.all_columns-requires
+all_columns-requires g c = subst (λ (m : Numbered). IsOrderOf m c.args.trees.order) (sym c.topology.ensures) c.requires.trees.order
+
+pub groups_of-requires-clause-trees : goal.groups_of-requires-clause-trees
+groups_of-requires-clause-trees g c = subst (λ (m : Numbered). AreTreesOf m c.args.trees) (sym c.topology-2.ensures) c.requires.trees
+
+pub groups_of-requires-clause-columns : goal.groups_of-requires-clause-columns
+groups_of-requires-clause-columns g c = subst (λ (m : Numbered). AreColumnsIn m c.in_ok-columns.columns) (c.topology.ensures ∙ sym c.topology-2.ensures) c.in_ok-columns.ensures
+
+pub reduce-requires-clause-places_fit : goal.reduce-requires-clause-places_fit
+reduce-requires-clause-places_fit g c =
+    let made = c.in_ok-groups.groups in
+    let are = subst (λ (m : Numbered). AreGroupsIn m made) c.topology-2.ensures c.in_ok-groups.ensures in
+    rows_fit (topology_of c.args.graph.now) are.groups are.are made.codes are.width are.codes
+
+pub reduce-requires-clause-columns_fit : goal.reduce-requires-clause-columns_fit
+reduce-requires-clause-columns_fit g c =
+    let made = c.in_ok-groups.groups in
+    let are = subst (λ (m : Numbered). AreGroupsIn m made) c.topology-2.ensures c.in_ok-groups.ensures in
+    columns_fit (topology_of c.args.graph.now) are.groups are.are made.codes are.width are.codes
+
+pub with_book-requires-clause-trees : goal.with_book-requires-clause-trees
+with_book-requires-clause-trees g c = subst (λ (m : Numbered). AreTreesOf m c.args.trees) (sym c.topology-in-Ok.ensures) c.requires.trees
+
+pub with_book-requires-clause-all : goal.with_book-requires-clause-all
+with_book-requires-clause-all g c =
+    (subst (λ (m : Numbered). AreColumnsIn m c.in_ok-columns.columns) (c.topology.ensures ∙ sym c.topology-in-Ok.ensures) c.in_ok-columns.ensures).all
+
+pub with_book-requires-clause-book : goal.with_book-requires-clause-book
+with_book-requires-clause-book g c =
+    let made = c.in_ok-groups.groups in
+    let are = subst (λ (m : Numbered). AreGroupsIn m made) c.topology-2.ensures c.in_ok-groups.ensures in
+    let book = c.in-Ok.book in
+    subst (λ (m : Numbered). IsBookOf (topology_of m) book) (sym c.topology-in-Ok.ensures)
+    (book_of (topology_of c.args.graph.now) are.groups are.are made.codes are.width are.codes c.args.wanted book c.in-Ok.ensures)
+
+pub with_book-requires-clause-wanted : goal.with_book-requires-clause-wanted
+with_book-requires-clause-wanted g c = subst IsWanted (sym c.in-Ok.ensures.1) c.requires.wanted
+
+pub returns-in-Ok : goal.returns-in-Ok
+returns-in-Ok g c =
+    subst (λ distance. IfOk c.with_book.result (IsMadeOf (topology_of c.args.graph.now) distance)) c.in-Ok.ensures.1
+    (subst (λ (m : Numbered). IfOk c.with_book.result (IsMadeOf (topology_of m) c.in-Ok.book.distance)) c.topology-in-Ok.ensures c.with_book.ensures)
+
+pub close_groups-close-requires : goal.close_groups-close-requires
+close_groups-close-requires g c =
+    let made = c.in_ok-groups.groups in
+    let are = subst (λ (m : Numbered). AreGroupsIn m made) c.topology-2.ensures c.in_ok-groups.ensures in
+    let pair = c.in-Err-TooClose.pair in
+    let is = subst (λ (why : Refused). IsReduced made.codes c.args.wanted (Err why)) c.in-Err-TooClose.field-0-is c.in-Err-TooClose.ensures in
+    let (below, within) = places_within (topology_of c.args.graph.now) are.groups are.are made.codes are.width are.codes c.args.wanted pair is in
+    let count = are.least.count in
+    record { first = omega arith; second = omega arith; later = omega arith }
+
+pub shortfall-requires-clause-pair : goal.shortfall-requires-clause-pair
+shortfall-requires-clause-pair g c =
+    let n = c.args.graph.now in
+    let made = c.in_ok-groups.groups in
+    let are = subst (λ (m : Numbered). AreGroupsIn m made) c.topology-2.ensures c.in_ok-groups.ensures in
+    let pair = c.in-Err-TooClose.pair in
+    let is = subst (λ (why : Refused). IsReduced made.codes c.args.wanted (Err why)) c.in-Err-TooClose.field-0-is c.in-Err-TooClose.ensures in
+    let (below, within) = places_within (topology_of n) are.groups are.are made.codes are.width are.codes c.args.wanted pair is in
+    first_pair n are.groups are.are c.args.wanted pair c.close_groups-close.result
+    (first_close (topology_of n) are.groups are.are made.codes are.width are.codes c.args.wanted pair is)
+    (pair_called (IsLeastAt made.least) (IsCalledBy n are.groups.groups) pair c.close_groups-close.result
+    (called_least n are.groups.groups made.least are.least pair.first (omega arith)) (called_least n are.groups.groups made.least are.least pair.second within)
+    c.close_groups-close.ensures)
+
+pub shortfall-requires-clause-far : goal.shortfall-requires-clause-far
+shortfall-requires-clause-far g c =
+    let made = c.in_ok-groups.groups in
+    let are = subst (λ (m : Numbered). AreGroupsIn m made) c.topology-2.ensures c.in_ok-groups.ensures in
+    let pair = c.in-Err-TooClose.pair in
+    let is = subst (λ (why : Refused). IsReduced made.codes c.args.wanted (Err why)) c.in-Err-TooClose.field-0-is c.in-Err-TooClose.ensures in
+    let far = pair_far (topology_of c.args.graph.now) are.groups are.are made.codes are.width are.codes c.args.wanted pair is in
+    let same = c.close_groups-close.ensures.distance in
+    omega arith

@@ -1,0 +1,200 @@
+//! The codebook of a topology, certified.
+ghost use Rattle.std.specs.Prelude.{◌≡◌, ◌≤◌, ◌+◌, length, IfOk};
+ghost use Rattle.cb_cert.specs.Format.{IsWanted};
+ghost use Rattle.cb_validity.specs.Totals.{HasManyEntries};
+ghost use Rattle.cb_finding.specs.Matrix.{IsMatrix};
+ghost use Rattle.cb_network.specs.Sound.{problem_limit, symptom_limit};
+ghost use Rattle.cb_topo.specs.Numbered.{topology_of};
+ghost use Rattle.cb_span.specs.Searched.{AreTreesOf};
+ghost use Rattle.cb_certify.specs.Columns.{AreAllColumns};
+ghost use Rattle.cb_certify.specs.Groups.{AreGroupsOf};
+ghost use Rattle.cb_certify.specs.Made.{IsBookOf, IsMadeOf};
+
+use crate::columns::columns_at;
+use crate::groups::{all_columns, close_groups, groups_of};
+use crate::shortfall::{close_named, shortfall};
+use cb_cache::Cache;
+use cb_cert::Certificate;
+use cb_codes::Groups;
+use cb_coding::Book;
+use cb_graph::Graph;
+use cb_matrix::Matrix;
+use cb_model::{GroupName, List, NodeName};
+use cb_nodes::NodeId;
+use cb_reduce::{Refused, reduce};
+use cb_span::{SpanFault, Trees};
+use cb_steps::Steps;
+use cb_topo::Topology;
+use std::alloc::{AllocError, Global};
+use std::sync::ledger::Ledger;
+
+/// What is written of a topology's codebook.
+#[derive(Drop)]
+pub enum Codebook {
+    /// The codebook's certificate.
+    Certified(Certificate),
+    /// There is a codebook, whose certificate would have too many entries.
+    TooManyEntries,
+    /// There is none: these are the first two groups that are closer than wanted, how far they are apart, and the certificate of
+    /// that.
+    TooClose {
+        first: GroupName,
+        second: NodeName,
+        distance: u32,
+        certificate: Certificate,
+    },
+}
+
+/// What is written of the codebook of the topology for a wanted distance. A search from each problem tells the groups and the
+/// certificate; where it would have too many entries, the groups are told by rows, in which searches find what earlier ones found.
+pub fn codebook_of<L: Ledger>(
+    alloc: Global,
+    topology: Topology,
+    wanted: u32,
+    steps: &mut Steps<L>,
+) -> Result<Codebook, AllocError>
+    requires { IsWanted wanted }
+    ensures { IfOk result (IsMadeOf (topology_of topology) wanted) }
+{
+    let mut graph = Graph::new(alloc, topology)?;
+    match Trees::of(alloc, &mut graph, steps) {
+        Ok(trees) => of_trees(alloc, graph, trees, wanted, steps),
+        Err(SpanFault::TooManyEntries) => by_rows(alloc, graph, wanted, steps),
+        Err(SpanFault::NoMemory) => {
+            drop(graph);
+            Err(AllocError)
+        }
+    }
+}
+
+// The same, of a graph and the trees of its topology, which both end here.
+fn of_trees<L: Ledger>(
+    alloc: Global,
+    mut graph: Graph,
+    trees: Trees,
+    wanted: u32,
+    steps: &mut Steps<L>,
+) -> Result<Codebook, AllocError>
+    requires trees { AreTreesOf graph trees }
+    requires wanted { IsWanted wanted }
+    ensures { IfOk result (IsMadeOf (topology_of graph) wanted) }
+{
+    let made = by_trees(alloc, &mut graph, trees, wanted, steps);
+    drop(graph);
+    made
+}
+
+// The same, by the trees of the graph's topology. They tell the groups, and then become the certificate.
+fn by_trees<L: Ledger>(
+    alloc: Global,
+    graph: &mut Graph,
+    trees: Trees,
+    wanted: u32,
+    steps: &mut Steps<L>,
+) -> Result<Codebook, AllocError>
+    requires trees { AreTreesOf graph.old trees }
+    requires wanted { IsWanted wanted }
+    ensures { IfOk result (IsMadeOf (topology_of graph.old) wanted) }
+{
+    let columns = all_columns(alloc, graph.topology(), &trees.order)?;
+    let groups = groups_of(alloc, graph.topology(), &trees, &columns)?;
+    match reduce(alloc, &groups.codes, wanted) {
+        Ok(book) => {
+            // The codes are of no more use, and take as much memory as the certificate.
+            drop(groups);
+            with_book(alloc, graph.topology(), trees, &columns.nodes, &book)
+        }
+        Err(Refused::TooClose(pair)) => {
+            let close = close_groups(&groups, pair);
+            shortfall(alloc, graph, close, wanted, steps)
+        }
+        Err(Refused::NoMemory) => Err(AllocError),
+    }
+}
+
+// The certificate of a codebook of the topology.
+fn with_book(
+    alloc: Global,
+    topology: &Topology,
+    trees: Trees,
+    all: &List<NodeId>,
+    apart: &Book,
+) -> Result<Codebook, AllocError>
+    requires trees { AreTreesOf topology.now trees }
+    requires all { AreAllColumns topology.now all.now }
+    requires book { IsBookOf (topology_of topology.now) apart.now }
+    requires wanted { IsWanted apart.now.distance }
+    ensures { IfOk result (IsMadeOf (topology_of topology.now) apart.now.distance) }
+{
+    let columns = columns_at(alloc, all, &apart.columns)?;
+    let certificate = trees.book(alloc, topology, &columns, apart.distance)?;
+    Ok(Codebook::Certified(certificate))
+}
+
+// What is written where a certificate would have too many entries.
+fn by_rows<L: Ledger>(
+    alloc: Global,
+    graph: Graph,
+    wanted: u32,
+    steps: &mut Steps<L>,
+) -> Result<Codebook, AllocError>
+    requires many { HasManyEntries (topology_of graph) }
+    requires wanted { IsWanted wanted }
+    ensures { IfOk result (IsMadeOf (topology_of graph) wanted) }
+{
+    let cache = Cache::open(alloc, graph, steps)?;
+    match Matrix::of(alloc, &cache) {
+        Ok(matrix) => of_matrix(alloc, cache.into_graph(), matrix, wanted, steps),
+        Err(none) => {
+            drop(cache);
+            Err(none)
+        }
+    }
+}
+
+// The same, of a graph and the matrix of its topology, which both end here.
+fn of_matrix<L: Ledger>(
+    alloc: Global,
+    mut graph: Graph,
+    matrix: Matrix,
+    wanted: u32,
+    steps: &mut Steps<L>,
+) -> Result<Codebook, AllocError>
+    requires many { HasManyEntries (topology_of graph) }
+    requires matrix { IsMatrix (topology_of graph) matrix.columns matrix.groups }
+    requires few_columns { length matrix.columns ≤ symptom_limit }
+    requires few_groups { length matrix.groups ≤ problem_limit + 1 }
+    requires wanted { IsWanted wanted }
+    ensures { IfOk result (IsMadeOf (topology_of graph) wanted) }
+{
+    let made = by_groups(alloc, &mut graph, matrix.coded_groups(), wanted, steps);
+    drop(matrix);
+    drop(graph);
+    made
+}
+
+// The same, of the graph's topology and its groups.
+fn by_groups<L: Ledger>(
+    alloc: Global,
+    graph: &mut Graph,
+    groups: &Groups,
+    wanted: u32,
+    steps: &mut Steps<L>,
+) -> Result<Codebook, AllocError>
+    requires many { HasManyEntries (topology_of graph.old) }
+    requires groups { AreGroupsOf (topology_of graph.old) groups.now }
+    requires wanted { IsWanted wanted }
+    ensures { IfOk result (IsMadeOf (topology_of graph.old) wanted) }
+{
+    match reduce(alloc, groups.codes(), wanted) {
+        Ok(book) => {
+            drop(book);
+            Ok(Codebook::TooManyEntries)
+        }
+        Err(Refused::TooClose(pair)) => {
+            let close = close_named(graph.topology(), groups.named(), pair);
+            shortfall(alloc, graph, close, wanted, steps)
+        }
+        Err(Refused::NoMemory) => Err(AllocError),
+    }
+}

@@ -1,0 +1,155 @@
+//! The groups of a topology's problems, by their trees.
+ghost use Rattle.std.specs.Prelude.{◌≡◌, ◌<◌, ◌≤◌, ℕ, length, IfOk, OnOk, IfSome, Some, slice_get};
+ghost use Rattle.cb_breadth.specs.Lists.{AreBelow};
+ghost use Rattle.cb_matrix.specs.Codes.{IsColumnIndex};
+ghost use Rattle.cb_span.specs.Numberings.{AreBelow as AreVisitsBelow};
+ghost use Rattle.cb_span.specs.Orders.{IsOrderOf};
+ghost use Rattle.cb_span.specs.Searched.{AreTreesOf};
+ghost use Rattle.cb_certify.specs.Columns.{AreColumnsIn};
+ghost use Rattle.cb_certify.specs.Groups.{IsCodeBy, with_one, AreGroupsIn, IsLeastAt, IsQuietAlone, TakesLeast};
+ghost use Rattle.cb_certify.specs.Members.{IsPairOf};
+
+use crate::shortfall::ClosePair;
+use cb_bits::Row;
+use cb_breadth::{Order, Visit};
+use cb_codes::{Codes, EachOnce};
+use cb_coding::Pair;
+use cb_matrix::{Columns, indexed};
+use cb_model::List;
+use cb_nodes::NodeId;
+use cb_span::{Trees, columns_in};
+use cb_topo::Topology;
+use std::alloc::{AllocError, Global};
+
+/// All columns of the topology, with their places.
+pub(crate) fn all_columns(
+    alloc: Global,
+    topology: &Topology,
+    order: &Order,
+) -> Result<Columns, AllocError>
+    requires { IsOrderOf topology.now order.now }
+    ensures { IfOk result (AreColumnsIn topology.now) }
+{
+    let room = topology.node_room();
+    let nodes = columns_in(alloc, topology, order)?;
+    let columns = indexed(alloc, nodes, room)?;
+    Ok(columns)
+}
+
+/// The code of each group, quiet first, and the least member that names each of the others.
+#[derive(Drop)]
+pub struct CodedGroups {
+    pub codes: Codes,
+    /// The least member of each group but the quiet one.
+    pub least: List<NodeId>,
+}
+
+/// The groups of the topology's problems by the columns that their trees have.
+pub(crate) fn groups_of(
+    alloc: Global,
+    topology: &Topology,
+    trees: &Trees,
+    columns: &Columns,
+) -> Result<CodedGroups, AllocError>
+    requires trees { AreTreesOf topology.now trees.now }
+    requires columns { AreColumnsIn topology.now columns.now }
+    ensures { IfOk result (AreGroupsIn topology.now) }
+{
+    // The topology is sound.
+    let _model = topology.model();
+    let mut codes = quiet_code(alloc, columns.nodes.len())?;
+    let mut least = List::new(alloc);
+    for place in 0..trees.problems.len() {
+        let code = code_of(alloc, columns, &trees.order, &trees.visits[place])?;
+        let group = codes.place_of(alloc, code)?;
+        add_least(&mut least, group, *trees.problems.at(place))?;
+    }
+    Ok(CodedGroups {
+        codes: codes.into_codes(),
+        least,
+    })
+}
+
+// The code of the quiet group alone.
+fn quiet_code(alloc: Global, width: usize) -> Result<EachOnce, AllocError>
+    ensures { IfOk result (IsQuietAlone width) }
+{
+    let mut codes = EachOnce::new(alloc, width);
+    codes.place_of(alloc, Row::zeroed(alloc, width)?)?;
+    Ok(codes)
+}
+
+// Of a group that is new the problem is the least member, since problems come in order.
+fn add_least(least: &mut List<NodeId>, group: usize, problem: NodeId) -> Result<(), AllocError>
+    ensures { OnOk result (TakesLeast group problem least.old least.new) }
+{
+    if least.len() < group {
+        least.push(problem)?;
+    }
+    Ok(())
+}
+
+// For each column, whether the visits have it.
+fn code_of(
+    alloc: Global,
+    columns: &Columns,
+    order: &Order,
+    visits: &[Visit],
+) -> Result<Row, AllocError>
+    requires places { IsColumnIndex (length columns.now.places.items) columns.now.nodes columns.now.places.items }
+    requires nodes { AreBelow (length columns.now.places.items) order.now.nodes.items }
+    requires visits { AreVisitsBelow (length order.now.nodes.items) visits.now }
+    ensures { IfOk result (IsCodeBy order.now.nodes.items columns.now.nodes visits.now) }
+{
+    let mut code = Row::zeroed(alloc, columns.nodes.len())?;
+    for at in 0..visits.len() {
+        let place = place_of(columns, order, visits[at].node);
+        set_at(&mut code, place);
+    }
+    Ok(code)
+}
+
+// Makes the value at a place true, where there is one.
+fn set_at(code: &mut Row, place: Option<usize>)
+    requires { IfSome place (λ k. k < length code.old) }
+    ensures { code.new ≡ with_one code.old place }
+{
+    if let Some(k) = place {
+        code.set(k);
+    }
+}
+
+// The place among the columns of the node with a rank, where it is one.
+fn place_of(columns: &Columns, order: &Order, rank: u32) -> Option<usize>
+    requires nodes { AreBelow (length columns.now.places.items) order.now.nodes.items }
+    requires within { rank < length order.now.nodes.items }
+    ensures { (node : ℕ) → slice_get order.now.nodes.items rank ≡ Some node → slice_get columns.now.places.items node ≡ Some result }
+{
+    let node = order.nodes[rank as usize];
+    columns.places[node as usize]
+}
+
+/// The two groups at the places of a pair.
+pub(crate) fn close_groups(groups: &CodedGroups, pair: Pair) -> ClosePair
+    requires first { pair.first ≤ length groups.now.least }
+    requires second { pair.second ≤ length groups.now.least }
+    requires later { 0 < pair.second }
+    ensures { IsPairOf (IsLeastAt groups.now.least) pair result }
+{
+    ClosePair {
+        first: least_at(&groups.least, pair.first),
+        second: *groups.least.at(pair.second as usize - 1),
+        distance: pair.distance,
+    }
+}
+
+// The least member of the group at a place; the quiet one has none.
+fn least_at(least: &List<NodeId>, place: u32) -> Option<NodeId>
+    requires { place ≤ length least.now }
+    ensures { IsLeastAt least.now place result }
+{
+    if place == 0 {
+        return None;
+    }
+    Some(*least.at(place as usize - 1))
+}

@@ -1,0 +1,11 @@
+//! The certificate of a topology's codebook, or of two groups that are too close for one.
+#![tactic(auto)]
+
+mod codebook;
+mod columns;
+mod groups;
+mod shortfall;
+mod stated;
+
+pub use codebook::{Codebook, codebook_of};
+pub use stated::stated_book;

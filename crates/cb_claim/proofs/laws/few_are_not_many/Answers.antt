@@ -1,5 +1,0 @@
-use Rattle.cb_claim.proofs.Totals.{few_are_not_many as proved}
-use Rattle.cb_claim.proofs.laws.few_are_not_many.Goals as goal
-
-pub returns : goal.returns
-returns c = proved

@@ -1,5 +1,0 @@
-use Rattle.cb_claim.proofs.Codebooks.{shortfall_is_valid as proved}
-use Rattle.cb_claim.proofs.laws.shortfall_is_valid.Goals as goal
-
-pub returns : goal.returns
-returns c = proved

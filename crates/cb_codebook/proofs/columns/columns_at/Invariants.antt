@@ -1,6 +1,0 @@
-use Rattle.std.proofs.Common.{take}
-use Rattle.cb_codebook.specs.Columns.{AreAt}
-use Rattle.cb_codebook.proofs.columns.columns_at.Given as goal
-
-abbrev pub invariant-loop-k : goal.invariant-loop-k
-invariant-loop-k l = AreAt l.all (take l.k l.places) l.columns

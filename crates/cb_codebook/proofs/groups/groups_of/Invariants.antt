@@ -1,5 +1,0 @@
-use Rattle.cb_codebook.proofs.Adding.{AreHeldSo}
-use Rattle.cb_codebook.proofs.groups.groups_of.Given as goal
-
-abbrev pub invariant-loop-place : goal.invariant-loop-place
-invariant-loop-place l = AreHeldSo l.topology l.columns.nodes l.trees.problems l.place l.codes l.least

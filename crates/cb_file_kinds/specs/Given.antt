@@ -1,0 +1,67 @@
+-- A codebook that is given by a certificate.
+use Rattle.std.specs.Prelude.{◌≡◌, ◌⊎◌, ℕ, List}
+use Rattle.cb_network.specs.Topology.{Topology}
+use Rattle.cb_cert.specs.declared.certificate.Certificate.{Certificate}
+use Rattle.cb_cert.specs.declared.certificate.Certificate.TheVariants.{Book as BookClaim}
+use Rattle.cb_cert.specs.declared.certificate.Span.{Span}
+use Rattle.cb_cert.specs.Format.{IsCertificate}
+use Rattle.cb_validity.specs.Valid.{IsValid}
+use Rattle.cb_validity.specs.declared.verdict.Accepted.{Accepted}
+use Rattle.cb_validity.specs.Verdicts.{Shows}
+use Rattle.cb_topo.specs.Numbered.{topology_of}
+use Rattle.cb_report.specs.declared.fault.Fault.{Fault}
+use Rattle.cb_report.specs.declared.fault.Fault.TheVariants as faults
+use Rattle.cb_report.specs.CertificateTexts.{accepted_text}
+use Rattle.cb_outcome.specs.Judged.{Known, certified}
+use Rattle.cb_outcome.specs.Texts.{IsBookKind}
+use Rattle.cb_file_kinds.specs.declared.book_file.GivenBook.{GivenBook}
+use Rattle.cb_file_kinds.specs.declared.book_file.Shown.{Shown}
+use Rattle.cb_file_kinds.specs.declared.book_file.ShownBook.{ShownBook}
+use Rattle.cb_file_kinds.specs.Kinds.{IsRejection}
+
+-- the certificate with these spans after the nodes and the columns
+abbrev pub certificate_of : GivenBook → List Span → Certificate
+certificate_of given spans = BookClaim given.distance given.nodes given.columns spans
+
+-- it is the codebook of a certificate of the format, which is valid; its graph is of the topology
+pub record IsGivenBy (t : Topology) (c : Certificate) (given : GivenBook) : Type 0 where
+  pub spans : List Span
+  pub is : c ≡ certificate_of given spans
+  pub of_format : IsCertificate (certificate_of given spans)
+  pub valid : IsValid t (certificate_of given spans)
+  pub graph : topology_of given.graph ≡ t
+
+-- of some certificate and some topology
+abbrev pub IsGivenBySome : GivenBook → Type 0
+IsGivenBySome given = (t : Topology) × (c : Certificate) × IsGivenBy t c given
+
+-- the line says what the certificate shows
+pub record IsLineOf (t : Topology) (c : Certificate) (line : List ℕ) : Type 0 where
+  pub accepted : Accepted
+  pub shows : Shows t c accepted
+  pub is : line ≡ accepted_text accepted
+
+-- the certificate is valid, and this is its line; the graph is of the topology
+pub record IsShown (t : Topology) (c : Certificate) (shown : Shown) : Type 0 where
+  pub valid : IsValid t c
+  pub line : IsLineOf t c shown.line.items
+  pub graph : topology_of shown.graph ≡ t
+
+-- it is the codebook of the certificate, with its line
+pub record IsShownBy (t : Topology) (c : Certificate) (shown : ShownBook) : Type 0 where
+  pub given : IsGivenBy t c shown.book
+  pub line : IsLineOf t c shown.line.items
+
+-- the same, by what is known
+abbrev pub IsKnownBook : Topology → ShownBook → Known → Type 0
+IsKnownBook t shown known = (c : Certificate) × (known ≡ certified t c) × IsShownBy t c shown
+
+-- a valid certificate gives no codebook
+pub record IsOther (t : Topology) (c : Certificate) (fault : Fault) : Type 0 where
+  pub valid : IsValid t c
+  pub other : ¬ IsBookKind c
+  pub is : fault ≡ faults.NotBook
+
+-- the certificate isn't valid, or gives no codebook
+abbrev pub IsNoBook : Topology → Certificate → Fault → Type 0
+IsNoBook t c fault = IsRejection t c fault ⊎ IsOther t c fault

@@ -1,0 +1,78 @@
+-- What reading and judging one file leaves. `old` is told before it, `new` after it.
+use Rattle.std.specs.Prelude.{◌≡◌, ◌⊎◌, ℕ, List, IfSome}
+use Rattle.cb_io.specs.Outside.{FilesTold, left_of, ReadsAll, ReadsFront, KeepsOthers, NoCountFalls, ReadFailed}
+use Rattle.cb_network.specs.Topology.{Topology}
+use Rattle.cb_cert.specs.declared.certificate.Certificate.{Certificate}
+use Rattle.cb_validity.specs.declared.verdict.Accepted.{Accepted}
+use Rattle.cb_validity.specs.declared.verdict.Rejected.{Rejected}
+use Rattle.cb_validity.specs.Checks.{IsFirstFail}
+use Rattle.cb_validity.specs.Valid.{IsValid}
+use Rattle.cb_validity.specs.Verdicts.{Shows}
+use Rattle.cb_request.specs.Files.{Role}
+use Rattle.cb_report.specs.declared.fault.Fault.{Fault}
+use Rattle.cb_report.specs.declared.fault.Fault.TheVariants as faults
+use Rattle.cb_report.specs.declared.status.Status.TheVariants.{Memory}
+use Rattle.cb_report.specs.Faults.{status_of}
+use Rattle.cb_outcome.specs.Judged.{File, Known, Says, Refuses}
+
+-- a file of this role and name, with this text
+abbrev pub file_of : Role → List ℕ → List ℕ → File
+file_of role name text = record { role = role; name = name; text = text }
+
+-- the fault is out of memory
+abbrev pub IsWant : Fault → Type 0
+IsWant fault = status_of fault ≡ Memory
+
+-- after each that is known before, the file says one that is known after
+abbrev pub SaysAfter : (Known → Type 0) → (Known → Type 0) → File → Type 0
+SaysAfter Before After file = (known : Known) → Before known → (next : Known) × After next × Says known file next
+
+-- after each that is known before, the file is refused for this
+abbrev pub RefusesAfter : (Known → Type 0) → File → Fault → Type 0
+RefusesAfter Before file fault = (known : Known) → Before known → Refuses known file fault
+
+-- a file isn't judged to say something: memory ran out, or it is refused
+abbrev pub StopsJudging : (Known → Type 0) → File → Fault → Type 0
+StopsJudging Before file fault = IsWant fault ⊎ RefusesAfter Before file fault
+
+-- a prefix of what was left of the name was read, of every other name there is left what there was, and no count of faults fell
+pub record ReadsOnly (name : List ℕ) (old new : FilesTold) : Type 0 where
+  pub front : ReadsFront old new name
+  pub others : KeepsOthers old new name
+  pub counts : NoCountFalls old new
+
+-- all that was left of the name was read, and it says something
+pub record ReadsSaying (role : Role) (name : List ℕ) (Before After : Known → Type 0) (old new : FilesTold) : Type 0 where
+  pub text : List ℕ
+  pub read : ReadsAll old new name text
+  pub says : SaysAfter Before After (file_of role name text)
+
+-- the text is what was left of the name, where that is told
+abbrev pub IsTextOf : FilesTold → List ℕ → List ℕ → Type 0
+IsTextOf old name text = IfSome (left_of old name) (λ left. text ≡ left)
+
+-- a read of the name failed, and the fault tells that
+pub record FailsToRead (name : List ℕ) (old new : FilesTold) (fault : Fault) : Type 0 where
+  pub is : fault ≡ faults.ReadFault name
+  pub failed : ReadFailed old new name
+
+-- the text of the name is refused for this
+pub record IsRefused (role : Role) (name : List ℕ) (Before : Known → Type 0) (old : FilesTold) (fault : Fault) : Type 0 where
+  pub text : List ℕ
+  pub text_is : IsTextOf old name text
+  pub refuses : RefusesAfter Before (file_of role name text) fault
+
+-- the file stops the run: memory ran out, a read failed, or it is refused
+abbrev pub StopsReading : Role → List ℕ → (Known → Type 0) → FilesTold → FilesTold → Fault → Type 0
+StopsReading role name Before old new fault = IsWant fault ⊎ (FailsToRead name old new fault ⊎ IsRefused role name Before old fault)
+
+-- the fault tells the first check of the certificate that fails
+pub record IsRejection (t : Topology) (c : Certificate) (fault : Fault) : Type 0 where
+  pub why : Rejected
+  pub fails : IsFirstFail t c why
+  pub is : fault ≡ faults.CertRejected why
+
+-- the certificate is valid, and shows this
+pub record IsAccepted (t : Topology) (c : Certificate) (accepted : Accepted) : Type 0 where
+  pub valid : IsValid t c
+  pub shows : Shows t c accepted

@@ -1,0 +1,20 @@
+//! The files of a command, by their kinds, read and judged one after the other.
+#![tactic(auto)]
+
+mod book_file;
+mod certificate_file;
+mod kind;
+mod model_file;
+mod network;
+mod output;
+mod symptom_file;
+mod topology_file;
+
+pub use book_file::{BookFile, GivenBook, ShownBook};
+pub use certificate_file::CertificateFile;
+pub use kind::{FileKind, read_as};
+pub use model_file::{ModelFile, TreeFile};
+pub use network::read_network;
+pub use output::{Output, deliver};
+pub use symptom_file::SymptomFile;
+pub use topology_file::TopologyFile;

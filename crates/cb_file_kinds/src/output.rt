@@ -1,0 +1,40 @@
+//! What a command has for the output, and how it is written.
+ghost use Rattle.std.specs.Prelude.{Ok};
+ghost use Rattle.cb_file_kinds.specs.Ending.{Delivers, wrong};
+
+use cb_io::{Sink, write_all};
+use cb_report::Fault;
+
+/// The bytes for the output, and what is wrong all the same, if something is.
+#[derive(Drop)]
+pub struct Output<'w> {
+    pub bytes: Vec<u8>,
+    pub fault: Option<Fault<'w>>,
+}
+
+/// Writes what a command has made, if it has made something. What is wrong is told by the caller.
+pub fn deliver<'w, O: Sink>(
+    made: Result<Output<'w>, Fault<'w>>,
+    out: &mut O,
+) -> Result<(), Fault<'w>>
+    ensures { Delivers made.entry (wrong result) (O.tells out.old) (O.tells out.new) }
+{
+    match made {
+        Ok(output) => write(output, out),
+        Err(fault) => Err(fault),
+    }
+}
+
+// Writes the bytes, and then tells what is wrong all the same.
+fn write<'w, O: Sink>(output: Output<'w>, out: &mut O) -> Result<(), Fault<'w>>
+    ensures { Delivers (Ok output.entry) (wrong result) (O.tells out.old) (O.tells out.new) }
+{
+    if write_all(out, &output.bytes).is_err() {
+        return Err(Fault::WriteFault);
+    }
+    let Output { fault, .. } = output;
+    match fault {
+        Some(fault) => Err(fault),
+        None => Ok(()),
+    }
+}

@@ -1,0 +1,48 @@
+-- What one line adds, and why one isn't read.
+use Rattle.std.specs.Prelude.{◌≡◌, ◌↔◌, ◌⊎◌, ℕ, List}
+use Rattle.std.specs.List.{Contains}
+use Rattle.cb_model.specs.declared.node.NodeName.{NodeName}
+use Rattle.cb_edits.specs.declared.stop.EditText.{EditText}
+use Rattle.cb_edits.specs.declared.stop.EditText.TheVariants as text
+use Rattle.cb_network.specs.Topology.{Topology}
+use Rattle.cb_topo.specs.declared.fault.EditFault.{EditFault}
+use Rattle.cb_topo.specs.declared.fault.EditFault.TheVariants as edit
+use Rattle.cb_line_files.specs.declared.stop.LineStop.{LineStop}
+use Rattle.cb_line_files.specs.declared.stop.LineStop.TheVariants as stop
+use Rattle.cb_line_files.specs.declared.symptoms.SymptomStop.{SymptomStop}
+use Rattle.cb_line_files.specs.declared.symptoms.SymptomStop.TheVariants as symptoms
+use Rattle.cb_line_files.specs.declared.topology.LineFault.TheVariants.{BadWords, Refused}
+use Rattle.cb_line_files.specs.declared.topology.TopologyStop.{TopologyStop}
+use Rattle.cb_line_files.specs.declared.topology.TopologyStop.TheVariants as file
+use Rattle.cb_line_files.specs.Symptoms.{IsSymptomLine}
+use Rattle.cb_line_files.specs.Topologies.{IsWrong}
+
+-- the new nodes are the old ones and those such that P
+abbrev pub AddsNodes : (NodeName → Type 0) → List NodeName → List NodeName → Type 0
+AddsNodes P old new = (n : NodeName) → Contains new n ↔ (Contains old n ⊎ P n)
+
+-- the line of this number is bad, or there is not memory enough for it
+abbrev pub StopsSymptomLine : ℕ → List ℕ → SymptomStop → Type 0
+StopsSymptomLine number line (symptoms.LongLine other) = ⊥
+StopsSymptomLine number line (symptoms.BadName other) = (other ≡ number) × ¬ IsSymptomLine line
+StopsSymptomLine number line symptoms.NoMemory = Unit {0}
+
+-- the line is wrong after this topology, or there is not memory enough for it
+abbrev pub StopsTopologyLine : Topology → List ℕ → LineStop → Type 0
+StopsTopologyLine t line (stop.Fault fault) = IsWrong t line fault
+StopsTopologyLine t line stop.NoMemory = Unit {0}
+
+-- a stop at the line of this number, as one of the file
+abbrev pub stop_at : ℕ → LineStop → TopologyStop
+stop_at number (stop.Fault fault) = file.BadLine number fault
+stop_at number stop.NoMemory = file.NoMemory
+
+-- why a line isn't read whose edit isn't
+abbrev pub text_stop : EditText → LineStop
+text_stop text.BadWords = stop.Fault BadWords
+text_stop text.NoMemory = stop.NoMemory
+
+-- why a line isn't read whose edit isn't made
+abbrev pub edit_stop : EditFault → LineStop
+edit_stop (edit.Refused why) = stop.Fault (Refused why)
+edit_stop edit.NoMemory = stop.NoMemory

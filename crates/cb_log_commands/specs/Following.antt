@@ -1,0 +1,106 @@
+-- What following a log leaves. `old` is told before the run, `now` and `out` before the log is read, `new` and `out'` after it; `left` is what
+-- is left of the log then.
+use Rattle.std.specs.Prelude.{◌≡◌, ◌⊎◌, ℕ, ◌+◌, ◌<◌, ◌≤◌, ◌++◌, min, List, [], ◌∷◌, take, length, Option, None, Some, IsSome, IfSome, map}
+use Rattle.cb_io.specs.Outside.{FilesTold, SinkTold, left_of, ReadsEach, ReadFailed, NoCountFalls, WritesAll, WritesFront, WriteFailed}
+use Rattle.cb_request.specs.declared.request.Request.{Request}
+use Rattle.cb_request.specs.Files.{judged_of, logs_of}
+use Rattle.cb_request.specs.Ranges.{IsInRange}
+use Rattle.cb_report.specs.declared.fault.Fault.{Fault}
+use Rattle.cb_report.specs.declared.fault.Fault.TheVariants as faults
+use Rattle.cb_outcome.specs.Judged.{Known, nothing, PassFrom}
+use Rattle.cb_outcome.specs.Contents.{files_from}
+use Rattle.cb_outcome.specs.Reading.{Told}
+use Rattle.cb_outcome.specs.Clauses.{ahead_limit}
+use Rattle.cb_outcome.specs.LogJobs.{Watch, IsWatch, WholeTells, FrontTells, log_limit}
+use Rattle.cb_file_kinds.specs.Kinds.{ReadsOnly}
+
+-- what the first bytes of a log tell is due once so many were taken
+abbrev pub IsDueUpto : Watch → List ℕ → ℕ → List ℕ → Type 0
+IsDueUpto watch log taken due = FrontTells watch (take (min taken log_limit) log) due
+
+-- at its end, what the whole log tells, where it isn't too long
+pub record IsDueOfAll (watch : Watch) (log due : List ℕ) : Type 0 where
+  pub short : length log ≤ log_limit
+  pub tells : WholeTells watch log due
+
+-- the log was read whole, and all that it tells was written
+pub record IsToldWhole (watch : Watch) (log : List ℕ) (left : Option (List ℕ)) (out out' : SinkTold) : Type 0 where
+  pub due : List ℕ
+  pub is_due : IsDueOfAll watch log due
+  pub none : left ≡ Some []
+  pub written : WritesAll out out' due
+
+-- the log is too long, and what its lines before the first byte too many tell was written
+pub record IsToldToLimit (watch : Watch) (log : List ℕ) (out out' : SinkTold) : Type 0 where
+  pub long : log_limit < length log
+  pub due : List ℕ
+  pub tells : FrontTells watch (take log_limit log) due
+  pub written : WritesAll out out' due
+
+-- what is due once these bytes of the log were taken was written
+pub record IsToldAsTaken (watch : Watch) (log : List ℕ) (left : Option (List ℕ)) (out out' : SinkTold) : Type 0 where
+  pub front : List ℕ
+  pub rest : List ℕ
+  pub log_is : log ≡ front ++ rest
+  pub left_is : left ≡ Some rest
+  pub due : List ℕ
+  pub is_due : IsDueUpto watch log (length front) due
+  pub written : WritesAll out out' due
+
+-- what is due at some point of the log was written
+pub record IsToldSoFar (watch : Watch) (log : List ℕ) (out out' : SinkTold) : Type 0 where
+  pub taken : ℕ
+  pub due : List ℕ
+  pub is_due : IsDueUpto watch log taken due
+  pub written : WritesAll out out' due
+
+-- a prefix of what is due at some point of the log, or at its end, was written
+abbrev pub IsToldInPart : Watch → List ℕ → SinkTold → SinkTold → Type 0
+IsToldInPart watch log out out' = (due : List ℕ) × (((taken : ℕ) × IsDueUpto watch log taken due) ⊎ IsDueOfAll watch log due) × WritesFront out out' due
+
+-- where more is due at some point of the log than was written, not many more bytes than those were taken
+abbrev pub IsNotFar : Watch → List ℕ → Option (List ℕ) → SinkTold → SinkTold → Type 0
+IsNotFar watch log left out out' = (upto : ℕ) (front rest due written : List ℕ) → log ≡ front ++ rest → left ≡ Some rest
+    → IsDueUpto watch log upto due → WritesAll out out' written → length written < length due → length front ≤ upto + ahead_limit
+
+-- a write failed: a part of what is due was written, and the log wasn't read far ahead of it, where the output is told
+pub record IsCutShort (watch : Watch) (log : List ℕ) (left : Option (List ℕ)) (out out' : SinkTold) : Type 0 where
+  pub part : IsToldInPart watch log out out'
+  pub near : IsSome out.taken → IsNotFar watch log left out out'
+
+-- what was written of a log, by the fault that ended it, if there is one
+abbrev pub TellsLog : Watch → List ℕ → Option (List ℕ) → SinkTold → SinkTold → Option Fault → Type 0
+TellsLog watch log left out out' None = IsToldWhole watch log left out out'
+TellsLog watch log left out out' (Some (faults.LimitBytes name)) = IsToldToLimit watch log out out'
+TellsLog watch log left out out' (Some (faults.ReadFault name)) = IsToldAsTaken watch log left out out'
+TellsLog watch log left out out' (Some faults.WriteFault) = IsCutShort watch log left out out'
+TellsLog watch log left out out' (Some fault) = IsToldSoFar watch log out out'
+
+-- what has gone wrong, by that fault: the log is too long, a read of it failed, a write failed, or memory ran out
+abbrev pub GoesWrong : List ℕ → FilesTold → FilesTold → SinkTold → SinkTold → Option Fault → Type 0
+GoesWrong name now new out out' None = Unit {0}
+GoesWrong name now new out out' (Some (faults.LimitBytes other)) = other ≡ name
+GoesWrong name now new out out' (Some (faults.ReadFault other)) = (other ≡ name) × ReadFailed now new name
+GoesWrong name now new out out' (Some faults.WriteFault) = WriteFailed out out'
+GoesWrong name now new out out' (Some faults.Memory) = Unit {0}
+GoesWrong name now new out out' (Some fault) = ⊥
+
+-- a log was followed to this end
+pub record EndsLog (watch : Watch) (name : List ℕ) (now new : FilesTold) (out out' : SinkTold) (end : Option Fault) : Type 0 where
+  pub only : ReadsOnly name now new
+  pub wrong : GoesWrong name now new out out' end
+  pub tells : IfSome (left_of now name) (λ log. TellsLog watch log (left_of new name) out out' end)
+
+-- the judged files of a request have passed, and its log was followed to this end
+pub record FollowsLog (request : Request) (old new : FilesTold) (out out' : SinkTold) (end : Option Fault) : Type 0 where
+  pub range : IsInRange request
+  pub known : Known
+  pub passed : Told old (λ left. PassFrom nothing (files_from left request) known)
+  pub watch : Watch
+  pub watches : IsWatch request known watch
+  pub name : List ℕ
+  pub log : logs_of request ≡ name ∷ []
+  pub now : FilesTold
+  pub read : ReadsEach old now (map (λ file. file.1) (judged_of request))
+  pub counts : NoCountFalls old now
+  pub ends : EndsLog watch name now new out out' end

@@ -1,0 +1,104 @@
+//! The command `decode`.
+ghost use Rattle.std.specs.Prelude.{◌≡◌, ◌≤◌, ◌^◌, IfOk};
+ghost use Rattle.cb_io.specs.Outside.{SinkTold};
+ghost use Rattle.cb_network.specs.Topology.{Topology as TopologyOf};
+ghost use Rattle.cb_cert.specs.declared.certificate.Certificate.{Certificate};
+ghost use Rattle.cb_request.specs.declared.request.Request.TheVariants.{Decode};
+ghost use Rattle.cb_request.specs.Ranges.{IsInRange};
+ghost use Rattle.cb_outcome.specs.LogJobs.{Watch};
+ghost use Rattle.cb_topo.specs.Numbered.{topology_of};
+ghost use Rattle.cb_log_commands.specs.Following.{EndsLog};
+ghost use Rattle.cb_file_kinds.specs.Given.{IsGivenBy, IsGivenBySome};
+ghost use Rattle.cb_log_commands.specs.Fixed.{StandsFixed};
+ghost use Rattle.cb_log_commands.specs.Telling.{OpensBehind};
+ghost use Rattle.cb_log_commands.specs.Ways.{EndsRequest};
+ghost use Rattle.cb_file_kinds.specs.Ending.{wrong};
+
+use crate::follow::follow;
+use cb_cache::Cache;
+use cb_certify::stated_book;
+use cb_file_kinds::{BookFile, GivenBook, ShownBook, read_as, read_network};
+use cb_io::{Files, Sink, write_all};
+use cb_report::Fault;
+use cb_request::FileName;
+use cb_session::Session;
+use cb_steps::Steps;
+use std::alloc::{AllocError, Global};
+use std::sync::ledger::Ledger;
+
+/// The files of `decode`.
+#[derive(Drop)]
+pub struct DecodeFiles<'w> {
+    pub model: FileName<'w>,
+    pub topology: FileName<'w>,
+    pub book: FileName<'w>,
+    pub log: FileName<'w>,
+}
+
+/// Reads the model, the topology and the certificate of a codebook, writes what the certificate shows, and then follows the log by it.
+pub fn decode<'w, F: Files, O: Sink, L: Ledger>(
+    alloc: Global,
+    files: &mut F,
+    out: &mut O,
+    names: DecodeFiles<'w>,
+    window: u64,
+    steps: &mut Steps<L>,
+) -> Result<(), Fault<'w>>
+    requires { IsInRange (Decode names.model names.topology names.book names.log window) }
+    ensures { EndsRequest (Decode names.entry.model names.entry.topology names.entry.book names.entry.log window) (F.tells files.old) (F.tells files.new)
+        (O.tells out.old) (O.tells out.new) (wrong result) }
+{
+    let topology = read_network(alloc, files, names.model, names.topology)?;
+    let kind = BookFile {
+        topology,
+        steps: &mut *steps,
+    };
+    let ShownBook { book, line } = read_as(alloc, files, names.book, kind)?;
+    let mut session = fixed(alloc, book, window, steps)?;
+    let end = follow_behind(alloc, files, out, &line, names.log, &mut session, steps);
+    drop(session);
+    end
+}
+
+// A session at the beginning of a log, by the codebook.
+fn fixed<L: Ledger>(
+    alloc: Global,
+    given: GivenBook,
+    window: u64,
+    steps: &mut Steps<L>,
+) -> Result<Session, AllocError>
+    requires given { IsGivenBySome given }
+    requires window { 1 ≤ window }
+    ensures { IfOk result (λ session. (t : TopologyOf) (c : Certificate) → IsGivenBy t c given → StandsFixed t c window session) }
+{
+    let cache = Cache::open(alloc, given.graph, steps)?;
+    let topology = cache.graph().topology();
+    let _typed = topology.model();
+    let book = stated_book(
+        alloc,
+        topology,
+        &given.nodes,
+        &given.columns,
+        given.distance,
+    )?;
+    Session::fixed(alloc, cache, book, window)
+}
+
+// Writes a text, and follows a log after it.
+fn follow_behind<'w, F: Files, O: Sink, L: Ledger>(
+    alloc: Global,
+    files: &mut F,
+    out: &mut O,
+    opening: &[u8],
+    log: FileName<'w>,
+    session: &mut Session,
+    steps: &mut Steps<L>,
+) -> Result<(), Fault<'w>>
+    ensures { (watch : Watch) → OpensBehind watch opening.now session.old
+        → EndsLog watch log.entry (F.tells files.old) (F.tells files.new) (O.tells out.old) (O.tells out.new) (wrong result) }
+{
+    if write_all(out, opening).is_err() {
+        return Err(Fault::WriteFault);
+    }
+    follow(alloc, files, out, log, session, steps)
+}

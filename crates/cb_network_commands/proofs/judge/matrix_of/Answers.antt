@@ -1,0 +1,19 @@
+use Rattle.std.proofs.Common.{◌≤◌, ◌+◌, ℕ, IfOk, subst, ◌∙◌}
+use Rattle.cb_change.specs.Costs.{IsOpenCost}
+use Rattle.cb_finding.specs.Matrix.{IsMatrix}
+use Rattle.cb_topo.specs.Numbered.{Numbered, topology_of}
+use Rattle.cb_matrix.specs.declared.matrix.Matrix.{Matrix}
+use Rattle.cb_network_commands.proofs.judge.matrix_of.Goals as goal
+
+pub returns-in_err-cache-clause-cost : goal.returns-in_err-cache-clause-cost
+returns-in_err-cache-clause-cost g c =
+    subst (λ (n : Numbered). (cost : ℕ) → IsOpenCost (topology_of n) cost → c.open.new.steps ≤ c.args.steps.now + cost) c.in_ok-graph.ensures c.open.ensures.cost
+
+pub returns-clause-matrix : goal.returns-clause-matrix
+returns-clause-matrix g c =
+    subst (λ (n : Numbered). IfOk c.of.result (λ (matrix : Matrix). IsMatrix (topology_of n) matrix.columns matrix.groups))
+    (c.in_ok-cache.ensures.graph ∙ c.in_ok-graph.ensures) c.of.ensures.matrix
+
+pub returns-clause-cost : goal.returns-clause-cost
+returns-clause-cost g c =
+    subst (λ (n : Numbered). (cost : ℕ) → IsOpenCost (topology_of n) cost → c.open.new.steps ≤ c.args.steps.now + cost) c.in_ok-graph.ensures c.open.ensures.cost

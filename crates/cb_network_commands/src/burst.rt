@@ -1,0 +1,37 @@
+//! The command `burst`.
+ghost use Rattle.std.specs.Prelude.{Some};
+ghost use Rattle.cb_request.specs.declared.request.Request.TheVariants.{Burst};
+ghost use Rattle.cb_outcome.specs.Steps.{BoundsSteps};
+ghost use Rattle.cb_file_kinds.specs.Ending.{Comes};
+
+use crate::judge::lines_of_burst;
+use cb_file_kinds::{Output, SymptomFile, read_as, read_network};
+use cb_io::Files;
+use cb_report::Fault;
+use cb_request::FileName;
+use cb_steps::Steps;
+use std::alloc::Global;
+use std::sync::ledger::Ledger;
+
+/// Reads the three files, and gives what `burst` prints. A file is judged before the next one is read.
+pub fn burst<'w, F: Files, L: Ledger>(
+    alloc: Global,
+    files: &mut F,
+    model: FileName<'w>,
+    topology: FileName<'w>,
+    symptoms: FileName<'w>,
+    steps: &mut Steps<L>,
+) -> Result<Output<'w>, Fault<'w>>
+    ensures comes { Comes (Burst model.entry topology.entry symptoms.entry) (F.tells files.old) (F.tells files.new) result }
+    ensures steps { BoundsSteps (Some (Burst model.entry topology.entry symptoms.entry)) (F.tells files.old) (F.tells files.new) steps.old steps.new }
+{
+    let topology = read_network(alloc, files, model, topology)?;
+    let kind = SymptomFile {
+        topology: &topology,
+    };
+    let raised = read_as(alloc, files, symptoms, kind)?;
+    Ok(Output {
+        bytes: lines_of_burst(alloc, topology, &raised, steps)?,
+        fault: None,
+    })
+}

@@ -1,0 +1,78 @@
+//! From a topology to its matrix, and to what is found for raised nodes.
+ghost use Rattle.std.specs.Prelude.{◌≡◌, ◌≤◌, ◌+◌, ℕ, length, IfOk};
+ghost use Rattle.cb_model.specs.Order.{Rises};
+ghost use Rattle.cb_model.specs.NodeOrder.{node_cmp};
+ghost use Rattle.cb_network.specs.Sound.{problem_limit, symptom_limit};
+ghost use Rattle.cb_change.specs.Costs.{IsOpenCost};
+ghost use Rattle.cb_finding.specs.declared.finding.Finding.{Finding};
+ghost use Rattle.cb_finding.specs.Matrix.{IsMatrix};
+ghost use Rattle.cb_finding.specs.Finding.{IsBurst};
+ghost use Rattle.cb_topo.specs.Numbered.{topology_of};
+ghost use Rattle.cb_report.specs.Lines.{burst_text as text_of_burst};
+ghost use Rattle.cb_outcome.specs.Jobs.{MatrixGives};
+ghost use Rattle.cb_outcome.specs.Outcome.{done};
+
+use cb_cache::Cache;
+use cb_decode::find;
+use cb_graph::Graph;
+use cb_matrix::Matrix;
+use cb_model::{List, NodeName};
+use cb_reduce::{least, whole_book};
+use cb_report::{burst_text, matrix_text};
+use cb_steps::Steps;
+use cb_topo::Topology;
+use std::alloc::{AllocError, Global};
+use std::sync::ledger::Ledger;
+
+/// The lines of what is found for the raised nodes.
+pub(crate) fn lines_of_burst<L: Ledger>(
+    alloc: Global,
+    topology: Topology,
+    raised: &List<NodeName>,
+    steps: &mut Steps<L>,
+) -> Result<Vec<u8>, AllocError>
+    requires { Rises node_cmp raised.now }
+    ensures found { IfOk result (λ bytes. (finding : Finding) × IsBurst (topology_of topology) raised.now finding × (bytes.items ≡ text_of_burst finding)) }
+    ensures cost { (cost : ℕ) → IsOpenCost (topology_of topology) cost → steps.new ≤ steps.old + cost }
+{
+    let matrix = matrix_of(alloc, topology, steps)?;
+    let book = whole_book(alloc, matrix.codes())?;
+    let finding = find(
+        alloc,
+        matrix.columns(),
+        matrix.coded_groups(),
+        &book,
+        raised,
+    )?;
+    burst_text(alloc, &finding)
+}
+
+/// The lines of the matrix.
+pub(crate) fn lines_of_matrix<L: Ledger>(
+    alloc: Global,
+    topology: Topology,
+    steps: &mut Steps<L>,
+) -> Result<Vec<u8>, AllocError>
+    ensures gives { IfOk result (λ bytes. (whole : ℕ) → MatrixGives (topology_of topology) whole (done bytes.items whole)) }
+    ensures cost { (cost : ℕ) → IsOpenCost (topology_of topology) cost → steps.new ≤ steps.old + cost }
+{
+    let matrix = matrix_of(alloc, topology, steps)?;
+    let least = least(matrix.codes());
+    matrix_text(alloc, matrix.columns(), matrix.coded_groups(), least)
+}
+
+// The matrix of the topology. The memory of the rows that it is taken from is given back.
+fn matrix_of<L: Ledger>(
+    alloc: Global,
+    topology: Topology,
+    steps: &mut Steps<L>,
+) -> Result<Matrix, AllocError>
+    ensures matrix { IfOk result (λ matrix. IsMatrix (topology_of topology) matrix.columns matrix.groups) }
+    ensures few_columns { IfOk result (λ matrix. length matrix.columns ≤ symptom_limit) }
+    ensures few_groups { IfOk result (λ matrix. length matrix.groups ≤ problem_limit + 1) }
+    ensures cost { (cost : ℕ) → IsOpenCost (topology_of topology) cost → steps.new ≤ steps.old + cost }
+{
+    let graph = Graph::new(alloc, topology)?;
+    let cache = Cache::open(alloc, graph, steps)?;
+    Matrix::of(alloc, &cache)
+}

@@ -1,0 +1,9 @@
+//! The commands on a model or a network as it stands, a file each.
+#![tactic(auto)]
+
+pub mod burst;
+pub mod codebook;
+mod judge;
+pub mod matrix;
+pub mod model;
+pub mod verify;
