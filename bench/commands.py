@@ -3,7 +3,7 @@
 
     bench/commands.py --peer PROGRAM [--program PROGRAM] WORKLOAD
 
-WORKLOAD is the script that writes a network (files m, t and s, and a log) into a folder. Each command is run three times by both programs, and the least
+WORKLOAD is the script that writes a network (files m, t and s, and a log) into a folder; those whose rule has a place with a plus are made here. Each command is run three times by both programs, and the least
 time is taken; a table is printed, in the form of docs/speed.md. Where valgrind is there, each is run once more by it, and the instructions are counted, in
 millions, which no other work on the machine moves; of logs with many edits a shorter one is counted. Nothing here is a test: read ratios out of one run.
 """
@@ -20,6 +20,21 @@ from model import full_model, long_model
 # Which commands are measured on which networks. A codebook is asked for at the distance that stands with it, and its certificate is verified.
 ANSWERED = (("ring", 2048), ("limits", 2048), ("random", 8192), ("dense", 8192), ("chain", 8192), ("mesh", 8192))
 CERTIFIED = (("ring", 2048, 1), ("random", 4000, 1), ("dense", 2000, 4), ("dense", 4000, 4), ("chain", 1000, 1), ("mesh", 1024, 1))
+
+# Sites that feed one another, in a row or in a cycle, the first of which alone has a problem, by a rule with a plus. Reading taken off, twice the sites are to take twice
+# the instructions.
+RUNS = (("row", 4096), ("row", 8192), ("cycle", 4096), ("cycle", 8192))
+
+SITES = """class Site {
+  symptom Dark;
+  relation feeds to Site many inverse fed;
+  relation fed to Site one inverse feeds;
+}
+class Source extends Site {
+  problem Power;
+  rule all: Power => feeds+.Dark;
+}
+"""
 
 # Networks with a log: how many lines it has, of how many the instructions are counted, and that each so many of them one is an edit.
 LOGS = (
@@ -77,6 +92,16 @@ def answered(words, folder, kind, sites):
     line(words, ["matrix", "m", "t"], f"{kind} {sites:,}", folder)
 
 
+def repeated(words, folder, kind, sites):
+    links = sites if kind == "cycle" else sites - 1
+    made = ["create s0 Source\n", *(f"create s{k} Site\n" for k in range(1, sites))]
+    made += [f"link s{k} feeds s{(k + 1) % sites}\n" for k in range(links)]
+    (folder / "m").write_text(SITES)
+    (folder / "t").write_text("".join(made))
+    (folder / "s").write_text("".join(f"Dark@s{k}\n" for k in range(sites - links, sites)))
+    line(words, ["burst", "m", "t", "s"], f"{kind} of {sites:,} by a plus", folder)
+
+
 def certified(words, folder, kind, sites, distance):
     make(words, folder, kind, sites)
     network = f"{kind} {sites:,} at {distance}"
@@ -108,7 +133,7 @@ def main():
         return
     models = (("1,024 classes", full_model()), ("16 MiB of classes", long_model(False)))
     print("| Command | Network | Seconds | Other | Ratio | MiB | Other | Ratio | Million instructions | Other | Ratio |\n|---|---|---|---|---|---|---|---|---|---|---|")
-    for measured, inputs in ((answered, ANSWERED), (certified, CERTIFIED), (followed, LOGS), (grown, GROWN), (checked, models)):
+    for measured, inputs in ((answered, ANSWERED), (repeated, RUNS), (certified, CERTIFIED), (followed, LOGS), (grown, GROWN), (checked, models)):
         for asked in inputs:
             with tempfile.TemporaryDirectory() as name:
                 measured(words, pathlib.Path(name), *asked)

@@ -1,11 +1,11 @@
 #!/usr/bin/env python3
 """Compares answers on random inputs, good and faulty, with another program that has the same command line.
 
-    bench/compare.py --peer PROGRAM [--program PROGRAM] [--seed N] [--lines N] [RUNS]
+    bench/compare.py --peer PROGRAM [--program PROGRAM] [--seed N] [--lines N] [--plus] [RUNS]
 
 Each run makes a model text (some of them with a fault in their spelling or in their types), a topology with edits of all
 six kinds, some of them refused, a symptom file, a certificate (of the other program, mostly damaged, and now and then of another topology) and a log, hands them to both
-programs by one command line or by as many as are asked for, and compares the status, the output and the line on standard error. The seeds are N and those behind it, one a run: space two calls by their RUNS. It ends with status 1 where two answers differ, and says
+programs by one command line or by as many as are asked for, and compares the status, the output and the line on standard error. The seeds are N and those behind it, one a run: space two calls by their RUNS. With --plus each model has a place with a plus, or would have one but for its fault. It ends with status 1 where two answers differ, and says
 nothing but a word where the other program isn't there. The program is built by the gate, or by `rt run` in crates/cb_cli, which leave it
 in out/.
 """
@@ -77,15 +77,15 @@ def random_classes(rng):
 
 
 def add_rule(rng, by_name, one, name):
-    """A rule of the class along relations that there are, where it has events for one."""
+    """A rule of the class along relations that there are, where it has events for one. Most places that may have a plus have it, and few others."""
     path, reached = [], one
-    while rng.random() < 0.4 and len(path) < 4:
-        steps = [m for c in reached.line() for m in c.members if m[0] == "relation"]
+    while rng.random() < 0.5 and len(path) < 4:
+        steps = [(m, c) for c in reached.line() for m in c.members if m[0] == "relation"]
         if not steps:
             break
-        step = rng.choice(steps)
-        path.append(step[1])
+        step, home = rng.choice(steps)
         reached = by_name[step[2]]
+        path.append((step[1], rng.random() < (0.6 if home in reached.line() else 0.01)))
     if one.named("event") and reached.named("event"):
         one.members.append(("rule", name, rng.choice(one.named("event")), path, rng.choice(reached.named("event"))))
 
@@ -97,7 +97,7 @@ def spell(member):
     if member[0] == "relation":
         return ["relation", member[1], "to", member[2], member[3], "inverse", member[4], ";"]
     if member[0] == "rule":
-        path = [token for name in member[3] for token in (name, ".")]
+        path = [token for name, plus in member[3] for token in (name, *["+"] * plus, ".")]
         return ["rule", member[1], ":", member[2], "=>"] + path + [member[4], ";"]
     return [member[0], member[1], ";"]
 
@@ -122,7 +122,7 @@ def spoil(rng, tokens):
         at = rng.randrange(len(tokens) + 1)
         kind = rng.randrange(6)
         if kind == 0:
-            tokens.insert(at, rng.choice(RESERVED + ["{", "}", ";", ":", ".", "=>", "=", "%", "9a", "é", "n" * 63, "n" * 64]))
+            tokens.insert(at, rng.choice(RESERVED + ["{", "}", ";", ":", ".", "+", "+", "=>", "=", "%", "*", "9a", "é", "n" * 63, "n" * 64]))
         elif kind == 1 and at < len(tokens):
             del tokens[at]
         elif kind == 2 and at < len(tokens):
@@ -226,6 +226,7 @@ def spoiled_line(rng):
 def topology_text(rng, network, faulty):
     """Lines of edits that are good, mostly; the first one that isn't would end the reading."""
     lines = [network.create() for _ in range(rng.randrange(1, 8))]
+    lines += [network.join("link") for _ in range(rng.choice((0, 0, 4, 12)))]
     lines += [network.line() for _ in range(rng.randrange(24))]
     if faulty:
         lines.insert(rng.randrange(len(lines) + 1), spoiled_line(rng))
@@ -370,9 +371,15 @@ def answer(program, words, folder):
     return done.returncode, done.stdout, done.stderr
 
 
-def compare(program, peer, rng, folder, lines):
+def has_plus(classes):
+    return any(plus for one in classes for member in one.members if member[0] == "rule" for _, plus in member[3])
+
+
+def compare(program, peer, rng, folder, words):
     """The words of each command line, and the two answers."""
     classes = random_classes(rng)
+    while words.plus and not has_plus(classes):
+        classes = random_classes(rng)
     network = Network(rng, classes)
     (folder / "m").write_text(model_text(rng, classes, rng.random() < 0.3), newline="")
     topology = topology_text(rng, network, rng.random() < 0.1)
@@ -384,9 +391,9 @@ def compare(program, peer, rng, folder, lines):
     if rng.random() < 0.2:
         (folder / "t").write_text(edited_since(rng, network, peer, folder, topology), newline="")
     (folder / "l").write_bytes(log_text(rng, network).encode("latin-1"))
-    for _ in range(lines):
-        words = words_of(rng)
-        yield words, answer(program, words, folder), answer(peer, words, folder)
+    for _ in range(words.lines):
+        command = words_of(rng)
+        yield command, answer(program, command, folder), answer(peer, command, folder)
 
 
 def main():
@@ -395,6 +402,7 @@ def main():
     parser.add_argument("--peer", type=pathlib.Path, help="the other program")
     parser.add_argument("--seed", type=int, default=1)
     parser.add_argument("--lines", type=int, default=1, help="how many command lines are tried on each network")
+    parser.add_argument("--plus", action="store_true", help="only models with a plus in a path")
     parser.add_argument("runs", type=int, nargs="?", default=1000)
     words = parser.parse_args()
     if words.peer is None or not words.peer.exists():
@@ -406,7 +414,7 @@ def main():
     for run in range(words.seed, words.seed + words.runs):
         with tempfile.TemporaryDirectory() as name:
             folder = pathlib.Path(name)
-            for command, ours, theirs in compare(words.program.resolve(), words.peer.resolve(), random.Random(run), folder, words.lines):
+            for command, ours, theirs in compare(words.program.resolve(), words.peer.resolve(), random.Random(run), folder, words):
                 if ours != theirs:
                     print((folder / "m").read_bytes().decode())
                     sys.exit(f"run {run}: {command}\nprogram: {ours}\npeer:    {theirs}")

@@ -27,7 +27,7 @@ import tempfile
 
 ROOT = pathlib.Path(__file__).resolve().parent.parent
 BLOCK = re.compile(r"^```(\w+)(?: +(\S+))?\n(.*?)^```$", re.MULTILINE | re.DOTALL)
-PAGES = ["README.md", "docs/tutorial.md", "docs/troubles.md", "docs/recipes.md", "docs/limits.md"]
+PAGES = ["README.md", "docs/tutorial.md", "docs/troubles.md", "docs/recipes.md", "docs/live.md", "docs/scale.md", "docs/report.md", "docs/limits.md"]
 MARK = "-- end of a command --"
 
 
@@ -74,7 +74,7 @@ def copy(program, room):
 
 def place_of(page, room):
     """The folder in which the commands of a page are typed."""
-    if page.name in ("tutorial.md", "recipes.md"):
+    if page.name in ("tutorial.md", "recipes.md", "live.md", "scale.md", "report.md"):
         return room / "empty"
     return room / "top" / (page.parent if page.parts[0] == "examples" else "")
 

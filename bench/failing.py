@@ -49,6 +49,10 @@ COMMANDS = [
     ["correlate", "link.model", "link.topology", "cleared.log", "1", "10"],
     ["correlate", "link.model", "link.topology", "cleared.log", "2", "10"],
     ["correlate", "pipe.model", "pipe.topology", "pipe.log", "1", "5"],
+    ["model", "row.model"],
+    ["burst", "row.model", "row.topology", "row.symptoms"],
+    ["codebook", "row.model", "row.topology", "1"],
+    ["correlate", "row.model", "row.topology", "row.log", "1", "5"],
     ["decode", "link.model", "link.topology", "link.certificate", "fixed.log", "10"],
     ["decode", "link.model", "link.topology", "thin.certificate", "fixed.log", "10"],
     ["grow", "2", "7"],
@@ -85,6 +89,16 @@ class C {
 """
 
 
+ROW = """class Site {
+  problem Power;
+  symptom Dark;
+  relation feeds to Site many inverse fed;
+  relation fed to Site one inverse feeds;
+  rule all: Power => feeds+.Dark;
+}
+"""
+
+
 def record(at, source, node=None, verb="raise"):
     """A line of a log: a node that is raised or cleared, an edit, or the time alone."""
     if node is None:
@@ -109,6 +123,11 @@ FILES = {
     ],
     # The edit changes what the problem causes by the second place of a path.
     "pipe.log": [record(1, "link b1 low c1"), record(2, "s1", "S@c1")],
+    "row.model": ROW.splitlines(),
+    "row.topology": ["create s1 Site", "create s2 Site", "create s3 Site", "link s1 feeds s2", "link s2 feeds s3"],
+    "row.symptoms": ["Dark@s2", "Dark@s3"],
+    # The run of links is closed to a cycle, and cut.
+    "row.log": [record(1, "link s3 feeds s1"), record(2, "unlink s2 feeds s3"), record(3, "c1", "Dark@s2"), record(9, "tick")],
     "fixed.log": [record(1, "mute NoSignal@a"), record(2, "c1", "NoSignal@a"), record(2, "c1", "NoSignal@b")],
 }
 

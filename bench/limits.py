@@ -24,6 +24,11 @@ FAULTY = "class Faulty { problem P; }\n"
 LOUD = "class Loud { symptom S; }\n"
 ALIVE = "class Alive { problem P; symptom S; rule r: P => S; }\n"
 
+SITE = """class Site { symptom Dark; relation feeds to Site many inverse fed; relation fed to Site one inverse feeds; }
+class Source extends Site { problem Power; rule all: Power => feeds+.Dark; }
+"""
+PATH = "class Long { problem P; symptom S; relation a to Long one inverse b; relation b to Long one inverse a; rule r: P => %sS; }\n"
+
 MEBI = 1 << 20
 
 
@@ -34,6 +39,12 @@ def created(count, kind):
 def circle(sites):
     """Nodes in one cycle, each of which causes all."""
     return created(sites, "Node") + "".join(f"link n{k} near n{(k + 1) % sites}\n" for k in range(sites))
+
+
+def row(sites, closed):
+    """Sites in a row, each of which feeds the next one, and the last one the first where it is closed. The first one is a source."""
+    links = "".join(f"link n{k} feeds n{k + 1}\n" for k in range(sites - 1))
+    return "create n0 Source\n" + "".join(f"create n{k} Site\n" for k in range(1, sites)) + links + f"link n{sites - 1} feeds n0\n" * closed
 
 
 def filled(text, size, line):
@@ -72,6 +83,11 @@ def cases():
     ):
         yield f"{most:,} of {kind}", burst, {"m": model, "t": created(most, kind), "s": ""}, 0, ""
         yield f"{most + 1:,} of {kind}", burst, {"m": model, "t": created(most + 1, kind), "s": ""}, 4, f"error 4 topology line {most + 1} {limit}"
+    yield "path of four places", ["model", "m"], {"m": PATH % "a+.b.a+.b+."}, 0, ""
+    yield "path of five places", ["model", "m"], {"m": PATH % "a+.b.a+.b+.a."}, 3, "error 3 model line 1 column 129 unexpected"
+    for closed in (False, True):
+        raised = "".join(f"Dark@n{k}\n" for k in range(not closed, 8_192))
+        yield f"run of {8_191 + closed:,} links", burst, {"m": SITE, "t": row(8_192, closed), "s": raised}, 0, "  group Power@n0"
     yield "1,048,576 entries", codebook, {"m": NODE, "t": circle(1024)}, 0, ""
     yield "1,050,625 entries", codebook, {"m": NODE, "t": circle(1025)}, 7, "error 7 limit entries"
     yield "certificate with 1,048,576 entries", verify, {**alive, "c": book(16, 65_536)}, 5, "error 5 certificate no-edge entry 2"

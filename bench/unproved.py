@@ -8,7 +8,7 @@ overflow is tested, and ends in a trap: without the trap clang knows that it doe
 program, and links it as OUT: a program to be timed, compared, and looked at with callgrind, in three minutes. It takes a seventh more instructions than the proved one
 and a third more time: take the shares of functions, and ratios between two such builds. --checked leaves the checks in and the time of compiling them without out: a minute
 and a half less, twice the instructions. A wrong index has no trap in the other build: try a new body with --checked first. Nothing of either is a verdict. It goes by parts of the
-kit that no page describes (13f): a folder of links to the kit, but for its clang, and the names of the calls that stand before a trap.
+kit that no page describes (13b and 13f): a folder of links to the kit, but for its clang, and the names of the calls that stand before a trap.
 """
 import argparse
 import os

@@ -1,0 +1,340 @@
+#!/usr/bin/env python3
+"""Tries the rules of docs/language.md: each line of a fault, each word of a table, the order of checks, and how windows close.
+
+    bench/language.py [--program PROGRAM]
+
+Each case is a text with the lines that it must give. At the end, each line and word that the page has in code must have been printed by
+some case, except those of UNTRIED. The status is 1 if a case differs, or if a line or word of the page was never printed.
+"""
+import argparse
+import os
+import pathlib
+import re
+import subprocess
+import sys
+import tempfile
+
+ROOT = pathlib.Path(__file__).resolve().parent.parent
+UNTRIED = {"error 10 memory"}
+MODEL = """class Link {
+  problem Cut;
+  symptom Loss;
+  relation ends to Port many inverse on;
+  rule here: Cut => Loss;
+  rule far: Cut => ends.NoSignal;
+}
+class Port {
+  problem Fail;
+  symptom NoSignal;
+  relation on to Link one inverse ends;
+  rule down: Fail => NoSignal;
+}
+class Dumb extends Port {
+  hide NoSignal;
+}
+"""
+TOPOLOGY = """create uplink Link
+create port-a Port
+create port-b Port
+link uplink ends port-a
+link port-b on uplink
+"""
+CHAIN = "class N {\n  problem P;\n  relation next to N one inverse back;\n  relation back to N one inverse next;\n  rule r: P => next.P;\n}\n"
+BOOK = "book columns 2 of 3 distance 1 radius 0 groups 4"
+ACCEPTED = "accepted book distance 1 radius 0 groups 4 columns 2"
+SURE = "unknown 0 distance 0 radius 0 sure groups 1"
+
+SITE = "class S {\n  problem p;\n  symptom s;\n  symptom t;\n  relation q to S one inverse q;\n"
+MODELS = (
+    ("class A {\n  rule x: y = z;\n}", "line 2 bad-byte"),
+    ("class A {\n  problem ;\n}", "line 2 column 11 unexpected"),
+    ("class one {\n}", "line 1 column 7 unexpected"),
+    ("class A {\n  problem " + "x" * 64 + ";\n}", "line 2 long-name"),
+    ("class A {\n  " + "x" * 64, "line 2 long-name"),
+    ("class A {\n  problem X;\n", "unfinished"),
+    ("class A {\n}\nclass A {\n}", "line 3 two-classes"),
+    ("class A extends B {\n}", "line 1 no-parent"),
+    ("class A extends A {\n}", "line 1 loop"),
+    ("class C0 {\n}\n" + "".join(f"class C{i} extends C{i - 1} {{\n}}\n" for i in range(1, 65)), "line 129 depth"),
+    ("class A {\n  event x;\n  event x;\n}", "line 3 two-names"),
+    ("class A {\n  relation r to B one inverse s;\n}", "line 2 no-target"),
+    ("class A {\n  relation r to A one inverse s;\n}", "line 2 bad-inverse"),
+    ("class A {\n  symptom s;\n  rule r: p => s;\n}", "line 3 no-cause"),
+    ("class A {\n  problem p;\n  symptom s;\n  rule r: p => q.s;\n}", "line 4 no-relation"),
+    ("class A {\n  problem p;\n  rule r: p => s;\n}", "line 3 no-effect"),
+    ("class A {\n  block x;\n}", "line 2 no-blocked"),
+    ("class A {\n  problem x;\n  hide x;\n}", "line 3 no-hidden"),
+    ("".join(f"class C{i} {{ }}\n" for i in range(1025)), "line 1025 too-many-classes"),
+    ("class A {\n" + "".join(f"event e{i};\n" for i in range(257)) + "}", "line 1 too-many-members"),
+    # A place with a plus: where it may be, and which relations can be repeated.
+    (f"{SITE}  rule r: p => s+;\n}}", "line 6 column 18 unexpected"), (f"{SITE}  rule r: p => +q.s;\n}}", "line 6 column 16 unexpected"),
+    (f"{SITE}  rule r: p => q++.s;\n}}", "line 6 column 18 unexpected"), (f"{SITE}  rule r: p => q*.s;\n}}", "line 6 bad-byte"),
+    (f"{SITE}  rule r: p => q+.q.q+.q.q.s;\n}}", "line 6 column 27 unexpected"),
+    ("class A {\n  event e;\n  relation b to B one inverse a;\n  rule r: e => b+.e;\n}\nclass B { event e; relation a to A one inverse b; }",
+     "line 4 no-repeat"),
+    # The relation is declared by the parent, and leads to a descendant; then by the descendant, and leads to the parent.
+    ("class P { event e; relation down to Q many inverse up; rule r: e => down+.e; }\nclass Q extends P { relation up to P one inverse down; }", None),
+    ("class P { event e; relation down to Q many inverse up; }\nclass Q extends P {\n  relation up to P one inverse down;\n  rule r: e => up+.e;\n}",
+     "line 4 no-repeat"),
+    # It is the last of the rules: a later line that breaks another one is reported.
+    ("class A {\n  event e;\n  relation b to B one inverse a;\n  rule r: e => b+.e;\n}\nclass B { event e; relation a to A one inverse b; rule x: y => e; }",
+     "line 6 no-cause"),
+    # A rule that is earlier in the table is reported, though another one is broken on an earlier line.
+    ("class A {\n  block x;\n}\nclass B extends Q {\n}", "line 4 no-parent"),
+)
+EDITS = (
+    ("add x Link", "bad-words"), ("create x", "bad-words"), ("create x Link y", "bad-words"), ("create x one", "bad-words"),
+    ("mute Loss", "bad-words"), ("mute Loss@uplink # x", "bad-words"), ("create one Link", None), ("  # a comment\n \t\r", None),
+    ("create x Box", "no-class"), ("create uplink Box", "no-class"), ("create uplink Port", "exists"),
+    ("delete x", "no-instance"), ("link gone foo port-a", "no-instance"), ("link uplink foo port-a", "no-relation"),
+    ("create x Link\nlink uplink ends x", "wrong-kind"), ("create x Dumb\nlink uplink ends x", None),
+    ("link port-a on uplink", "linked"), ("create x Link\nlink x ends port-a", "occupied"), ("create x Link\nlink port-a on x", "occupied"),
+    ("create x Link\nunlink x ends port-a", "not-linked"), ("mute Cut@uplink", "no-symptom"), ("create x Dumb\nmute NoSignal@x", "no-symptom"),
+    ("mute Loss@uplink\nmute Loss@uplink", "already-muted"), ("unmute Loss@uplink", "not-muted"),
+)
+LIMITS = (
+    ("event e;", 16385, "instance-limit"), ("problem e;", 8193, "problem-limit"), ("symptom e;", 8193, "symptom-limit"),
+    ("event a; event b; event c; event d; event e;", 13108, "node-limit"),
+)
+SKIPPED = (
+    ("no", "not-json"), ("\xff", "not-json"), ("[" * 128 + "]" * 128, "not-json"), ("[" * 127 + "]" * 127, "not-object"),
+    ('{"tick":true}', "bad-at"), ('{"at":1.0,"tick":true}', "bad-at"), ('{"at":1e3,"tick":true}', "bad-at"),
+    ('{"at":"1","tick":true}', "bad-at"), ('{"at":18446744073709551616,"tick":true}', "bad-at"),
+    ('{"at":1,"raise":"Loss@uplink"}', "bad-source"), ('{"at":1,"from":"a b","raise":"Loss@uplink"}', "bad-source"),
+    ('{"at":1}', "bad-body"), ('{"at":1,"tick":false}', "bad-body"), ('{"at":1,"tick":true,"edit":"delete uplink"}', "bad-body"),
+    ('{"at":1,"from":"a","raise":1}', "bad-body"), ('{"at":1,"from":"a","raise":"Loss"}', "bad-name"),
+    ('{"at":1,"edit":"remove uplink"}', "bad-edit"), ("x" * 65537, "long"),
+    (" \t\r", None), ('{"at":1,"tick":true,"other":[1]}', None), ('{"at":"x","at":1,"tick":true}', None),
+)
+WORDS = (["burst", "m", "t"], ["codebook", "m", "t", "0"], ["codebook", "m", "t", "03"], ["codebook", "m", "t", "10000"],
+         ["codebook", "missing", "t", "0"], ["correlate", "m", "t", "empty", "1", str(10**12 + 1)], ["grow", "257", "1"],
+         ["grow", "1", str(2**64)], ["--help"], [])
+
+
+class Trial:
+    """A folder with the files of the cases, what was printed, and how many cases differ."""
+
+    def __init__(self, program, folder):
+        self.program, self.folder, self.printed, self.cases, self.wrong = program, folder, [], 0, 0
+
+    def write(self, name, text):
+        (self.folder / name).write_text(text)
+
+    def run(self, words, text="", **outside):
+        """The status, the output and the line on standard error."""
+        done = subprocess.run([self.program, *words], cwd=self.folder, check=False, timeout=60,
+                              **({"input": text.encode("latin-1"), "capture_output": True} | outside))
+        out, err = ((found or b"").decode() for found in (done.stdout, done.stderr))
+        self.printed += out.splitlines() + err.splitlines()
+        return done.returncode, out, err
+
+    def wants(self, what, found, wanted):
+        """Counts a case, and prints it if it differs."""
+        self.cases += 1
+        if found != wanted:
+            self.wrong += 1
+            print(f"{what}: {found!r} is printed, and {wanted!r} is wanted")
+
+    def fails(self, words, text, status, line):
+        """The command prints nothing but this line on standard error."""
+        self.wants(line, self.run(words, text), (status, "", f"error {status} {line}\n" if line else ""))
+
+    def gives(self, words, text, lines):
+        """The command ends with status 0 and prints these lines."""
+        self.wants(lines[:1], self.run(words, text), (0, "".join(f"{line}\n" for line in lines), ""))
+
+
+def record(time, source, member, node):
+    """A line of a log."""
+    return f'{{"at":{time},"from":"{source}","{member}":"{node}"}}\n'
+
+
+def edit(time, line):
+    """A line of a log with an edit."""
+    return f'{{"at":{time},"edit":"{line}"}}\n'
+
+
+def try_texts(trial):
+    """Models, topologies and symptoms."""
+    for text, line in MODELS:
+        if line:
+            trial.fails(["model", "-"], text, 3, f"model {line}")
+        else:
+            trial.wants(text, trial.run(["model", "-"], text)[0], 0)
+    trial.gives(["model", "-"], "class A{problem  x;# c\nrule r:x=>s;symptom s;relation q to A one inverse q;}",
+                ["class A {", "  problem x;", "  rule r: x => s;", "  symptom s;", "  relation q to A one inverse q;", "}"])
+    trial.gives(["model", "-"], "# nothing", [])
+    trial.gives(["model", "-"], "class A{problem x;relation q to A one inverse q;rule r:x=>q + .q.x;}",
+                ["class A {", "  problem x;", "  relation q to A one inverse q;", "  rule r: x => q+.q.x;", "}"])
+    try_runs(trial)
+    for text, word in EDITS:
+        text = f"{TOPOLOGY}{text}\n"
+        if word:
+            trial.fails(["burst", "m", "-", "empty"], text, 4, f"topology line {text.count(chr(10))} {word}")
+        else:
+            trial.wants(text, trial.run(["burst", "m", "-", "empty"], text)[0], 0)
+    for members, count, word in LIMITS:
+        trial.write("limits", f"class N {{ {members} }}")
+        creates = "".join(f"create i{i} N\n" for i in range(count))
+        trial.fails(["burst", "limits", "-", "empty"], creates, 4, f"topology line {count} {word}")
+    trial.fails(["burst", "m", "t", "-"], "# x\nLoss@uplink\n\nLoss uplink\n", 4, "symptoms line 4 bad-name")
+    trial.gives(["burst", "m", "t", "-"], "Fail@port-a\nNoSignal@port-a\nNoSignal@port-a\n",
+                ["burst raised 2 unknown 1 distance 0 radius 0 sure groups 1", "  group Fail@port-a"])
+    trial.gives(["burst", "m", "t", "-"], "NoSignal@port-a\nNoSignal@port-b",
+                ["burst raised 2 unknown 0 distance 1 radius 0 unsure groups 3",
+                 "  group Fail@port-a", "  group Fail@port-b", "  group Cut@uplink"])
+    trial.gives(["matrix", "m", "t"], "",
+                ["columns 3", "  column NoSignal@port-a", "  column NoSignal@port-b", "  column Loss@uplink", "groups 4",
+                 "  group 000 quiet", "  group 100 Fail@port-a", "  group 010 Fail@port-b", "  group 111 Cut@uplink", "distance 1"])
+    trial.gives(["matrix", "m", "empty"], "", ["columns 0", "groups 1", "  group - quiet", "distance none"])
+
+
+def try_runs(trial):
+    """Places with a plus: a row of sites, the same as a cycle, a relation that is its own inverse, and a path with both kinds of places."""
+    row = "".join(f"create s{i} S\n" for i in range(4)) + "".join(f"link s{i} next s{i + 1}\n" for i in range(3))
+    site = "class S {{ problem p; symptom d; relation next to S one inverse before; relation before to S one inverse next; rule r: p => {}.d; }}"
+    for path, edits, wanted in (
+        ("next+", "", ["quiet p@s3", "p@s0", "p@s1", "p@s2"]), ("next+", "link s3 next s0\n", ["quiet", "p@s0 p@s1 p@s2 p@s3"]),
+        ("next.next+", "", ["quiet p@s2 p@s3", "p@s0", "p@s1"]), ("next+.before", "", ["quiet p@s3", "p@s0", "p@s1", "p@s2"]),
+    ):
+        trial.write("runs", site.format(path))
+        found = trial.run(["matrix", "runs", "-"], row + edits)[1].splitlines()
+        trial.wants(f"{path} {edits}", [line.split(" ", 4)[4] for line in found if line.startswith("  group ")], wanted)
+    trial.write("runs", "class S { problem p; symptom d; relation peer to S one inverse peer; rule r: p => peer+.d; }")
+    trial.write("itself", "d@a\nd@b\n")
+    trial.gives(["burst", "runs", "-", "itself"], "create a S\ncreate b S\nlink a peer b\n",
+                ["burst raised 2 unknown 0 distance 0 radius 0 sure groups 1", "  group p@a p@b"])
+
+
+def try_statuses(trial):
+    """The words of a command, limits, reads and writes, and which fault comes first."""
+    for words in WORDS:
+        trial.fails(words, "", 2, "usage")
+    trial.wants("UTF-8", trial.run(["model", b"\xff"]), (1, "", ""))
+    trial.fails(["burst", "m", "missing", "t"], "", 8, "read missing")
+    trial.fails(["burst", "m", "-", "missing"], "bad", 4, "topology line 1 bad-words")
+    trial.fails(["burst", "m", "t", "-"], "bad\n" + "x" * 4097 + "\n", 7, "limit line - 2")
+    trial.fails(["burst", "m", "t", "-"], "#" + "x" * 4095 + "\r\n", 7, "limit line - 1")
+    trial.wants("4,096 bytes", trial.run(["burst", "m", "t", "-"], "#" + "x" * 4095 + "\n")[0], 0)
+    trial.fails(["burst", "m", "-", "empty"], "#\n" * 8388609, 7, "limit bytes -")
+    trial.fails(["verify", "m", "t", "-"], "x" * 33554433, 7, "limit bytes -")
+    trial.write("chain", CHAIN)
+    chain = "".join(f"create i{i} N\n" for i in range(1500)) + "".join(f"link i{i} next i{i + 1}\n" for i in range(1499))
+    trial.fails(["codebook", "chain", "-", "1"], chain, 7, "limit entries")
+    with open("/dev/full", "w", encoding="utf-8") as full:
+        outside = {"capture_output": False, "stdout": full, "stderr": subprocess.PIPE}
+        trial.wants("write", trial.run(["matrix", "m", "t"], **outside), (9, "", "error 9 write\n"))
+        outside = {"capture_output": False, "stdout": subprocess.PIPE, "stderr": full}
+        trial.wants("standard error fails", trial.run([], **outside), (2, "", ""))
+    nothing = [f"burst raised 0 {SURE}", "  group quiet"]
+    trial.gives(["burst", "m", "-", "-"], TOPOLOGY, nothing)
+    outside = {"input": None, "capture_output": False, "stdout": subprocess.PIPE, "preexec_fn": lambda: os.close(0)}
+    closed = trial.run(["burst", "m", "t", "-"], **outside)
+    trial.wants("standard input is closed", closed[:2], (0, "".join(f"{line}\n" for line in nothing)))
+
+
+def try_certificates(trial):
+    """Each fault of a certificate, as a text and as a claim."""
+    book, status_6 = trial.run(["codebook", "m", "t", "1"])[1], trial.run(["codebook", "m", "t", "2"])
+    thin = status_6[1]
+    trial.wants("status 6", status_6[::2], (6, "error 6 distance wanted 2 first quiet second Fail@port-a distance 1\n"))
+    trial.write("c", book)
+    trial.write("thin", thin)
+    lines = book.splitlines()
+    nodes = [line.split()[1] for line in lines if line.startswith("node ")]
+    number = {node: place + 1 for place, node in enumerate(nodes)}
+    head = book[: book.index("spans")]
+
+    def span(*entries):
+        return f"span {len(entries)}\n" + "".join(f"entry {number[node]} {parent}\n" for node, parent in entries)
+
+    fail_a, fail_b = (span((f"Fail@{port}", 0), (f"NoSignal@{port}", 1)) for port in ("port-a", "port-b"))
+    cut = (("Cut@uplink", 0), ("NoSignal@port-a", 1), ("NoSignal@port-b", 1), ("Loss@uplink", 1))
+    for text in (book, book[:-1], f"{head}spans 3\n{fail_a}{fail_b}{span(*cut)}end\n"):
+        trial.gives(["verify", "m", "t", "-"], text, [ACCEPTED])
+    trial.gives(["verify", "m", "t", "thin"], "", ["accepted thin wanted 2 first quiet second Fail@port-a distance 1"])
+    entries = "entry 1 0\n" * 65536
+    many = f"{head}spans 17\n" + 16 * ("span 65536\n" + entries) + "span 1\nentry 1 0\nend\n"
+    rest = fail_b + span(*cut)
+    for text, fault in (
+        ("codebook certificate 2\n", "bad-header"), ("", "truncated"), (book[:-5], "truncated"),
+        (book.replace("distance 1", "distance 01"), "bad-line line 3"), (book + "x", f"extra line {len(lines) + 1}"),
+        (many, f"too-many-entries line {head.count(chr(10)) + 2 + 16 * 65537}"),
+        (book.replace("node Cut@uplink", "node Cut@gone"), f"bad-node place {number['Cut@uplink']}"),
+        (book.replace("column 2\ncolumn 4", "column 4\ncolumn 2"), "bad-column place 2"),
+        (book.replace("column 2\n", "column 1\n"), "bad-column place 1"),
+        (f"{head}spans 2\n{fail_a}{fail_b}end\n", "no-span problem Cut@uplink"),
+        (f"{head}spans 4\n{fail_a}{rest}{fail_a}end\n", "extra-span place 4"),
+        (f"{head}spans 3\n{fail_a}{fail_a}{span(*cut)}end\n", "bad-root entry 3"),
+        (f"{head}spans 3\n{span(('Fail@port-a', 1), ('NoSignal@port-a', 1))}{rest}end\n", "bad-root entry 1"),
+        (f"{head}spans 3\n{span(('Fail@port-a', 0), ('NoSignal@port-a', 2))}{rest}end\n", "bad-parent entry 2"),
+        (f"{head}spans 3\n{span(('Fail@port-a', 0), ('NoSignal@port-b', 1))}{rest}end\n", "no-edge entry 2"),
+        (f"{head}spans 3\n{fail_a}{fail_b}{span(*cut, cut[3])}end\n", "repeated entry 9"),
+        (f"{head}spans 3\n{fail_a}{fail_b}{span(*cut[:3])}end\n", "not-closed entry 5 successor Loss@uplink"),
+        (book.replace("distance 1", "distance 2"), "too-close first quiet second Fail@port-a distance 1"),
+        (thin.replace("distance 1", "distance 2"), "not-thin distance 1"), (thin.replace("wanted 2", "wanted 1"), "not-thin distance 1"),
+    ):
+        trial.fails(["verify", "m", "t", "-"], text, 5, f"certificate {fault}")
+    trial.fails(["decode", "m", "t", "thin", "empty", "5"], "", 5, "certificate not-book")
+
+
+def try_logs(trial):
+    """Records, windows, diagnoses and codebooks."""
+    correlate, decode = ["correlate", "m", "t", "-", "1", "10"], ["decode", "m", "t", "c", "-", "10"]
+    for line, word in SKIPPED:
+        trial.gives(correlate, line + "\n", [f"skipped 1 {word}"] if word else [])
+    first, last = record(5, "a", "raise", "NoSignal@port-a"), record(16, "a", "raise", "NoSignal@port-a")
+    answer, port_a, quiet = f"diagnosis a 5 15 raised 1 {SURE}", "  group Fail@port-a", "  group quiet"
+    # Each source has windows of its own. They close by opening time, then by source. A column outside the book isn't unknown.
+    three = record(1, "b", "raise", "NoSignal@port-a") + record(1, "a", "raise", "NoSignal@port-b") + record(0, "c", "raise", "Loss@uplink")
+    trial.gives(correlate, three + '{"at":11,"tick":true}\n',
+                [BOOK, f"diagnosis a 1 11 raised 1 {SURE}", "  group Fail@port-b", f"diagnosis b 1 11 raised 1 {SURE}", port_a,
+                 f"diagnosis c 1 11 raised 1 {SURE}", quiet])
+    # The raise that closes a window opens the next one. Log time never falls. A window has the nodes whose last record was a raise.
+    trial.gives(correlate, first + record(15, "a", "raise", "NoSignal@port-b") + record(3, "a", "clear", "NoSignal@port-b"),
+                [BOOK, answer, port_a, f"diagnosis a 15 15 raised 0 {SURE}", quiet])
+    # A record closes windows before it does its edit. An accepted edit discards the book, and a refused one doesn't.
+    after, gone = f"diagnosis a 16 16 raised 1 {SURE}", f"diagnosis a 16 16 raised 1 {SURE.replace('unknown 0', 'unknown 1')}"
+    trial.gives(correlate, first + edit(15, "delete port-a") + last,
+                [BOOK, answer, port_a, "book columns 2 of 2 distance 1 radius 0 groups 3", gone, quiet])
+    trial.gives(correlate, first + edit(15, "delete gone") + last, [BOOK, answer, port_a, "refused 2 no-instance", after, port_a])
+    trial.gives(["correlate", "m", "t", "-", "3", "10"], first,
+                ["thin wanted 3 first quiet second Fail@port-a distance 1", BOOK, f"diagnosis a 5 5 raised 1 {SURE}", port_a])
+    trial.gives(decode, first + edit(15, "delete port-a") + last, [ACCEPTED, answer, port_a, "refused 2 fixed", after, port_a])
+    grown = trial.run(["grow", "4", "7"])[1].splitlines()
+    trial.wants("grow", (len(grown), grown[0]), (4, "grow sites 4 start 7"))
+
+
+def lines_of(page):
+    """The lines and words that the page has in code, each with a pattern that finds it in what is printed."""
+    codes = re.findall(r"`((?:error|skipped|refused|thin wanted|book columns) [^`\n]*)`", page)
+    codes += re.findall(r"^(?:accepted|burst raised|grow sites|instances I|records R|diagnoses W) .*$", page, re.MULTILINE)
+    for code in codes:
+        yield code, "^" + re.sub(r"\b(?:[A-Z]|[A-Z]{2,})\b", r"\\S+", code) + "$"
+    for word in re.findall(r"^\| `([a-z]+(?:-[a-z]+)+)` \|", page, re.MULTILINE):
+        yield word, rf" {word}\b"
+
+
+def main():
+    parser = argparse.ArgumentParser(description=__doc__, formatter_class=argparse.RawDescriptionHelpFormatter)
+    parser.add_argument("--program", type=pathlib.Path, default=ROOT / "crates" / "cb_cli" / "out" / "cb_cli")
+    program = parser.parse_args().program.resolve()
+    if not program.exists():
+        sys.exit(f"{program} doesn't exist: run `.ci/run`, or `rt run` in crates/cb_cli, first")
+    with tempfile.TemporaryDirectory() as folder:
+        trial = Trial(program, pathlib.Path(folder))
+        for name, text in (("m", MODEL), ("t", TOPOLOGY), ("empty", "")):
+            trial.write(name, text)
+        for part in (try_texts, try_statuses, try_certificates, try_logs):
+            part(trial)
+    page, printed = (ROOT / "docs" / "language.md").read_text(), "\n".join(trial.printed)
+    patterns = dict(lines_of(page))
+    unseen = [code for code, pattern in patterns.items() if code not in UNTRIED and not re.search(pattern, printed, re.MULTILINE)]
+    for code in unseen:
+        print(f"no case prints `{code}`")
+    print(f"docs/language.md: {trial.cases} cases, {trial.wrong} differ; {len(patterns)} lines and words, {len(unseen)} not printed")
+    sys.exit(1 if trial.wrong or unseen else 0)
+
+
+if __name__ == "__main__":
+    main()

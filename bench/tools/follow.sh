@@ -1,0 +1,18 @@
+cd $R/examples/cluster
+follow cluster.model cluster.topology 3 60 "$PORT" > $W/answers &
+python3 - "$PORT" <<'END'
+import json, sys, time, urllib.request
+names = ["Unhealthy", "ConnectTimeout", "DiskFilling"]
+labels = [{"alertname": name, "instance": "tg/node-2"} for name in names]
+alerts = [{"status": "firing", "labels": label, "startsAt": f"2023-11-28T03:12:0{k}.5Z"} for k, label in enumerate(labels)]
+for count in (1, 3, 3):
+    for _ in range(100):
+        try:
+            urllib.request.urlopen(f"http://127.0.0.1:{sys.argv[1]}/", json.dumps({"alerts": alerts[:count]}).encode())
+            break
+        except OSError:
+            time.sleep(0.1)
+END
+kill $!
+wait $!
+cat $W/answers
