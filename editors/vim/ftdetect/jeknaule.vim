@@ -1,0 +1,2 @@
+" Models of Jeknaule.
+autocmd BufNewFile,BufRead *.model setfiletype jeknaule
