@@ -1,10 +1,10 @@
 #!/usr/bin/env python3
-"""Draws the pictures of the documents, as SVG: docs/pictures/make.py writes rooms.svg, log.svg and radius.svg beside itself."""
+"""Draws the pictures of the documents, as SVG: docs/pictures/make.py writes layers.svg, log.svg and radius.svg beside itself."""
 import pathlib
 
 HERE = pathlib.Path(__file__).resolve().parent
 INK, PALE, LINE = "#1a1a1a", "#555555", "#888888"
-ROOMS = {
+LAYERS = {
     "program": "#e8e8e8",
     "base": "#fdf3d8",
     "model": "#dcebf7",
@@ -47,15 +47,15 @@ def picture(name, width, height, title, parts):
     (HERE / name).write_text(head + "\n".join(parts) + "\n</svg>\n")
 
 
-def box(x, y, room, title, crates, width=286):
-    """A step: what there is after it, and the crates that make it, in the colour of their room."""
+def box(x, y, layer, title, crates, width=286):
+    """A step: what there is after it, and the crates that make it, in the colour of their layer."""
     middle = x + width // 2
     words = [text(middle, y + 22, title, bold=True), text(middle, y + 41, crates, 11, PALE, mono=True)]
-    return [rectangle(x, y, width, 52, ROOMS[room]), *words]
+    return [rectangle(x, y, width, 52, LAYERS[layer]), *words]
 
 
-def rooms():
-    """The way of the three files of `burst` through the rooms."""
+def layers():
+    """The way of the three files of `burst` through the layers."""
     left, mid, right = 20, 330, 640
     steps = [
         box(left, 20, "program", "words: what is asked for, and which files", "cb_cli  cb_top  cb_request", 906),
@@ -63,14 +63,14 @@ def rooms():
         box(mid, 105, "base", "bytes of the topology", "cb_io"),
         box(right, 105, "base", "bytes of the symptoms", "cb_io"),
         box(left, 190, "model", "tokens, then a tree", "cb_lexer  cb_grammar  cb_syntax"),
-        box(mid, 190, "topology", "lines, then edits", "cb_text  cb_edits  cb_inputs"),
-        box(right, 190, "topology", "lines, then raised nodes", "cb_text  cb_inputs"),
+        box(mid, 190, "topology", "lines, then edits", "cb_text  cb_edits  cb_line_files"),
+        box(right, 190, "topology", "lines, then raised nodes", "cb_text  cb_line_files"),
         box(left, 275, "model", "no type rule is broken", "cb_rules  cb_check"),
         box(left, 360, "model", "the model", "cb_model"),
         box(mid, 360, "topology", "the topology", "cb_accept  cb_instances  cb_nodes  cb_topo"),
         box(mid, 445, "causes", "what causes what", "cb_graph  cb_cache"),
         box(mid, 530, "codes", "columns, groups, codes, radius", "cb_matrix  cb_reduce  cb_bits"),
-        box(mid, 615, "codes", "the groups that are nearest: the finding", "cb_decode", 596),
+        box(mid, 615, "codes", "the nearest groups: the finding", "cb_decode", 596),
         box(mid, 700, "program", "the lines of the answer, on standard output", "cb_report  cb_io", 596),
     ]
     falls = {left: [(72, 105), (157, 190), (242, 275), (327, 360)], right: [(72, 105), (157, 190), (242, 615)]}
@@ -85,30 +85,30 @@ def rooms():
         text(left + 143, 560, "a logic of their own, no program", 13, PALE),
         rectangle(left, 615, 286, 137, "#ffffff", dash="5 4"),
         text(left + 143, 642, "A text that is refused at a step ends the", 13, PALE),
-        text(left + 143, 660, "way there: its first fault is told, with", 13, PALE),
-        text(left + 143, 678, "the line, on standard error.", 13, PALE),
+        text(left + 143, 660, "way there: its first fault is reported,", 13, PALE),
+        text(left + 143, 678, "with the line, on standard error.", 13, PALE),
         text(left + 143, 706, "The command model ends at the", 13, PALE),
-        text(left + 143, 724, "third box of the left, and prints the tree.", 13, PALE),
+        text(left + 143, 724, "third box on the left and prints the tree.", 13, PALE),
     ]
-    title = "The way of the three files of burst through the rooms, to the lines of the answer"
-    picture("rooms.svg", 946, 772, title, sum(steps, []) + arrows + notes)
+    title = "The way of the three files of burst through the layers, to the lines of the answer"
+    picture("layers.svg", 946, 772, title, sum(steps, []) + arrows + notes)
 
 
 def log():
-    """The way of one line of a log through the rooms, and back for the next one."""
+    """The way of one line of a log through the layers, and back for the next one."""
     x, width, step = 60, 560, 78
     boxes = [
         ("base", "a line of the log, with its number", "cb_io"),
         ("log", "a record, or why the line is skipped", "cb_alarm"),
         ("log", "the windows that are due now", "cb_window"),
-        ("codes", "a codebook, where none is in use", "cb_cache  cb_matrix  cb_reduce"),
-        ("codes", "for each of these windows the groups that are nearest", "cb_decode"),
+        ("codes", "a codebook, if none is in use", "cb_cache  cb_matrix  cb_reduce"),
+        ("codes", "for each of these windows the nearest groups", "cb_decode"),
         ("topology", "an edit changes the topology, what causes what, and the rows", "cb_topo  cb_graph  cb_cache"),
         ("log", "an alarm joins the window of its source, or leaves it", "cb_window"),
         ("program", "the events, as lines, on standard output", "cb_report  cb_io"),
     ]
     tops = [20 + step * i for i in range(len(boxes))]
-    steps = [box(x, top, room, title, crates, width) for top, (room, title, crates) in zip(tops, boxes)]
+    steps = [box(x, top, layer, title, crates, width) for top, (layer, title, crates) in zip(tops, boxes)]
     middle, last = x + width // 2, tops[-1] + 26
     arrows = [arrow((middle, top + 52), (middle, below)) for top, below in zip(tops, tops[1:])]
     arrows.append(arrow((x, last), (24, last), (24, tops[0] + 26), (x, tops[0] + 26)))
@@ -124,15 +124,15 @@ def log():
             "",
             "A codebook stays until an edit is",
             "accepted. Where two groups are",
-            "closer than wanted, that is told.",
+            "closer than wanted, that is reported.",
             "",
-            "Where memory is wanting, the",
-            "session is as it was before the line.",
+            "If memory runs out, the session",
+            "is as it was before the line.",
         ))),
         text(beside + 131, tops[-1] + 16, "All is written before the next", 13, PALE),
         text(beside + 131, tops[-1] + 34, "line is asked for.", 13, PALE),
     ]
-    title = "The way of a line of a log through the rooms, to the lines of its events, and back for the next line"
+    title = "The way of a line of a log through the layers, to the lines of its events, and back for the next line"
     picture("log.svg", beside + 282, tops[-1] + 72, title, sum(steps, []) + arrows + notes)
 
 
@@ -181,6 +181,6 @@ def radius():
 
 
 if __name__ == "__main__":
-    rooms()
+    layers()
     log()
     radius()
