@@ -4,7 +4,6 @@
 #![tactic(auto)]
 
 #[cfg(test)]
-#[cfg(test)]
 mod codes;
 #[cfg(test)]
 mod decode;
