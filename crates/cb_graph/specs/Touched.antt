@@ -1,13 +1,12 @@
 -- Nodes that an edit touches, by numbers, told before it is made.
-use Rattle.std.specs.Prelude.{◌≡◌, ◌≢◌, ◌⊎◌, ◌↔◌, ℕ, List, [], ◌∷◌, Bool}
+use Rattle.std.specs.Prelude.{◌≡◌, ◌≢◌, ◌⊎◌, ◌↔◌, ℕ, List, [], ◌∷◌, Bool, Some, slice_get}
 use Rattle.cb_model.specs.declared.id.ClassId.{ClassId}
 use Rattle.cb_model.specs.declared.id.EventId.{EventId}
 use Rattle.cb_model.specs.declared.id.RelId.{RelId}
 use Rattle.cb_model.specs.declared.tables.Place.{Place}
+use Rattle.cb_model.specs.declared.tables.RuleRow.{RuleRow}
 use Rattle.cb_model.specs.declared.node.NodeName.{NodeName}
-use Rattle.cb_model.specs.declared.rule.Rule.{Rule}
 use Rattle.cb_model.specs.Classes.{HasRule}
-use Rattle.cb_model.specs.Views.{rule_of}
 use Rattle.cb_network.specs.declared.edit.Edit.{Edit}
 use Rattle.cb_network.specs.declared.edit.Edit.TheVariants.{Delete, Link, Unlink}
 use Rattle.cb_network.specs.Topology.{Topology, HasClass, IsLive as IsLiveName}
@@ -79,22 +78,22 @@ abbrev pub Remains : Moves → InstanceId → Type 0
 Remains (Pair from r to s) i = Unit {0}
 Remains (AllOf id) i = i ≢ id
 
--- the instance is of this class, and stays
-pub record RemainsOf (n : Net) (moves : Moves) (class : ClassId) (i : InstanceId) : Type 0 where
+-- the class of the instance has the rule, and the instance stays
+pub record RemainsWith (n : Net) (moves : Moves) (rule : ℕ) (i : InstanceId) : Type 0 where
+  pub class : ClassId
   pub of_class : HasClass n.topology (name_at n i) class
+  pub has : HasRule n.topology.model class rule
   pub remains : Remains moves i
 
--- this is the number of the event at the instance, which is of the class and stays
-pub record IsCauseNumber (n : Numbered) (moves : Moves) (class : ClassId) (cause : EventId) (i : InstanceId) (k : ℕ) : Type 0 where
-  pub remains : RemainsOf n.net moves class i
+-- this is the number of the event at the instance, which stays and has the rule
+pub record IsCauseNumber (n : Numbered) (moves : Moves) (rule : ℕ) (cause : EventId) (i : InstanceId) (k : ℕ) : Type 0 where
+  pub remains : RemainsWith n.net moves rule i
   pub is : IsEventNumber n cause i k
 
--- the rule's path comes to a link that moves, from an instance of the class, and this is the number of its cause there
-pub record TouchesBy (n : Numbered) (moves : Moves) (class : ClassId) (rule : Rule) (k : ℕ) : Type 0 where
+-- the rule's path comes to a link that moves, from an instance that has the rule, and this is the number of its cause there
+pub record TouchesBy (n : Numbered) (moves : Moves) (rule : ℕ) (k : ℕ) : Type 0 where
+  pub row : RuleRow
+  pub of_row : slice_get (topology_of n).model.rules rule ≡ Some row
   pub at : InstanceId
-  pub comes : ComesAt n.net moves at rule.path
-  pub is : IsCauseNumber n moves class rule.cause at k
-
--- a rule of the class does so
-abbrev pub TouchesIn : Numbered → Moves → ClassId → ℕ → Type 0
-TouchesIn n moves class k = (rule : ℕ) × (has : HasRule (topology_of n).model class rule) × TouchesBy n moves class (rule_of has.row) k
+  pub comes : ComesAt n.net moves at row.path
+  pub is : IsCauseNumber n moves rule row.cause at k

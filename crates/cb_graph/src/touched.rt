@@ -1,7 +1,7 @@
 //! The nodes that an edit touches: walks back along the paths of rules, from the links that the edit moves.
 ghost use Rattle.std.specs.Prelude.{◌≡◌, ◌<◌, ◌≤◌, ◌↔◌, ◌⊎◌, ℕ, length, IsTrue};
 ghost use Rattle.std.specs.List.{All};
-ghost use Rattle.cb_model.specs.WellTyped.{IsClass, IsRelation, IsPlace};
+ghost use Rattle.cb_model.specs.WellTyped.{IsRelation, IsPlace};
 ghost use Rattle.cb_network.specs.declared.edit.Edit.{Edit as AnyEdit};
 ghost use Rattle.cb_network.specs.Topology.{Topology as Instances};
 ghost use Rattle.cb_change.specs.Laws.{IsStep};
@@ -10,7 +10,7 @@ ghost use Rattle.cb_successors.specs.Rows.{Has};
 ghost use Rattle.cb_topo.specs.Numbered.{topology_of};
 ghost use Rattle.cb_graph.specs.Instances.{Gains};
 ghost use Rattle.cb_graph.specs.Walks.{HasPlaces, AllLive, instance};
-ghost use Rattle.cb_graph.specs.Touched.{IsTouchedNumber, AreMovedBy, HaveEnds, StartsAt, IsWhereComes, RemainsOf, IsCauseNumber, TouchesBy, TouchesIn};
+ghost use Rattle.cb_graph.specs.Touched.{IsTouchedNumber, AreMovedBy, HaveEnds, StartsAt, IsWhereComes, RemainsWith, IsCauseNumber, TouchesBy};
 
 use crate::instances::InstanceSet;
 use crate::moves::{Moves, back_of};
@@ -18,7 +18,7 @@ use crate::rules::add_event;
 use crate::walk::{add_all, add_links};
 use cb_bits::Row;
 use cb_instances::InstanceId;
-use cb_model::{ClassId, EventId, List, Place, RelId, Rule};
+use cb_model::{EventId, List, Place, RelId};
 use cb_topo::Topology;
 
 // Adds the instance, where its link by one relation is looked for by the other and the two are one.
@@ -86,82 +86,59 @@ fn come_to(
     }
 }
 
-// Whether the instance is of the class, and stays.
-fn remains_of(topology: &Topology, moves: Moves, class: ClassId, id: InstanceId) -> bool
-    requires { IsLive topology.now.net id }
-    ensures { IsTrue result ↔ RemainsOf topology.now.net moves class id }
+// Whether the class of the instance has the rule, and the instance stays.
+fn remains_with(topology: &Topology, moves: Moves, rule: usize, id: InstanceId) -> bool
+    requires rule { rule < length (topology_of topology.now).model.rules }
+    requires id { IsLive topology.now.net id }
+    ensures { IsTrue result ↔ RemainsWith topology.now.net moves rule id }
 {
-    topology.class_of(id) == class && moves.leaves(id)
+    topology.model().has_rule(topology.class_of(id), rule) && moves.leaves(id)
 }
 
-// Adds the nodes of the cause at those of the listed instances that are of the class, and stay.
+// Adds the nodes of the cause at those of the listed instances that stay, and of which the class has the rule.
 fn add_causes(
     topology: &Topology,
     moves: Moves,
     list: &[InstanceId],
-    class: ClassId,
+    rule: usize,
     cause: EventId,
     out: &mut Row,
 )
     requires live { AllLive topology.now.net list.now }
+    requires rule { rule < length (topology_of topology.now).model.rules }
     requires out { length topology.now.nodes ≤ length out.old }
     ensures length { length out.new ≡ length out.old }
-    ensures each { Gains out.old out.new list.now (IsCauseNumber topology.now moves class cause) }
+    ensures each { Gains out.old out.new list.now (IsCauseNumber topology.now moves rule cause) }
 {
     for id in list {
-        if remains_of(topology, moves, class, *id) {
+        if remains_with(topology, moves, rule, *id) {
             add_event(topology, *id, cause, out);
         }
     }
 }
 
-// Adds what is touched by one rule of the class.
+// Adds what is touched by the rule of the row at this place, at instances of whatever class.
 fn add_rule(
     topology: &Topology,
     moves: Moves,
-    class: ClassId,
-    rule: &Rule,
+    rule: usize,
     here: &mut InstanceSet,
     spare: &mut InstanceSet,
     out: &mut Row,
 )
     requires moves { HaveEnds topology.now.net moves }
-    requires path { All (IsPlace (topology_of topology.now).model) rule.now.path }
+    requires rule { rule < length (topology_of topology.now).model.rules }
     requires here { HasPlaces topology.now.net here.old }
     requires spare { HasPlaces topology.now.net spare.old }
     requires out { length topology.now.nodes ≤ length out.old }
     ensures here { HasPlaces topology.now.net here.new }
     ensures spare { HasPlaces topology.now.net spare.new }
     ensures length { length out.new ≡ length out.old }
-    ensures each { (k : ℕ) → Has out.new k ↔ (Has out.old k ⊎ TouchesBy topology.now moves class rule.now k) }
+    ensures each { (k : ℕ) → Has out.new k ↔ (Has out.old k ⊎ TouchesBy topology.now moves rule k) }
 {
-    come_to(topology, moves, &rule.path, here, spare);
-    add_causes(topology, moves, here.members(), class, rule.cause, out);
-}
-
-// Adds what is touched by the rules of the class.
-fn add_class(
-    topology: &Topology,
-    moves: Moves,
-    class: ClassId,
-    here: &mut InstanceSet,
-    spare: &mut InstanceSet,
-    out: &mut Row,
-)
-    requires moves { HaveEnds topology.now.net moves }
-    requires class { IsClass (topology_of topology.now).model class }
-    requires here { HasPlaces topology.now.net here.old }
-    requires spare { HasPlaces topology.now.net spare.old }
-    requires out { length topology.now.nodes ≤ length out.old }
-    ensures here { HasPlaces topology.now.net here.new }
-    ensures spare { HasPlaces topology.now.net spare.new }
-    ensures length { length out.new ≡ length out.old }
-    ensures each { (k : ℕ) → Has out.new k ↔ (Has out.old k ⊎ TouchesIn topology.now moves class k) }
-{
-    let rules = topology.model().rules_of(class).as_slice();
-    for rule in rules {
-        add_rule(topology, moves, class, rule, here, spare, out);
-    }
+    let row = topology.model().tables().rules.at(rule);
+    come_to(topology, moves, &row.path, here, spare);
+    add_causes(topology, moves, here.members(), rule, row.cause, out);
 }
 
 /// Adds the nodes that an edit touches which moves these links. The edit isn't made yet.
@@ -182,7 +159,7 @@ pub(crate) fn add_touched(
     ensures exactly { (edit : AnyEdit) (new : Instances) → AreMovedBy topology.now.net edit moves → IsStep (topology_of topology.now) edit new
         → (k : ℕ) → Has out.new k ↔ (Has out.old k ⊎ IsTouchedNumber topology.now new k) }
 {
-    for class in 0..topology.model().tables().classes.len() {
-        add_class(topology, moves, ClassId(class as u16), here, spare, out);
+    for rule in 0..topology.model().tables().rules.len() {
+        add_rule(topology, moves, rule, here, spare, out);
     }
 }
