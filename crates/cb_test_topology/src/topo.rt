@@ -208,6 +208,9 @@ const COLUMNS: [(&[u8], &[u8]); 4] = [
 
 const PROBLEMS: [(&[u8], &[u8]); 3] = [(b"P", b"alpha"), (b"P", b"hub"), (b"P", b"low")];
 
+// Once `low` is deleted and `new` created.
+const LATER_PROBLEMS: [(&[u8], &[u8]); 3] = [(b"P", b"alpha"), (b"P", b"hub"), (b"P", b"new")];
+
 // Whether the numbers stay while another instance comes and goes, whose numbers are used again.
 fn keep_numbers(alloc: Global, topology: &mut Topology) -> Result<bool, AllocError> {
     let instance = topology.instance_named(b"hub");
@@ -234,6 +237,8 @@ fn work_through(rt: &impl Abort, alloc: Global, topology: &mut Topology) -> Resu
     assert_eq!(rt; topology.instance_count(), 5);
     assert_eq!(rt; topology.node_count(), 9);
     assert!(rt; keep_numbers(alloc, topology)?);
+    let problems = topology.problems(alloc)?;
+    assert!(rt; are_nodes(topology, problems.as_slice(), &LATER_PROBLEMS));
     Ok(())
 }
 
@@ -243,5 +248,17 @@ fn edits_in_turn(rt: HostRuntime) -> Result<(), AllocError> {
     let mut topology = Topology::new(alloc, sample_model(alloc)?);
     let done = work_through(&rt, alloc, &mut topology);
     drop(topology);
+    done
+}
+
+// The steps again, over nodes that are kept in order from the start.
+#[test]
+fn settled_edits_in_turn(rt: HostRuntime) -> Result<(), AllocError> {
+    let alloc = rt.alloc();
+    let mut topology = Topology::new(alloc, sample_model(alloc)?);
+    let settled = topology.settle(alloc);
+    let done = work_through(&rt, alloc, &mut topology);
+    drop(topology);
+    settled?;
     done
 }

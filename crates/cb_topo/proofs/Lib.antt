@@ -12,3 +12,5 @@ pub mod Sorting
 pub mod Listing
 pub mod Rooms
 pub mod OneRoom
+pub mod Rising
+pub mod Following

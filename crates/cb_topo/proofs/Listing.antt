@@ -91,7 +91,7 @@ module _ (n : Numbered) (kind : NodeKind) (k : ℕ) (old : List NamedNode) (are 
     }
 
 -- what is of a kind is a node
-of_topology : (kind : NodeKind) (t : Topology) (name : NodeName) → IsOfKind kind t name → IsNodeOf t name
+pub of_topology : (kind : NodeKind) (t : Topology) (name : NodeName) → IsOfKind kind t name → IsNodeOf t name
 of_topology Column t name is = (is.symptom.event, record { class = is.symptom.class; of_class = is.symptom.of_class; named = (is.symptom.symptom.has, is.symptom.named) })
 of_topology Problem t name is = (is.event, record { class = is.class; of_class = is.of_class; named = (is.problem.has, is.named) })
 of_topology Any t name is = is

@@ -4,4 +4,5 @@ pub mod Applied
 pub mod Kept
 pub mod Made
 pub mod Ordered
+pub mod Settled
 pub mod Laws

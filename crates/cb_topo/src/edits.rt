@@ -4,7 +4,7 @@ ghost use Rattle.cb_network.specs.Edits.{IsAccepted, IsRefused};
 ghost use Rattle.cb_network.specs.Laws.{HasGoodName};
 ghost use Rattle.cb_accept.specs.Steps.{IsStepOf};
 ghost use Rattle.cb_instances.specs.Net.{empty_net};
-ghost use Rattle.cb_topo.specs.Numbered.{topology_of};
+ghost use Rattle.cb_topo.specs.Numbered.{topology_of, IsWhole};
 ghost use Rattle.cb_topo.specs.Applied.{Applies, Prevents, MayGrow, IsNodeRoomAfter, IsInstanceRoomAfter};
 ghost use Rattle.cb_topo.specs.Kept.{IsTopologyOf};
 ghost use Rattle.cb_topo.specs.Made.{Makes};
@@ -30,6 +30,7 @@ impl Topology {
             net: Net::new(alloc, model),
             nodes: NodeTable::new(alloc),
             counts: NodeCounts::none(),
+            order: None,
         }
     }
 
@@ -76,6 +77,28 @@ impl Topology {
         ensures fault { IfErr result (Prevents self.old edit.now) }
         ensures kept { OnErr result (self.new ≡ self.old) }
     {
+        let order = self.take_order();
+        match self.change(alloc, edit) {
+            Ok(()) => {
+                let order = self.followed(edit, order);
+                self.put_order(order);
+                Ok(())
+            }
+            Err(fault) => {
+                self.put_order(order);
+                Err(fault)
+            }
+        }
+    }
+
+    // Makes the edit, after which the nodes aren't settled.
+    fn change(&mut self, alloc: Global, edit: &Edit) -> Result<(), EditFault>
+        requires name { HasGoodName edit.now }
+        ensures made { OnOk result (Applies self.old edit.now self.new) }
+        ensures fault { IfErr result (Prevents self.old edit.now) }
+        ensures kept { OnErr result (self.new ≡ self.old) }
+        ensures whole { IsWhole self.new }
+    {
         let step = decide(&self.net, self.counts, edit)?;
         self.counts = make(
             alloc,
@@ -85,6 +108,7 @@ impl Topology {
             edit,
             step,
         )?;
+        self.order = None;
         Ok(())
     }
 }

@@ -3,8 +3,9 @@ ghost use Rattle.std.specs.Prelude.{◌≡◌, ◌↔◌, List as Items, IfOk, I
 ghost use Rattle.cb_model.specs.declared.node.NodeName.{NodeName as Node};
 ghost use Rattle.cb_model.specs.NodeOrder.{node_cmp};
 ghost use Rattle.cb_network.specs.Nodes.{AreInOrder, AreColumns, AreProblems, IsNodeOf};
-ghost use Rattle.cb_topo.specs.Numbered.{topology_of, IsNodeNamed, IsLiveNode, AreNamed};
+ghost use Rattle.cb_topo.specs.Numbered.{topology_of, IsNodeNamed, IsLiveNode, IsWhole, AreNamed};
 ghost use Rattle.cb_topo.specs.Ordered.{IsOfKind, AreOfKind, called};
+ghost use Rattle.cb_topo.specs.Settled.{IsSettled};
 
 use crate::kind::NodeKind;
 use crate::topology::Topology;
@@ -15,15 +16,15 @@ use std::cmp::Ordering;
 
 /// A node with the two parts of its name, which are lent, so that nodes are put in order without a copy of any name.
 #[derive(Drop)]
-struct NamedNode<'a> {
-    instance: &'a [u8],
-    event: &'a [u8],
-    node: NodeId,
+pub(crate) struct NamedNode<'a> {
+    pub(crate) instance: &'a [u8],
+    pub(crate) event: &'a [u8],
+    pub(crate) node: NodeId,
 }
 
 impl NamedNode<'_> {
     // The order of the names: by the instances, and by the events only where these are equal.
-    fn compare(&self, other: &NamedNode<'_>) -> Ordering
+    pub(crate) fn compare(&self, other: &NamedNode<'_>) -> Ordering
         ensures { result ≡ node_cmp (called self.now) (called other.now) }
     {
         match self.instance.cmp(other.instance) {
@@ -59,9 +60,39 @@ impl Topology {
     fn listed(&self, alloc: Global, kind: NodeKind) -> Result<List<NodeId>, AllocError>
         ensures { IfOk result (λ ids. (names : Items Node) × AreInOrder (IsOfKind kind (topology_of self.now)) names × AreNamed self.now ids names) }
     {
+        match &self.order {
+            Some(order) => self.picked(alloc, order, kind),
+            None => Ok(List::of(self.sorted(alloc, kind)?)),
+        }
+    }
+
+    // Those of the kind, among all nodes in order.
+    fn picked(
+        &self,
+        alloc: Global,
+        order: &[NodeId],
+        kind: NodeKind,
+    ) -> Result<List<NodeId>, AllocError>
+        requires whole { IsWhole self.now }
+        requires settled { IsSettled self.now order.now }
+        ensures { IfOk result (λ ids. (names : Items Node) × AreInOrder (IsOfKind kind (topology_of self.now)) names × AreNamed self.now ids names) }
+    {
+        let mut nodes = List::new(alloc);
+        for node in order {
+            if self.is_of(*node, kind) {
+                nodes.push(*node)?;
+            }
+        }
+        Ok(nodes)
+    }
+
+    // The nodes of the kind, put in order by their names.
+    pub(crate) fn sorted(&self, alloc: Global, kind: NodeKind) -> Result<Vec<NodeId>, AllocError>
+        ensures { IfOk result (λ ids. (names : Items Node) × AreInOrder (IsOfKind kind (topology_of self.now)) names × AreNamed self.now ids.items names) }
+    {
         let mut named = self.named(alloc, kind)?;
         named.sort_unstable_by(|one, other| one.compare(other));
-        let mut nodes = List::new(alloc);
+        let mut nodes = Vec::new(alloc);
         for one in &named {
             nodes.push(one.node)?;
         }

@@ -1,7 +1,7 @@
 //! The topology as it is kept.
 use cb_accept::NodeCounts;
 use cb_instances::Net;
-use cb_nodes::NodeTable;
+use cb_nodes::{NodeId, NodeTable};
 
 /// A model's live instances and their nodes, under numbers, with links and mutes.
 #[derive(Drop)]
@@ -9,12 +9,14 @@ pub struct Topology {
     pub(crate) net: Net,
     pub(crate) nodes: NodeTable,
     pub(crate) counts: NodeCounts,
+    // All nodes in the order of their names, once they are settled.
+    pub(crate) order: Option<Vec<NodeId>>,
 }
 
 impl std::marker::Model for Topology {
     ghost use Rattle.cb_topo.specs.Numbered.{Numbered};
     ghost use Rattle.cb_topo.specs.Encoding.{numbered_encoding};
-    ghost use Rattle.cb_topo.specs.Kept.{IsTopologyOf};
+    ghost use Rattle.cb_topo.specs.Settled.{IsKept};
 
     ghost Value = { Numbered };
 
@@ -22,5 +24,5 @@ impl std::marker::Model for Topology {
 
     ghost view = { λ s. record { net = s.net; nodes = s.nodes } };
 
-    ghost invariant = { λ s. IsTopologyOf s.net s.nodes s.counts };
+    ghost invariant = { λ s. IsKept s.net s.nodes s.counts s.order };
 }

@@ -1,5 +1,13 @@
-use Rattle.cb_topo.proofs.Limits.{kept_within}
+use Rattle.std.proofs.Common.{subst}
+use Rattle.cb_topo.specs.Applied.{Applies}
+use Rattle.cb_topo.specs.Numbered.{Numbered}
+use Rattle.cb_topo.proofs.Following.{were_order}
 use Rattle.cb_topo.proofs.topology.Topology.apply.Goals as goal
 
-pub decide-requires-clause-few : goal.decide-requires-clause-few
-decide-requires-clause-few c = kept_within c.self.inside.net c.self.inside.nodes c.self.inside.counts c.self.invariant
+pub followed-order-requires : goal.followed-order-requires
+followed-order-requires c =
+    let edit = c.args.edit.now in
+    let new = c.change.new.self in
+    let before = c.take_order-order.ensures in
+    let applies = subst (λ (n : Numbered). Applies n edit new) before.same c.in-Ok.ensures.made in
+    were_order c.args.self.now new edit c.take_order-order.result before.whole c.in-Ok.ensures.whole applies before.order

@@ -24,8 +24,8 @@ returns-in-Any c =
     let n = c.args.self.now in
     let same : c.args.kind ≡ Any = cc in
     let seen : Numbered = record { net = c.self.inside.net; nodes = c.self.inside.nodes } in
-    let is_whole = subst IsWhole c.self.view_is (whole seen c.self.inside.counts c.self.invariant) in
-    let told = told_live seen c.self.inside.counts c.self.invariant c.args.node c.node.result c.node.ensures.found c.node.ensures.absent in
+    let is_whole = subst IsWhole c.self.view_is (whole seen c.self.inside.counts c.self.invariant.topology) in
+    let told = told_live seen c.self.inside.counts c.self.invariant.topology c.args.node c.node.result c.node.ensures.found c.node.ensures.absent in
     let live = subst (λ (m : Numbered). IsTrue c.is_some.result ↔ IsLiveNode m c.args.node) c.self.view_is
     (subst (λ (b : Bool). IsTrue b ↔ IsLiveNode seen c.args.node) (sym c.is_some.ensures) told) in
     subst (λ (k : NodeKind). (name : NodeName) → IsNodeNamed n c.args.node name → IsTrue c.is_some.result ↔ IsOfKind k (topology_of n) name) (sym same)

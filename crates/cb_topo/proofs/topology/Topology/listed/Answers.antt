@@ -1,20 +1,9 @@
-use Rattle.std.proofs.Common.{map, ap, sym, subst, ◌∙◌, rules}
-use Rattle.std.proofs.lemmas.List.{take_all}
-use Rattle.cb_model.proofs.Rising.{node_cmp_total}
-use Rattle.cb_topo.specs.Numbered.{AreNamed}
-use Rattle.cb_topo.specs.Ordered.{called, number}
-use Rattle.cb_topo.proofs.Listing.{names_are, numbers_are}
-use Rattle.cb_topo.proofs.Sorting.{sorted_by}
+use Rattle.std.proofs.Common.{subst}
+use Rattle.cb_topo.specs.Numbered.{Numbered, IsWhole}
+use Rattle.cb_topo.proofs.Naming.{whole}
 use Rattle.cb_topo.proofs.topology.Topology.listed.Goals as goal
 
-pub returns : goal.returns
-returns c =
-    let n = c.args.self.now in
-    let nodes = c.sort_unstable_by.new.self.items in
-    let are = c.in_ok-named.ensures in
-    let moved = c.sort_unstable_by.ensures.permutation in
-    let sorted = sorted_by called node_cmp_total nodes c.sort_unstable_by.ensures.sorted (λ a r f k. search rules) in
-    let all = take_all c.loop-one.one-index c.deref-one-items.result.now c.loop-one-test.false ∙ c.deref-one-items.ensures.value in
-    let ids_are = c.loop-one.invariant ∙ ap (map number) all in
-    let named = numbers_are n c.args.kind c.in_ok-named.named.items nodes are moved in
-    (map called nodes, names_are n c.args.kind c.in_ok-named.named.items nodes are moved sorted, subst (λ ids. AreNamed n ids (map called nodes)) (sym ids_are) named)
+pub picked-requires-clause-whole : goal.picked-requires-clause-whole
+picked-requires-clause-whole c =
+    let seen : Numbered = record { net = c.self.inside.net; nodes = c.self.inside.nodes } in
+    subst IsWhole c.self.view_is (whole seen c.self.inside.counts c.self.invariant.topology)

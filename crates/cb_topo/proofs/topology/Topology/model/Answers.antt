@@ -6,4 +6,4 @@ use Rattle.cb_topo.proofs.topology.Topology.model.Goals as goal
 pub returns-clause-whole : goal.returns-clause-whole
 returns-clause-whole c =
     let inside : Numbered = record { net = c.self.inside.net; nodes = c.self.inside.nodes } in
-    subst IsWhole c.self.view_is (whole inside c.self.inside.counts c.self.invariant)
+    subst IsWhole c.self.view_is (whole inside c.self.inside.counts c.self.invariant.topology)

@@ -17,7 +17,7 @@ pub loop-place-preserved : goal.loop-place-preserved
 loop-place-preserved c =
     let n = c.args.self.now in
     let seen : Numbered = record { net = c.self.inside.net; nodes = c.self.inside.nodes } in
-    let is_whole = subst IsWhole c.self.view_is (whole seen c.self.inside.counts c.self.invariant) in
+    let is_whole = subst IsWhole c.self.view_is (whole seen c.self.inside.counts c.self.invariant.topology) in
     let k = c.loop-place.place in
     let old = c.loop-place.nodes.items in
     let id : NodeId = record { 0 = k } in
@@ -40,7 +40,7 @@ pub returns : goal.returns
 returns c =
     let n = c.args.self.now in
     let seen : Numbered = record { net = c.self.inside.net; nodes = c.self.inside.nodes } in
-    let is_whole = subst IsWhole c.self.view_is (whole seen c.self.inside.counts c.self.invariant) in
+    let is_whole = subst IsWhole c.self.view_is (whole seen c.self.inside.counts c.self.invariant.topology) in
     let below : (id : NodeId) (node : Node) → IsNode c.self.inside.nodes id node → id.0 < c.loop-place.place = λ id node is.
     let low = c.room-place-end.ensures.above id (node, is) in
     omega (arith, low, c.loop-place-test.false) in

@@ -8,5 +8,8 @@ use Rattle.cb_topo.proofs.topology.Topology.new.Goals as goal
 pub invariant_of-result : goal.invariant_of-result
 invariant_of-result c =
     let kept = empty_kept c.args.model c.tables-typed.ensures.typed c.none.result (c.none.ensures c.args.model) in
-    subst (λ (n : Net). IsTopologyOf n c.new-2.result c.none.result) (sym c.new.ensures)
-    (subst (λ (t : Table). IsTopologyOf (empty_net c.args.model) t c.none.result) (sym c.new-2.ensures) kept)
+    record {
+      topology = subst (λ (n : Net). IsTopologyOf n c.new-2.result c.none.result) (sym c.new.ensures)
+          (subst (λ (t : Table). IsTopologyOf (empty_net c.args.model) t c.none.result) (sym c.new-2.ensures) kept);
+      settled = tt;
+    }

@@ -22,7 +22,7 @@ pub room_with-requires : goal.room_with-requires
 room_with-requires c =
     let nodes = c.self.inside.nodes in
     let are = subst (λ (t : Tables). AreEventsOf t c.in-Some.class c.events_of.result.now) c.model-model.ensures.value c.events_of.ensures in
-    let few = few_numbers c.self.inside.net.topology.model c.self.invariant.typed nodes c.self.invariant.table.few c.in-Some.class c.events_of.result.now are in
+    let few = few_numbers c.self.inside.net.topology.model c.self.invariant.topology.typed nodes c.self.invariant.topology.table.few c.in-Some.class c.events_of.result.now are in
     let same = c.len.ensures in
     subst (λ n. room_with nodes n < 18446744073709551616) (sym same) (omega arith)
 
