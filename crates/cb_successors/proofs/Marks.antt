@@ -1,9 +1,9 @@
 -- Nodes of rows, and how many there are.
-use Rattle.std.proofs.Common.{◌≡◌, ◌⊎◌, inl, inr, ◌+◌, ◌-◌, ◌<◌, ◌≤◌, ◌||◌, ℕ, zero, suc, cond, List, [], ◌∷◌, Bool, true, false, length, replicate, slice_index_or, slice_set, refl, sym, ap, ◌∙◌, arith}
+use Rattle.std.proofs.Common.{◌≡◌, ◌⊎◌, inl, inr, ◌+◌, ◌<◌, ◌≤◌, ◌||◌, ℕ, zero, suc, cond, List, [], ◌∷◌, Bool, true, false, length, replicate, slice_index_or, slice_set, refl, sym, ap, ◌∙◌, arith}
 use Rattle.std.specs.Simd.Lanes.{zip2}
 use Rattle.std.proofs.lemmas.Bool.{cases_eq, cases_lt}
 use Rattle.std.proofs.lemmas.List.{same_lists, get_or_default, get_or_past, get_or-set_same, get_or-set_other, get_or-replicate, length-replicate}
-use Rattle.std.proofs.lemmas.List.Sums.{sum_by-set, sum_by-cons, count_by-le-length}
+use Rattle.std.proofs.lemmas.List.Sums.{sum_by-set, sum_by-cons}
 use Rattle.std.proofs.lemmas.Simd.{length-zip2, get_or-zip2}
 use Rattle.cb_successors.specs.Rows.{Has, ones}
 
@@ -38,10 +38,6 @@ ones_within (x ∷ a) (y ∷ b) same within =
     let rest : ones a ≤ ones b = ones_within a b (omega arith) (λ k. within (suc k)) in
     let first : one x ≤ one y = one_within x y (within 0) in
     omega (arith, sum_by-cons one x a, sum_by-cons one y b)
-
--- a row that has more nodes has fewer left
-pub fewer_left : (row more : List Bool) → length more ≡ length row → ones row + 1 ≤ ones more → length more - ones more < length row - ones row
-fewer_left row more same grown = let most = count_by-le-length (λ has. has) more in omega arith
 
 -- two truth values, each true where the other is
 alike : (a b : Bool) → (a ≡ true → b ≡ true) → (b ≡ true → a ≡ true) → a ≡ b

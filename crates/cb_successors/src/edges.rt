@@ -1,4 +1,4 @@
-//! Where a search learns of edges.
+//! What a search asks of a graph.
 ghost use Rattle.std.specs.Prelude.{◌≡◌, ◌<◌, ◌+◌, ◌↔◌, ◌⊎◌, ℕ, length, OnOk};
 ghost use Rattle.std.specs.List.{Contains};
 ghost use Rattle.cb_successors.specs.Rows.{Has};
@@ -16,7 +16,7 @@ pub trait Edges {
     // how many nodes there are
     ghost count: { Self → ℕ };
 
-    /// Adds the successors of a node to a row, and counts one step. The graph may use hidden room of its own for it, but
+    /// Adds the successors of a node to a row, and counts one step. The graph may use hidden buffers of its own for it, but
     /// its value, as contracts see it, stays as it is.
     fn add_successors<L: Ledger>(&mut self, node: usize, row: &mut Row, steps: &mut Steps<L>)
         requires node { node < count self.old }
@@ -26,8 +26,8 @@ pub trait Edges {
         ensures row { (k : ℕ) → Has row.new k ↔ (Has row.old k ⊎ edge self.old node k) }
         ensures step { steps.new ≡ steps.old + 1 };
 
-    /// Makes the list, whatever it had, exactly that of the successors of a node, in any order, some perhaps more than once, and counts one step: one who asks for
-    /// many nodes then goes over no row of all. The graph's value stays as it is.
+    /// Makes the list, whatever it had, exactly that of the successors of a node, in any order, some perhaps more than once,
+    /// and counts one step: whoever asks for many nodes then goes over no row of all nodes. The graph's value stays as it is.
     fn list_successors<L: Ledger>(
         &mut self,
         node: usize,

@@ -1,10 +1,6 @@
-//! The nodes that a node of a graph reaches along edges, found over rows of bits.
-//!
-//! Where the edges come from is told by `Edges`, so that one search serves every graph whose nodes are numbers.
+//! What a search needs of a graph whose nodes are numbers (`Edges`), and the words over chains of edges and rows of nodes.
 #![tactic(auto)]
 
 mod edges;
-mod search;
 
 pub use edges::Edges;
-pub use search::{extend, reach};
