@@ -5,3 +5,6 @@ pub mod Words
 pub mod Fronts
 pub mod Weights
 pub mod Nth
+pub mod Merging
+pub mod Sharing
+pub mod Rising

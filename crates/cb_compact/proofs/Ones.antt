@@ -94,7 +94,7 @@ module _ (places : List ℕ) (row : List Bool) (are : places ≡ ones_of row) wh
 
   module _ (from at : ℕ) (before : AreBefore places from at) where
     -- no one stands from there up to the place at that index
-    none_until : (k : ℕ) → from ≤ k → (at < length places → k < slice_index_or places at 0) → slice_index_or row k false ≡ false
+    pub none_until : (k : ℕ) → from ≤ k → (at < length places → k < slice_index_or places at 0) → slice_index_or row k false ≡ false
     none_until k low high = elim (cases_Bool (slice_index_or row k false)) [
       | inl is ↦
           let there = is_listed k is in

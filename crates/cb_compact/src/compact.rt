@@ -1,12 +1,11 @@
 //! A row of truth values, by the places of its ones where these are few.
-ghost use Rattle.std.specs.Prelude.{◌≡◌, ◌+◌, ◌<◌, ◌≤◌, length, true, false, slice_index_or, count_by, SomeIff, IfSome, IfNone, IfOk};
+ghost use Rattle.std.specs.Prelude.{All, ◌≡◌, ◌+◌, ◌<◌, ◌≤◌, length, true, false, slice_index_or, count_by, SomeIff, IfSome, IfNone, IfOk};
 ghost use Rattle.cb_bits.specs.Bits.{differing, IsNextOne, HasNoneFrom};
-ghost use Rattle.cb_compact.specs.Compact.{ones_of, AreBefore, Keeps, differs, differing_before, differing_under};
+ghost use Rattle.cb_compact.specs.Compact.{ones_of, with_ones, AreRising, AreBefore, Keeps, differs, differing_before, differing_under};
 
 use crate::apart::nth_apart;
-use crate::counted::{
-    count_below, count_under, count_under_below, nth_place, words_under, words_under_below,
-};
+use crate::beside::{shared, shared_under};
+use crate::counted::{below, count_below, count_under, count_under_below, nth_place, words_under};
 use crate::places::{has_place, next_place, place_behind, places_of};
 use cb_bits::Row;
 use std::alloc::{AllocError, Global};
@@ -26,7 +25,7 @@ enum Kept {
 }
 
 /// Truth values in order. Contracts see the list of them. It keeps the places of those that are true, where these are fewer than
-/// a sixth of the words that all would take, rounded down, and how many they are.
+/// half of the words that all would take, rounded down, and how many they are.
 #[derive(Drop)]
 pub struct CompactRow {
     len: usize,
@@ -55,6 +54,20 @@ impl CompactRow {
         let weight = row.ones();
         let kept = kept_of(alloc, row, weight)?;
         Ok(CompactRow { len, weight, kept })
+    }
+
+    /// So many values, of which those at these positions are true. The list is stored as it is, however long.
+    pub fn of_positions(len: usize, positions: Vec<u32>) -> CompactRow
+        requires rising { AreRising positions.items }
+        requires within { All (λ k. k < len) positions.items }
+        ensures { result ≡ with_ones positions.items len }
+    {
+        let weight = positions.len();
+        CompactRow {
+            len,
+            weight,
+            kept: Kept::Places(positions),
+        }
     }
 
     /// How many values there are.
@@ -115,6 +128,16 @@ impl CompactRow {
         }
     }
 
+    /// The positions of the true values, if these are stored.
+    pub(crate) fn places(&self) -> Option<&[u32]>
+        ensures { IfSome result (λ places. places.now ≡ ones_of self.now) }
+    {
+        match &self.kept {
+            Kept::Places(places) => Some(places.as_slice()),
+            Kept::Whole(_) => None,
+        }
+    }
+
     /// At how many places the two differ, where these are fewer than the limit. It stops once there are as many, and looks at none where one
     /// of the two has so many more ones than the other.
     pub fn distance_below(&self, other: &CompactRow, limit: usize) -> Option<usize>
@@ -125,12 +148,58 @@ impl CompactRow {
         if limit <= self.ones().abs_diff(other.ones()) {
             return None;
         }
-        if let Some(one) = self.whole() {
-            if let Some(two) = other.whole() {
-                return one.distance_below(two, limit);
+        if let Some(row) = other.whole() {
+            if let Some(one) = self.whole() {
+                return one.distance_below(row, limit);
             }
+            return self.distance_to_below(row, other.ones(), limit);
+        }
+        if let Some(row) = self.whole() {
+            return other.distance_to_below(row, self.ones(), limit);
         }
         count_below(self, other, limit)
+    }
+
+    // The same of a whole row with so many ones: each of the two has its ones, and they share some.
+    #[inline(never)]
+    fn distance_to_below(&self, row: &Row, ones: usize, limit: usize) -> Option<usize>
+        requires same { length self.now ≡ length row.now }
+        requires ones { ones ≡ count_by (λ value. value) row.now }
+        ensures { let distance = differing self.now row.now in
+            SomeIff result (distance < limit) distance }
+    {
+        match &self.kept {
+            Kept::Places(places) => {
+                // A length fits its type, and so does a number of positions.
+                let _len = row.len();
+                let list = places.as_slice();
+                let both = shared(list, row);
+                let distance = (list.len() - both) + (ones - both);
+                below(distance, limit)
+            }
+            Kept::Whole(one) => one.distance_below(row, limit),
+        }
+    }
+
+    // At how many ones of a mask it differs from a whole row.
+    #[inline(never)]
+    fn distance_to_under(&self, row: &Row, mask: &Row) -> usize
+        requires same { length self.now ≡ length row.now }
+        requires masked { length self.now ≡ length mask.now }
+        requires few { length self.now ≤ 4294967232 }
+        ensures { result ≡ differing_under mask.now self.now row.now }
+    {
+        match &self.kept {
+            Kept::Places(places) => {
+                let list = places.as_slice();
+                let own = shared(list, mask);
+                let both = shared_under(list, mask, row);
+                let missing = words_under(row, mask, mask);
+                let all = mask.ones();
+                (own - both) + (all - missing - both)
+            }
+            Kept::Whole(one) => words_under(one, row, mask),
+        }
     }
 
     /// At how many ones of a mask the two differ.
@@ -140,16 +209,20 @@ impl CompactRow {
         ensures { result ≡ differing_under mask.now self.now other.now }
     {
         if self.len() <= MOST_COUNTED {
-            if let Some(one) = self.whole() {
-                if let Some(two) = other.whole() {
-                    return words_under(one, two, mask);
+            if let Some(row) = other.whole() {
+                if let Some(one) = self.whole() {
+                    return words_under(one, row, mask);
                 }
+                return self.distance_to_under(row, mask);
+            }
+            if let Some(row) = self.whole() {
+                return other.distance_to_under(row, mask);
             }
         }
         count_under(self, other, mask)
     }
 
-    /// The same, where these are fewer than the limit. It stops once there are as many; of two whole rows it counts all words.
+    /// The same, where these are fewer than the limit. It stops once there are as many; if one of the two is whole it counts all.
     pub fn distance_under_below(
         &self,
         other: &CompactRow,
@@ -162,10 +235,14 @@ impl CompactRow {
             SomeIff result (distance < limit) distance }
     {
         if self.len() <= MOST_COUNTED {
-            if let Some(one) = self.whole() {
-                if let Some(two) = other.whole() {
-                    return words_under_below(one, two, mask, limit);
+            if let Some(row) = other.whole() {
+                if let Some(one) = self.whole() {
+                    return below(words_under(one, row, mask), limit);
                 }
+                return below(self.distance_to_under(row, mask), limit);
+            }
+            if let Some(row) = self.whole() {
+                return below(other.distance_to_under(row, mask), limit);
             }
         }
         count_under_below(self, other, mask, limit)
@@ -189,12 +266,12 @@ impl CompactRow {
     }
 }
 
-// The places of so many ones, where these are fewer than a sixth of the words of the row, and else a copy: to go through one place takes as
-// long as some six words.
+// The positions of so many ones, if these are fewer than half of the words of the row, and else a copy: a step in two lists takes as long as
+// some two words.
 fn kept_of(alloc: Global, row: &Row, ones: usize) -> Result<Kept, AllocError>
     ensures { IfOk result (Keeps row.now) }
 {
-    if row.len() <= MOST_PLACES && ones < row.words().len() / 6 {
+    if row.len() <= MOST_PLACES && ones < row.words().len() / 2 {
         let places = places_of(alloc, row, ones)?;
         Ok(Kept::Places(places))
     } else {

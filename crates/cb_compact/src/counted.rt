@@ -9,6 +9,7 @@ use cb_bits::Row;
 use cb_lanes::distance_under;
 
 /// At how many places two rows differ, where these are fewer than the limit.
+#[inline(never)]
 pub(crate) fn count_below(left: &CompactRow, right: &CompactRow, limit: usize) -> Option<usize>
     requires { length left.now ≡ length right.now }
     ensures { let distance = differing left.now right.now in
@@ -29,6 +30,7 @@ pub(crate) fn count_below(left: &CompactRow, right: &CompactRow, limit: usize) -
 }
 
 /// At how many ones of a mask two rows differ.
+#[inline(never)]
 pub(crate) fn count_under(left: &CompactRow, right: &CompactRow, mask: &Row) -> usize
     requires same { length left.now ≡ length right.now }
     requires masked { length left.now ≡ length mask.now }
@@ -47,6 +49,7 @@ pub(crate) fn count_under(left: &CompactRow, right: &CompactRow, mask: &Row) -> 
 }
 
 /// At how many ones of a mask two rows differ, where these are fewer than the limit.
+#[inline(never)]
 pub(crate) fn count_under_below(
     left: &CompactRow,
     right: &CompactRow,
@@ -85,23 +88,15 @@ pub(crate) fn words_under(one: &Row, other: &Row, mask: &Row) -> usize
     distance_under(one.words(), other.words(), mask.words()) as usize
 }
 
-/// The same, where these are fewer than the limit.
-pub(crate) fn words_under_below(one: &Row, other: &Row, mask: &Row, limit: usize) -> Option<usize>
-    requires same { length one.now ≡ length other.now }
-    requires masked { length one.now ≡ length mask.now }
-    requires few { length one.now ≤ 4294967232 }
-    ensures { let distance = differing_under mask.now one.now other.now in
-        SomeIff result (distance < limit) distance }
+/// The number, if it is below the limit.
+pub(crate) fn below(count: usize, limit: usize) -> Option<usize>
+    ensures { SomeIff result (count < limit) count }
 {
-    let distance = words_under(one, other, mask);
-    if distance < limit {
-        Some(distance)
-    } else {
-        None
-    }
+    if count < limit { Some(count) } else { None }
 }
 
 /// The nth place at which two rows differ, counted from the first, where it comes before the given one.
+#[inline(never)]
 pub(crate) fn nth_place(
     left: &CompactRow,
     right: &CompactRow,

@@ -7,12 +7,14 @@ ghost use Rattle.cb_compact.specs.Course.{IsOnCourse};
 use crate::apart::next_apart;
 use crate::compact::CompactRow;
 use crate::front::Front;
+use crate::merged::{Merged, merged_of};
 use cb_bits::Row;
 
-/// How two rows are gone through: by the words of both, or by the ones.
+/// How two rows are gone through: by the words of both, by two lists of positions, or by the ones.
 #[derive(Drop)]
 enum Course<'a> {
     Words(&'a Row, &'a Row),
+    Lists(Merged<'a>),
     Ones(Front, Front),
 }
 
@@ -43,6 +45,7 @@ impl<'a> Differing<'a> {
     }
 
     /// The next place at which the two differ.
+    #[inline(always)]
     pub fn next(&mut self) -> Option<usize>
         requires same { length self.old.left.now ≡ length self.old.right.now }
         requires course { IsOnCourse self.old.left.now self.old.right.now self.old.from self.old.course }
@@ -55,6 +58,7 @@ impl<'a> Differing<'a> {
     {
         match &mut self.course {
             Course::Words(one, other) => next_by_words(one, other, &mut self.from),
+            Course::Lists(lists) => lists.next(self.left, self.right, &mut self.from),
             Course::Ones(one, other) => {
                 next_by_ones(self.left, self.right, one, other, &mut self.from)
             }
@@ -62,7 +66,7 @@ impl<'a> Differing<'a> {
     }
 }
 
-// Two whole rows go by their words, and others by their ones.
+// Two whole rows go by their words, two lists by their positions, and others by their ones.
 fn course_of<'a>(left: &'a CompactRow, right: &'a CompactRow) -> Course<'a>
     ensures { IsOnCourse left.now right.now 0 result }
 {
@@ -71,7 +75,10 @@ fn course_of<'a>(left: &'a CompactRow, right: &'a CompactRow) -> Course<'a>
             return Course::Words(one, other);
         }
     }
-    Course::Ones(Front::of(left), Front::of(right))
+    match merged_of(left, right) {
+        Some(lists) => Course::Lists(lists),
+        None => Course::Ones(Front::of(left), Front::of(right)),
+    }
 }
 
 // The next place at which two rows differ, by the words of both.
@@ -88,7 +95,7 @@ fn next_by_words(one: &Row, other: &Row, from: &mut usize) -> Option<usize>
     Some(place)
 }
 
-// The same, by the ones of both.
+// The next place at which two rows differ, by the ones of both.
 fn next_by_ones(
     left: &CompactRow,
     right: &CompactRow,

@@ -2,10 +2,12 @@
 #![tactic(auto)]
 
 mod apart;
+mod beside;
 mod compact;
 mod counted;
 mod differing;
 mod front;
+mod merged;
 mod places;
 
 pub use compact::CompactRow;

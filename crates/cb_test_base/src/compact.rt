@@ -1,10 +1,10 @@
-//! Rows of 6400 values, a hundred words, by the places of their ones and as a whole.
+//! Rows of 2048 values, 32 words, by the positions of their ones and as a whole.
 use cb_bits::Row;
 use cb_compact::CompactRow;
 use std::alloc::{AllocError, Global};
 use std::test::Fail;
 
-// Too many ones to be kept by their places, both.
+// Too many ones to be kept by their positions, both.
 const FORTIES: [usize; 16] = [
     0, 40, 80, 120, 160, 200, 240, 280, 320, 360, 400, 440, 480, 520, 560, 600,
 ];
@@ -15,7 +15,7 @@ const FIFTIES: [usize; 17] = [
 
 // A row of which the values at the places are true.
 fn row_of(alloc: Global, places: &[usize]) -> Result<Row, AllocError> {
-    let mut row = Row::zeroed(alloc, 6400)?;
+    let mut row = Row::zeroed(alloc, 2048)?;
     for place in places {
         if *place < row.len() {
             row.set(*place);
@@ -28,15 +28,15 @@ fn row_of(alloc: Global, places: &[usize]) -> Result<Row, AllocError> {
 fn is_kept(alloc: Global, places: &[usize]) -> Result<bool, AllocError> {
     let row = row_of(alloc, places)?;
     let compact = CompactRow::of(alloc, &row)?;
-    if row.len() != 6400 || compact.len() != 6400 || compact.ones() != places.len() {
+    if row.len() != 2048 || compact.len() != 2048 || compact.ones() != places.len() {
         return Ok(false);
     }
-    for i in 0..6400 {
+    for i in 0..2048 {
         if compact.get(i) != row.get(i) || compact.next_one(i) != row.next_one(i) {
             return Ok(false);
         }
     }
-    Ok(compact.next_one(6400).is_none() && compact.next_one(usize::MAX).is_none())
+    Ok(compact.next_one(2048).is_none() && compact.next_one(usize::MAX).is_none())
 }
 
 // Whether two rows differ at so many places, and at so many ones of a mask, from a first one to a last.
@@ -48,26 +48,26 @@ fn are_apart(
     under: usize,
     ends: Option<(usize, usize)>,
 ) -> Result<bool, AllocError> {
-    let mask = row_of(alloc, &[0, 5, 80, 100, 6399])?;
+    let mask = row_of(alloc, &[0, 5, 80, 100, 2047])?;
     let one = CompactRow::of(alloc, &row_of(alloc, one)?)?;
     let other = CompactRow::of(alloc, &row_of(alloc, other)?)?;
-    if 6400 < far || one.len() != mask.len() || other.len() != mask.len() {
+    if 2048 < far || one.len() != mask.len() || other.len() != mask.len() {
         return Ok(false);
     }
     let counted = one.distance_below(&other, far + 1) == Some(far)
         && one.distance_below(&other, far).is_none()
         && one.distance_under(&other, &mask) == under
-        && one.distance_under_below(&other, &mask, 6401) == Some(under)
+        && one.distance_under_below(&other, &mask, 2049) == Some(under)
         && one.distance_under_below(&other, &mask, under).is_none();
-    let beyond = one.nth_differing(&other, 6400, far + 1).is_none();
+    let beyond = one.nth_differing(&other, 2048, far + 1).is_none();
     match ends {
         None => Ok(counted && beyond && far == 0),
         Some((first, last)) => Ok(
             counted
                 && beyond
                 && 0 < far
-                && one.nth_differing(&other, 6400, 1) == Some(first)
-                && one.nth_differing(&other, 6400, far) == Some(last)
+                && one.nth_differing(&other, 2048, 1) == Some(first)
+                && one.nth_differing(&other, 2048, far) == Some(last)
                 && one.nth_differing(&other, last, far).is_none(),
         ),
     }
@@ -78,8 +78,8 @@ fn rows_say_what_they_said(rt: HostRuntime) -> Result<(), Fail> {
     let table: [&[usize]; 6] = [
         &[],
         &[0],
-        &[6399],
-        &[0, 1, 63, 64, 127, 300, 6398, 6399],
+        &[2047],
+        &[0, 1, 63, 64, 127, 300, 2046, 2047],
         &FORTIES,
         &FIFTIES,
     ];
@@ -94,10 +94,10 @@ fn rows_differ(rt: HostRuntime) -> Result<(), Fail> {
     // Two rows, at how many places they differ, at how many ones of the mask, and the first and the last place.
     let table: [(&[usize], &[usize], usize, usize, Option<(usize, usize)>); 7] = [
         (&[], &[], 0, 0, None),
-        (&[5, 100, 6399], &[5, 100, 6399], 0, 0, None),
-        (&[5, 100, 6399], &[100], 2, 2, Some((5, 6399))),
+        (&[5, 100, 2047], &[5, 100, 2047], 0, 0, None),
+        (&[5, 100, 2047], &[100], 2, 2, Some((5, 2047))),
         (&[63, 64], &[64, 128], 2, 0, Some((63, 128))),
-        (&[0, 40, 6399], &FORTIES, 15, 2, Some((80, 6399))),
+        (&[0, 40, 2047], &FORTIES, 15, 2, Some((80, 2047))),
         (&FORTIES, &FIFTIES, 25, 2, Some((40, 800))),
         (&[], &FIFTIES, 17, 2, Some((0, 800))),
     ];
