@@ -4,6 +4,8 @@
 #![tactic(auto)]
 
 #[cfg(test)]
+mod cap;
+#[cfg(test)]
 mod codes;
 #[cfg(test)]
 mod decode;

@@ -35,7 +35,7 @@ fn reduces_the_worked_codes(rt: HostRuntime) -> Result<(), Fail> {
 }
 
 // Whether the codes are few and narrow.
-fn are_small(codes: &Codes) -> bool
+pub(crate) fn are_small(codes: &Codes) -> bool
     ensures few { IsTrue result → length codes.now.rows ≤ 100 }
     ensures narrow { IsTrue result → codes.now.width ≤ 3000 }
 {
@@ -165,7 +165,7 @@ fn agree(alloc: Global, codes: &Codes, wanted: u32) -> Result<bool, AllocError> 
 }
 
 // Codes from their texts.
-fn codes_of(alloc: Global, width: usize, texts: &[&str]) -> Result<Codes, AllocError> {
+pub(crate) fn codes_of(alloc: Global, width: usize, texts: &[&str]) -> Result<Codes, AllocError> {
     let mut codes = Codes::new(alloc, width);
     for text in texts {
         let code = code_of(alloc, width, text)?;
@@ -177,7 +177,7 @@ fn codes_of(alloc: Global, width: usize, texts: &[&str]) -> Result<Codes, AllocE
 }
 
 // A code from its text.
-fn code_of(alloc: Global, width: usize, text: &str) -> Result<Row, AllocError> {
+pub(crate) fn code_of(alloc: Global, width: usize, text: &str) -> Result<Row, AllocError> {
     let mut code = Row::zeroed(alloc, width)?;
     for column in 0..width {
         if column < code.len() && text.as_bytes().get(column) == Some(&b'1') {
