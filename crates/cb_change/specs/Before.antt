@@ -1,5 +1,5 @@
 -- What an edit touches, by the topology before it and by the links that it adds or takes away.
-use Rattle.std.specs.Prelude.{◌≡◌, ◌⊎◌, ℕ, List, [], ◌∷◌}
+use Rattle.std.specs.Prelude.{◌≡◌, ◌⊎◌, List, [], ◌∷◌}
 use Rattle.cb_model.specs.declared.id.RelId.{RelId}
 use Rattle.cb_model.specs.declared.tables.Place.{Place}
 use Rattle.cb_network.specs.declared.edit.Edit.{Edit}

@@ -27,6 +27,7 @@ use Rattle.cb_validity.specs.Reading.{MakeGroups, ArePlaces}
 use Rattle.cb_validity.specs.Valid.{AreColumnNumbers, AreSpans, IsSide, IsSpanOfProblem, IsClose, IsValid}
 use Rattle.cb_validity.specs.Canonical.{IsCanonicalSpan, IsCanonicalBook, IsCanonicalThin}
 use Rattle.cb_validity.specs.Checks.{Check, AreChecks, Passes, IsFirstFail, Judges}
+use Rattle.cb_change.specs.Costs.{IsOpenCost}
 use Rattle.cb_validity.specs.Totals.{IsTotalReach, HasFewEntries, HasManyEntries}
 use Rattle.cb_validity.specs.Verdicts.{TellsWhy, entries_of}
 
@@ -134,6 +135,10 @@ ThinIsOfFormat = (t : Topology) (wanted far : ℕ) (nodes : List NodeName) (firs
 -- the problems cause one number of nodes together
 abbrev pub TotalReachIsOne : Type 0
 TotalReachIsOne = (t : Topology) (m n : ℕ) → IsTotalReach t m → IsTotalReach t n → m ≡ n
+
+-- so many nodes are expanded by a search from each problem
+abbrev pub TotalReachIsOpenCost : Type 0
+TotalReachIsOpenCost = (t : Topology) (total : ℕ) → IsTotalReach t total ↔ IsOpenCost t total
 
 -- no topology has few entries and many
 abbrev pub FewAreNotMany : Type 0

@@ -3,7 +3,7 @@ ghost use Rattle.cb_validity.specs.Laws.{SpanListsCaused, SpansMakeMatrix, Valid
 ghost use Rattle.cb_validity.specs.Laws.{BookIsOfFormat, ThinIsOfFormat, CanonicalThinIsOne, PassedGoOn, FailedStop, JudgedIsFirstFail};
 ghost use Rattle.cb_validity.specs.CodebookLaws.{CodebookIsValid, ShortfallIsValid, FormatIsCheckable};
 ghost use Rattle.cb_validity.specs.Laws.{CanonicalSpanIsOne, CanonicalBookIsOne, CanonicalBookIsValid, CanonicalThinIsValid, ValidBookDecodes};
-ghost use Rattle.cb_validity.specs.Laws.{TotalReachIsOne, FewAreNotMany, EntriesAreFewOrMany};
+ghost use Rattle.cb_validity.specs.Laws.{TotalReachIsOne, TotalReachIsOpenCost, FewAreNotMany, EntriesAreFewOrMany};
 
 /// A span lists exactly the nodes that its root causes.
 pub fn span_lists_caused()
@@ -103,6 +103,11 @@ pub fn format_is_checkable()
 /// All that problems cause is one number.
 pub fn total_reach_is_one()
     ensures { TotalReachIsOne }
+{}
+
+/// That number is what a search from every problem costs.
+pub fn total_reach_is_open_cost()
+    ensures { TotalReachIsOpenCost }
 {}
 
 /// Few entries are not many, whether or not it is known how many all problems cause.
