@@ -1,5 +1,5 @@
 -- What a further instance brings: its problems are listed, and get rows.
-use Rattle.std.proofs.Common.{◌≡◌, ◌≢◌, ◌↔◌, ◌⊎◌, ℕ, zero, suc, ◌+◌, ◌-◌, ◌/◌, ◌%◌, ◌==◌, ◌<◌, ◌≤◌, List, [], ◌∷◌, ◌++◌, Option, Some, None, is_some, length, replicate, take, slice_index_or, refl, sym, ap, subst, ◌∙◌, inl, inr, arith}
+use Rattle.std.proofs.Common.{◌≡◌, ◌≢◌, ◌↔◌, ◌⊎◌, ℕ, zero, suc, ◌-◌, ◌/◌, ◌%◌, ◌==◌, ◌<◌, ◌≤◌, List, [], ◌∷◌, ◌++◌, Option, Some, None, is_some, length, replicate, take, slice_index_or, refl, sym, ap, subst, ◌∙◌, inl, inr, arith}
 use Rattle.std.specs.Global.{Global}
 use Rattle.std.specs.declared.vec.Vec.{Vec}
 use Rattle.std.specs.List.{All, Contains}
@@ -26,7 +26,7 @@ use Rattle.cb_network.specs.Causes.{Causes}
 use Rattle.cb_network.specs.Nodes.{IsNodeOf, IsProblem}
 use Rattle.cb_network.specs.Topology.{Topology, IsLive as IsLiveName, HasClass}
 use Rattle.cb_network.proofs.Sets.{got_insert}
-use Rattle.cb_change.specs.Costs.{IsEditCost, IsTotal}
+use Rattle.cb_change.specs.Costs.{IsEditCost, IsTotal, CountsAtMost}
 use Rattle.cb_change.specs.Touched.{CausesTouched}
 use Rattle.cb_change.proofs.Kept.{never_meets}
 use Rattle.cb_change.proofs.Steps.{links_kept, grows, near, one_class}
@@ -234,7 +234,7 @@ module _ (old new : Numbered) (name class : List ℕ) (edited : IsEdited old (Cr
       ];
     }
 
-    pub within_new : (steps new_steps cost : ℕ) → CostAtMost new ids steps new_steps → IsTotal (λ q. IsProblem u q × ¬ IsProblem t q) (Causes u) cost → new_steps ≤ steps + cost
+    pub within_new : (steps new_steps : ℕ) → CostAtMost new ids steps new_steps → CountsAtMost (IsTotal (λ q. IsProblem u q × ¬ IsProblem t q) (Causes u)) steps new_steps
     within_new = within_total new edited.whole_after ids once (λ q. IsProblem u q × ¬ IsProblem t q) new_numbers (λ q x. node_of_problem u q x.0)
 
 -- the problems among the events of an instance are those of the instance that the edit brought
@@ -346,7 +346,7 @@ pub record FitsIn (old new : Numbered) (edit : Edit) (slots : List (Option Slot)
   pub none : HaveNoSlots slots ids
   pub live : All (IsLiveNode new) ids
   pub right : (after_slots : List (Option Slot)) (after : Pool) → AddsRows new ids slots after_slots mid after → AreRight new after_slots after
-  pub within : (steps new_steps cost : ℕ) → CostAtMost new ids steps new_steps → IsEditCost (topology_of old) edit (topology_of new) cost → new_steps ≤ steps + cost
+  pub within : (steps new_steps : ℕ) → CostAtMost new ids steps new_steps → CountsAtMost (IsEditCost (topology_of old) edit (topology_of new)) steps new_steps
 
 pub fits_in : (old new : Numbered) (edit : Edit) → Creates edit → IsEdited old edit new → (slots new_slots : List (Option Slot)) (p mid : Pool) → AreRight old slots p → AreMoved slots new_slots p mid
     → (ids : List NodeId) → AreOnce ids → ((id : NodeId) → Contains ids id ↔ IsNewProblem new edit id) → FitsIn old new edit new_slots mid ids

@@ -1,5 +1,5 @@
 -- Rows are right once those that had a touched node are searched from again.
-use Rattle.std.proofs.Common.{◌≡◌, ◌↔◌, ℕ, ◌≤◌, ◌+◌, List, Bool, Option, Ok, length, sym, subst, inl, inr}
+use Rattle.std.proofs.Common.{◌≡◌, ◌↔◌, ℕ, List, Bool, Option, Ok, length, sym, subst, inl, inr}
 use Rattle.std.specs.List.{All, Contains}
 use Rattle.std.specs.List.Sorted.{IsPermutation}
 use Rattle.std.proofs.lemmas.List.Sorted.{IsPermutation-sym, Contains-permutation}
@@ -15,7 +15,7 @@ use Rattle.cb_network.specs.Causes.{Causes}
 use Rattle.cb_network.specs.Edits.{IsAfter}
 use Rattle.cb_network.specs.Nodes.{IsNodeOf, IsProblem}
 use Rattle.cb_network.proofs.Sets.{got_remove}
-use Rattle.cb_change.specs.Costs.{IsEditCost, IsTotal}
+use Rattle.cb_change.specs.Costs.{IsEditCost, IsTotal, CountsAtMost}
 use Rattle.cb_change.specs.Touched.{CausesTouched, IsDirty}
 use Rattle.cb_change.proofs.Kept.{caused_is_node}
 use Rattle.cb_change.proofs.Steps.{AreNear, near}
@@ -67,13 +67,14 @@ module _ (t u : Topology) where
       record { class = x.class; of_class = x.of_class; event = x.event; problem = x.problem; named = x.named }
 
   -- what such an edit costs
-  pub cut_total : (edit : Edit) → TakesAway edit → (cost : ℕ) → IsEditCost t edit u cost → IsTotal (λ p. IsDirty t u p × IsProblem u p) (Causes u) cost
-  cut_total (Create name class) none cost is = absurd none
-  cut_total (Link a rel b) none cost is = absurd none
-  cut_total (Mute event name) none cost is = absurd none
-  cut_total (Unmute event name) none cost is = absurd none
-  cut_total (Delete name) _ cost is = is
-  cut_total (Unlink a rel b) _ cost is = is
+  pub cut_cost : (edit : Edit) → TakesAway edit → (steps new_steps : ℕ) → CountsAtMost (IsTotal (λ p. IsDirty t u p × IsProblem u p) (Causes u)) steps new_steps
+      → CountsAtMost (IsEditCost t edit u) steps new_steps
+  cut_cost (Create name class) none steps new_steps counts = absurd none
+  cut_cost (Link a rel b) none steps new_steps counts = absurd none
+  cut_cost (Mute event name) none steps new_steps counts = absurd none
+  cut_cost (Unmute event name) none steps new_steps counts = absurd none
+  cut_cost (Delete name) _ steps new_steps counts = counts
+  cut_cost (Unlink a rel b) _ steps new_steps counts = counts
 
 pub same_room : (n : Numbered) (edit : Edit) (room : ℕ) → TakesAway edit → IsNodeRoomAfter n edit room → room ≡ length n.nodes
 same_room n (Create name class) room none is = absurd none
@@ -205,10 +206,10 @@ module _ (old : Numbered) (edit : Edit) (new : Numbered) (touched : List Bool) (
         ];
       }
 
-      pub within_cut : (steps new_steps cost : ℕ) → CostAtMost new ids steps new_steps → IsEditCost t edit u cost → new_steps ≤ steps + cost
-      within_cut steps new_steps cost most is =
-          within_total new edited.whole_after ids takes.once (λ name. IsDirty t u name × IsProblem u name) numbers (λ name x. node_of_problem u name x.1) steps new_steps cost most
-          (cut_total t u edit takes_away cost is)
+      pub within_cut : (steps new_steps : ℕ) → CostAtMost new ids steps new_steps → CountsAtMost (IsEditCost t edit u) steps new_steps
+      within_cut steps new_steps most =
+          cut_cost t u edit takes_away steps new_steps
+          (within_total new edited.whole_after ids takes.once (λ name. IsDirty t u name × IsProblem u name) numbers (λ name x. node_of_problem u name x.1) steps new_steps most)
 
 -- the list may stand in any order
 pub takes_permuted : (n : Numbered) (touched : List Bool) (slots : List (Option Slot)) (p : Pool) (kept_slots : List (Option Slot)) (mid : Pool) (ids order : List NodeId) → IsPermutation ids order

@@ -1,11 +1,11 @@
 -- What a link leaves the same, and what a row has once it is extended.
-use Rattle.std.proofs.Common.{◌≡◌, ◌≢◌, ◌⊎◌, ◌↔◌, ℕ, suc, ◌+◌, ◌≤◌, List, [], ◌∷◌, Bool, true, false, Ok, Option, sum, slice_index_or, refl, sym, ap, subst, inl, inr, arith}
-use Rattle.std.specs.List.{AllPairs, AllZip, Contains}
-use Rattle.std.proofs.lemmas.List.Sums.{sum_by-cons}
+use Rattle.std.proofs.Common.{◌≡◌, ◌⊎◌, ◌↔◌, ℕ, ◌+◌, ◌<◌, ◌≤◌, List, [], Bool, true, false, Ok, Option, length, slice_index_or, refl, sym, ap, subst, inl, inr, arith}
+use Rattle.std.proofs.lemmas.Bool.{cases_Bool, cases_lt}
+use Rattle.std.proofs.lemmas.List.{get_or_past}
 use Rattle.cb_lanes.specs.Words.{bit_of}
 use Rattle.cb_model.specs.declared.node.NodeName.{NodeName}
 use Rattle.cb_model.specs.Classes.{NamesEvent}
-use Rattle.cb_model.proofs.Rising.{contains_head, contains_tail, node_cmp_total, node_cmp_exact}
+use Rattle.cb_model.proofs.Rising.{node_cmp_total, node_cmp_exact}
 use Rattle.cb_network.specs.declared.edit.Edit.{Edit}
 use Rattle.cb_network.specs.declared.edit.Edit.TheVariants.{Create, Delete, Link, Unlink, Mute, Unmute}
 use Rattle.cb_network.specs.Causes.{Causes}
@@ -13,12 +13,11 @@ use Rattle.cb_network.specs.Topology.{Topology}
 use Rattle.cb_network.specs.Edits.{IsAfter}
 use Rattle.cb_network.specs.Nodes.{IsNodeOf, IsProblem, IsCount}
 use Rattle.cb_network.proofs.Sets.{len_of_part}
-use Rattle.cb_change.specs.Costs.{IsEditCost, IsTotal, IsNewlyCaused, IsTouchedBelow}
+use Rattle.cb_change.specs.Costs.{IsEditCost, IsTotal, IsNewlyCaused, IsTouchedBelow, CountsAtMost}
 use Rattle.cb_change.specs.Laws.{OnlyAdds}
 use Rattle.cb_change.specs.Touched.{IsDirty}
 use Rattle.cb_change.proofs.Kept.{caused_is_node, chain_over}
 use Rattle.cb_change.proofs.Steps.{Grows, grows}
-use Rattle.cb_change.proofs.Totals.{taken_out}
 use Rattle.cb_nodes.specs.declared.id.NodeId.{NodeId}
 use Rattle.cb_pool.specs.declared.slot.Slot.{Slot}
 use Rattle.cb_pool.specs.Pool.{Pool, row_of}
@@ -35,7 +34,7 @@ use Rattle.cb_cache.specs.Reached.{HasSlot}
 use Rattle.cb_cache.proofs.Edited.{close, old_number, row_settled}
 use Rattle.cb_cache.proofs.Opened.{node_of_problem}
 use Rattle.cb_cache.proofs.Pooled.{as_taken}
-use Rattle.cb_cache.proofs.Sizes.{led_named, set_of_row}
+use Rattle.cb_cache.proofs.Sizes.{led_named, led_low, row_where, set_of_row}
 use Rattle.cb_cache.proofs.Visiting.{row_reached}
 
 pub link_adds : (edit : Edit) → MakesLink edit → OnlyAdds edit
@@ -58,37 +57,15 @@ same_problems t u (Unlink a rel b) none after p = absurd none
 same_problems t u (Mute event name) none after p = absurd none
 same_problems t u (Unmute event name) none after p = absurd none
 
-pub link_total : (t u : Topology) (edit : Edit) (cost : ℕ) → MakesLink edit → IsEditCost t edit u cost → IsTotal (IsDirty t u) (λ p n. IsNewlyCaused t u p n ⊎ IsTouchedBelow t u p n) cost
-link_total t u (Create name class) cost none is = absurd none
-link_total t u (Delete name) cost none is = absurd none
-link_total t u (Link a rel b) cost _ is = is
-link_total t u (Unlink a rel b) cost none is = absurd none
-link_total t u (Mute event name) cost none is = absurd none
-link_total t u (Unmute event name) cost none is = absurd none
-
-abbrev Once : {X : Type 0} → List X → Type 0
-Once xs = AllPairs (λ a b. a ≢ b) xs
-
-once_head : {X : Type 0} (x : X) (xs : List X) → Once (x ∷ xs) → (y : X) → Contains xs y → x ≢ y
-once_head x xs once y (k, lt, is) = subst (λ z. x ≢ z) is (once 0 (suc k) y (omega arith) (omega arith))
-
-once_tail : {X : Type 0} (x : X) (xs : List X) → Once (x ∷ xs) → Once xs
-once_tail x xs once = λ i j d lt within. once (suc i) (suc j) d (omega arith) (omega arith)
-
--- where each item is one of others, and what stands beside it is no more than what stands beside it there, the sum is no more
-pub sum_within : {X : Type 0} (S T : X → ℕ → Type 0) → ((x : X) (m n : ℕ) → S x m → T x n → m ≤ n) → (xs ys : List X) (ms ns : List ℕ) → AllZip S xs ms → AllZip T ys ns
-    → Once xs → Once ys → ((x : X) → Contains xs x → Contains ys x) → sum ms ≤ sum ns
-sum_within S T less [] ys [] ns zip_x zip_y once_x once_y among = let e : sum [] ≡ 0 = refl in omega arith
-sum_within S T less [] ys (m ∷ ms) ns zip_x zip_y once_x once_y among = absurd zip_x
-sum_within S T less (x ∷ xs) ys [] ns zip_x zip_y once_x once_y among = absurd zip_x
-sum_within S T less (x ∷ xs) ys (m ∷ ms) ns zip_x zip_y once_x once_y among =
-    let w = taken_out T ys ns x zip_y once_y (among x (contains_head x xs)) in
-    let rest = sum_within S T less xs w.rest ms w.numbers zip_x.1 w.zip (once_tail x xs once_x) w.once
-    (λ y c. (w.each y).1 (among y (contains_tail x xs y c), λ e. once_head x xs once_x y c (sym e))) in
-    let first : m ≤ w.number = less x m w.number zip_x.0 w.beside in
-    let e = w.total in
-    let f = sum_by-cons (λ n. n) m ms in
-    omega arith
+-- what such an edit costs
+pub link_cost : (t u : Topology) (edit : Edit) → MakesLink edit → (steps new_steps : ℕ)
+    → CountsAtMost (IsTotal (IsDirty t u) (λ p n. IsNewlyCaused t u p n ⊎ IsTouchedBelow t u p n)) steps new_steps → CountsAtMost (IsEditCost t edit u) steps new_steps
+link_cost t u (Create name class) none steps new_steps counts = absurd none
+link_cost t u (Delete name) none steps new_steps counts = absurd none
+link_cost t u (Link a rel b) _ steps new_steps counts = counts
+link_cost t u (Unlink a rel b) none steps new_steps counts = absurd none
+link_cost t u (Mute event name) none steps new_steps counts = absurd none
+link_cost t u (Unmute event name) none steps new_steps counts = absurd none
 
 module _ (old new : Numbered) (edit : Edit) (touched : List Bool) (slots : List (Option Slot)) (p : Pool) (linked : IsLinked old edit new touched slots p) where
   abbrev t : Topology
@@ -204,6 +181,88 @@ module _ (old new : Numbered) (edit : Edit) (touched : List Bool) (slots : List 
         let few = made.2 in
         let all = count.len in
         omega arith
+
+    -- a node that is newly caused, or touched and caused before, is expanded
+    named_expanded : (x : NodeName) → (IsNewlyCaused t u who.0 x ⊎ IsTouchedBelow t u who.0 x) → (k : ℕ) × IsNodeNamed new (number k) x × IsExpanded (EdgeAt new) touched row k
+    named_expanded x (inl (causes, fresh)) =
+        let node = caused_is_node u who.0 causes.0 x causes.1 (linked.edited.whole_after.live (number i) who.0 who_later.1) in
+        let at = linked.edited.whole_after.named x node in
+        let leads = (lead_to_caused new linked.edited.whole_after i at.0.0 who.0 x who_later.1 at.1).1 causes in
+        (at.0.0, at.1, inr ((led_now at.0.0).1 leads, λ bit. not_fresh at.0.0 at.1 bit fresh))
+      where
+        not_fresh : (k : ℕ) → IsNodeNamed new (number k) x → bit_of row k ≡ true → (¬ Causes t who.0 x) → ⊥
+        not_fresh k named bit fresh =
+            let (s, its, before) = led_before k bit in
+            fresh (subst (Causes t who.0) (named_once new (number k) s x (kept_number k s its) named) before)
+    named_expanded x (inr (touch, causes)) =
+        let node = caused_is_node t who.0 causes.0 x causes.1 (linked.edited.whole.live (number i) who.0 who.1) in
+        let at = linked.edited.whole.named x node in
+        let marks = (linked.marked at.0.0).1 (x, at.1, touch) in
+        let bit = (was_reached at.0.0).1 ((lead_to_caused old linked.edited.whole i at.0.0 who.0 x who.1 at.1).1 causes) in
+        (at.0.0, kept_number at.0.0 x at.1, inl (marks, bit))
+
+    expanded_low : (k : ℕ) → IsExpanded (EdgeAt new) touched row k → k < length new.nodes
+    expanded_low k (inl (has, bit)) = elim (cases_lt k (length touched)) [
+      | inl lt ↦ let e = linked.room in omega arith
+      | inr le ↦ absurd (let e = get_or_past touched k false le in cc)
+    ]
+    expanded_low k (inr (led, off)) = led_low new linked.edited.whole_after i who.0 who_later.1 k ((led_now k).0 led)
+
+    -- the rows before and after tell which nodes are expanded, and so how many
+    module _ (after : List ℕ) (is : (k : ℕ) → (bit_of after k ≡ true) ↔ IsLedByWords (EdgeAt new) row k) where
+      decide : (k : ℕ) → IsExpanded (EdgeAt new) touched row k ⊎ (¬ IsExpanded (EdgeAt new) touched row k)
+      decide k = elim (cases_Bool (bit_of row k)) [
+        | inl on ↦ elim (cases_Bool (slice_index_or touched k false)) [
+          | inl marked ↦ inl (inl (marked, on))
+          | inr clear ↦ inr (λ x. elim x [
+            | inl here ↦ let has = here.0 in cc
+            | inr other ↦ other.1 on
+          ])
+        ]
+        | inr off ↦ elim (cases_Bool (bit_of after k)) [
+          | inl led ↦ inl (inr ((is k).0 led, λ on. cc))
+          | inr out ↦ inr (λ x. elim x [
+            | inl here ↦ let on = here.1 in cc
+            | inr other ↦ let led = (is k).1 other.0 in cc
+          ])
+        ]
+      ]
+
+      pub exactly_expanded : (size : ℕ) × IsCount (λ x. IsNewlyCaused t u who.0 x ⊎ IsTouchedBelow t u who.0 x) size
+      exactly_expanded =
+          let N : ℕ → NodeName → Type 0 = λ k name. IsNodeNamed new (number k) name in
+          let here : (k : ℕ) → 0 + k ≡ k = λ k. omega arith in
+          let nodes = row_where (IsExpanded (EdgeAt new) touched row) decide (length new.nodes) in
+          let made = set_of_row N
+          (λ a b name x y. ap (λ (z : NodeId). z.0) (linked.edited.whole_after.one (number a) (number b) name x y))
+          (λ a x y v w. named_once new (number a) x y v w)
+          nodes.0 0 (λ k in_row. let (x, named, kind) = expanded_named k ((nodes.1 k).0 in_row).1 in (x, subst (λ j. N j x) (sym (here k)) named)) in (
+            ones nodes.0,
+            record {
+              nodes = made.0;
+              members = λ x. (
+                λ h.
+                    let (k, in_row, its) = (made.1 x).0 h in
+                    let (y, named, kind) = expanded_named k ((nodes.1 k).0 in_row).1 in
+                    subst (λ z. IsNewlyCaused t u who.0 z ⊎ IsTouchedBelow t u who.0 z) (named_once new (number k) y x named (subst (λ j. N j x) (here k) its)) kind,
+                λ kind.
+                    let (k, named, expanded) = named_expanded x kind in
+                    (made.1 x).1 (k, (nodes.1 k).1 (expanded_low k expanded, expanded), subst (λ j. N j x) (sym (here k)) named),
+              );
+              len = made.2;
+            },
+          )
+
+  -- a dirty problem has a row, and a touched node is in it
+  pub dirty_row : (q : NodeName) → IsDirty t u q → (i : ℕ) × (slot : Slot) × IsNodeNamed new (number i) q × HasSlot slots i slot × HasTouched touched (row_of p slot)
+  dirty_row q dirty =
+      let at = linked.edited.whole.named q (node_of_problem t q dirty.problem) in
+      let own = linked.right.all at.0.0 (q, at.1, dirty.problem) in
+      let (x, touch, causes) = dirty.causes in
+      let there = linked.edited.whole.named x (caused_is_node t q causes.0 x causes.1 (linked.edited.whole.live at.0 q at.1)) in
+      let marks = (linked.marked there.0.0).1 (x, there.1, touch) in
+      let bit = (was_reached at.0.0 own.0 own.1 there.0.0).1 ((lead_to_caused old linked.edited.whole at.0.0 there.0.0 q x at.1 there.1).1 causes) in
+      (at.0.0, own.0, kept_number at.0.0 q at.1, own.1, (there.0.0, marks, bit))
 
   -- rows that are extended are right
   pub right_later : (after : Pool) → after.taken ≡ p.taken → ((i : ℕ) (slot : Slot) → HasSlot slots i slot → HasLed (EdgeAt new) after slot (row_of p slot)) → AreRight new slots after

@@ -1,5 +1,5 @@
 -- Rows stay right where a symptom is muted or unmuted.
-use Rattle.std.proofs.Common.{◌≡◌, ◌↔◌, ℕ, List, Option, Ok, length, sym, ap, subst, ◌∙◌}
+use Rattle.std.proofs.Common.{◌≡◌, ◌↔◌, ℕ, List, Option, Result, Ok, Err, OnOk, length, refl, sym, ap, subst, ◌∙◌, arith}
 use Rattle.cb_bits.specs.Bits.{words_for}
 use Rattle.cb_model.specs.declared.node.NodeName.{NodeName}
 use Rattle.cb_network.specs.declared.edit.Edit.{Edit}
@@ -7,6 +7,7 @@ use Rattle.cb_network.specs.declared.edit.Edit.TheVariants.{Create, Delete, Link
 use Rattle.cb_network.specs.Topology.{Topology}
 use Rattle.cb_network.specs.Edits.{IsAfter}
 use Rattle.cb_network.specs.Nodes.{IsProblem}
+use Rattle.cb_change.specs.Costs.{IsEditCost, CountsAtMost}
 use Rattle.cb_change.specs.Laws.{KeepsLinks}
 use Rattle.cb_change.specs.Touched.{CausesTouched}
 use Rattle.cb_change.proofs.Kept.{never_meets}
@@ -46,6 +47,19 @@ same_problems t u (Unmute event name) _ (_, is) p = subst (λ (w : Topology). Is
   λ x. record { class = x.class; of_class = x.of_class; event = x.event; problem = x.problem; named = x.named },
   λ x. record { class = x.class; of_class = x.of_class; event = x.event; problem = x.problem; named = x.named },
 )
+
+-- such an edit costs nothing
+marks_cost : (t u : Topology) (edit : Edit) → ChangesMarks edit → IsEditCost t edit u 0
+marks_cost t u (Create name class) none = absurd none
+marks_cost t u (Delete name) none = absurd none
+marks_cost t u (Link a rel b) none = absurd none
+marks_cost t u (Unlink a rel b) none = absurd none
+marks_cost t u (Mute event name) _ = refl
+marks_cost t u (Unmute event name) _ = refl
+
+pub counts_none : {X Y : Type 0} (result : Result X Y) (t u : Topology) (edit : Edit) → ChangesMarks edit → (steps : ℕ) → OnOk result (CountsAtMost (IsEditCost t edit u) steps steps)
+counts_none (Ok x) t u edit marks steps = record { cost = 0; is_cost = marks_cost t u edit marks; few = omega arith }
+counts_none (Err y) t u edit marks steps = tt
 
 same_room : (n : Numbered) (edit : Edit) (room : ℕ) → ChangesMarks edit → IsNodeRoomAfter n edit room → room ≡ length n.nodes
 same_room n (Create name class) room none is = absurd none

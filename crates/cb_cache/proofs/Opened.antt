@@ -1,5 +1,5 @@
 -- Once every problem is searched from, the rows are right, and the steps are no more than what all problems cause.
-use Rattle.std.proofs.Common.{◌≡◌, ◌≢◌, ◌↔◌, ℕ, zero, suc, ◌+◌, ◌<◌, ◌≤◌, List, [], ◌∷◌, length, sum, replicate, Option, Some, None, slice_index_or, refl, subst, inl, inr, arith}
+use Rattle.std.proofs.Common.{◌≡◌, ◌≢◌, ◌↔◌, ℕ, zero, suc, ◌<◌, ◌≤◌, List, [], ◌∷◌, length, sum, replicate, Option, Some, None, slice_index_or, refl, subst, inl, inr, arith}
 use Rattle.std.specs.List.{All, AllZip, AllPairs, Contains}
 use Rattle.std.proofs.lemmas.List.Elements.{Contains-get_or}
 use Rattle.cb_model.proofs.Numbers.{slice_get-replicate}
@@ -12,8 +12,7 @@ use Rattle.cb_network.specs.Topology.{Topology}
 use Rattle.cb_network.specs.Nodes.{IsProblem, IsNodeOf, IsCount, IsWithin}
 use Rattle.cb_network.proofs.Counts.{count_of_rising}
 use Rattle.cb_network.proofs.Sets.{len_of_part}
-use Rattle.cb_change.specs.Costs.{IsOpenCost, IsTotal}
-use Rattle.cb_change.proofs.Totals.{one_total}
+use Rattle.cb_change.specs.Costs.{IsOpenCost, IsTotal, CountsAtMost}
 use Rattle.cb_nodes.specs.declared.id.NodeId.{NodeId}
 use Rattle.cb_pool.specs.declared.slot.Slot.{Slot}
 use Rattle.cb_pool.specs.Pool.{Pool, IsTaken}
@@ -108,7 +107,7 @@ node_of_problem t p x = (x.event, record { class = x.class; of_class = x.of_clas
 abbrev pub AreNumbersOf : Numbered → (NodeName → Type 0) → List NodeId → Type 0
 AreNumbersOf n P ids = (id : NodeId) → Contains ids id ↔ ((name : NodeName) × IsNodeNamed n id name × P name)
 
--- what searches from listed nodes cost is no more than the total over these
+-- searches from listed nodes cost no more than the total over these
 module _ (n : Numbered) (whole : IsWhole n) (ids : List NodeId) (once : AreOnce ids) (P : NodeName → Type 0) (are : AreNumbersOf n P ids)
     (nodes : (p : NodeName) → P p → IsNodeOf (topology_of n) p) where
   pub numbers_live : All (IsLiveNode n) ids
@@ -138,19 +137,19 @@ module _ (n : Numbered) (whole : IsWhole n) (ids : List NodeId) (once : AreOnce 
         subst (Contains called.0) (named_once n at.0 there.0 p there.2 at.1) there.1,
   )
 
-  pub within_total : (steps new_steps cost : ℕ) → CostAtMost n ids steps new_steps → IsTotal P (Causes (topology_of n)) cost → new_steps ≤ steps + cost
-  within_total steps new_steps cost most is =
-      let own : IsTotal P (Causes (topology_of n)) (sum most.sizes) = record {
-        names = called.0;
-        once = called_once;
-        each = called_all;
-        sizes = most.sizes;
-        sized = sized n ids called.0 most.sizes called.1 most.sized;
-        total_is = refl;
-      } in
-      let same = one_total P (Causes (topology_of n)) cost (sum most.sizes) is own in
-      let few = most.few in
-      omega arith
+  pub within_total : (steps new_steps : ℕ) → CostAtMost n ids steps new_steps → CountsAtMost (IsTotal P (Causes (topology_of n))) steps new_steps
+  within_total steps new_steps most = record {
+    cost = sum most.sizes;
+    is_cost = record {
+      names = called.0;
+      once = called_once;
+      each = called_all;
+      sizes = most.sizes;
+      sized = sized n ids called.0 most.sizes called.1 most.sized;
+      total_is = refl;
+    };
+    few = most.few;
+  }
 
 module _ (n : Numbered) (whole : IsWhole n) (ids : List NodeId) (are : AreProblemNumbers n ids) where
   pub are_right : (slots new_slots : List (Option Slot)) (p new : Pool) → ((i : ℕ) (slot : Slot) → ¬ HasSlot slots i slot) → ((slot : Slot) → ¬ IsTaken p slot)
@@ -172,5 +171,5 @@ module _ (n : Numbered) (whole : IsWhole n) (ids : List NodeId) (are : AreProble
   pub all_live : All (IsLiveNode n) ids
   all_live = numbers_live n whole ids are.once (IsProblem (topology_of n)) are.each (node_of_problem (topology_of n))
 
-  pub within_cost : (steps new_steps cost : ℕ) → CostAtMost n ids steps new_steps → IsOpenCost (topology_of n) cost → new_steps ≤ steps + cost
+  pub within_cost : (steps new_steps : ℕ) → CostAtMost n ids steps new_steps → CountsAtMost (IsOpenCost (topology_of n)) steps new_steps
   within_cost = within_total n whole ids are.once (IsProblem (topology_of n)) are.each (node_of_problem (topology_of n))

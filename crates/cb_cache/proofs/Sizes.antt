@@ -35,6 +35,24 @@ one_longer s name n fresh len =
       | false ↦ λ e. let now = rw e at is in omega arith
     ] refl
 
+-- a row of exactly the numbers below this one for which P holds
+pub row_where : (P : ℕ → Type 0) → ((k : ℕ) → P k ⊎ (¬ P k)) → (count : ℕ) → (row : List Bool) × ((k : ℕ) → Has row k ↔ ((k < count) × P k))
+row_where P decide zero = ([], λ k. (λ has. absurd (cc), λ holds. absurd (let lt = holds.0 in omega arith)))
+row_where P decide (suc count) =
+    let rest = row_where (λ k. P (suc k)) (λ k. decide (suc k)) count in
+    elim (decide 0) [
+      | inl holds ↦ (true ∷ rest.0, with_head true rest.0 rest.1 (λ e. holds, λ h. refl))
+      | inr fails ↦ (false ∷ rest.0, with_head false rest.0 rest.1 (λ e. absurd (cc), λ h. absurd (fails h)))
+    ]
+  where
+    with_head : (b : Bool) (row : List Bool) → ((k : ℕ) → Has row k ↔ ((k < count) × P (suc k))) → ((b ≡ true) ↔ P 0) → (k : ℕ)
+        → Has (b ∷ row) k ↔ ((k < suc count) × P k)
+    with_head b row each head zero = (λ has. (omega arith, head.0 has), λ holds. head.1 holds.1)
+    with_head b row each head (suc k) = (
+      λ has. let e = (each k).0 has in ((let lt = e.0 in omega arith), e.1),
+      λ holds. (each k).1 ((let lt = holds.0 in omega arith), holds.1),
+    )
+
 -- names under numbers: a number has one name, and a name one number
 module _ (N : ℕ → NodeName → Type 0) (one : (i j : ℕ) (name : NodeName) → N i name → N j name → i ≡ j) (once : (i : ℕ) (p q : NodeName) → N i p → N i q → p ≡ q) where
   -- the name has a number from `at` on that the row has
@@ -118,7 +136,7 @@ module _ (n : Numbered) (whole : IsWhole n) where
       caused_node causes = caused_is_node (topology_of n) p causes.0 _ causes.1 (whole.live (number i) p is)
 
   -- a number that is led to is one of a node
-  led_low : (i : ℕ) (p : NodeName) → IsNodeNamed n (number i) p → (k : ℕ) → LeadsTo (EdgeAt n) i k → k < length n.nodes
+  pub led_low : (i : ℕ) (p : NodeName) → IsNodeNamed n (number i) p → (k : ℕ) → LeadsTo (EdgeAt n) i k → k < length n.nodes
   led_low i p named k leads = let there = led_named i leads.0 k leads.1 p named in slot_within n.nodes k there.1.node there.1.is
 
   -- what a search has done is no more than its node causes

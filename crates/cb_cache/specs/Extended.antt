@@ -38,9 +38,9 @@ HasTouched touched words = (k : ℕ) × Has touched k × (bit_of words k ≡ tru
 abbrev pub HasLed : (ℕ → ℕ → Type 0) → Pool → Slot → List ℕ → Type 0
 HasLed edge p slot words = (row : List ℕ) × HasRow p slot row × ((k : ℕ) → (bit_of row k ≡ true) ↔ IsLedByWords edge words k)
 
--- no step is counted where nothing is touched, and otherwise one for each node that is expanded, or fewer
+-- where none of the words is touched, no step is counted, and otherwise one for each node that is expanded, or fewer
 abbrev pub CountsExpanded : (ℕ → ℕ → Type 0) → List Bool → List ℕ → ℕ → ℕ → ℕ → Type 0
-CountsExpanded edge touched words count steps new_steps = (new_steps ≡ steps) ⊎ (HasTouched touched words × CountsOnly (IsExpanded edge touched words) count steps new_steps)
+CountsExpanded edge touched words count steps new_steps = ((¬ HasTouched touched words) × (new_steps ≡ steps)) ⊎ (HasTouched touched words × CountsOnly (IsExpanded edge touched words) count steps new_steps)
 
 -- the edit makes a link
 abbrev pub MakesLink : Edit → Type 0

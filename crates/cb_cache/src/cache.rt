@@ -1,8 +1,8 @@
 //! The cache.
-ghost use Rattle.std.specs.Prelude.{◌≡◌, ◌≤◌, ◌+◌, ℕ, length, IfOk, IfErr, OnOk, OnErr};
+ghost use Rattle.std.specs.Prelude.{◌≡◌, ◌≤◌, ◌*◌, ℕ, length, IfOk, IfErr, OnOk, OnErr};
 ghost use Rattle.cb_model.specs.declared.node.NodeName.{NodeName as Name};
 ghost use Rattle.cb_bits.specs.Bits.{words_for};
-ghost use Rattle.cb_change.specs.Costs.{IsOpenCost, IsEditCost};
+ghost use Rattle.cb_change.specs.Costs.{IsOpenCost, IsEditCost, CountsAtMost};
 ghost use Rattle.cb_pool.specs.declared.slot.Slot.{Slot as SlotOf};
 ghost use Rattle.cb_pool.specs.Pool.{IsTaken, HasRow};
 ghost use Rattle.cb_network.specs.Laws.{HasGoodName};
@@ -50,14 +50,15 @@ impl std::marker::Model for Cache {
 
 impl Cache {
     /// The graph with the rows of its problems, each of which is searched from once. Where memory runs out, the graph is
-    /// dropped, and some steps may have been counted.
+    /// dropped, and no step is counted.
     pub fn open<L: Ledger>(
         alloc: Global,
         mut graph: Graph,
         steps: &mut Steps<L>,
     ) -> Result<Cache, AllocError>
         ensures graph { IfOk result (λ cache. cache.graph ≡ graph) }
-        ensures cost { (cost : ℕ) → IsOpenCost (topology_of graph) cost → steps.new ≤ steps.old + cost }
+        ensures cost { OnOk result (CountsAtMost (IsOpenCost (topology_of graph)) steps.old steps.new) }
+        ensures steps { OnErr result (steps.new ≡ steps.old) }
     {
         let store = search_all(alloc, &mut graph, steps)?;
         Ok(Cache { graph, store })
@@ -97,6 +98,7 @@ impl Cache {
         ensures caused { (name : Name) → IsNodeNamed self.now.graph problem name → IsCausedRow self.now.graph name result.now }
         ensures slot { (slot : SlotOf) → HasSlot self.now.slots problem.0 slot → HasRow self.now.pool slot result.now }
         ensures width { length result.now ≡ self.now.pool.width }
+        ensures bits { length self.now.graph.nodes ≤ 64 * length result.now }
     {
         self.store.rows.pool.row(self.slot(problem))
     }
@@ -111,7 +113,7 @@ impl Cache {
     ) -> Result<(), EditFault>
         requires { HasGoodName edit.now }
         ensures made { OnOk result (Applies self.old.graph edit.now self.new.graph) }
-        ensures cost { OnOk result ((cost : ℕ) → IsEditCost (topology_of self.old.graph) edit.now (topology_of self.new.graph) cost → steps.new ≤ steps.old + cost) }
+        ensures cost { OnOk result (CountsAtMost (IsEditCost (topology_of self.old.graph) edit.now (topology_of self.new.graph)) steps.old steps.new) }
         ensures fault { IfErr result (Prevents self.old.graph edit.now) }
         ensures kept { OnErr result (self.new ≡ self.old) }
         ensures steps { OnErr result (steps.new ≡ steps.old) }

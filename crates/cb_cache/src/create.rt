@@ -1,7 +1,7 @@
 //! Edits that bring an instance: there are more nodes then, and more problems.
 ghost use Rattle.std.specs.Prelude.{◌≡◌, ◌≤◌, ◌+◌, ◌↔◌, ◌++◌, ◌-◌, ℕ, [], length, replicate, None, vec_capacity, OnOk, OnErr, IfOk, IfErr, IfSome, IfNone};
 ghost use Rattle.std.specs.List.{Contains};
-ghost use Rattle.cb_change.specs.Costs.{IsEditCost};
+ghost use Rattle.cb_change.specs.Costs.{IsEditCost, CountsAtMost};
 ghost use Rattle.cb_network.specs.Edits.{IsAccepted};
 ghost use Rattle.cb_network.specs.Laws.{HasGoodName};
 ghost use Rattle.cb_instances.specs.Net.{IsLive, Once};
@@ -54,7 +54,7 @@ pub(crate) fn create<L: Ledger>(
     requires kept { IsCacheOf graph.old store.old }
     ensures made { OnOk result (Applies graph.old edit.now graph.new) }
     ensures kept { IsCacheOf graph.new store.new }
-    ensures cost { OnOk result ((cost : ℕ) → IsEditCost (topology_of graph.old) edit.now (topology_of graph.new) cost → steps.new ≤ steps.old + cost) }
+    ensures cost { OnOk result (CountsAtMost (IsEditCost (topology_of graph.old) edit.now (topology_of graph.new)) steps.old steps.new) }
     ensures fault { IfErr result (Prevents graph.old edit.now) }
     ensures graph { OnErr result (graph.new ≡ graph.old) }
     ensures store { OnErr result (IsButSpare store.old store.new) }
@@ -80,7 +80,7 @@ fn create_in<L: Ledger>(
     requires further { IsRoomWith graph.old edit.now store.old.rows further.old }
     ensures made { OnOk result (Applies graph.old edit.now graph.new) }
     ensures kept { IsCacheOf graph.new store.new }
-    ensures cost { OnOk result ((cost : ℕ) → IsEditCost (topology_of graph.old) edit.now (topology_of graph.new) cost → steps.new ≤ steps.old + cost) }
+    ensures cost { OnOk result (CountsAtMost (IsEditCost (topology_of graph.old) edit.now (topology_of graph.new)) steps.old steps.new) }
     ensures fault { IfErr result (Prevents graph.old edit.now) }
     ensures graph { OnErr result (graph.new ≡ graph.old) }
     ensures store { OnErr result (store.new ≡ store.old) }

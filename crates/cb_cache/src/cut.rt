@@ -1,7 +1,7 @@
 //! Edits that take links away: what is reached from some problems is less then.
 ghost use Rattle.std.specs.Prelude.{◌≡◌, ◌<◌, ◌≤◌, ◌+◌, ◌^◌, ℕ, length, vec_capacity, OnOk, OnErr, IfErr};
 ghost use Rattle.cb_bits.specs.Bits.{words_for};
-ghost use Rattle.cb_change.specs.Costs.{IsEditCost};
+ghost use Rattle.cb_change.specs.Costs.{IsEditCost, CountsAtMost};
 ghost use Rattle.cb_network.specs.declared.edit.Edit.{Edit as EditOf};
 ghost use Rattle.cb_network.specs.Laws.{HasGoodName};
 ghost use Rattle.cb_topo.specs.Applied.{Applies, Prevents};
@@ -38,7 +38,7 @@ pub(crate) fn cut<L: Ledger>(
     requires kept { IsCacheOf graph.old store.old }
     ensures made { OnOk result (Applies graph.old edit.now graph.new) }
     ensures kept { IsCacheOf graph.new store.new }
-    ensures cost { OnOk result ((cost : ℕ) → IsEditCost (topology_of graph.old) edit.now (topology_of graph.new) cost → steps.new ≤ steps.old + cost) }
+    ensures cost { OnOk result (CountsAtMost (IsEditCost (topology_of graph.old) edit.now (topology_of graph.new)) steps.old steps.new) }
     ensures fault { IfErr result (Prevents graph.old edit.now) }
     ensures graph { OnErr result (graph.new ≡ graph.old) }
     ensures rows { OnErr result (store.new.rows ≡ store.old.rows) }
@@ -73,8 +73,8 @@ fn search_again<L: Ledger>(
     ensures right { AreRight graph.old rows.new.slots.items rows.new.pool }
     ensures room { HaveRoom graph.old rows.new }
     ensures listed { vec_capacity problems.new ≡ vec_capacity problems.old }
-    ensures cost { (old : Numbered) (edit : EditOf) (cost : ℕ) → TakesAway edit → FollowsEdit old edit graph.old touched.now rows.old.slots.items rows.old.pool
-        → IsEditCost (topology_of old) edit (topology_of graph.old) cost → steps.new ≤ steps.old + cost }
+    ensures cost { (old : Numbered) (edit : EditOf) → TakesAway edit → FollowsEdit old edit graph.old touched.now rows.old.slots.items rows.old.pool
+        → CountsAtMost (IsEditCost (topology_of old) edit (topology_of graph.old)) steps.old steps.new }
 {
     // Numbers of nodes have 32 bits.
     let _room = graph.topology().node_room();

@@ -1,7 +1,9 @@
 //! Edits of the graph under the rows.
-ghost use Rattle.std.specs.Prelude.{◌≡◌, OnOk, OnErr, IfErr};
+ghost use Rattle.std.specs.Prelude.{◌≡◌, ℕ, OnOk, OnErr, IfErr};
+ghost use Rattle.cb_change.specs.Costs.{IsEditCost, CountsAtMost};
 ghost use Rattle.cb_network.specs.Laws.{HasGoodName};
 ghost use Rattle.cb_topo.specs.Applied.{Applies, Prevents};
+ghost use Rattle.cb_topo.specs.Numbered.{topology_of};
 ghost use Rattle.cb_cache.specs.Kept.{IsCacheOf};
 ghost use Rattle.cb_cache.specs.Laws.{IsEdited};
 ghost use Rattle.cb_cache.specs.Marks.{ChangesMarks};
@@ -37,6 +39,7 @@ pub(crate) fn mark(
     requires kept { IsCacheOf graph.old store.now }
     ensures made { OnOk result (Applies graph.old edit.now graph.new) }
     ensures kept { IsCacheOf graph.new store.now }
+    ensures cost { (steps : ℕ) → OnOk result (CountsAtMost (IsEditCost (topology_of graph.old) edit.now (topology_of graph.new)) steps steps) }
     ensures fault { IfErr result (Prevents graph.old edit.now) }
     ensures graph { OnErr result (graph.new ≡ graph.old) }
 {

@@ -1,7 +1,7 @@
 //! Rows that grow in place once a link is made.
 ghost use Rattle.std.specs.Prelude.{◌≡◌, ◌≤◌, ◌+◌, ℕ, length, OnOk, OnErr, IfErr};
 ghost use Rattle.cb_bits.specs.Bits.{words_for};
-ghost use Rattle.cb_change.specs.Costs.{IsEditCost};
+ghost use Rattle.cb_change.specs.Costs.{IsEditCost, CountsAtMost};
 ghost use Rattle.cb_network.specs.declared.edit.Edit.{Edit as EditOf};
 ghost use Rattle.cb_pool.specs.Pool.{IsTaken, SameOthers, row_of};
 ghost use Rattle.cb_network.specs.Laws.{HasGoodName};
@@ -38,7 +38,7 @@ pub(crate) fn link<L: Ledger>(
     requires kept { IsCacheOf graph.old store.old }
     ensures made { OnOk result (Applies graph.old edit.now graph.new) }
     ensures kept { IsCacheOf graph.new store.new }
-    ensures cost { OnOk result ((cost : ℕ) → IsEditCost (topology_of graph.old) edit.now (topology_of graph.new) cost → steps.new ≤ steps.old + cost) }
+    ensures cost { OnOk result (CountsAtMost (IsEditCost (topology_of graph.old) edit.now (topology_of graph.new)) steps.old steps.new) }
     ensures fault { IfErr result (Prevents graph.old edit.now) }
     ensures graph { OnErr result (graph.new ≡ graph.old) }
     ensures rows { OnErr result (store.new.rows ≡ store.old.rows) }
@@ -76,8 +76,8 @@ fn extend_rows<L: Ledger>(
     ensures taken { pool.new.taken ≡ pool.old.taken }
     ensures spare { pool.new.spare ≡ pool.old.spare }
     ensures room { HasRoom graph.old scratch.new }
-    ensures cost { (old : Numbered) (edit : EditOf) (cost : ℕ) → IsLinked old edit graph.old touched.now slots.now pool.old
-        → IsEditCost (topology_of old) edit (topology_of graph.old) cost → steps.new ≤ steps.old + cost }
+    ensures cost { (old : Numbered) (edit : EditOf) → IsLinked old edit graph.old touched.now slots.now pool.old
+        → CountsAtMost (IsEditCost (topology_of old) edit (topology_of graph.old)) steps.old steps.new }
 {
     for place in 0..slots.len() {
         if let Some(slot) = slots[place] {

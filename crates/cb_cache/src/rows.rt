@@ -1,6 +1,6 @@
 //! The rows of all problems of a graph.
-ghost use Rattle.std.specs.Prelude.{◌≡◌, ◌≤◌, ◌+◌, ℕ, IfOk, None, replicate};
-ghost use Rattle.cb_change.specs.Costs.{IsOpenCost};
+ghost use Rattle.std.specs.Prelude.{◌≡◌, ◌≤◌, ℕ, IfOk, OnOk, OnErr, None, replicate};
+ghost use Rattle.cb_change.specs.Costs.{IsOpenCost, CountsAtMost};
 ghost use Rattle.cb_topo.specs.Numbered.{topology_of};
 ghost use Rattle.cb_cache.specs.Kept.{IsCacheOf};
 ghost use Rattle.cb_cache.specs.Prepared.{IsEmptyFor, IsRoomFor};
@@ -41,7 +41,8 @@ pub(crate) fn search_all<L: Ledger>(
 ) -> Result<Store, AllocError>
     ensures same { graph.new ≡ graph.old }
     ensures kept { IfOk result (IsCacheOf graph.old) }
-    ensures cost { (cost : ℕ) → IsOpenCost (topology_of graph.old) cost → steps.new ≤ steps.old + cost }
+    ensures cost { OnOk result (CountsAtMost (IsOpenCost (topology_of graph.old)) steps.old steps.new) }
+    ensures steps { OnErr result (steps.new ≡ steps.old) }
 {
     let mut store = room_now(alloc, graph.topology())?;
     search_each(graph, &mut store, steps);
@@ -53,7 +54,7 @@ fn search_each<L: Ledger>(graph: &mut Graph, store: &mut Store, steps: &mut Step
     requires { IsRoomFor graph.old store.old }
     ensures same { graph.new ≡ graph.old }
     ensures kept { IsCacheOf graph.old store.new }
-    ensures cost { (cost : ℕ) → IsOpenCost (topology_of graph.old) cost → steps.new ≤ steps.old + cost }
+    ensures cost { CountsAtMost (IsOpenCost (topology_of graph.old)) steps.old steps.new }
 {
     list_problems(graph.topology(), &mut store.agenda.problems);
     add_rows(graph, &store.agenda.problems, &mut store.rows, steps);

@@ -1,12 +1,13 @@
 //! What the body of a record does.
-ghost use Rattle.std.specs.Prelude.{◌≡◌, ◌≤◌, ◌+◌, ℕ, [], ◌∷◌, IfOk, OnOk, OnErr};
+ghost use Rattle.std.specs.Prelude.{◌≡◌, [], ◌∷◌, IfOk, OnOk, OnErr};
+ghost use Rattle.cb_change.specs.Costs.{CountsAtMost};
 ghost use Rattle.cb_change.specs.InTurn.{IsCostInTurn};
 ghost use Rattle.cb_network.specs.Laws.{HasGoodName};
 ghost use Rattle.cb_log.specs.Entries.{said};
 ghost use Rattle.cb_log.specs.declared.record.Body.TheVariants.{Change};
 ghost use Rattle.cb_topo.specs.Numbered.{topology_of};
 ghost use Rattle.cb_session.specs.Acts.{ActsBehind, GoesOn, IsWellNamed};
-ghost use Rattle.cb_session.specs.Counted.{CountsEntry};
+ghost use Rattle.cb_session.specs.Counted.{IsEntryCost};
 
 use cb_cache::Cache;
 use cb_log::{Body, Event, Record, RefusedWhy};
@@ -35,7 +36,7 @@ pub(crate) fn act<L: Ledger>(
     ensures same_cache { OnErr result (cache.new ≡ cache.old) }
     ensures same_windows { OnErr result (windows.new ≡ windows.old) }
     ensures steps { OnErr result (steps.new ≡ steps.old) }
-    ensures cost { CountsEntry (topology_of cache.old.graph) (said number next.now) steps.old steps.new }
+    ensures cost { OnOk result (CountsAtMost (IsEntryCost (topology_of cache.old.graph) (said number next.now)) steps.old steps.new) }
 {
     match &next.body {
         Body::Raise { from, node } => {
@@ -71,7 +72,7 @@ fn change<L: Ledger>(
     ensures acts { IfOk result (λ changed. ActsBehind (topology_of cache.old.graph) number (Change edit.now) (topology_of cache.new.graph) changed events.old events.new) }
     ensures same { OnErr result (cache.new ≡ cache.old) }
     ensures steps { OnErr result (steps.new ≡ steps.old) }
-    ensures cost { (cost : ℕ) → IsCostInTurn (topology_of cache.old.graph) (edit.now ∷ []) cost → steps.new ≤ steps.old + cost }
+    ensures cost { OnOk result (CountsAtMost (IsCostInTurn (topology_of cache.old.graph) (edit.now ∷ [])) steps.old steps.new) }
 {
     if let Err(why) = cache.graph().topology().allows(edit) {
         events.push(Event::Refused {
@@ -80,8 +81,6 @@ fn change<L: Ledger>(
         })?;
         return Ok(false);
     }
-    // Its classes have names of their own, so the edit leads to one topology, and has one cost.
-    let _model = cache.graph().topology().model();
     match cache.apply(alloc, edit, steps) {
         Ok(()) => Ok(true),
         Err(EditFault::NoMemory) => Err(AllocError),

@@ -129,7 +129,8 @@ impl Session {
         ensures length { self.new.windows.length ≡ self.old.windows.length }
         ensures same { OnErr result (self.new ≡ self.old) }
         ensures steps { OnErr result (steps.new ≡ steps.old) }
-        ensures cost { (entry : LogEntry) → ComesTo (line_of line.entry) entry → CountsEntry self.old.network entry steps.old steps.new }
+        ensures cost { OnOk result ((entry : LogEntry) → ComesTo (line_of line.entry) entry
+            → CountsEntry self.old.mode self.old.network entry steps.old steps.new) }
         ensures fixed { (book : BookOf) → self.old.mode ≡ by_fixed book → steps.new ≡ steps.old }
     {
         match entry_of(alloc, line)? {
@@ -158,7 +159,7 @@ impl Session {
         ensures length { self.new.windows.length ≡ self.old.windows.length }
         ensures same { OnErr result (self.new ≡ self.old) }
         ensures steps { OnErr result (steps.new ≡ steps.old) }
-        ensures cost { CountsEntry self.old.network (said number next.now) steps.old steps.new }
+        ensures cost { OnOk result (CountsEntry self.old.mode self.old.network (said number next.now) steps.old steps.new) }
         ensures fixed { (book : BookOf) → self.old.mode ≡ by_fixed book → steps.new ≡ steps.old }
     {
         match &mut self.course {

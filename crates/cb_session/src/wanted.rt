@@ -1,9 +1,10 @@
 //! A record in a log that is correlated by codebooks for a distance.
 ghost use Rattle.std.specs.Prelude.{◌≡◌, IfOk, OnOk, OnErr};
+ghost use Rattle.cb_change.specs.Costs.{CountsAtMost};
 ghost use Rattle.cb_log.specs.Entries.{said};
 ghost use Rattle.cb_topo.specs.Numbered.{topology_of};
 ghost use Rattle.cb_session.specs.Acts.{IsWellNamed};
-ghost use Rattle.cb_session.specs.Counted.{CountsEntry};
+ghost use Rattle.cb_session.specs.Counted.{IsEntryCost};
 ghost use Rattle.cb_session.specs.Course.{wanted_state};
 ghost use Rattle.cb_session.specs.Settled.{IsSettled};
 ghost use Rattle.cb_session.specs.Steps.{EntryTells, EntryStands};
@@ -41,7 +42,7 @@ pub(crate) fn go_on_wanted<L: Ledger>(
     ensures same_windows { OnErr result (windows.new ≡ windows.old) }
     ensures same_ready { OnErr result (ready.new ≡ ready.old) }
     ensures steps { OnErr result (steps.new ≡ steps.old) }
-    ensures cost { CountsEntry (topology_of cache.old.graph) (said number next.now) steps.old steps.new }
+    ensures cost { OnOk result (CountsAtMost (IsEntryCost (topology_of cache.old.graph) (said number next.now)) steps.old steps.new) }
 {
     let closing = windows.due(alloc, next.at)?;
     let told = tell(alloc, cache, ready, distance, &closing);

@@ -4,7 +4,7 @@ use Rattle.std.specs.Global.{Global}
 use Rattle.std.specs.declared.vec.Vec.{Vec}
 use Rattle.std.specs.List.{Contains}
 use Rattle.cb_model.specs.declared.tables.Tables.{Tables}
-use Rattle.cb_change.specs.Costs.{IsEditCost}
+use Rattle.cb_change.specs.Costs.{IsEditCost, CountsAtMost}
 use Rattle.cb_change.proofs.Steps.{near}
 use Rattle.cb_nodes.specs.declared.id.NodeId.{NodeId}
 use Rattle.cb_pool.specs.declared.slot.Slot.{Slot}
@@ -158,7 +158,7 @@ returns-clause-kept g c =
     subst (λ (m : Numbered). IsCacheOf m record { rows = c.add_rows.new.rows; agenda = record { touched = there_agenda.touched; problems = c.list_new.new.list } }) (sym c.add_rows.ensures.same) kept
 
 pub returns-clause-cost : goal.returns-clause-cost
-returns-clause-cost g c = λ cost is.
+returns-clause-cost g c =
     let old = c.args.graph.now in
     let new = c.edit_graph.new.graph in
     let edit = c.args.edit.now in
@@ -176,5 +176,5 @@ returns-clause-cost g c = λ cost is.
     subst (λ (xs : List NodeId). Contains xs id ↔ IsNewProblem new edit id) (sym c.deref.ensures.value)
     (subst (λ (m : Numbered). Contains c.list_new.new.list.items id ↔ IsNewProblem m edit id) c.topology.ensures (c.list_new.ensures.problems id)) in
     let fit = fits_in old new edit c.requires.creates edited rows.slots.items there.slots.items rows.pool there.pool c.requires.kept.right moved read once listed in
-    let there_is = subst (λ (m : Numbered). IsEditCost (topology_of old) edit (topology_of m) cost) c.add_rows.ensures.same is in
-    fit.within c.args.steps.now c.add_rows.new.steps cost c.add_rows.ensures.cost there_is
+    subst (λ (m : Numbered). CountsAtMost (IsEditCost (topology_of old) edit (topology_of m)) c.args.steps.now c.add_rows.new.steps) (sym c.add_rows.ensures.same)
+    (fit.within c.args.steps.now c.add_rows.new.steps c.add_rows.ensures.cost)

@@ -1,5 +1,5 @@
-use Rattle.std.proofs.Common.{◌↔◌, ℕ, subst}
-use Rattle.cb_change.specs.Costs.{IsEditCost}
+use Rattle.std.proofs.Common.{◌↔◌, ℕ, sym, subst}
+use Rattle.cb_change.specs.Costs.{IsEditCost, CountsAtMost}
 use Rattle.cb_change.specs.Laws.{IsStep}
 use Rattle.cb_successors.specs.Rows.{Has}
 use Rattle.cb_topo.specs.Numbered.{Numbered, topology_of}
@@ -19,7 +19,7 @@ search_again-requires-clause-follows g c =
     (old, edit, c.requires.takes, record { edited = edited; right = c.requires.kept.right; told = told })
 
 pub returns-clause-cost : goal.returns-clause-cost
-returns-clause-cost g c = λ cost is.
+returns-clause-cost g c =
     let old = c.args.graph.now in
     let new = c.edit_graph.new.graph in
     let edit = c.args.edit.now in
@@ -28,4 +28,5 @@ returns-clause-cost g c = λ cost is.
     let told : (k : ℕ) → Has c.touched.new.out k ↔ IsTouchedNumber old (topology_of new) k = c.touched.ensures.exactly (topology_of new) step in
     let rows = c.args.store.now.rows in
     let follows : FollowsEdit old edit new c.touched.new.out rows.slots.items rows.pool = record { edited = edited; right = c.requires.kept.right; told = told } in
-    c.search_again.ensures.cost old edit cost c.requires.takes follows (subst (λ (m : Numbered). IsEditCost (topology_of old) edit (topology_of m) cost) c.search_again.ensures.same is)
+    subst (λ (m : Numbered). CountsAtMost (IsEditCost (topology_of old) edit (topology_of m)) c.args.steps.now c.search_again.new.steps) (sym c.search_again.ensures.same)
+    (c.search_again.ensures.cost old edit c.requires.takes follows)

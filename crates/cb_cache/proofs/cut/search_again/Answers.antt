@@ -90,11 +90,11 @@ returns-clause-right g c =
     c.add_rows.ensures.rows
 
 pub returns-clause-cost : goal.returns-clause-cost
-returns-clause-cost g c = λ old edit cost away follows is.
+returns-clause-cost g c = λ old edit away follows.
     let n = c.args.graph.now in
     let rows = c.args.rows.now in
     let mid = c.take_back.new.rows in
     let read = c.deref.result.now in
     let takes = taken_back n c.topology-2.result.now c.args.touched.now rows.slots.items rows.pool mid.slots.items mid.pool c.take_back.new.problems.items c.scatter.new.items.items read
     c.topology-2.ensures c.scatter.ensures.items c.deref.ensures.value c.take_back.ensures.takes in
-    within_cut old edit n c.args.touched.now rows.slots.items rows.pool follows away mid.slots.items mid.pool read takes c.args.steps.now c.add_rows.new.steps cost c.add_rows.ensures.cost is
+    within_cut old edit n c.args.touched.now rows.slots.items rows.pool follows away mid.slots.items mid.pool read takes c.args.steps.now c.add_rows.new.steps c.add_rows.ensures.cost

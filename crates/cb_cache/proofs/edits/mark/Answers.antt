@@ -1,8 +1,8 @@
 use Rattle.std.proofs.Common.{◌≡◌, Result, Ok, Err, OnOk, OnErr, sym, subst}
-use Rattle.cb_topo.specs.Numbered.{Numbered}
+use Rattle.cb_topo.specs.Numbered.{Numbered, topology_of}
 use Rattle.cb_cache.specs.Kept.{IsCacheOf}
 use Rattle.cb_cache.specs.Laws.{IsEdited}
-use Rattle.cb_cache.proofs.Marked.{kept_marked}
+use Rattle.cb_cache.proofs.Marked.{kept_marked, counts_none}
 use Rattle.cb_cache.proofs.edits.mark.Goals as goal
 
 -- what follows from both outcomes holds
@@ -18,3 +18,7 @@ returns-clause-kept c =
     either_way c.edit_graph.result (IsEdited old c.args.edit.now new) (new ≡ old) (IsCacheOf new store) c.edit_graph.ensures.made c.edit_graph.ensures.kept
     (λ edited. kept_marked old new c.args.edit.now edited c.requires.marks store c.requires.kept)
     (λ same. subst (λ (n : Numbered). IsCacheOf n store) (sym same) c.requires.kept)
+
+pub returns-clause-cost : goal.returns-clause-cost
+returns-clause-cost c = λ steps.
+    counts_none c.edit_graph.result (topology_of c.args.graph.now) (topology_of c.edit_graph.new.graph) c.args.edit.now c.requires.marks steps

@@ -1,4 +1,4 @@
-use Rattle.std.proofs.Common.{◌≡◌, ◌↔◌, ℕ, List, length, bit_or, refl, sym, ap, subst, ◌∙◌, inr, arith}
+use Rattle.std.proofs.Common.{◌≡◌, ◌↔◌, ℕ, List, length, bit_or, refl, sym, ap, subst, ◌∙◌, inl, inr, arith}
 use Rattle.std.specs.Simd.Lanes.{zip2}
 use Rattle.std.proofs.lemmas.Simd.{length-zip2}
 use Rattle.cb_bits.specs.Bits.{words_for}
@@ -18,6 +18,13 @@ returns-then-not-and_any-clause-row g c =
     let clean : ¬ HasTouched c.args.touched.now (row_of old slot) = λ has.
     let common = c.if-not-and_any.ensures.1 (touched_common c.args.touched.now c.row.result.now (row_of old slot) c.words.result.now c.words.ensures c.row.ensures.row.1 has) in cc in
     (row_of old slot, (c.requires.taken, refl), clean_led (EdgeAt c.args.graph.now) c.args.touched.now (row_of old slot) c.requires.settled clean)
+
+pub returns-then-not-and_any-clause-cost : goal.returns-then-not-and_any-clause-cost
+returns-then-not-and_any-clause-cost g c =
+    let old = c.args.pool.now in
+    let clean : ¬ HasTouched c.args.touched.now (row_of old c.args.slot) = λ has.
+    let common = c.if-not-and_any.ensures.1 (touched_common c.args.touched.now c.row.result.now (row_of old c.args.slot) c.words.result.now c.words.ensures c.row.ensures.row.1 has) in cc in
+    inl (clean, refl)
 
 pub returns-clause-others : goal.returns-clause-others
 returns-clause-others g c =

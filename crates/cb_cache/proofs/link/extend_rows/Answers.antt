@@ -70,6 +70,7 @@ returns-clause-right g c =
     (λ i slot has. c.loop-place.invariant.extended.led i slot (let lt = slot_low c.args.slots.now i slot has in omega arith) has)
 
 pub returns-clause-cost : goal.returns-clause-cost
-returns-clause-cost g c = λ old edit cost linked is.
-    within_link old c.args.graph.now edit c.args.touched.now c.args.slots.now c.args.pool.now linked c.loop-place.place c.args.steps.now c.loop-place.steps cost
-    c.loop-place.invariant.extended.cost is
+returns-clause-cost g c = λ old edit linked.
+    within_link old c.args.graph.now edit c.args.touched.now c.args.slots.now c.args.pool.now linked c.loop-place.pool
+    (λ i slot has. c.loop-place.invariant.extended.led i slot (let lt = slot_low c.args.slots.now i slot has in omega arith) has)
+    c.loop-place.place c.args.steps.now c.loop-place.steps c.loop-place.invariant.extended.cost (omega arith)

@@ -1,5 +1,5 @@
 use Rattle.std.proofs.Common.{◌≡◌, ◌↔◌, ℕ, List, Option, length, sym, subst, ◌∙◌}
-use Rattle.cb_change.specs.Costs.{IsEditCost}
+use Rattle.cb_change.specs.Costs.{IsEditCost, CountsAtMost}
 use Rattle.cb_change.specs.Laws.{IsStep}
 use Rattle.cb_network.specs.declared.edit.Edit.{Edit}
 use Rattle.cb_network.specs.declared.edit.Edit.TheVariants.{Create, Delete, Link, Unlink, Mute, Unmute}
@@ -33,7 +33,7 @@ extend_rows-requires-clause-linked g c =
     (old, edit, record { link = c.requires.link; edited = edited; right = subst (λ (xs : List (Option Slot)). AreRight old xs c.args.store.now.rows.pool) (sym c.deref.ensures.value) c.requires.kept.right; marked = told; room = c.touched.ensures.length ∙ c.requires.kept.agenda.touched ∙ sym (link_room old edit (length new.nodes) c.requires.link edited.applies.node_room) })
 
 pub returns-clause-cost : goal.returns-clause-cost
-returns-clause-cost g c = λ cost is.
+returns-clause-cost g c =
     let old = c.args.graph.now in
     let new = c.edit_graph.new.graph in
     let edit = c.args.edit.now in
@@ -43,4 +43,5 @@ returns-clause-cost g c = λ cost is.
     let rows = c.args.store.now.rows in
     let linked : IsLinked old edit new c.touched.new.out c.deref.result.now rows.pool =
     record { link = c.requires.link; edited = edited; right = subst (λ (xs : List (Option Slot)). AreRight old xs c.args.store.now.rows.pool) (sym c.deref.ensures.value) c.requires.kept.right; marked = told; room = c.touched.ensures.length ∙ c.requires.kept.agenda.touched ∙ sym (link_room old edit (length new.nodes) c.requires.link edited.applies.node_room) } in
-    c.extend_rows.ensures.cost old edit cost linked (subst (λ (m : Numbered). IsEditCost (topology_of old) edit (topology_of m) cost) c.extend_rows.ensures.same is)
+    subst (λ (m : Numbered). CountsAtMost (IsEditCost (topology_of old) edit (topology_of m)) c.args.steps.now c.extend_rows.new.steps) (sym c.extend_rows.ensures.same)
+    (c.extend_rows.ensures.cost old edit linked)

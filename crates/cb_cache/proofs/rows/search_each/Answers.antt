@@ -86,10 +86,10 @@ returns-clause-kept g c =
     }
 
 pub returns-clause-cost : goal.returns-clause-cost
-returns-clause-cost g c = λ cost is.
+returns-clause-cost g c =
     let n = c.args.graph.now in
     let ids = c.list_problems.new.list.items in
     let whole = subst IsWhole c.topology.ensures c.list_problems.ensures.whole in
     let are = subst (λ (m : Numbered). AreProblemNumbers m ids) c.topology.ensures c.list_problems.ensures.problems in
     let most = subst (λ (xs : List NodeId). CostAtMost n xs c.args.steps.now c.add_rows.new.steps) c.deref.ensures.value c.add_rows.ensures.cost in
-    within_cost n whole ids are c.args.steps.now c.add_rows.new.steps cost most is
+    within_cost n whole ids are c.args.steps.now c.add_rows.new.steps most

@@ -5,4 +5,4 @@ use Rattle.cb_session.proofs.act.act.Goals as goal
 pub returns-in_ok-changed-in-Change-clause-cost : goal.returns-in_ok-changed-in-Change-clause-cost
 returns-in_ok-changed-in-Change-clause-cost g c =
     edit_counted (topology_of c.args.cache.now.graph) c.args.number c.args.next.now c.in-Change.edit c.args.steps.now c.change.new.steps c.in-Change.is
-    c.change.ensures.cost
+    c.in_ok-changed-in-Change.ensures.cost

@@ -1,4 +1,5 @@
-use Rattle.std.proofs.Common.{sym, subst}
+use Rattle.std.proofs.Common.{◌≡◌, ◌≤◌, ◌*◌, ◌∙◌, ℕ, length, sym, subst, arith}
+use Rattle.cb_bits.specs.Bits.{words_for}
 use Rattle.cb_pool.specs.declared.slot.Slot.{Slot}
 use Rattle.cb_pool.specs.Pool.{HasRow}
 use Rattle.cb_topo.specs.Numbered.{IsWhole}
@@ -36,3 +37,12 @@ returns-clause-slot c = λ slot has.
     let same = one_slot c.args.self.now.slots i c.slot.result slot c.slot.ensures.slot has in
     subst (λ (s : Slot). HasRow c.args.self.now.pool s c.row.result.now) same
     (subst (λ (k : Cached). HasRow k.pool c.slot.result c.row.result.now) c.self.view_is c.row.ensures.row)
+
+fits : (n m : ℕ) → m ≡ words_for n → n ≤ 64 * m
+fits n m is = omega (arith, is)
+
+pub returns-clause-bits : goal.returns-clause-bits
+returns-clause-bits c =
+    let n = c.self.inside.graph in
+    let width : length c.row.result.now ≡ words_for (length n.nodes) = c.row.ensures.width ∙ c.self.invariant.room.width in
+    subst (λ (k : Cached). length k.graph.nodes ≤ 64 * length c.row.result.now) c.self.view_is (fits (length n.nodes) (length c.row.result.now) width)

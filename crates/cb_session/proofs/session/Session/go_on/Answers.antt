@@ -1,12 +1,14 @@
-use Rattle.std.proofs.Common.{subst}
+use Rattle.std.proofs.Common.{OnOk, subst}
 use Rattle.cb_log.specs.Basis.{fixed}
 use Rattle.cb_log.specs.Entries.{said}
 use Rattle.cb_topo.specs.Numbered.{topology_of}
+use Rattle.cb_session.specs.Counted.{CountsEntry}
 use Rattle.cb_session.specs.Course.{fixed_state}
 use Rattle.cb_session.specs.State.{State}
 use Rattle.cb_session.specs.Steps.{EntryTells, EntryStands}
+use Rattle.cb_session.proofs.Counting.{none_by_fixed}
 use Rattle.cb_session.proofs.Following.{if_ok_more}
-use Rattle.cb_session.proofs.Sessions.{fixed_view, fixed_fits, on_ok_more}
+use Rattle.cb_session.proofs.Sessions.{wanted_view, fixed_view, fixed_fits, on_ok_more}
 use Rattle.cb_session.proofs.session.Session.go_on.Goals as goal
 
 pub go_on_fixed-requires-clause-ready : goal.go_on_fixed-requires-clause-ready
@@ -33,3 +35,19 @@ returns-in-Fixed-clause-stands g c =
     on_ok_more c.go_on_fixed.result _ _
     (λ stands. subst (λ (s : State). EntryStands s (fixed_state network c.go_on_fixed.new.windows c.in-Fixed.ready) (said c.args.number c.args.next.now)) view
     (stands network)) c.go_on_fixed.ensures.stands
+
+pub returns-in-Wanted-clause-cost : goal.returns-in-Wanted-clause-cost
+returns-in-Wanted-clause-cost g c =
+    let network = topology_of c.self.inside.cache.graph in
+    let parts = c.self.inside in
+    let view = wanted_view network parts.windows parts.course c.args.self.now c.self.view_is c.self.invariant c.in-Wanted.distance c.in-Wanted.ready c.in-Wanted.is in
+    subst (λ (s : State). OnOk c.go_on_wanted.result (CountsEntry s.mode s.network (said c.args.number c.args.next.now) c.args.steps.now c.go_on_wanted.new.steps))
+    view c.go_on_wanted.ensures.cost
+
+pub returns-in-Fixed-clause-cost : goal.returns-in-Fixed-clause-cost
+returns-in-Fixed-clause-cost g c =
+    let network = topology_of c.self.inside.cache.graph in
+    let parts = c.self.inside in
+    let view = fixed_view network parts.windows parts.course c.args.self.now c.self.view_is c.self.invariant c.in-Fixed.ready c.in-Fixed.is in
+    subst (λ (s : State). OnOk c.go_on_fixed.result (CountsEntry s.mode s.network (said c.args.number c.args.next.now) c.args.steps.now c.args.steps.now))
+    view (none_by_fixed c.go_on_fixed.result c.in-Fixed.ready.book network (said c.args.number c.args.next.now) c.args.steps.now)

@@ -6,7 +6,7 @@ use Rattle.cb_log.specs.Entries.{said, skipped, blank}
 use Rattle.cb_session.specs.declared.entry.Taken.{Taken}
 use Rattle.cb_session.specs.State.{line_of}
 use Rattle.cb_session.specs.Taken.{entry_of_taken}
-use Rattle.cb_session.proofs.Counting.{line_counted}
+use Rattle.cb_session.proofs.Counting.{none_counted, line_counted, if_line_counted}
 use Rattle.cb_session.proofs.Stepping.{aside_stands, line_tells, line_stands, line_alone, if_line_tells, if_line_stands, if_line_alone}
 use Rattle.cb_session.proofs.session.Session.step.Goals as goal
 
@@ -62,9 +62,25 @@ pub returns-in-Said-clause-alone : goal.returns-in-Said-clause-alone
 returns-in-Said-clause-alone g c =
     if_line_alone (line_of c.args.line) c.args.self.now c.go_on.result (returns-in-Said-clause-gives g c)
 
+pub returns-in-Blank-clause-cost : goal.returns-in-Blank-clause-cost
+returns-in-Blank-clause-cost g c =
+    let line = line_of c.args.line in
+    let comes : ComesTo line blank = subst (λ (taken : Taken). ComesTo line (entry_of_taken taken)) c.in-Blank.is c.in_ok-entry_of.ensures in
+    let s = c.args.self.now in
+    line_counted line blank comes s.mode s.network c.args.steps.now c.args.steps.now (none_counted s.mode s.network blank c.args.steps.now refl)
+
+pub returns-in_ok-push-in-Skipped-clause-cost : goal.returns-in_ok-push-in-Skipped-clause-cost
+returns-in_ok-push-in-Skipped-clause-cost g c =
+    let line = line_of c.args.line in
+    let entry = skipped c.in-Skipped.number c.in-Skipped.why in
+    let comes : ComesTo line entry = subst (λ (taken : Taken). ComesTo line (entry_of_taken taken)) c.in-Skipped.is c.in_ok-entry_of.ensures in
+    let s = c.args.self.now in
+    line_counted line entry comes s.mode s.network c.args.steps.now c.args.steps.now (none_counted s.mode s.network entry c.args.steps.now refl)
+
 pub returns-in-Said-clause-cost : goal.returns-in-Said-clause-cost
 returns-in-Said-clause-cost g c =
     let line = line_of c.args.line in
     let entry = said c.in-Said.number c.in-Said.record in
     let comes : ComesTo line entry = subst (λ (taken : Taken). ComesTo line (entry_of_taken taken)) c.in-Said.is c.in_ok-entry_of.ensures in
-    line_counted line entry comes c.args.self.now.network c.args.steps.now c.go_on.new.steps c.go_on.ensures.cost
+    let s = c.args.self.now in
+    if_line_counted c.go_on.result line entry comes s.mode s.network c.args.steps.now c.go_on.new.steps c.go_on.ensures.cost
