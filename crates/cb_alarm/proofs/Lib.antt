@@ -4,3 +4,4 @@ pub mod OneSkip
 pub mod QuietLines
 pub mod Texts
 pub mod FirstFaults
+mod Reading

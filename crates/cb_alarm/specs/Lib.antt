@@ -4,3 +4,4 @@ pub mod Faults
 pub mod Lines
 pub mod Quiet
 pub mod Laws
+pub mod Plain
