@@ -4,9 +4,10 @@ use Rattle.cb_text.specs.Names.{IsName, IsInstance}
 use Rattle.cb_text.specs.Words.{words_of}
 use Rattle.cb_network.specs.declared.edit.Edit.{Edit}
 use Rattle.cb_network.specs.declared.edit.Edit.TheVariants.{Create, Delete, Link, Unlink, Mute, Unmute}
+use Rattle.cb_network.specs.Words.{InstanceName, Word}
 
 -- a node's text: its event, `@`, and its instance
-abbrev pub node_text : List ℕ → List ℕ → List ℕ
+abbrev pub node_text : Word → InstanceName → List ℕ
 node_text event name = event ++ codes "@" ++ name
 
 -- the words that say an edit

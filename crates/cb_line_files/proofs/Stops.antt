@@ -13,12 +13,12 @@ use Rattle.cb_topo.specs.declared.fault.EditFault.{EditFault}
 use Rattle.cb_topo.specs.declared.fault.EditFault.TheVariants as edit
 use Rattle.cb_line_files.specs.Steps.{StopsTopologyLine, text_stop, edit_stop}
 
-pub text_stops : (t : Topology) (line : List ℕ) (stop : EditText) → ¬ IsPassedOver line
-    → (IsErrOf {T = Edit} (Err stop) text.BadWords → (edit : Edit) → ¬ SpellsEdit line edit) → StopsTopologyLine t line (text_stop stop)
-text_stops t line text.BadWords not_passed none = (not_passed, none refl)
-text_stops t line text.NoMemory not_passed none = tt
+pub text_stops : (t : Topology) (number : ℕ) (line : List ℕ) (stop : EditText) → ¬ IsPassedOver line
+    → (IsErrOf {T = Edit} (Err stop) text.BadWords → (edit : Edit) → ¬ SpellsEdit line edit) → StopsTopologyLine t number line (text_stop number stop)
+text_stops t number line text.BadWords not_passed none = (refl, (not_passed, none refl))
+text_stops t number line text.NoMemory not_passed none = tt
 
-pub edit_stops : (n : Numbered) (line : List ℕ) (e : Edit) (fault : EditFault) → SpellsEdit line e → Prevents n e fault
-    → StopsTopologyLine (topology_of n) line (edit_stop fault)
-edit_stops n line e (edit.Refused why) spells prevents = (e, spells, prevents)
-edit_stops n line e edit.NoMemory spells prevents = tt
+pub edit_stops : (n : Numbered) (number : ℕ) (line : List ℕ) (e : Edit) (fault : EditFault) → SpellsEdit line e → Prevents n e fault
+    → StopsTopologyLine (topology_of n) number line (edit_stop number fault)
+edit_stops n number line e (edit.Refused why) spells prevents = (refl, (e, spells, prevents))
+edit_stops n number line e edit.NoMemory spells prevents = tt

@@ -7,8 +7,6 @@ use Rattle.cb_edits.specs.declared.stop.EditText.TheVariants as text
 use Rattle.cb_network.specs.Topology.{Topology}
 use Rattle.cb_topo.specs.declared.fault.EditFault.{EditFault}
 use Rattle.cb_topo.specs.declared.fault.EditFault.TheVariants as edit
-use Rattle.cb_line_files.specs.declared.stop.LineStop.{LineStop}
-use Rattle.cb_line_files.specs.declared.stop.LineStop.TheVariants as stop
 use Rattle.cb_line_files.specs.declared.symptoms.SymptomStop.{SymptomStop}
 use Rattle.cb_line_files.specs.declared.symptoms.SymptomStop.TheVariants as symptoms
 use Rattle.cb_line_files.specs.declared.topology.LineFault.TheVariants.{BadWords, Refused}
@@ -27,22 +25,18 @@ StopsSymptomLine number line (symptoms.LongLine other) = ⊥
 StopsSymptomLine number line (symptoms.BadName other) = (other ≡ number) × ¬ IsSymptomLine line
 StopsSymptomLine number line symptoms.NoMemory = Unit {0}
 
--- the line is wrong after this topology, or there is not memory enough for it
-abbrev pub StopsTopologyLine : Topology → List ℕ → LineStop → Type 0
-StopsTopologyLine t line (stop.Fault fault) = IsWrong t line fault
-StopsTopologyLine t line stop.NoMemory = Unit {0}
+-- the line of this number is wrong after this topology, or there is not memory enough for it
+abbrev pub StopsTopologyLine : Topology → ℕ → List ℕ → TopologyStop → Type 0
+StopsTopologyLine t number line (file.LongLine other) = ⊥
+StopsTopologyLine t number line (file.BadLine other fault) = (other ≡ number) × IsWrong t line fault
+StopsTopologyLine t number line file.NoMemory = Unit {0}
 
--- a stop at the line of this number, as one of the file
-abbrev pub stop_at : ℕ → LineStop → TopologyStop
-stop_at number (stop.Fault fault) = file.BadLine number fault
-stop_at number stop.NoMemory = file.NoMemory
-
--- why a line isn't read whose edit isn't
-abbrev pub text_stop : EditText → LineStop
-text_stop text.BadWords = stop.Fault BadWords
-text_stop text.NoMemory = stop.NoMemory
+-- why a line isn't read whose words are no edit
+abbrev pub text_stop : ℕ → EditText → TopologyStop
+text_stop line text.BadWords = file.BadLine line BadWords
+text_stop line text.NoMemory = file.NoMemory
 
 -- why a line isn't read whose edit isn't made
-abbrev pub edit_stop : EditFault → LineStop
-edit_stop (edit.Refused why) = stop.Fault (Refused why)
-edit_stop edit.NoMemory = stop.NoMemory
+abbrev pub edit_stop : ℕ → EditFault → TopologyStop
+edit_stop line (edit.Refused why) = file.BadLine line (Refused why)
+edit_stop line edit.NoMemory = file.NoMemory

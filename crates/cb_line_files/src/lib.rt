@@ -2,7 +2,6 @@
 #![tactic(auto)]
 
 mod nodes;
-mod stop;
 mod symptoms;
 mod topology;
 
