@@ -95,6 +95,20 @@ impl Matrix {
     {
         &self.groups
     }
+
+    /// The columns, and the groups with their codes. The list of problems is dropped.
+    pub fn into_parts(self) -> (List<NodeName>, Groups)
+        ensures columns { result.0 ≡ self.columns }
+        ensures width { result.1.width ≡ length self.columns }
+        ensures groups { result.1.groups ≡ self.groups }
+    {
+        let Matrix {
+            columns,
+            groups,
+            ..
+        } = self;
+        (columns, groups)
+    }
 }
 
 // The matrix of these columns, with the problems in their groups.

@@ -1,0 +1,29 @@
+//! What a command prints.
+ghost use Rattle.std.specs.Prelude.{◌≤◌, OnOk, OnErr};
+ghost use Rattle.cb_io.specs.Outside.{WritesAll, WritesFront, WriteFailed};
+ghost use Rattle.cb_report.specs.Text.{bytes_of_text};
+
+use crate::matrix::MatrixLines;
+use cb_io::{Failed, Sink, write_all};
+
+/// What a command prints: bytes that are there, or lines that are made as they are written.
+#[derive(Drop)]
+pub enum Text {
+    Bytes(Vec<u8>),
+    Matrix(MatrixLines),
+}
+
+impl Text {
+    /// Writes all bytes, or a prefix of them before a fault.
+    pub fn write<O: Sink>(self, out: &mut O) -> Result<(), Failed>
+        ensures all { OnOk result (WritesAll (O.tells out.old) (O.tells out.new) (bytes_of_text self)) }
+        ensures front { WritesFront (O.tells out.old) (O.tells out.new) (bytes_of_text self) }
+        ensures counts { (O.tells out.old).faults ≤ (O.tells out.new).faults }
+        ensures failed { OnErr result (WriteFailed (O.tells out.old) (O.tells out.new)) }
+    {
+        match self {
+            Text::Bytes(bytes) => write_all(out, &bytes),
+            Text::Matrix(lines) => lines.write(out),
+        }
+    }
+}
