@@ -1,34 +1,40 @@
--- Where all files pass, and the log isn't too long, nothing is wrong.
-use Rattle.std.proofs.Common.{◌≡◌, ◌≤◌, ℕ, List, length, refl, ap, arith, inl, inr}
-use Rattle.std.specs.Prelude.{None}
-use Rattle.cb_request.specs.declared.request.Request.{Request}
-use Rattle.cb_request.specs.declared.request.Request.TheVariants.{Burst, Model, Matrix, Codebook, Verify, Decode, Correlate, Grow}
+-- Where all files pass, and the log isn't too long, only what the task may end with is wrong.
+use Rattle.std.proofs.Common.{◌≡◌, ◌≤◌, ◌∙◌, ℕ, List, [], ◌∷◌, length, refl, sym, ap, subst, arith, inl, inr, Some}
+use Rattle.cb_report.specs.declared.fault.Fault.{Fault}
 use Rattle.cb_outcome.specs.Outcome.{Outcome}
-use Rattle.cb_outcome.specs.Judged.{Known, nothing, parsed, network, raised, certified}
-use Rattle.cb_outcome.specs.Contents.{Left, log_from}
-use Rattle.cb_outcome.specs.Jobs.{JobGives}
+use Rattle.cb_outcome.specs.Judged.{Known}
+use Rattle.cb_outcome.specs.Contents.{Reads, log_from}
+use Rattle.cb_outcome.specs.Command.{Making, Task, makes, follows, refuses, logs_in, reads_of, TaskGives, TaskFaults}
 use Rattle.cb_outcome.specs.LogJobs.{Watch, LogTells, log_limit}
-use Rattle.cb_outcome.specs.Laws.{HasShortLog, EndsWell, PassedEndWell}
-use Rattle.cb_outcome.proofs.Outcomes.{passed_go_to_job}
+use Rattle.cb_outcome.specs.Laws.{PassedEndWell}
+use Rattle.cb_outcome.specs.Asked.{command_for}
+use Rattle.cb_outcome.proofs.Asked.{lawful}
+use Rattle.cb_outcome.proofs.Lawful.{MakingEnds, well, wrong, LawfulFor}
+use Rattle.cb_outcome.proofs.Outcomes.{passed_go_to_job, some_is_not_none}
 
-log_ends : (watch : Watch) (name log : List ℕ) (whole : ℕ) (a : Outcome) → length log ≤ log_limit → LogTells watch name log whole a → a.fault ≡ None
-log_ends watch name log whole a short (inl p) = ap (λ (o : Outcome). o.fault) p.gives
-log_ends watch name log whole a short (inr p) = let long = p.long in absurd (omega (arith, short, long))
+same_some : (f g : Fault) → Some f ≡ Some g → f ≡ g
+same_some f g e = cc
 
-job_ends : (left : Left) (request : Request) (known : Known) (whole : ℕ) (a : Outcome) → HasShortLog left request → JobGives left request known whole a
-    → EndsWell request a
-job_ends left (Burst one two three) (raised t nodes) whole a short (f, found, e) = ap (λ (o : Outcome). o.fault) e
-job_ends left (Model one) (parsed tree) whole a short e = ap (λ (o : Outcome). o.fault) e
-job_ends left (Matrix one two) (network t) whole a short p = ap (λ (o : Outcome). o.fault) p.gives
-job_ends left (Codebook one two d) known whole a short p = tt
-job_ends left (Verify one two three) (certified t c) whole a short (x, shows, e) = ap (λ (o : Outcome). o.fault) e
-job_ends left (Decode one two three log w) known whole a short (watch, is, p) =
-    log_ends watch log (log_from left (Decode one two three log w) log) whole a (short log refl) p
-job_ends left (Correlate one two log d w) known whole a short (watch, is, p) =
-    log_ends watch log (log_from left (Correlate one two log d w) log) whole a (short log refl) p
-job_ends left (Grow sites start) known whole a short p = tt
-job_ends left request known whole a short p = absurd p
+makes_well : (making : Making) (whole : ℕ) (a : Outcome) → MakingEnds making whole a → (fault : Fault) → a.fault ≡ Some fault → making.faults fault
+makes_well making whole a (well none is) fault e = absurd (some_is_not_none fault (sym e ∙ none))
+makes_well making whole a (wrong other is has quiet) fault e = subst making.faults (same_some other fault (sym is ∙ e)) has
+
+follows_well : (watch : Watch) (name log : List ℕ) (whole : ℕ) (a : Outcome) → length log ≤ log_limit → LogTells watch name log whole a → (fault : Fault)
+    → a.fault ≡ Some fault → ⊥
+follows_well watch name log whole a short (inl p) fault e = some_is_not_none fault (sym e ∙ ap (λ (o : Outcome). o.fault) p.gives)
+follows_well watch name log whole a short (inr p) fault e = let long = p.long in omega (arith, short, long)
+
+task_ends_well : (log : List ℕ → List ℕ) (task : Task) (range : Type 0) (reads : Reads) → LawfulFor range reads task → (known : Known) (whole : ℕ) (a : Outcome)
+    → ((name : List ℕ) → logs_in task ≡ name ∷ [] → length (log name) ≤ log_limit) → TaskGives log task known whole a → (fault : Fault)
+    → a.fault ≡ Some fault → TaskFaults task fault
+task_ends_well log (makes making) range reads law known whole a short p fault e = makes_well making whole a (law.ends known whole a p) fault e
+task_ends_well log (follows name watches) range reads law known whole a short (watch, is, p) fault e =
+    follows_well watch name (log name) whole a (short name refl) p fault e
+task_ends_well log (refuses refusal) range reads law known whole a short p fault e =
+    same_some fault refusal (sym e ∙ ap (λ (o : Outcome). o.fault) p)
 
 pub passed_end_well : PassedEndWell
-passed_end_well request left known a passed short gives =
-    let (whole, job) = passed_go_to_job request left known a passed gives in job_ends left request known whole a short job
+passed_end_well asked left known a passed short gives =
+    let c = command_for asked in
+    let (whole, job) = passed_go_to_job asked left known a passed gives in
+    task_ends_well (λ name. log_from left (reads_of c) name) c.task c.range (reads_of c) (lawful asked) known whole a short job

@@ -18,7 +18,7 @@ use Rattle.cb_log.specs.Events.{IsNetwork}
 use Rattle.cb_log.proofs.EventsOne.{network_is_one}
 use Rattle.cb_alarm.specs.Lines.{log_lines}
 use Rattle.cb_alarm.proofs.OneSkip.{come_to_one, log_gives_one}
-use Rattle.cb_request.specs.Files.{Role}
+use Rattle.cb_outcome.specs.Roles.{Role}
 use Rattle.cb_report.specs.declared.fault.Fault.{Fault}
 use Rattle.cb_report.specs.declared.summary.Summary.{Summary}
 use Rattle.cb_report.specs.SummaryText.{CountsEvents, grow_text}

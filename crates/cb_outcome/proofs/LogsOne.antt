@@ -1,8 +1,7 @@
 -- A log that is followed gives one outcome, and what its first bytes tell is a prefix of it.
-use Rattle.std.proofs.Common.{◌≡◌, ◌≤◌, ◌<◌, ℕ, zero, suc, min, take, drop, List, [], ◌∷◌, ◌++◌, append_assoc, length, refl, sym, ap, ◌∙◌, subst, inl, inr, arith}
+use Rattle.std.proofs.Common.{◌≡◌, ◌≤◌, ◌<◌, ℕ, zero, suc, take, drop, List, [], ◌∷◌, ◌++◌, append_assoc, length, refl, sym, ap, ◌∙◌, subst, inl, inr, arith}
 use Rattle.std.proofs.lemmas.List.{take-append-drop}
 use Rattle.std.proofs.lemmas.Grind.{flat_map-append}
-use Rattle.std.proofs.Math.Nat.{min-le_right}
 use Rattle.cb_model.specs.declared.node.NodeName.{NodeName}
 use Rattle.cb_coding.specs.declared.book.Book.{Book}
 use Rattle.cb_network.specs.Regular.{IsRegular}
@@ -21,17 +20,12 @@ use Rattle.cb_alarm.specs.Lines.{LogGives, FrontGives, ended_lines}
 use Rattle.cb_alarm.proofs.OneSkip.{come_to_one, log_gives_one}
 use Rattle.cb_report.specs.CertificateTexts.{accepted_text}
 use Rattle.cb_report.specs.EventTexts.{event_text, events_text}
-use Rattle.cb_request.specs.declared.request.Request.{Request}
-use Rattle.cb_request.specs.declared.request.Request.TheVariants.{Decode, Correlate}
 use Rattle.cb_report.specs.declared.fault.Fault.TheVariants as faults
 use Rattle.cb_outcome.specs.Outcome.{Outcome, done, done_with}
-use Rattle.cb_outcome.specs.Judged.{Known, network, certified}
-use Rattle.cb_outcome.specs.Contents.{Left, log_from}
-use Rattle.cb_outcome.specs.LogJobs.{Watch, StatesBook, States, IsFixedWatch, IsWatch, WholeTells, FrontTells, LogTells, Follows, log_limit}
+use Rattle.cb_outcome.specs.LogJobs.{Watch, StatesBook, States, IsFixedWatch, WholeTells, FrontTells, LogTells, log_limit}
 use Rattle.cb_outcome.specs.Laws.{BeginsWith}
 use Rattle.cb_outcome.proofs.JobsOne.{shows_is_one}
 use Rattle.cb_outcome.proofs.LogFronts.{front_is_front}
-use Rattle.cb_outcome.proofs.Once.{IsSound}
 
 -- ---- a log is followed in one way
 
@@ -48,22 +42,11 @@ states_one : (t : Topology) (c : Certificate) (a b : Book) → States t c a → 
 states_one t (BookClaim d nodes numbers spans) a b p q = stated_is_one t d nodes numbers a b p q
 states_one t (ThinClaim wanted d nodes first second) a b p q = absurd p
 
-fixed_is_one : (t : Topology) (c : Certificate) (w : ℕ) (a b : Watch) → IsFixedWatch t c w a → IsFixedWatch t c w b → a ≡ b
+pub fixed_is_one : (t : Topology) (c : Certificate) (w : ℕ) (a b : Watch) → IsFixedWatch t c w a → IsFixedWatch t c w b → a ≡ b
 fixed_is_one t c w a b p q =
     let accepts = shows_is_one t c p.accepted q.accepted p.shows q.shows in
     let books = states_one t c p.book q.book p.states q.states in
     p.is ∙ ((λ i. record { opening = accepted_text (accepts i); from = t; mode = fixed (books i); window = w }) ∙ sym q.is)
-
-pub watch_is_one : (request : Request) (known : Known) (a b : Watch) → IsWatch request known a → IsWatch request known b → a ≡ b
-watch_is_one (Correlate one two log d w) (network t) a b p q = p ∙ sym q
-watch_is_one (Decode one two three log w) (certified t c) a b p q = fixed_is_one t c w a b p q
-watch_is_one request known a b p q = absurd p
-
--- it is followed from a topology of a checked model
-pub watch_is_regular : (request : Request) (known : Known) (watch : Watch) → IsSound known → IsWatch request known watch → IsRegular watch.from.model
-watch_is_regular (Correlate one two log d w) (network t) watch sound e = subst (λ (x : Watch). IsRegular x.from.model) (sym e) sound
-watch_is_regular (Decode one two three log w) (certified t c) watch sound p = subst (λ (x : Watch). IsRegular x.from.model) (sym p.is) sound
-watch_is_regular request known watch sound p = absurd p
 
 -- ---- and gives one outcome
 
@@ -85,20 +68,13 @@ module _ (watch : Watch) (regular : IsRegular watch.from.model) where
   front_tells_one front x y (xs, g, e) (ys, h, f) =
       e ∙ (ap (λ (es : List Event). watch.opening ++ events_text es) (front_gives_one watch.from watch.mode watch.window front xs ys regular g h) ∙ sym f)
 
-  tells_one : (name log : List ℕ) (whole : ℕ) (a b : Outcome) → LogTells watch name log whole a → LogTells watch name log whole b → a ≡ b
+  pub tells_one : (name log : List ℕ) (whole : ℕ) (a b : Outcome) → LogTells watch name log whole a → LogTells watch name log whole b → a ≡ b
   tells_one name log whole a b (inl p) (inl q) =
       p.gives ∙ (ap (λ (out : List ℕ). done out (suc whole)) (whole_tells_one log p.out q.out p.tells q.tells) ∙ sym q.gives)
   tells_one name log whole a b (inl p) (inr q) = absurd (short_or_long (length log) log_limit p.short q.long)
   tells_one name log whole a b (inr p) (inl q) = absurd (short_or_long (length log) log_limit q.short p.long)
   tells_one name log whole a b (inr p) (inr q) =
       p.gives ∙ (ap (λ (out : List ℕ). done_with out (faults.LimitBytes name) whole) (front_tells_one (take log_limit log) p.out q.out p.tells q.tells) ∙ sym q.gives)
-
-pub follows_one : (left : Left) (request : Request) (name : List ℕ) (known : Known) (whole : ℕ) (a b : Outcome) → IsSound known
-    → Follows left request name known whole a → Follows left request name known whole b → a ≡ b
-follows_one left request name known whole a b sound (watch, is, p) (other, is', q) =
-    let same = watch_is_one request known other watch is' is in
-    tells_one watch (watch_is_regular request known watch sound is) name (log_from left request name) whole a b p
-    (subst (λ (x : Watch). LogTells x name (log_from left request name) whole b) same q)
 
 -- ---- the first bytes
 
@@ -121,7 +97,7 @@ begins : (out due : List ℕ) (outcome : Outcome) → outcome.out ≡ out → Be
 begins out due outcome e (rest, is) = (rest, e ∙ is)
 
 module _ (watch : Watch) (regular : IsRegular watch.from.model) (name log : List ℕ) (k whole : ℕ) (within : k ≤ log_limit) (due : List ℕ) (outcome : Outcome) where
-  tells_front : FrontTells watch (take k log) due → LogTells watch name log whole outcome → BeginsWith outcome.out due
+  pub tells_front : FrontTells watch (take k log) due → LogTells watch name log whole outcome → BeginsWith outcome.out due
   tells_front (first, f, d) (inl p) =
       let (all, g, o) = p.tells in
       let gives = subst (λ (v : List ℕ). LogGives watch.from watch.mode watch.window v all) (sym (take-append-drop k log)) g in
@@ -134,12 +110,3 @@ module _ (watch : Watch) (regular : IsRegular watch.from.model) (name log : List
       let gives = subst (λ (v : List ℕ). FrontGives watch.from watch.mode watch.window v all) (sym parts) g in
       let (rest, is) = front_is_front watch.from watch.mode watch.window (take k log) (drop k cut) first all regular f (inl gives) in
       begins p.out due outcome (ap (λ (v : Outcome). v.out) p.gives) (text_front watch.opening due p.out first rest all d o is)
-
--- what the first bytes of a log tell is a prefix of what results from it
-pub follows_front : (left : Left) (request : Request) (name : List ℕ) (known : Known) (watch : Watch) (taken whole : ℕ) (due : List ℕ) (outcome : Outcome)
-    → IsSound known → IsWatch request known watch → FrontTells watch (take (min taken log_limit) (log_from left request name)) due
-    → Follows left request name known whole outcome → BeginsWith outcome.out due
-follows_front left request name known watch taken whole due outcome sound is f (other, is', g) =
-    let same = watch_is_one request known other watch is' is in
-    tells_front watch (watch_is_regular request known watch sound is) name (log_from left request name) (min taken log_limit) whole
-    (min-le_right taken log_limit) due outcome f (subst (λ (x : Watch). LogTells x name (log_from left request name) whole outcome) same g)

@@ -29,11 +29,11 @@ use Rattle.cb_validity.specs.declared.verdict.Rejected.{Rejected}
 use Rattle.cb_validity.specs.Checks.{IsFirstFail}
 use Rattle.cb_validity.proofs.Firsts.{first_fail_is_one}
 use Rattle.cb_validity.proofs.Passing.{valid_is_not_rejected}
-use Rattle.cb_request.specs.Files.{Role}
+use Rattle.cb_outcome.specs.Roles.{Wanted, Role}
 use Rattle.cb_report.specs.declared.fault.Fault.{Fault}
 use Rattle.cb_report.specs.declared.fault.Fault.TheVariants as faults
-use Rattle.cb_outcome.specs.Texts.{IsTreeText, IsTopologyText, IsValidText, IsBookKind}
-use Rattle.cb_outcome.specs.Judged.{File, Known, nothing, parsed, network, raised, certified, Means, Says, IsModelFault, IsWrongLine, IsTopologyFault, IsSymptomFault, IsCertificateFault, IsBookFault, HasFault, Refuses, PassFrom}
+use Rattle.cb_outcome.specs.Texts.{IsTreeText, IsTopologyText, IsValidText, IsWantedKind}
+use Rattle.cb_outcome.specs.Judged.{File, Known, nothing, parsed, network, raised, certified, Means, Says, IsModelFault, IsWrongLine, IsTopologyFault, IsSymptomFault, IsCertificateFault, IsFaultFor, HasFault, Refuses, PassFrom}
 use Rattle.cb_outcome.proofs.FirstLines.{long_is_one, long_or_short, bad_is_one, bad_or_listed, nodes_are_one, topology_is_one, made_of, wrong_is_one, wrong_or_makes}
 use Rattle.cb_network.proofs.Typed.{typed_is_regular}
 
@@ -164,22 +164,17 @@ data IsWrongClaim (t : Topology) (text : List ℕ) (fault : Fault) : Type 0 wher
   unread : (why : CertText) → fault ≡ faults.CertBad why → IsReading text (Err why) → IsWrongClaim t text fault
   untrue : (why : Rejected) → fault ≡ faults.CertRejected why → (c : Certificate) → SpellsCertificate text c → IsFirstFail t c why → IsWrongClaim t text fault
 
--- the same, or that it is no book
-data IsWrongBook (t : Topology) (text : List ℕ) (fault : Fault) : Type 0 where
-  claim : IsWrongClaim t text fault → IsWrongBook t text fault
-  thin : fault ≡ faults.NotBook → (c : Certificate) → IsValidText t text c → (¬ IsBookKind c) → IsWrongBook t text fault
+-- the same, or that it isn't of the wanted kind
+data IsUnwanted (wanted : Wanted) (t : Topology) (text : List ℕ) (fault : Fault) : Type 0 where
+  claim : IsWrongClaim t text fault → IsUnwanted wanted t text fault
+  unlike : fault ≡ faults.NotBook → (c : Certificate) → IsValidText t text c → (¬ IsWantedKind wanted c) → IsUnwanted wanted t text fault
 
 module _ (t : Topology) (text : List ℕ) where
-  wrong_claim : (fault : Fault) → IsCertificateFault t text fault → IsWrongClaim t text fault
-  wrong_claim (faults.CertBad why) f = unread why refl f
-  wrong_claim (faults.CertRejected why) (c, spells, fails) = untrue why refl c spells fails
-  wrong_claim fault f = absurd f
-
-  wrong_book : (fault : Fault) → IsBookFault t text fault → IsWrongBook t text fault
-  wrong_book faults.NotBook (c, valid, none) = thin refl c valid none
-  wrong_book (faults.CertBad why) f = claim (unread why refl f)
-  wrong_book (faults.CertRejected why) (c, spells, fails) = claim (untrue why refl c spells fails)
-  wrong_book fault f = absurd f
+  unwanted : (wanted : Wanted) (fault : Fault) → IsFaultFor wanted t text fault → IsUnwanted wanted t text fault
+  unwanted wanted faults.NotBook (c, valid, none) = unlike refl c valid none
+  unwanted wanted (faults.CertBad why) f = claim (unread why refl f)
+  unwanted wanted (faults.CertRejected why) (c, spells, fails) = claim (untrue why refl c spells fails)
+  unwanted wanted fault f = absurd f
 
   one_claim : (f g : Fault) → IsWrongClaim t text f → IsWrongClaim t text g → f ≡ g
   one_claim f g (unread why e a) (unread why' h b) =
@@ -198,16 +193,16 @@ module _ (t : Topology) (text : List ℕ) where
   claim_or_valid f c (untrue why e d spells fails) valid =
       valid_is_not_rejected t c why valid.valid (subst (λ (x : Certificate). IsFirstFail t x why) (same_certificate text d c spells valid.spelled) fails)
 
-  one_book : (f g : Fault) → IsWrongBook t text f → IsWrongBook t text g → f ≡ g
-  one_book f g (claim a) (claim b) = one_claim f g a b
-  one_book f g (claim a) (thin h c valid none) = absurd (claim_or_valid f c a valid)
-  one_book f g (thin e c valid none) (claim b) = absurd (claim_or_valid g c b valid)
-  one_book f g (thin e c valid none) (thin h d valid' none') = e ∙ sym h
+  one_unwanted : (wanted : Wanted) (f g : Fault) → IsUnwanted wanted t text f → IsUnwanted wanted t text g → f ≡ g
+  one_unwanted wanted f g (claim a) (claim b) = one_claim f g a b
+  one_unwanted wanted f g (claim a) (unlike h c valid none) = absurd (claim_or_valid f c a valid)
+  one_unwanted wanted f g (unlike e c valid none) (claim b) = absurd (claim_or_valid g c b valid)
+  one_unwanted wanted f g (unlike e c valid none) (unlike h d valid' none') = e ∙ sym h
 
-  book_or_valid : (f : Fault) (c : Certificate) → IsWrongBook t text f → IsValidText t text c → IsBookKind c → ⊥
-  book_or_valid f c (claim a) valid kind = claim_or_valid f c a valid
-  book_or_valid f c (thin e d valid' none) valid kind =
-      none (subst IsBookKind (same_certificate text c d valid.spelled valid'.spelled) kind)
+  unwanted_or_valid : (wanted : Wanted) (f : Fault) (c : Certificate) → IsUnwanted wanted t text f → IsValidText t text c → IsWantedKind wanted c → ⊥
+  unwanted_or_valid wanted f c (claim a) valid kind = claim_or_valid f c a valid
+  unwanted_or_valid wanted f c (unlike e d valid' none) valid kind =
+      none (subst (IsWantedKind wanted) (same_certificate text c d valid.spelled valid'.spelled) kind)
 
 -- ---- a file
 
@@ -225,9 +220,7 @@ means_one Role.topology (parsed tree) text (from, says) a b (t, is, e) (u, is', 
     e ∙ (ap (λ (x : Topology). network x) (one_topology from tree says text t u is is') ∙ sym h)
 means_one Role.symptoms (network t) text sound a b (xs, is, e) (ys, is', h) =
     e ∙ (ap (λ (x : List NodeName). raised t x) (nodes_are_one text xs ys is is') ∙ sym h)
-means_one Role.certificate (network t) text sound a b (c, is, e) (d, is', h) =
-    e ∙ (ap (λ (x : Certificate). certified t x) (same_certificate text c d is.spelled is'.spelled) ∙ sym h)
-means_one Role.book (network t) text sound a b (c, is, kind, e) (d, is', kind', h) =
+means_one (Role.certificate wanted) (network t) text sound a b (c, is, kind, e) (d, is', kind', h) =
     e ∙ (ap (λ (x : Certificate). certified t x) (same_certificate text c d is.spelled is'.spelled) ∙ sym h)
 means_one role known text sound a b p q = absurd p
 
@@ -236,24 +229,23 @@ fault_one Role.model nothing text sound f g a b = same_kind text f g (kind_of te
 fault_one Role.topology (parsed tree) text (from, says) f g a b =
     one_wrong_line from tree says text f g (line_of from tree says text f a) (line_of from tree says text g b)
 fault_one Role.symptoms (network t) text sound f g a b = one_bad_line text f g a b
-fault_one Role.certificate (network t) text sound f g a b = one_claim t text f g (wrong_claim t text f a) (wrong_claim t text g b)
-fault_one Role.book (network t) text sound f g a b = one_book t text f g (wrong_book t text f a) (wrong_book t text g b)
+fault_one (Role.certificate wanted) (network t) text sound f g a b =
+    one_unwanted t text wanted f g (unwanted t text wanted f a) (unwanted t text wanted g b)
 fault_one role known text sound f g a b = absurd a
 
 pub means_or_fault : (role : Role) (known : Known) (text : List ℕ) → IsSound known → (a : Known) (f : Fault) → Means role known text a → HasFault role known text f → ⊥
 means_or_fault Role.model nothing text sound a f (t, is, e) h = kept_or_broken text f t (kind_of text f h) is
 means_or_fault Role.topology (parsed tree) text (from, says) a f (t, is, e) h = wrong_or_topology from tree says text f t (line_of from tree says text f h) is
 means_or_fault Role.symptoms (network t) text sound a f (xs, is, e) h = bad_or_nodes text f xs h is
-means_or_fault Role.certificate (network t) text sound a f (c, is, e) h = claim_or_valid t text f c (wrong_claim t text f h) is
-means_or_fault Role.book (network t) text sound a f (c, is, kind, e) h = book_or_valid t text f c (wrong_book t text f h) is kind
+means_or_fault (Role.certificate wanted) (network t) text sound a f (c, is, kind, e) h =
+    unwanted_or_valid t text wanted f c (unwanted t text wanted f h) is kind
 means_or_fault role known text sound a f p h = p
 
 pub means_sound : (role : Role) (known : Known) (text : List ℕ) (next : Known) → IsSound known → Means role known text next → IsSound next
 means_sound Role.model nothing text next sound (t, is, e) = subst IsSound (sym e) (text, is)
 means_sound Role.topology (parsed tree) text next (from, says) (t, is, e) = subst IsSound (sym e) (topology_regular from tree says text t is)
 means_sound Role.symptoms (network t) text next sound (xs, is, e) = subst IsSound (sym e) sound
-means_sound Role.certificate (network t) text next sound (c, is, e) = subst IsSound (sym e) sound
-means_sound Role.book (network t) text next sound (c, is, kind, e) = subst IsSound (sym e) sound
+means_sound (Role.certificate wanted) (network t) text next sound (c, is, kind, e) = subst IsSound (sym e) sound
 means_sound role known text next sound p = absurd p
 
 -- what a file says is sound

@@ -1,39 +1,30 @@
--- Which words allow which statuses, whatever the files tell.
-use Rattle.std.specs.Prelude.{◌≡◌, ◌≢◌, ◌⊎◌, List, [], ◌∷◌, map, Option, None, Some}
-use Rattle.std.specs.List.{Contains}
-use Rattle.cb_request.specs.declared.request.Request.{Request}
-use Rattle.cb_request.specs.declared.request.Request.TheVariants.{Codebook, Grow}
-use Rattle.cb_request.specs.Files.{Role, judged_of, names_of}
+-- Which commands allow which statuses, whatever the files tell.
+use Rattle.std.specs.Prelude.{◌≡◌, ◌≢◌, ◌⊎◌, []}
+use Rattle.cb_outcome.specs.Roles.{Wanted, Role}
+use Rattle.cb_report.specs.declared.fault.Fault.{Fault}
 use Rattle.cb_report.specs.declared.status.Status.{Status}
 use Rattle.cb_report.specs.declared.status.Status.TheVariants as statuses
+use Rattle.cb_report.specs.Faults.{status_of}
+use Rattle.cb_outcome.specs.Contents.{Reads, names_of, HasRole}
+use Rattle.cb_outcome.specs.Command.{Command, Task, IsDoing, reads_of, TaskFaults}
 
--- the roles of the texts that are judged: of the files, and of what `grow` makes up
-abbrev pub roles_of : Request → List Role
-roles_of (Grow sites start) = Role.model ∷ Role.topology ∷ []
-roles_of request = map (λ file. file.0) (judged_of request)
+-- By its files: with a fault of a text only where it judges such a text, with a limit or a read only where it has a file.
+abbrev pub FilesMayEnd : Reads → Status → Type 0
+FilesMayEnd reads statuses.Done = Unit {0}
+FilesMayEnd reads statuses.Usage = ⊥
+FilesMayEnd reads statuses.Model = HasRole reads Role.model
+FilesMayEnd reads statuses.Topology = HasRole reads Role.topology ⊎ HasRole reads Role.symptoms
+FilesMayEnd reads statuses.Certificate = (wanted : Wanted) × HasRole reads (Role.certificate wanted)
+FilesMayEnd reads statuses.Distance = ⊥
+FilesMayEnd reads statuses.Limit = names_of reads ≢ []
+FilesMayEnd reads statuses.ReadFault = names_of reads ≢ []
+FilesMayEnd reads statuses.WriteFault = Unit {0}
+FilesMayEnd reads statuses.Memory = Unit {0}
 
--- a text of this role is judged
-abbrev pub HasRole : Request → Role → Type 0
-HasRole request role = Contains (roles_of request) role
+-- by its task: with the status of a fault that it may end with
+abbrev pub TaskMayEnd : Task → Status → Type 0
+TaskMayEnd task status = (fault : Fault) × TaskFaults task fault × (status ≡ status_of fault)
 
--- `codebook` is asked for
-abbrev pub IsCodebook : Request → Type 0
-IsCodebook (Codebook one two distance) = Unit {0}
-IsCodebook request = ⊥
-
--- A run of this request may end so: with a fault of a text only where it judges such a text, with a limit or a read only where it has a
--- file, and only `codebook` with groups that are too close.
-abbrev pub RequestMayEnd : Request → Status → Type 0
-RequestMayEnd request statuses.Usage = ⊥
-RequestMayEnd request statuses.Model = HasRole request Role.model
-RequestMayEnd request statuses.Topology = HasRole request Role.topology ⊎ HasRole request Role.symptoms
-RequestMayEnd request statuses.Certificate = HasRole request Role.certificate ⊎ HasRole request Role.book
-RequestMayEnd request statuses.Distance = IsCodebook request
-RequestMayEnd request statuses.Limit = names_of request ≢ []
-RequestMayEnd request statuses.ReadFault = names_of request ≢ []
-RequestMayEnd request status = Unit {0}
-
--- a run may end so, by what is asked for; where the words ask for nothing, it ends with that status alone
-abbrev pub MayEnd : Option Request → Status → Type 0
-MayEnd None status = status ≡ statuses.Usage
-MayEnd (Some request) status = RequestMayEnd request status
+-- a run may end so: by its files, where something is done, or by its task
+abbrev pub MayEnd : Command → Status → Type 0
+MayEnd c status = (IsDoing c.task × FilesMayEnd (reads_of c) status) ⊎ TaskMayEnd c.task status

@@ -1,4 +1,4 @@
--- What results from a request whose files have been judged.
+-- What jobs give, after files that have been judged.
 use Rattle.std.specs.Prelude.{◌≡◌, ◌⊎◌, ℕ, List, length, Option}
 use Rattle.cb_model.specs.declared.node.GroupName.{GroupName}
 use Rattle.cb_model.specs.declared.node.GroupName.TheVariants.{Least}
@@ -11,7 +11,6 @@ use Rattle.cb_finding.specs.declared.finding.Finding.{Finding}
 use Rattle.cb_finding.specs.Finding.{IsBurst}
 use Rattle.cb_finding.specs.Matrix.{IsMatrix}
 use Rattle.cb_network.specs.Topology.{Topology}
-use Rattle.cb_syntax.specs.Canonical.{canonical_text}
 use Rattle.cb_cert.specs.declared.certificate.Certificate.{Certificate}
 use Rattle.cb_cert.specs.Format.{IsCertificate}
 use Rattle.cb_cert.specs.Lines.{text_of}
@@ -24,13 +23,7 @@ use Rattle.cb_report.specs.declared.fault.Fault.TheVariants as faults
 use Rattle.cb_report.specs.CertificateTexts.{accepted_text}
 use Rattle.cb_report.specs.Lines.{burst_text}
 use Rattle.cb_report.specs.MatrixText.{matrix_text}
-use Rattle.cb_request.specs.declared.request.Request.{Request}
-use Rattle.cb_request.specs.declared.request.Request.TheVariants.{Burst, Model, Matrix, Codebook, Verify, Decode, Correlate, Grow}
 use Rattle.cb_outcome.specs.Outcome.{Outcome, done, done_with, refused}
-use Rattle.cb_outcome.specs.Judged.{Known, nothing, parsed, network, raised, certified}
-use Rattle.cb_outcome.specs.Contents.{Left}
-use Rattle.cb_outcome.specs.LogJobs.{Follows}
-use Rattle.cb_outcome.specs.Grown.{GrowGives}
 
 -- `burst`: what is found for the nodes
 abbrev pub BurstGives : Topology → List NodeName → ℕ → Outcome → Type 0
@@ -82,16 +75,3 @@ CodebookGives t distance whole outcome = WritesBook t distance whole outcome ⊎
 -- `verify`: what the certificate shows
 abbrev pub VerifyGives : Topology → Certificate → ℕ → Outcome → Type 0
 VerifyGives t c whole outcome = (accepted : Accepted) × Shows t c accepted × (outcome ≡ done (accepted_text accepted) whole)
-
--- the job of a request, by the bytes left of each name, after what is known from its judged files
-abbrev pub JobGives : Left → Request → Known → ℕ → Outcome → Type 0
-JobGives left (Burst one two three) (raised t nodes) whole outcome = BurstGives t nodes whole outcome
-JobGives left (Model one) (parsed tree) whole outcome = outcome ≡ done (canonical_text tree) whole
-JobGives left (Matrix one two) (network t) whole outcome = MatrixGives t whole outcome
-JobGives left (Codebook one two distance) (network t) whole outcome = CodebookGives t distance whole outcome
-JobGives left (Verify one two three) (certified t c) whole outcome = VerifyGives t c whole outcome
-JobGives left (Decode one two three log window) known whole outcome = Follows left (Decode one two three log window) log known whole outcome
-JobGives left (Correlate one two log distance window) known whole outcome =
-    Follows left (Correlate one two log distance window) log known whole outcome
-JobGives left (Grow sites start) nothing whole outcome = GrowGives sites start whole outcome
-JobGives left request known whole outcome = ⊥

@@ -1,7 +1,7 @@
 -- What holds of outcomes, whatever the program does.
-use Rattle.std.specs.Prelude.{◌≡◌, ◌≢◌, ◌⊎◌, ◌≤◌, ℕ, ◌++◌, List, [], ◌∷◌, length, Option, None, Some, IsTrue}
+use Rattle.std.specs.Prelude.{◌≡◌, ◌≢◌, ◌⊎◌, ◌≤◌, ℕ, ◌++◌, List, [], ◌∷◌, length, codes, Option, None, Some, IsTrue}
 use Rattle.std.specs.List.{Contains}
-use Rattle.cb_io.specs.Outside.{contents}
+use Rattle.cb_io.specs.Outside.{bytes_of, contents}
 use Rattle.cb_network.specs.Regular.{IsRegular}
 use Rattle.cb_network.specs.Topology.{Topology}
 use Rattle.cb_log.specs.declared.event.Event.{Event}
@@ -11,21 +11,33 @@ use Rattle.cb_log.specs.Entries.{records_of}
 use Rattle.cb_log.specs.Whole.{is_thin, TellsThin}
 use Rattle.cb_alarm.specs.Lines.{LogGives, FrontGives}
 use Rattle.cb_report.specs.declared.summary.Summary.{Summary}
+use Rattle.cb_report.specs.declared.fault.Fault.{Fault}
+use Rattle.cb_request.specs.Commands.{request_of}
 use Rattle.cb_request.specs.declared.request.Request.{Request}
-use Rattle.cb_request.specs.declared.request.Request.TheVariants.{Codebook, Verify, Grow}
-use Rattle.cb_request.specs.Files.{file_words, logs_of}
 use Rattle.cb_outcome.specs.Outcome.{Outcome}
 use Rattle.cb_outcome.specs.Judged.{Known, nothing, PassFrom}
-use Rattle.cb_outcome.specs.Jobs.{JobGives}
-use Rattle.cb_outcome.specs.Contents.{Left, files_from, log_from}
+use Rattle.cb_outcome.specs.Contents.{Left, Reads, files_from, log_from}
+use Rattle.cb_outcome.specs.Command.{Command, reads_of, file_words, TaskFaults, JobGives}
+use Rattle.cb_outcome.specs.Commands.Codebook.{codebook}
+use Rattle.cb_outcome.specs.Commands.Verify.{verify}
+use Rattle.cb_outcome.specs.Asked.{command_of, command_for}
 use Rattle.cb_outcome.specs.Grown.{SumsUpLog}
 use Rattle.cb_outcome.specs.LogJobs.{Watch, FrontTells, log_limit}
-use Rattle.cb_outcome.specs.Answer.{RequestGives, IsOutcome, IsDue}
+use Rattle.cb_outcome.specs.Answer.{IsOutcome, IsDue}
 use Rattle.cb_outcome.specs.Point.{Point}
 
 -- the asked and the bytes left of each name have one outcome
 abbrev pub OutcomeIsOne : Type 0
-OutcomeIsOne = (asked : Option Request) (left : Left) (a b : Outcome) → IsOutcome asked left a → IsOutcome asked left b → a ≡ b
+OutcomeIsOne = (asked : Option Request) (left : Left) (a b : Outcome) → IsOutcome (command_for asked) left a → IsOutcome (command_for asked) left b → a ≡ b
+
+-- each of these names has the same bytes left
+abbrev pub HaveSameBytes : List (List ℕ) → Left → Left → Type 0
+HaveSameBytes names left left' = (name : List ℕ) → Contains names name → bytes_of left' name ≡ bytes_of left name
+
+-- the outcome goes by the bytes of the file words alone: other names, their order and what stands beside them make no difference
+abbrev pub OutcomeGoesByBytes : Type 0
+OutcomeGoesByBytes = (asked : Option Request) (left left' : Left) (a : Outcome) → HaveSameBytes (file_words (command_for asked)) left left'
+    → IsOutcome (command_for asked) left a → IsOutcome (command_for asked) left' a
 
 -- the bytes begin with these
 abbrev pub BeginsWith : List ℕ → List ℕ → Type 0
@@ -40,7 +52,7 @@ FrontIsFront = (t : Topology) (mode : Mode) (window : ℕ) (front more : List �
 -- what is due at any point is a prefix of the outcome's output
 abbrev pub DueIsFront : Type 0
 DueIsFront = (asked : Option Request) (left : Left) (point : Point) (due : List ℕ) (outcome : Outcome)
-    → IsOutcome asked left outcome → IsDue asked left point due → BeginsWith outcome.out due
+    → IsOutcome (command_for asked) left outcome → IsDue (command_for asked) left point due → BeginsWith outcome.out due
 
 -- each thin event of what is due, once so many bytes of a log were taken, names two groups that are closer than wanted, in the topology of
 -- that moment
@@ -53,30 +65,39 @@ abbrev pub SummedThinsAreClose : Type 0
 SummedThinsAreClose = (t : Topology) (mode : Mode) (w : ℕ) (log : List ℕ) (summary : Summary) (sums : SumsUpLog t mode w log summary) (event : Event)
     → Contains sums.events event → IsTrue (is_thin event) → TellsThin t mode w (records_of sums.gives.entries) event
 
--- where all judged files pass, the outcome is what the job gives, and no refusal
+-- where all judged files pass, the outcome is what the task gives, and no refusal
 abbrev pub PassedGoToJob : Type 0
-PassedGoToJob = (request : Request) (left : Left) (known : Known) (outcome : Outcome) → PassFrom nothing (files_from left request) known
-    → RequestGives request left outcome → (whole : ℕ) × JobGives left request known whole outcome
+PassedGoToJob = (asked : Option Request) (left : Left) (known : Known) (outcome : Outcome)
+    → PassFrom nothing (files_from left (reads_of (command_for asked))) known → IsOutcome (command_for asked) left outcome
+    → (whole : ℕ) × JobGives left (command_for asked) known whole outcome
 
--- the log of the request, where it has one, isn't too long
-abbrev pub HasShortLog : Left → Request → Type 0
-HasShortLog left request = (name : List ℕ) → logs_of request ≡ name ∷ [] → length (log_from left request name) ≤ log_limit
+-- the log, where there is one, isn't too long
+abbrev pub HasShortLog : Left → Reads → Type 0
+HasShortLog left reads = (name : List ℕ) → reads.logs ≡ name ∷ [] → length (log_from left reads name) ≤ log_limit
 
--- nothing is wrong; `codebook`, which may find that there is none, and `grow`, which reads no file, aside
-abbrev pub EndsWell : Request → Outcome → Type 0
-EndsWell (Codebook model topology distance) outcome = Unit {0}
-EndsWell (Grow sites start) outcome = Unit {0}
-EndsWell request outcome = outcome.fault ≡ None
+-- nothing is wrong but what the task of the command may end with
+abbrev pub EndsWell : Command → Outcome → Type 0
+EndsWell c outcome = (fault : Fault) → outcome.fault ≡ Some fault → TaskFaults c.task fault
 
--- where all judged files pass, and the log isn't too long, nothing is wrong
+-- where all judged files pass, and the log isn't too long, only what the task may end with is wrong
 abbrev pub PassedEndWell : Type 0
-PassedEndWell = (request : Request) (left : Left) (known : Known) (outcome : Outcome) → PassFrom nothing (files_from left request) known
-    → HasShortLog left request → RequestGives request left outcome → EndsWell request outcome
+PassedEndWell = (asked : Option Request) (left : Left) (known : Known) (outcome : Outcome)
+    → PassFrom nothing (files_from left (reads_of (command_for asked))) known → HasShortLog left (reads_of (command_for asked))
+    → IsOutcome (command_for asked) left outcome → EndsWell (command_for asked) outcome
 
 -- an outcome without a fault has read each file word whole
 abbrev pub DoneReadsAll : Type 0
-DoneReadsAll = (asked : Option Request) (left : Left) (outcome : Outcome) → IsOutcome asked left outcome → outcome.fault ≡ None
-    → outcome.whole ≡ length (file_words asked)
+DoneReadsAll = (asked : Option Request) (left : Left) (outcome : Outcome) → IsOutcome (command_for asked) left outcome → outcome.fault ≡ None
+    → outcome.whole ≡ length (file_words (command_for asked))
+
+-- the numbers that words ask with are in the range of the command
+abbrev pub AskedIsInRange : Type 0
+AskedIsInRange = (words : List (List ℕ)) → (command_for (request_of words)).range
+
+-- the file words of `verify` are its three files, and words of no command name none
+abbrev pub FileWordsAreRead : Type 0
+FileWordsAreRead = (m t c : List ℕ) → (file_words (command_for (request_of (codes "verify" ∷ m ∷ t ∷ c ∷ []))) ≡ m ∷ t ∷ c ∷ [])
+    × (file_words (command_for (request_of (codes "models" ∷ m ∷ []))) ≡ [])
 
 -- a model and a topology have the same bytes for both
 pub record HaveSameNetwork (left left' : Left) (model topology : List ℕ) : Type 0 where
@@ -86,6 +107,6 @@ pub record HaveSameNetwork (left left' : Left) (model topology : List ℕ) : Typ
 -- what `codebook` writes of a network, be it of its codebook or that there is none, `verify` accepts for the same files
 abbrev pub WrittenIsAccepted : Type 0
 WrittenIsAccepted = (left left' : Left) (model topology certificate : List ℕ) (distance : ℕ) (a b : Outcome)
-    → HaveSameNetwork left left' model topology → IsOutcome (Some (Codebook model topology distance)) left a → a.out ≢ []
-    → contents left' (model ∷ topology ∷ []) certificate ≡ a.out → IsOutcome (Some (Verify model topology certificate)) left' b
+    → HaveSameNetwork left left' model topology → IsOutcome (codebook model topology distance) left a → a.out ≢ []
+    → contents left' (model ∷ topology ∷ []) certificate ≡ a.out → IsOutcome (verify model topology certificate) left' b
     → b.fault ≡ None

@@ -15,11 +15,7 @@ use Rattle.cb_alarm.specs.Lines.{LogGives, FrontGives}
 use Rattle.cb_report.specs.declared.fault.Fault.TheVariants as faults
 use Rattle.cb_report.specs.CertificateTexts.{accepted_text}
 use Rattle.cb_report.specs.EventTexts.{events_text}
-use Rattle.cb_request.specs.declared.request.Request.{Request}
-use Rattle.cb_request.specs.declared.request.Request.TheVariants.{Decode, Correlate}
 use Rattle.cb_outcome.specs.Outcome.{Outcome, done, done_with}
-use Rattle.cb_outcome.specs.Judged.{Known, network, certified}
-use Rattle.cb_outcome.specs.Contents.{Left, log_from}
 
 -- a log has at most so many bytes
 abbrev pub log_limit : ℕ
@@ -56,12 +52,6 @@ pub record IsFixedWatch (t : Topology) (c : Certificate) (window : ℕ) (watch :
 abbrev pub IsWantedWatch : Topology → ℕ → ℕ → Watch → Type 0
 IsWantedWatch t distance window watch = watch ≡ record { opening = []; from = t; mode = wanted distance; window = window }
 
--- how the log of a request is followed, after what is known from its judged files
-abbrev pub IsWatch : Request → Known → Watch → Type 0
-IsWatch (Correlate one two log distance window) (network t) watch = IsWantedWatch t distance window watch
-IsWatch (Decode one two three log window) (certified t c) watch = IsFixedWatch t c window watch
-IsWatch request known watch = ⊥
-
 -- the output of a whole log
 abbrev pub WholeTells : Watch → List ℕ → List ℕ → Type 0
 WholeTells watch log out =
@@ -89,8 +79,3 @@ pub record GivesFront (watch : Watch) (name log : List ℕ) (whole : ℕ) (outco
 -- what a log of this name gives that is followed so
 abbrev pub LogTells : Watch → List ℕ → List ℕ → ℕ → Outcome → Type 0
 LogTells watch name log whole outcome = GivesWhole watch log whole outcome ⊎ GivesFront watch name log whole outcome
-
--- `correlate` and `decode`: the log is followed
-abbrev pub Follows : Left → Request → List ℕ → Known → ℕ → Outcome → Type 0
-Follows left request name known whole outcome =
-    (watch : Watch) × IsWatch request known watch × LogTells watch name (log_from left request name) whole outcome

@@ -1,10 +1,15 @@
 //! What holds of outcomes.
-ghost use Rattle.cb_outcome.specs.Laws.{OutcomeIsOne, FrontIsFront, DueIsFront, FrontThinsAreClose, SummedThinsAreClose, PassedGoToJob, PassedEndWell, DoneReadsAll, WrittenIsAccepted};
+ghost use Rattle.cb_outcome.specs.Laws.{OutcomeIsOne, OutcomeGoesByBytes, FrontIsFront, DueIsFront, FrontThinsAreClose, SummedThinsAreClose, PassedGoToJob, PassedEndWell, DoneReadsAll, AskedIsInRange, FileWordsAreRead, WrittenIsAccepted};
 
 /// The words of the command line and the bytes of the files have one outcome: in how large pieces the files give their
 /// bytes makes no difference.
 pub fn outcome_is_one()
     ensures { OutcomeIsOne }
+{}
+
+/// The outcome goes by the bytes of the file words alone: what other files there are, and in what order names are told, makes no difference.
+pub fn outcome_goes_by_bytes()
+    ensures { OutcomeGoesByBytes }
 {}
 
 /// The events of the first bytes of a log are its first events.
@@ -28,12 +33,13 @@ pub fn summed_thins_are_close()
     ensures { SummedThinsAreClose }
 {}
 
-/// Where all judged files pass, the outcome is what the job gives.
+/// Where all judged files pass, the outcome is what the task gives.
 pub fn passed_go_to_job()
     ensures { PassedGoToJob }
 {}
 
-/// Where all judged files pass, and the log isn't too long, nothing is wrong; `codebook` and `grow` aside.
+/// Where all judged files pass, and the log isn't too long, nothing is wrong but what the task of the command may end with: for
+/// `codebook` a distance or too many entries, and for `grow` a fault of the texts that it makes up.
 pub fn passed_end_well()
     ensures { PassedEndWell }
 {}
@@ -41,6 +47,16 @@ pub fn passed_end_well()
 /// An outcome without a fault has read each file word whole.
 pub fn done_reads_all()
     ensures { DoneReadsAll }
+{}
+
+/// The numbers that words ask with are in the range of their command.
+pub fn asked_is_in_range()
+    ensures { AskedIsInRange }
+{}
+
+/// The file words, by examples.
+pub fn file_words_are_read()
+    ensures { FileWordsAreRead }
 {}
 
 /// What `codebook` writes of a network, be it of its codebook or that there is none, `verify` accepts for the same files.

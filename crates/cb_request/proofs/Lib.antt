@@ -1,3 +1,2 @@
-mod NumberWords
+pub mod NumberWords
 mod CommandWords
-pub mod Ranges

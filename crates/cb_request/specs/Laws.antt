@@ -3,7 +3,6 @@ use Rattle.std.specs.Prelude.{◌≡◌, ◌↔◌, ℕ, ◌^◌, ◌<◌, ◌�
 use Rattle.cb_text.specs.Decimals.{IsDecimal}
 use Rattle.cb_request.specs.Commands.{request_of}
 use Rattle.cb_request.specs.Numbers.{number_in}
-use Rattle.cb_request.specs.Files.{file_words}
 use Rattle.cb_request.specs.declared.request.Request.{Request}
 use Rattle.cb_request.specs.declared.request.Request.TheVariants as requests
 
@@ -24,7 +23,6 @@ pub record WordsAsk (m t c : List ℕ) : Type 0 where
   pub burst : request_of (codes "burst" ∷ m ∷ t ∷ c ∷ []) ≡ Some (requests.Burst m t c)
   pub matrix : request_of (codes "matrix" ∷ m ∷ t ∷ []) ≡ Some (requests.Matrix m t)
   pub verify : request_of (codes "verify" ∷ m ∷ t ∷ c ∷ []) ≡ Some (requests.Verify m t c)
-  pub files : file_words (request_of (codes "verify" ∷ m ∷ t ∷ c ∷ [])) ≡ m ∷ t ∷ c ∷ []
 
 abbrev pub WordsAreRead : Type 0
 WordsAreRead = (m t c : List ℕ) → WordsAskForNothing m t × WordsAsk m t c

@@ -1,5 +1,3 @@
 pub mod Numbers
 pub mod Commands
-pub mod Files
 pub mod Laws
-pub mod Ranges

@@ -1,4 +1,4 @@
--- What words ask for is in its ranges.
+-- What words ask for is in the range of its command.
 use Rattle.std.proofs.Common.{◌≡◌, ℕ, ◌<◌, ◌≤◌, ◌^◌, List, [], ◌∷◌, Bool, true, false, refl, sym, subst, arith, Some}
 use Rattle.std.specs.Prelude.{Option, None, if◌then◌else◌, codes}
 use Rattle.std.specs.Str.{bytes_eq}
@@ -6,10 +6,15 @@ use Rattle.std.specs.Option.{option_map, option_and_then}
 use Rattle.cb_io.specs.Pairs.{look_up}
 use Rattle.cb_request.specs.Commands.{burst_of, model_of, matrix_of, codebook_of, verify_of, decode_of, correlate_of, grow_of, commands, request_of}
 use Rattle.cb_request.specs.Numbers.{number_in, distance_in, window_in, sites_in, start_in}
-use Rattle.cb_request.specs.Ranges.{IsWithin, IsInRange}
 use Rattle.cb_request.specs.declared.request.Request.{Request}
 use Rattle.cb_request.specs.declared.request.Request.TheVariants as requests
 use Rattle.cb_request.proofs.NumberWords.{number_is_read}
+use Rattle.cb_outcome.specs.Command.{IsWithin}
+use Rattle.cb_outcome.specs.Asked.{command_of, command_for}
+use Rattle.cb_outcome.specs.Laws.{AskedIsInRange}
+
+abbrev IsInRange : Request → Type 0
+IsInRange request = (command_of request).range
 
 -- what a command reads is in range
 abbrev Keeps : (List (List ℕ) → Option Request) → Type 0
@@ -109,8 +114,15 @@ found_keeps (entry ∷ table) keeps command words request e =
       | false ↦ λ other. found_keeps table keeps.1 command words request (rw other at e)
     ] refl
 
-pub asked_is_in_range : (words : List (List ℕ)) (request : Request) → request_of words ≡ Some request → IsInRange request
-asked_is_in_range [] request e = cc
-asked_is_in_range (command ∷ words) request e =
+request_in_range : (words : List (List ℕ)) (request : Request) → request_of words ≡ Some request → IsInRange request
+request_in_range [] request e = cc
+request_in_range (command ∷ words) request e =
     found_keeps commands (burst_keeps, (model_keeps, (matrix_keeps, (codebook_keeps, (verify_keeps, (decode_keeps, (correlate_keeps, (grow_keeps, tt))))))))
     command words request e
+
+pub asked_is_in_range : AskedIsInRange
+asked_is_in_range words = by_case (request_of words) refl
+  where
+    by_case : (asked : Option Request) → request_of words ≡ asked → (command_for asked).range
+    by_case None e = tt
+    by_case (Some request) e = request_in_range words request e

@@ -1,5 +1,5 @@
--- How many steps a run counts. `files` is told before the run, `after` after it.
-use Rattle.std.specs.Prelude.{◌≡◌, ℕ, ◌+◌, ◌≤◌, List, [], ◌∷◌, Option, None, Some}
+-- Bounds on steps. `after` is told after the run.
+use Rattle.std.specs.Prelude.{◌≡◌, ℕ, ◌+◌, ◌≤◌, List, [], ◌∷◌}
 use Rattle.cb_change.specs.Costs.{IsOpenCost}
 use Rattle.cb_change.specs.InTurn.{IsCostInTurn}
 use Rattle.cb_gen.specs.Log.{log_text}
@@ -8,12 +8,10 @@ use Rattle.cb_network.specs.Topology.{Topology}
 use Rattle.cb_log.specs.Entries.{LogEntry, records_of}
 use Rattle.cb_log.specs.Network.{edits_of}
 use Rattle.cb_alarm.specs.Lines.{NumberedLine, ended_lines, log_lines, ComeTo}
-use Rattle.cb_request.specs.declared.request.Request.{Request}
-use Rattle.cb_request.specs.declared.request.Request.TheVariants.{Burst, Model, Matrix, Correlate, Grow}
-use Rattle.cb_outcome.specs.Contents.{Left, files_before, files_from, log_from}
+use Rattle.cb_outcome.specs.Contents.{Left, Reads, files_before, files_from, log_from}
 use Rattle.cb_outcome.specs.Grown.{MakesUp}
 use Rattle.cb_outcome.specs.Judged.{nothing, network, PassFrom}
-use Rattle.cb_outcome.specs.Reading.{Told, LeavesRest}
+use Rattle.cb_outcome.specs.Reading.{LeavesRest}
 
 -- what the edits in these lines cost together, each made of the topology that those before it leave
 abbrev pub AreLinesCost : Topology → List NumberedLine → ℕ → Type 0
@@ -38,31 +36,19 @@ lines_taken taken (byte ∷ left) = ended_lines taken
 
 -- `burst` and `matrix`: no more steps are counted than the search of the topology costs that the model and the topology file give. Where
 -- they give none, no step is counted.
-pub record CountsSearch (left : Left) (request : Request) (old new : ℕ) : Type 0 where
-  pub most : (t : Topology) → PassFrom nothing (files_before 2 left request) (network t) → (searched : ℕ) → IsOpenCost t searched → new ≤ old + searched
-  pub none : ((t : Topology) → ¬ PassFrom nothing (files_before 2 left request) (network t)) → new ≡ old
+pub record CountsSearch (left : Left) (reads : Reads) (old new : ℕ) : Type 0 where
+  pub most : (t : Topology) → PassFrom nothing (files_before 2 left reads) (network t) → (searched : ℕ) → IsOpenCost t searched → new ≤ old + searched
+  pub none : ((t : Topology) → ¬ PassFrom nothing (files_before 2 left reads) (network t)) → new ≡ old
 
 -- `correlate`: the topology is that of the model and the topology file, and the lines are those of the log's bytes that were taken. Where
 -- the two files give no topology, no step is counted, nor where the log was never come to, so that what is left under its name is no rest of it.
-pub record CountsCorrelate (left : Left) (request : Request) (log : List ℕ) (after : FilesTold) (old new : ℕ) : Type 0 where
-  pub most : (t : Topology) → PassFrom nothing (files_from left request) (network t)
-      → (taken : LeavesRest (log_from left request log) (left_of after log)) → CountsBoth t (lines_taken taken.0 taken.1) old new
-  pub none : ((t : Topology) → ¬ PassFrom nothing (files_from left request) (network t)) → new ≡ old
-  pub missed : ¬ LeavesRest (log_from left request log) (left_of after log) → new ≡ old
+pub record CountsCorrelate (left : Left) (reads : Reads) (log : List ℕ) (after : FilesTold) (old new : ℕ) : Type 0 where
+  pub most : (t : Topology) → PassFrom nothing (files_from left reads) (network t)
+      → (taken : LeavesRest (log_from left reads log) (left_of after log)) → CountsBoth t (lines_taken taken.0 taken.1) old new
+  pub none : ((t : Topology) → ¬ PassFrom nothing (files_from left reads) (network t)) → new ≡ old
+  pub missed : ¬ LeavesRest (log_from left reads log) (left_of after log) → new ≡ old
 
 -- `grow`: the topology and the log are those that are made up
 pub record CountsGrow (sites start old new : ℕ) : Type 0 where
   pub most : (t : Topology) → MakesUp sites t → CountsLog t (log_text sites start) old new
   pub none : ((t : Topology) → ¬ MakesUp sites t) → new ≡ old
-
--- how many steps are counted, by what is asked for: none for `model`, which searches nothing. Of `codebook`, `verify` and `decode`, which make
--- or check spans, nothing is said.
-abbrev pub BoundsSteps : Option Request → FilesTold → FilesTold → ℕ → ℕ → Type 0
-BoundsSteps None files after old new = new ≡ old
-BoundsSteps (Some (Model one)) files after old new = new ≡ old
-BoundsSteps (Some (Burst one two three)) files after old new = Told files (λ left. CountsSearch left (Burst one two three) old new)
-BoundsSteps (Some (Matrix one two)) files after old new = Told files (λ left. CountsSearch left (Matrix one two) old new)
-BoundsSteps (Some (Correlate one two log distance window)) files after old new =
-    Told files (λ left. CountsCorrelate left (Correlate one two log distance window) log after old new)
-BoundsSteps (Some (Grow sites start)) files after old new = CountsGrow sites start old new
-BoundsSteps asked files after old new = Unit {0}

@@ -1,0 +1,36 @@
+-- The command that words ask for.
+use Rattle.std.specs.Prelude.{ℕ, List, Option, None, Some, String}
+use Rattle.std.specs.declared.alloc.Global.{Global}
+use Rattle.cb_request.specs.Commands.{asked}
+use Rattle.cb_request.specs.declared.request.Request.{Request}
+use Rattle.cb_request.specs.declared.request.Request.TheVariants.{Burst, Model, Matrix, Codebook, Verify, Decode, Correlate, Grow}
+use Rattle.cb_outcome.specs.Command.{Command}
+use Rattle.cb_outcome.specs.Commands.Burst.{burst}
+use Rattle.cb_outcome.specs.Commands.Model.{model}
+use Rattle.cb_outcome.specs.Commands.Matrix.{matrix}
+use Rattle.cb_outcome.specs.Commands.Codebook.{codebook}
+use Rattle.cb_outcome.specs.Commands.Verify.{verify}
+use Rattle.cb_outcome.specs.Commands.Decode.{decode}
+use Rattle.cb_outcome.specs.Commands.Correlate.{correlate}
+use Rattle.cb_outcome.specs.Commands.Grow.{grow}
+use Rattle.cb_outcome.specs.Commands.Usage.{usage}
+
+-- the command of a request
+abbrev pub command_of : Request → Command
+command_of (Burst one two three) = burst one two three
+command_of (Model one) = model one
+command_of (Matrix one two) = matrix one two
+command_of (Codebook one two distance) = codebook one two distance
+command_of (Verify one two three) = verify one two three
+command_of (Decode one two three log window) = decode one two three log window
+command_of (Correlate one two log distance window) = correlate one two log distance window
+command_of (Grow sites start) = grow sites start
+
+-- of what words ask for, if they ask for something
+abbrev pub command_for : Option Request → Command
+command_for None = usage
+command_for (Some request) = command_of request
+
+-- of the words as the program gets them
+abbrev pub command_in : List (String Global) → Command
+command_in words = command_for (asked words)

@@ -1,0 +1,92 @@
+-- What outputs say of causes.
+use Rattle.std.specs.Prelude.{◌≡◌, ◌↔◌, ℕ, ◌<◌, ◌≤◌, ◌++◌, List, [], ◌∷◌, length, Option, Some, IsTrue}
+use Rattle.std.specs.List.{Contains}
+use Rattle.std.specs.List.Sorted.{IsStrictlyIncreasing}
+use Rattle.cb_io.specs.Outside.{SinkTold, WritesAll}
+use Rattle.cb_model.specs.declared.node.GroupName.{GroupName}
+use Rattle.cb_model.specs.declared.node.GroupName.TheVariants.{Least}
+use Rattle.cb_model.specs.declared.node.NodeName.{NodeName}
+use Rattle.cb_coding.specs.declared.group.Group.{Group}
+use Rattle.cb_coding.specs.Answers.{from_word}
+use Rattle.cb_coding.specs.Distance.{all_columns}
+use Rattle.cb_coding.specs.Groups.{codes_of}
+use Rattle.cb_coding.specs.Pairs.{Good}
+use Rattle.cb_finding.specs.declared.finding.Finding.{Finding}
+use Rattle.cb_finding.specs.Finding.{IsBurst, named_groups, word_of}
+use Rattle.cb_network.specs.Topology.{Topology}
+use Rattle.cb_cert.specs.declared.certificate.Certificate.{Certificate}
+use Rattle.cb_validity.specs.Canonical.{IsCanonicalThin}
+use Rattle.cb_validity.specs.Codebooks.{AreFirstClose, least_of}
+use Rattle.cb_log.specs.declared.closed.Closed.{Closed}
+use Rattle.cb_log.specs.declared.event.Event.{Event}
+use Rattle.cb_log.specs.Entries.{records_of}
+use Rattle.cb_log.specs.Sources.{SourceAlone}
+use Rattle.cb_log.specs.Whole.{Explains, OneForEach, is_thin, TellsThin}
+use Rattle.cb_alarm.specs.Lines.{LogGives}
+use Rattle.cb_report.specs.Lines.{burst_text}
+use Rattle.cb_report.specs.declared.fault.Fault.TheVariants as faults
+use Rattle.cb_report.specs.EventTexts.{events_text}
+use Rattle.cb_outcome.specs.Roles.{Wanted, Role}
+use Rattle.cb_outcome.specs.Texts.{IsValidText}
+use Rattle.cb_outcome.specs.Judged.{IsShortFor}
+use Rattle.cb_outcome.specs.LogJobs.{Watch}
+use Rattle.cb_outcome.specs.Seen.{Seen, SaysFault}
+
+-- no group is nearer than the one at a place, where `far` tells how far each is
+abbrev pub IsNearest : List Group → (ℕ → ℕ) → ℕ → Type 0
+IsNearest groups far i = (i < length groups) × ((j : ℕ) → j < length groups → far i ≤ far j)
+
+-- a group is listed exactly where none is nearer, and where one is no farther than the radius, it alone, and surely
+pub record ListsTheNearest (groups : List Group) (far : ℕ → ℕ) (finding : Finding) : Type 0 where
+  pub places : List ℕ
+  pub rise : IsStrictlyIncreasing places
+  pub nearest : (i : ℕ) → Contains places i ↔ IsNearest groups far i
+  pub listed : finding.groups ≡ named_groups groups places
+  pub alone : (i : ℕ) → i < length groups → far i ≤ finding.radius
+      → (finding.groups ≡ named_groups groups (i ∷ [])) × IsTrue finding.sure
+
+-- at how many of a codebook's columns the raised nodes differ from the code of the group at a place
+abbrev pub far_from : List ℕ → List NodeName → List Group → List NodeName → ℕ → ℕ
+far_from book columns groups nodes i = from_word book (codes_of groups) (word_of columns nodes) i
+
+-- `burst` printed exactly the groups nearest to the nodes, by codes from what causes what
+pub record PrintsFinding (t : Topology) (nodes : List NodeName) (out out' : SinkTold) : Type 0 where
+  pub finding : Finding
+  pub burst : IsBurst t nodes finding
+  pub printed : WritesAll out out' (burst_text finding)
+  pub lists : ListsTheNearest burst.groups (far_from (all_columns (length burst.columns)) burst.columns burst.groups nodes) finding
+
+-- The events of a log were printed: there is one diagnosis for each window, in the order in which the windows close, and each lists exactly
+-- the groups nearest to the window's nodes; each thin event names two groups that are closer than wanted, with their distance; and of each
+-- source the diagnoses are those of the log that it alone would have made.
+pub record PrintsEvents (watch : Watch) (log : List ℕ) (out out' : SinkTold) : Type 0 where
+  pub events : List Event
+  pub gives : LogGives watch.from watch.mode watch.window log events
+  pub printed : WritesAll out out' (watch.opening ++ events_text events)
+  pub one_each : OneForEach watch.from watch.mode watch.window (records_of gives.entries) events
+  pub lists : (c : Closed) (event : Event) (e : Explains watch.from watch.mode watch.window (records_of gives.entries) c event)
+      → ListsTheNearest e.basis.groups (far_from e.basis.book.columns e.basis.columns e.basis.groups c.nodes) e.is.finding
+  pub thin : (event : Event) → Contains events event → IsTrue (is_thin event)
+      → TellsThin watch.from watch.mode watch.window (records_of gives.entries) event
+  pub alone : (source : List ℕ) → SourceAlone watch.from watch.mode watch.window source gives.entries events
+
+-- what was printed is a text that a certificate file may have, and it spells a certificate that is valid for the topology
+pub record PrintsValid (t : Topology) (out out' : SinkTold) : Type 0 where
+  pub text : List ℕ
+  pub certificate : Certificate
+  pub valid : IsValidText t text certificate
+  pub short : IsShortFor (Role.certificate Wanted.any) text
+  pub printed : WritesAll out out' text
+
+-- `codebook` refused the distance. Its line names the first two groups that are closer over all columns than wanted, with their distance, and
+-- the valid certificate that was printed is the canonical one of these two. Not all groups are as far apart as wanted, and that is more than 1.
+pub record RefusesDistance (t : Topology) (wanted : ℕ) (s : Seen) : Type 0 where
+  pub first : GroupName
+  pub second : NodeName
+  pub distance : ℕ
+  pub close : AreFirstClose t wanted first second distance
+  pub says : SaysFault (Some (faults.Distance wanted first (Least second) distance)) s.err s.err_after
+  pub prints : PrintsValid t s.out s.out_after
+  pub canonical : IsCanonicalThin t (least_of first) second wanted distance prints.certificate
+  pub not_good : ¬ Good (codes_of close.groups) (all_columns (length close.columns)) wanted
+  pub more_than_one : 1 < wanted
