@@ -7,15 +7,16 @@ use Rattle.cb_cert.specs.declared.fault.CertText.{CertText}
 use Rattle.cb_cert.specs.declared.fault.CertText.TheVariants as texts
 use Rattle.cb_cert.specs.Format.{SpellsCertificate}
 use Rattle.cb_cert.specs.Fronts.{IsFault as IsTextFault}
-use Rattle.cb_validity.specs.declared.verdict.Accepted.{Accepted}
 use Rattle.cb_validity.specs.declared.verdict.Rejected.{Rejected}
 use Rattle.cb_validity.specs.declared.verdict.Rejected.TheVariants as rejected
-use Rattle.cb_validity.specs.Verdicts.{Shows, TellsWhy}
-use Rattle.cb_request.specs.Files.{Role, byte_limit}
+use Rattle.cb_validity.specs.Valid.{IsValid}
+use Rattle.cb_validity.specs.Verdicts.{TellsWhy}
+use Rattle.cb_outcome.specs.Roles.{Wanted, Role, byte_limit}
 use Rattle.cb_report.specs.declared.fault.Fault.{Fault}
 use Rattle.cb_report.specs.declared.fault.Fault.TheVariants as faults
-use Rattle.cb_outcome.specs.Judged.{Known, network, certified, Says, Refuses}
-use Rattle.cb_file_kinds.specs.Kinds.{file_of, IsWant, SaysAfter, StopsJudging, IsRejection, IsAccepted}
+use Rattle.cb_outcome.specs.Judged.{File, Known, network, certified, Says, Refuses}
+use Rattle.cb_outcome.specs.Texts.{IsWantedKind}
+use Rattle.cb_file_kinds.specs.Kinds.{file_of, IsWant, SaysAfter, StopsJudging, IsRejection}
 
 -- why a certificate is rejected, as a fault
 pub rejection : (t : Topology) (c : Certificate) (why : Rejected) → TellsWhy t c why → IsWant (faults.CertRejected why) ⊎ IsRejection t c (faults.CertRejected why)
@@ -33,35 +34,46 @@ rejection t c (rejected.TooClose first second distance) tells = inr (record { wh
 rejection t c (rejected.NotThin distance) tells = inr (record { why = rejected.NotThin distance; fails = tells; is = refl })
 
 -- a certificate, after a topology
-module _ (name text : List ℕ) (short : length text ≤ byte_limit Role.certificate) (t : Topology) where
+module _ (wanted : Wanted) (name text : List ℕ) (short : length text ≤ byte_limit (Role.certificate wanted)) (t : Topology) where
   abbrev Network : Known → Type 0
   Network known = known ≡ network t
 
-  refuses : (fault : Fault) → Refuses (network t) (file_of Role.certificate name text) fault → StopsJudging Network (file_of Role.certificate name text) fault
-  refuses fault r = inr (λ known is. subst (λ (k : Known). Refuses k (file_of Role.certificate name text) fault) (sym is) r)
+  abbrev TextFile : File
+  TextFile = file_of (Role.certificate wanted) name text
 
-  pub certificate_long : (line : ℕ) → IsFirstLong text line → StopsJudging Network (file_of Role.certificate name text) (faults.LimitLine name line)
+  refuses : (fault : Fault) → Refuses (network t) TextFile fault → StopsJudging Network TextFile fault
+  refuses fault r = inr (λ known is. subst (λ (k : Known). Refuses k TextFile fault) (sym is) r)
+
+  pub certificate_long : (line : ℕ) → IsFirstLong text line → StopsJudging Network TextFile (faults.LimitLine name line)
   certificate_long line first = refuses (faults.LimitLine name line) (inr (inl (record { bytes = short; limited = tt; line = line; first = first; is = refl })))
 
   module _ (lines : HasShortLines text) where
-    pub certificate_bad : (why : CertText) → (why ≡ texts.NoMemory) ⊎ IsTextFault text why
-        → StopsJudging Network (file_of Role.certificate name text) (faults.CertBad why)
+    pub certificate_bad : (why : CertText) → (why ≡ texts.NoMemory) ⊎ IsTextFault text why → StopsJudging Network TextFile (faults.CertBad why)
     certificate_bad why (inl want) = inl (rw want refl)
     certificate_bad why (inr is) =
         refuses (faults.CertBad why) (inr (inr (record { short = record { bytes = short; lines = λ limited. lines }; has = is })))
 
     pub certificate_refused : (c : Certificate) → SpellsCertificate text c → (fault : Fault) → IsWant fault ⊎ IsRejection t c fault
-        → StopsJudging Network (file_of Role.certificate name text) fault
+        → StopsJudging Network TextFile fault
     certificate_refused c spelled fault (inl want) = inl want
     certificate_refused c spelled fault (inr r) =
-        subst (StopsJudging Network (file_of Role.certificate name text)) (sym r.is)
+        subst (StopsJudging Network TextFile) (sym r.is)
         (refuses (faults.CertRejected r.why) (inr (inr (record { short = record { bytes = short; lines = λ limited. lines }; has = (c, spelled, r.fails) }))))
 
-    pub certificate_says : (c : Certificate) → SpellsCertificate text c → (accepted : Accepted) → IsAccepted t c accepted
-        → SaysAfter Network (λ known. (known ≡ certified t c) × Shows t c accepted) (file_of Role.certificate name text)
-    certificate_says c spelled accepted is known before =
-        let says : Says (network t) (file_of Role.certificate name text) (certified t c) = record {
+    -- a valid one that isn't of the wanted kind
+    pub certificate_unwanted : (c : Certificate) → SpellsCertificate text c → IsValid t c → (¬ IsWantedKind wanted c) → StopsJudging Network TextFile faults.NotBook
+    certificate_unwanted c spelled valid other =
+        refuses faults.NotBook (inr (inr (record {
           short = record { bytes = short; lines = λ limited. lines };
-          means = (c, record { spelled = spelled; valid = is.valid }, refl);
+          has = (c, record { spelled = spelled; valid = valid }, other);
+        })))
+
+    -- and one that is
+    pub certificate_says : (c : Certificate) → SpellsCertificate text c → IsValid t c → IsWantedKind wanted c → (After : Known → Type 0) → After (certified t c)
+        → SaysAfter Network After TextFile
+    certificate_says c spelled valid kind After after known before =
+        let says : Says (network t) TextFile (certified t c) = record {
+          short = record { bytes = short; lines = λ limited. lines };
+          means = (c, record { spelled = spelled; valid = valid }, kind, refl);
         } in
-        (certified t c, (refl, is.shows), subst (λ (k : Known). Says k (file_of Role.certificate name text) (certified t c)) (sym before) says)
+        (certified t c, after, subst (λ (k : Known). Says k TextFile (certified t c)) (sym before) says)

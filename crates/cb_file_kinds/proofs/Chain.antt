@@ -6,12 +6,11 @@ use Rattle.std.specs.Result.{IsErrAnd}
 use Rattle.std.proofs.lemmas.List.{length-map}
 use Rattle.cb_io.specs.Outside.{FilesTold, contents, left_of, ReadsAll, ReadsEach, ReadsFront, KeepsOthers}
 use Rattle.cb_io.proofs.Told.{NoCountFalls-trans, ReadFailed-after, ReadsEach-nil, ReadsEach-next, ReadsEach-gives, ReadsEach-others}
-use Rattle.cb_request.specs.declared.request.Request.{Request}
-use Rattle.cb_request.specs.Files.{Role, judged_of, logs_of, names_of}
+use Rattle.cb_outcome.specs.Roles.{Role}
 use Rattle.cb_report.specs.declared.fault.Fault.{Fault}
 use Rattle.cb_outcome.specs.Judged.{Known, nothing, Says, PassFrom}
-use Rattle.cb_outcome.specs.Jobs.{JobGives}
-use Rattle.cb_outcome.specs.Contents.{Left, with_texts}
+use Rattle.cb_outcome.specs.Contents.{Left, Reads, names_of, with_texts}
+use Rattle.cb_outcome.specs.Command.{Command, reads_of, JobGives}
 use Rattle.cb_outcome.specs.Reading.{Told, LeavesRest, ReadsTo}
 use Rattle.cb_file_kinds.specs.Kinds.{file_of, IsWant, ReadsOnly, StopsReading}
 use Rattle.cb_file_kinds.specs.Ending.{names, Passed, Makes, WantsMemory, StopsAt}
@@ -168,21 +167,21 @@ module _ (earlier : List (Role × List ℕ)) (role : Role) (name : List ℕ) (kn
     counts = NoCountFalls-trans old now new passed.counts only.counts;
   }
 
-  module _ (request : Request) (later : List (Role × List ℕ)) (files_are : judged_of request ≡ earlier ++ (role, name) ∷ later) where
-    names_are : names_of request ≡ names earlier ++ name ∷ (names later ++ logs_of request)
+  module _ (reads : Reads) (later : List (Role × List ℕ)) (files_are : reads.judged ≡ earlier ++ (role, name) ∷ later) where
+    names_are : names_of reads ≡ names earlier ++ name ∷ (names later ++ reads.logs)
     names_are =
-        let first : names (judged_of request) ≡ names earlier ++ name ∷ names later =
+        let first : names (reads.judged) ≡ names earlier ++ name ∷ names later =
         ap names files_are ∙ map_append (λ (file : Role × List ℕ). file.1) earlier ((role, name) ∷ later) in
-        ap (λ (ns : List (List ℕ)). ns ++ logs_of request) first ∙ append_assoc (names earlier) (name ∷ names later) (logs_of request)
+        ap (λ (ns : List (List ℕ)). ns ++ reads.logs) first ∙ append_assoc (names earlier) (name ∷ names later) (reads.logs)
 
-    read_there : ReadsTo (length earlier) (names_of request) old new
+    read_there : ReadsTo (length earlier) (names_of reads) old new
     read_there =
-        subst (λ (n : ℕ). ReadsTo n (names_of request) old new) (length-map earlier (λ (file : Role × List ℕ). file.1))
-        (reads_front old now new (names earlier) (names later ++ logs_of request) name (names_of request) names_are passed.read only.others only.front)
+        subst (λ (n : ℕ). ReadsTo n (names_of reads) old new) (length-map earlier (λ (file : Role × List ℕ). file.1))
+        (reads_front old now new (names earlier) (names later ++ reads.logs) name (names_of reads) names_are passed.read only.others only.front)
 
     -- or stops the run
     pub stops_there : (Before : Known → Type 0) (fault : Fault) → Before known → StopsReading role name Before now new fault
-        → WantsMemory request old new fault ⊎ StopsAt request old new fault
+        → WantsMemory reads old new fault ⊎ StopsAt reads old new fault
     stops_there Before fault before (inl want) = inl (record { is = want; whole = length earlier; read = read_there })
     stops_there Before fault before (inr (inl fails)) = inr (record {
       earlier = earlier;
@@ -207,17 +206,17 @@ module _ (earlier : List (Role × List ℕ)) (role : Role) (name : List ℕ) (kn
 
 -- ---- the job after all files
 
-module _ (request : Request) (files : List (Role × List ℕ)) (known : Known) (old new : FilesTold) (passed : Passed files known old new)
-    (files_are : judged_of request ≡ files) (no_log : logs_of request ≡ []) where
-  names_are_all : names files ≡ names_of request
+module _ (c : Command) (files : List (Role × List ℕ)) (known : Known) (old new : FilesTold) (passed : Passed files known old new)
+    (files_are : c.files ≡ files) (no_log : (reads_of c).logs ≡ []) where
+  names_are_all : names files ≡ names_of (reads_of c)
   names_are_all =
-      let all : names (judged_of request) ++ logs_of request ≡ names files ++ [] = λ i. names (files_are i) ++ no_log i in
+      let all : names (c.files) ++ (reads_of c).logs ≡ names files ++ [] = λ i. names (files_are i) ++ no_log i in
       sym (append_nil (names files)) ∙ sym all
 
   -- what it gives
   pub makes : (bytes : List ℕ) (fault : Option Fault)
-      → ((left : Left) (whole : ℕ) → JobGives left request known whole (record { out = bytes; fault = fault; whole = whole }))
-      → Makes request old new bytes fault
+      → ((left : Left) (whole : ℕ) → JobGives left c known whole (record { out = bytes; fault = fault; whole = whole }))
+      → Makes c old new bytes fault
   makes bytes fault gives = record {
     known = known;
     said = subst (λ (fs : List (Role × List ℕ)). Told old (λ left. PassFrom nothing (with_texts left [] fs) known)) (sym files_are) passed.said;
@@ -227,9 +226,9 @@ module _ (request : Request) (files : List (Role × List ℕ)) (known : Known) (
   }
 
   -- or it wants memory
-  pub wants : (fault : Fault) → IsWant fault → WantsMemory request old new fault
+  pub wants : (fault : Fault) → IsWant fault → WantsMemory (reads_of c) old new fault
   wants fault want = record {
     is = want;
-    whole = length (names_of request);
-    read = reads_all old new (names_of request) (subst (ReadsEach old new) names_are_all passed.read);
+    whole = length (names_of (reads_of c));
+    read = reads_all old new (names_of (reads_of c)) (subst (ReadsEach old new) names_are_all passed.read);
   }

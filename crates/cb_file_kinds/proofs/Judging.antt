@@ -21,7 +21,7 @@ use Rattle.cb_line_files.specs.declared.symptoms.SymptomStop.{SymptomStop}
 use Rattle.cb_line_files.specs.declared.symptoms.SymptomStop.TheVariants as symptoms
 use Rattle.cb_line_files.specs.Topologies.{MakesTopology, Stops as StopsTopology}
 use Rattle.cb_line_files.specs.Symptoms.{ListsNodes, Stops as StopsSymptoms}
-use Rattle.cb_request.specs.Files.{Role, byte_limit}
+use Rattle.cb_outcome.specs.Roles.{Role, byte_limit}
 use Rattle.cb_report.specs.declared.fault.Fault.{Fault}
 use Rattle.cb_report.specs.declared.fault.Fault.TheVariants as faults
 use Rattle.cb_outcome.specs.Judged.{Known, nothing, parsed, network, raised, Says, Refuses}

@@ -1,23 +1,21 @@
 -- A codebook that is given by a certificate.
-use Rattle.std.specs.Prelude.{◌≡◌, ◌⊎◌, ℕ, List}
+use Rattle.std.specs.Prelude.{◌≡◌, ℕ, List}
+use Rattle.cb_text.specs.Lines.{HasShortLines}
 use Rattle.cb_network.specs.Topology.{Topology}
 use Rattle.cb_cert.specs.declared.certificate.Certificate.{Certificate}
 use Rattle.cb_cert.specs.declared.certificate.Certificate.TheVariants.{Book as BookClaim}
 use Rattle.cb_cert.specs.declared.certificate.Span.{Span}
-use Rattle.cb_cert.specs.Format.{IsCertificate}
+use Rattle.cb_cert.specs.Format.{IsCertificate, SpellsCertificate}
 use Rattle.cb_validity.specs.Valid.{IsValid}
 use Rattle.cb_validity.specs.declared.verdict.Accepted.{Accepted}
 use Rattle.cb_validity.specs.Verdicts.{Shows}
 use Rattle.cb_topo.specs.Numbered.{topology_of}
-use Rattle.cb_report.specs.declared.fault.Fault.{Fault}
-use Rattle.cb_report.specs.declared.fault.Fault.TheVariants as faults
 use Rattle.cb_report.specs.CertificateTexts.{accepted_text}
 use Rattle.cb_outcome.specs.Judged.{Known, certified}
-use Rattle.cb_outcome.specs.Texts.{IsBookKind}
 use Rattle.cb_file_kinds.specs.declared.book_file.GivenBook.{GivenBook}
-use Rattle.cb_file_kinds.specs.declared.book_file.Shown.{Shown}
+use Rattle.cb_file_kinds.specs.declared.certificate_file.Shown.{Shown}
+use Rattle.cb_file_kinds.specs.declared.certificate_file.ValidCertificate.{ValidCertificate}
 use Rattle.cb_file_kinds.specs.declared.book_file.ShownBook.{ShownBook}
-use Rattle.cb_file_kinds.specs.Kinds.{IsRejection}
 
 -- the certificate with these spans after the nodes and the columns
 abbrev pub certificate_of : GivenBook → List Span → Certificate
@@ -41,11 +39,17 @@ pub record IsLineOf (t : Topology) (c : Certificate) (line : List ℕ) : Type 0 
   pub shows : Shows t c accepted
   pub is : line ≡ accepted_text accepted
 
--- the certificate is valid, and this is its line; the graph is of the topology
+-- the certificate is valid, and shows this; the graph is of the topology
 pub record IsShown (t : Topology) (c : Certificate) (shown : Shown) : Type 0 where
   pub valid : IsValid t c
-  pub line : IsLineOf t c shown.line.items
+  pub shows : Shows t c shown.accepted
   pub graph : topology_of shown.graph ≡ t
+
+-- the text spells the certificate, and its lines aren't too long
+pub record IsValidFrom (t : Topology) (text : List ℕ) (valid : ValidCertificate) : Type 0 where
+  pub lines : HasShortLines text
+  pub spelled : SpellsCertificate text valid.certificate
+  pub shown : IsShown t valid.certificate valid.shown
 
 -- it is the codebook of the certificate, with its line
 pub record IsShownBy (t : Topology) (c : Certificate) (shown : ShownBook) : Type 0 where
@@ -55,13 +59,3 @@ pub record IsShownBy (t : Topology) (c : Certificate) (shown : ShownBook) : Type
 -- the same, by what is known
 abbrev pub IsKnownBook : Topology → ShownBook → Known → Type 0
 IsKnownBook t shown known = (c : Certificate) × (known ≡ certified t c) × IsShownBy t c shown
-
--- a valid certificate gives no codebook
-pub record IsOther (t : Topology) (c : Certificate) (fault : Fault) : Type 0 where
-  pub valid : IsValid t c
-  pub other : ¬ IsBookKind c
-  pub is : fault ≡ faults.NotBook
-
--- the certificate isn't valid, or gives no codebook
-abbrev pub IsNoBook : Topology → Certificate → Fault → Type 0
-IsNoBook t c fault = IsRejection t c fault ⊎ IsOther t c fault

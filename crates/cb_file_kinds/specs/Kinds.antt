@@ -8,7 +8,7 @@ use Rattle.cb_validity.specs.declared.verdict.Rejected.{Rejected}
 use Rattle.cb_validity.specs.Checks.{IsFirstFail}
 use Rattle.cb_validity.specs.Valid.{IsValid}
 use Rattle.cb_validity.specs.Verdicts.{Shows}
-use Rattle.cb_request.specs.Files.{Role}
+use Rattle.cb_outcome.specs.Roles.{Role}
 use Rattle.cb_report.specs.declared.fault.Fault.{Fault}
 use Rattle.cb_report.specs.declared.fault.Fault.TheVariants as faults
 use Rattle.cb_report.specs.declared.status.Status.TheVariants.{Memory}

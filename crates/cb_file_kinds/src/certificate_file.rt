@@ -1,11 +1,12 @@
 //! Certificate files.
-ghost use Rattle.std.specs.Prelude.{◌≡◌, ◌⊎◌, IfOk, IfErr};
+ghost use Rattle.std.specs.Prelude.{◌≡◌, ◌⊎◌, ◌≤◌, ℕ, List, length, IfOk, IfErr};
 ghost use Rattle.cb_cert.specs.Format.{IsCertificate};
 ghost use Rattle.cb_validity.specs.Verdicts.{Shows};
 ghost use Rattle.cb_topo.specs.Numbered.{topology_of};
-ghost use Rattle.cb_request.specs.Files.{Role};
+ghost use Rattle.cb_outcome.specs.Roles.{Wanted, Role, byte_limit};
 ghost use Rattle.cb_outcome.specs.Judged.{network, certified};
-ghost use Rattle.cb_file_kinds.specs.Kinds.{IsWant, IsRejection, IsAccepted};
+ghost use Rattle.cb_file_kinds.specs.Kinds.{IsWant, IsRejection, IsAccepted, file_of, StopsJudging};
+ghost use Rattle.cb_file_kinds.specs.Given.{IsShown, IsValidFrom};
 
 use crate::kind::FileKind;
 use cb_cert::{Certificate, read};
@@ -22,14 +23,21 @@ use std::sync::ledger::Ledger;
 /// A certificate file has at most so many bytes.
 pub const MOST_BYTES: usize = 32 << 20;
 
-/// A certificate that was checked, and what it shows.
+/// What a certificate shows, and the graph that it was checked against.
 #[derive(Drop)]
-pub struct Verified {
-    pub certificate: Certificate,
+pub struct Shown {
+    pub graph: Graph,
     pub accepted: Accepted,
 }
 
-/// A certificate file, after the topology. To check it, edges are asked for, which are counted.
+/// A certificate that is valid for a topology, and what it shows.
+#[derive(Drop)]
+pub struct ValidCertificate {
+    pub certificate: Certificate,
+    pub shown: Shown,
+}
+
+/// A certificate file of any kind, after the topology. To check it, edges are asked for, which are counted.
 #[derive(Drop)]
 pub struct CertificateFile<'s, L: Ledger> {
     pub topology: Topology,
@@ -37,13 +45,13 @@ pub struct CertificateFile<'s, L: Ledger> {
 }
 
 impl<'s, L: Ledger> FileKind for CertificateFile<'s, L> {
-    type Value = Verified;
+    type Value = ValidCertificate;
 
-    ghost role = { Role.certificate };
+    ghost role = { Role.certificate Wanted.any };
 
     ghost before = { λ file known. known ≡ network (topology_of file.topology) };
 
-    ghost after = { λ file value known. (known ≡ certified (topology_of file.topology) value.certificate) × Shows (topology_of file.topology) value.certificate value.accepted };
+    ghost after = { λ file value known. (known ≡ certified (topology_of file.topology) value.certificate) × Shows (topology_of file.topology) value.certificate value.shown.accepted };
 
     fn most_bytes(&self) -> usize {
         MOST_BYTES
@@ -54,38 +62,59 @@ impl<'s, L: Ledger> FileKind for CertificateFile<'s, L> {
         alloc: Global,
         name: FileName<'w>,
         text: &[u8],
-    ) -> Result<Verified, Fault<'w>> {
-        if let Some(line) = first_long(text) {
-            return Err(Fault::LimitLine { name, line });
+    ) -> Result<ValidCertificate, Fault<'w>> {
+        read_valid(alloc, self.topology, name, text, self.steps)
+    }
+}
+
+/// The valid certificate of a text, or why there is none, whichever kind is wanted.
+pub(crate) fn read_valid<'w, L: Ledger>(
+    alloc: Global,
+    topology: Topology,
+    name: FileName<'w>,
+    text: &[u8],
+    steps: &mut Steps<L>,
+) -> Result<ValidCertificate, Fault<'w>>
+    requires { length text.now ≤ byte_limit (Role.certificate Wanted.any) }
+    ensures valid { IfOk result (IsValidFrom (topology_of topology) text.now) }
+    ensures stops { IfErr result (λ fault. (wanted : Wanted) → StopsJudging (λ known. known ≡ network (topology_of topology)) (file_of (Role.certificate wanted) name.entry text.now) fault) }
+{
+    if let Some(line) = first_long(text) {
+        return Err(Fault::LimitLine { name, line });
+    }
+    let certificate = read(alloc, text)?;
+    match shown_by(alloc, topology, &certificate, steps) {
+        Ok(shown) => Ok(ValidCertificate { certificate, shown }),
+        Err(fault) => {
+            drop(certificate);
+            Err(fault)
         }
-        let certificate = read(alloc, text)?;
-        let accepted = checked_alone(alloc, self.topology, &certificate, self.steps)?;
-        Ok(Verified {
-            certificate,
-            accepted,
-        })
     }
 }
 
 // What the certificate shows of the topology, or why it isn't valid.
-fn checked_alone<'w, L: Ledger>(
+fn shown_by<'w, L: Ledger>(
     alloc: Global,
     topology: Topology,
     certificate: &Certificate,
     steps: &mut Steps<L>,
-) -> Result<Accepted, Fault<'w>>
+) -> Result<Shown, Fault<'w>>
     requires { IsCertificate certificate.now }
-    ensures accepted { IfOk result (IsAccepted (topology_of topology) certificate.now) }
+    ensures shown { IfOk result (IsShown (topology_of topology) certificate.now) }
     ensures rejected { IfErr result (λ fault. IsWant fault ⊎ IsRejection (topology_of topology) certificate.now fault) }
 {
     let mut graph = Graph::new(alloc, topology)?;
-    let shown = checked(alloc, &mut graph, certificate, steps);
-    drop(graph);
-    shown
+    match checked(alloc, &mut graph, certificate, steps) {
+        Ok(accepted) => Ok(Shown { graph, accepted }),
+        Err(fault) => {
+            drop(graph);
+            Err(fault)
+        }
+    }
 }
 
-/// The same, of the graph's topology.
-pub(crate) fn checked<'w, L: Ledger>(
+// The same, of the graph's topology.
+fn checked<'w, L: Ledger>(
     alloc: Global,
     graph: &mut Graph,
     certificate: &Certificate,

@@ -1,6 +1,6 @@
 //! Kinds of files, and how one is read and judged.
 ghost use Rattle.std.specs.Prelude.{◌≡◌, ◌≤◌, length, IfOk, IfErr};
-ghost use Rattle.cb_request.specs.Files.{Role, byte_limit};
+ghost use Rattle.cb_outcome.specs.Roles.{Role, byte_limit};
 ghost use Rattle.cb_outcome.specs.Judged.{Known};
 ghost use Rattle.cb_file_kinds.specs.Kinds.{file_of, SaysAfter, StopsJudging, ReadsOnly, ReadsSaying, StopsReading};
 

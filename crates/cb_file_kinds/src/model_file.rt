@@ -3,7 +3,7 @@ ghost use Rattle.std.specs.Prelude.{◌≡◌, IfOk, IfSome, IfNone};
 ghost use Rattle.cb_grammar.specs.declared.tree.Tree.{Tree as TreeValue};
 ghost use Rattle.cb_rules.specs.Fault.{IsFault, KeepsAll};
 ghost use Rattle.cb_check.specs.Stands.{Stands};
-ghost use Rattle.cb_request.specs.Files.{Role};
+ghost use Rattle.cb_outcome.specs.Roles.{Role};
 ghost use Rattle.cb_outcome.specs.Judged.{nothing, parsed};
 
 use crate::kind::{FileKind, MOST_BYTES};

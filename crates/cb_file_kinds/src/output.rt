@@ -2,13 +2,13 @@
 ghost use Rattle.std.specs.Prelude.{Ok};
 ghost use Rattle.cb_file_kinds.specs.Ending.{Delivers, wrong};
 
-use cb_io::{Sink, write_all};
-use cb_report::Fault;
+use cb_io::Sink;
+use cb_report::{Fault, Text};
 
-/// The bytes for the output, and what is wrong all the same, if something is.
+/// The text for the output, and what is wrong all the same, if something is.
 #[derive(Drop)]
 pub struct Output<'w> {
-    pub bytes: Vec<u8>,
+    pub text: Text,
     pub fault: Option<Fault<'w>>,
 }
 
@@ -25,14 +25,14 @@ pub fn deliver<'w, O: Sink>(
     }
 }
 
-// Writes the bytes, and then tells what is wrong all the same.
+// Writes the text, and then tells what is wrong all the same.
 fn write<'w, O: Sink>(output: Output<'w>, out: &mut O) -> Result<(), Fault<'w>>
     ensures { Delivers (Ok output.entry) (wrong result) (O.tells out.old) (O.tells out.new) }
 {
-    if write_all(out, &output.bytes).is_err() {
+    let Output { text, fault } = output;
+    if text.write(out).is_err() {
         return Err(Fault::WriteFault);
     }
-    let Output { fault, .. } = output;
     match fault {
         Some(fault) => Err(fault),
         None => Ok(()),

@@ -3,7 +3,7 @@ ghost use Rattle.std.specs.Prelude.{◌≡◌};
 ghost use Rattle.cb_model.specs.Order.{Rises};
 ghost use Rattle.cb_model.specs.NodeOrder.{node_cmp};
 ghost use Rattle.cb_topo.specs.Numbered.{topology_of};
-ghost use Rattle.cb_request.specs.Files.{Role};
+ghost use Rattle.cb_outcome.specs.Roles.{Role};
 ghost use Rattle.cb_outcome.specs.Judged.{network, raised};
 ghost use Rattle.cb_file_kinds.specs.Faults.{fault_of_symptoms};
 

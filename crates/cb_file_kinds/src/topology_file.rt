@@ -3,7 +3,7 @@ ghost use Rattle.std.specs.Prelude.{◌≡◌};
 ghost use Rattle.cb_grammar.specs.declared.tree.Tree.{Tree};
 ghost use Rattle.cb_check.specs.Stands.{Stands};
 ghost use Rattle.cb_topo.specs.Numbered.{topology_of};
-ghost use Rattle.cb_request.specs.Files.{Role};
+ghost use Rattle.cb_outcome.specs.Roles.{Role};
 ghost use Rattle.cb_outcome.specs.Judged.{parsed, network};
 ghost use Rattle.cb_file_kinds.specs.Faults.{fault_of_topology};
 

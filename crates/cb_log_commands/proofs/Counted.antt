@@ -13,14 +13,14 @@ use Rattle.cb_log.specs.Events.{IsNetwork}
 use Rattle.cb_log.specs.Network.{IsNow}
 use Rattle.cb_alarm.specs.Lines.{NumberedLine, line_of, log_lines, log_line_limit}
 use Rattle.cb_gen.specs.Log.{log_text}
-use Rattle.cb_request.specs.declared.request.Request.TheVariants.{Correlate}
+use Rattle.cb_outcome.specs.Commands.Correlate.{correlate_reads}
 use Rattle.cb_report.specs.declared.summary.Summary.{Summary}
 use Rattle.cb_outcome.specs.Contents.{files_from, log_from}
 use Rattle.cb_outcome.specs.Grown.{MakesUp}
 use Rattle.cb_outcome.specs.Judged.{nothing, network, PassFrom}
 use Rattle.cb_outcome.specs.LogJobs.{Watch, log_limit}
 use Rattle.cb_outcome.specs.Reading.{Told, LeavesRest}
-use Rattle.cb_outcome.specs.Steps.{CountsLines, CountsLog, lines_taken, CountsCorrelate, CountsGrow}
+use Rattle.cb_outcome.specs.Costs.{CountsLines, CountsLog, lines_taken, CountsCorrelate, CountsGrow}
 use Rattle.cb_outcome.proofs.GrownOne.{made_up_one}
 use Rattle.cb_outcome.proofs.LogFronts as fronts
 use Rattle.cb_session.specs.State.{State}
@@ -105,10 +105,10 @@ counts_further_on watch now reader start steps b e counts = subst (λ (v : Bool)
 
 -- ---- `correlate`
 
-module _ (model topology log : List ℕ) (distance window : ℕ) (old : FilesTold) where
+module _ (model topology log : List ℕ) (old : FilesTold) where
   -- no step is counted
   pub correlate_none : (after : FilesTold) (steps steps' : ℕ) → steps' ≡ steps
-      → Told old (λ left. CountsCorrelate left (Correlate model topology log distance window) log after steps steps')
+      → Told old (λ left. CountsCorrelate left (correlate_reads model topology log) log after steps steps')
   correlate_none after steps steps' same = of_all old.left _ (λ left. record {
     most = λ t passed taken searched is cost costs. omega (arith, same);
     none = λ not. same;
@@ -116,33 +116,33 @@ module _ (model topology log : List ℕ) (distance window : ℕ) (old : FilesTol
   })
 
   -- the topology was searched, and nothing was read of the log
-  pub correlate_opened : (after : FilesTold) (t : Topology) (steps steps' : ℕ) → Told old (λ left. PassFrom nothing (files_from left (Correlate model topology log distance window)) (network t))
+  pub correlate_opened : (after : FilesTold) (t : Topology) (steps steps' : ℕ) → Told old (λ left. PassFrom nothing (files_from left (correlate_reads model topology log)) (network t))
       → ReadsEach old after (model ∷ topology ∷ []) → ((cost : ℕ) → IsOpenCost t cost → steps' ≤ steps + cost)
-      → Told old (λ left. CountsCorrelate left (Correlate model topology log distance window) log after steps steps')
+      → Told old (λ left. CountsCorrelate left (correlate_reads model topology log) log after steps steps')
   correlate_opened after t steps steps' passed read opened = if_some2 old.left _ _ _ (λ left here known. record {
     most = λ u there taken searched is cost costs.
-        let same : network u ≡ network t = pass_is_one nothing (files_from left (Correlate model topology log distance window)) (network u) (network t) tt there here in
+        let same : network u ≡ network t = pass_is_one nothing (files_from left (correlate_reads model topology log)) (network u) (network t) tt there here in
         let low = opened searched (subst (λ (v : Topology). IsOpenCost v searched) (same_network u t same) is) in
         omega (arith, low);
     none = λ not. absurd (not t here);
-    missed = λ not. absurd (not ([], log_from left (Correlate model topology log distance window) log, refl, known log));
+    missed = λ not. absurd (not ([], log_from left (correlate_reads model topology log) log, refl, known log));
   }) passed read
 
   -- and the log was followed
   pub correlate_followed : (now after : FilesTold) (t : Topology) (steps mid steps' : ℕ)
-      → Told old (λ left. PassFrom nothing (files_from left (Correlate model topology log distance window)) (network t))
+      → Told old (λ left. PassFrom nothing (files_from left (correlate_reads model topology log)) (network t))
       → ReadsEach old now (model ∷ topology ∷ []) → ReadsFront now after log → ((cost : ℕ) → IsOpenCost t cost → mid ≤ steps + cost) → CountsTaken t log now after mid steps'
-      → Told old (λ left. CountsCorrelate left (Correlate model topology log distance window) log after steps steps')
+      → Told old (λ left. CountsCorrelate left (correlate_reads model topology log) log after steps steps')
   correlate_followed now after t steps mid steps' passed read (front, came) opened follows = if_some2 old.left _ _ _ (λ left here known. record {
     most = λ u given taken searched is cost costs.
-        let same : u ≡ t = same_network u t (pass_is_one nothing (files_from left (Correlate model topology log distance window)) (network u) (network t) tt given here) in
+        let same : u ≡ t = same_network u t (pass_is_one nothing (files_from left (correlate_reads model topology log)) (network u) (network t) tt given here) in
         let low = opened searched (subst (λ (v : Topology). IsOpenCost v searched) same is) in
         let counts = there (left_of now log) (λ bytes. (front : LeavesRest bytes (left_of after log)) → CountsLines t (lines_taken front.0 front.1) mid steps')
-        (log_from left (Correlate model topology log distance window) log) (known log) follows taken in
+        (log_from left (correlate_reads model topology log) log) (known log) follows taken in
         let more = subst (λ (v : Topology). CountsLines v (lines_taken taken.0 taken.1) mid steps') (sym same) counts cost costs in
         omega (arith, low, more);
     none = λ not. absurd (not t here);
-    missed = λ not. absurd (not (leaves_rest (left_of now log) (left_of after log) (log_from left (Correlate model topology log distance window) log) front (known log) came));
+    missed = λ not. absurd (not (leaves_rest (left_of now log) (left_of after log) (log_from left (correlate_reads model topology log) log) front (known log) came));
   }) passed read
 
 -- ---- a log that is summed up

@@ -12,9 +12,10 @@ use Rattle.cb_io.specs.declared.line_reader.Line.TheVariants as given
 use Rattle.cb_io.specs.LineReading.{Reading, coming, IsOneLine, GivesEnded, GivesLast, GivesLine, IsNumbered, Says}
 use Rattle.cb_io.specs.Outside.{FilesTold, left_of, ReadsFront}
 use Rattle.cb_network.specs.declared.edit.Edit.{Edit}
+use Rattle.cb_network.specs.Edits.{IsAfterAll, result_or}
 use Rattle.cb_network.specs.Regular.{IsRegular}
 use Rattle.cb_network.specs.Topology.{Topology}
-use Rattle.cb_network.proofs.Accepted.{after_all_is_one}
+use Rattle.cb_network.proofs.Accepted.{after_all_is_one, regular_stays}
 use Rattle.cb_log.specs.declared.record.Body.{Body}
 use Rattle.cb_log.specs.declared.record.Body.TheVariants.{Raise, Clear, Change, Tick}
 use Rattle.cb_log.specs.declared.record.Record.{Record}
@@ -28,7 +29,7 @@ use Rattle.cb_alarm.specs.Lines as lines
 use Rattle.cb_alarm.proofs.OneSkip.{come_to_one}
 use Rattle.cb_outcome.specs.LogJobs.{Watch}
 use Rattle.cb_outcome.specs.Reading.{LeavesRest}
-use Rattle.cb_outcome.specs.Steps.{CountsLines, lines_taken}
+use Rattle.cb_outcome.specs.Costs.{CountsLines, lines_taken}
 use Rattle.cb_outcome.proofs.LogFronts.{front_lines, front_ended, first_come}
 use Rattle.cb_session.specs.State.{State}
 use Rattle.cb_log_commands.specs.Counting.{CountsLine, CountsGiven, IsCountedAt}
@@ -66,6 +67,11 @@ last_comes (x ∷ xs) line [] come = absurd come
 last_comes (x ∷ xs) line (e ∷ es) (first, come) =
     let (before, entry, is, here, last) = last_comes xs line es come in (e ∷ before, entry, ap (λ (v : List LogEntry). e ∷ v) is, (first, here), last)
 
+-- edits keep a model regular
+regular_later : (t : Topology) (edits : List Edit) (u : Topology) → IsRegular t.model → IsAfterAll t edits u → IsRegular u.model
+regular_later t [] u regular same = subst (λ (v : Topology). IsRegular v.model) same regular
+regular_later t (edit ∷ edits) u regular (result, is, rest) = regular_later (result_or t result) edits u (regular_stays t edit result regular is) rest
+
 module _ (t : Topology) where
   -- a line more costs what its edit costs, made of the topology that those before it leave
   pub counts_more : IsRegular t.model → (before : List NumberedLine) (entries : List LogEntry) → ComeTo before entries → (u : Topology) → IsNow t (records_of entries) u
@@ -79,7 +85,7 @@ module _ (t : Topology) where
       let here : parts.between ≡ u = after_all_is_one t (edits_of (records_of some)) parts.between u regular parts.after
       (subst (λ (es : List LogEntry). IsNow t (records_of es) u) (sym same) now) in
       let first = counts parts.first (some, some_come, parts.first_is) in
-      let last = counts_line entry comes parts.later (subst (λ (v : Topology). IsCostInTurn v (edits_of (records_of (entry ∷ []))) parts.later) here parts.later_is) in
+      let last = counts_line (regular_later t (edits_of (records_of entries)) u regular now) entry comes parts.later (subst (λ (v : Topology). IsCostInTurn v (edits_of (records_of (entry ∷ []))) parts.later) here parts.later_is) in
       let sum = parts.cost_is in
       omega (arith, first, last, sum)
 

@@ -2,7 +2,7 @@
 use Rattle.std.proofs.Common.{◌≡◌, ◌∙◌, ◌≤◌, ◌<◌, ◌+◌, ℕ, min, Bool, true, false, List, [], ◌∷◌, ◌++◌, append_assoc, append-nil, length, take, refl, sym, ap, subst, inl, inr, arith, Ok}
 use Rattle.std.specs.Prelude.{Option, None, Some, IfSome, IsSome}
 use Rattle.std.specs.Option.{option_map}
-use Rattle.std.specs.Io.KnownBytes.{Appends}
+use Rattle.std.specs.Io.KnownBytes.{Appends, Consumes}
 use Rattle.std.proofs.KnownBytes.{Appends-trans, Consumes-nil, Consumes-trans, Keeps-refl}
 use Rattle.std.proofs.lemmas.Bool.{cases_lt}
 use Rattle.std.proofs.lemmas.List.{length-append}
@@ -46,6 +46,11 @@ left_there kept (Some l) rest e = (l, refl, there_is rest (kept ++ l) e)
   where
     there_is : (x y : List ℕ) → Some y ≡ Some x → x ≡ y
     there_is x y e = cc
+
+-- of these bytes a prefix came, and these are left
+consumed : (a b : Option (List ℕ)) (left rest front : List ℕ) → a ≡ Some left → b ≡ Some rest → Consumes a b front → left ≡ front ++ rest
+consumed a b left rest front e h came =
+    subst (λ (o : Option (List ℕ)). Consumes (Some left) o front) h (subst (λ (o : Option (List ℕ)). Consumes o b front) e came)
 
 pub no_more : (xs ys : List ℕ) → [] ≡ xs ++ ys → ys ≡ []
 no_more [] ys e = sym e
@@ -180,12 +185,31 @@ module _ (watch : Watch) (now : FilesTold) (out : SinkTold) (reader : Reading) (
         });
   }
 
+  -- what was given is no farther than what was taken
+  taken_here : (log : List ℕ) → HasTold watch log reader files session out out_now → (front rest : List ℕ) → log ≡ front ++ rest
+      → left_of files' reader'.name ≡ Some rest → reader.given + 0 ≤ length front
+  taken_here log has front rest log_is left_is =
+      let (left, is, are) = left_there reader.kept (left_of files reader.name) has.rest has.comes in
+      let left_here : left_of files' reader.name ≡ Some rest = subst (λ (n : List ℕ). left_of files' n ≡ Some rest) same.name left_is in
+      let parts = consumed (left_of files reader.name) (left_of files' reader.name) left rest only.front.0 is left_here only.front.1 in
+      let a = ap length has.is_at.log_is in
+      let b = length-append (joined has.is_at.lines) has.rest in
+      let d = has.is_at.given_is in
+      let e = ap length are in
+      let f = length-append reader.kept left in
+      let g = ap length parts in
+      let h = length-append only.front.0 rest in
+      let k = ap length log_is in
+      let l = length-append front rest in
+      omega (arith, a, b, d, e, f, g, h, k, l)
+
   pub no_memory : EndsLog watch reader'.name now files' out out_now (Some faults.Memory)
   no_memory = record {
     only = only_all;
     wrong = tt;
     tells = at_log _ (λ log has. record {
-      taken = reader.given + 0;
+      upto = reader.given + 0;
+      within = λ front rest log_is left_is. taken_here log has front rest log_is left_is;
       due = has.told;
       is_due = told_is_due watch going.regular log reader.number reader.given has.rest session has.told has.is_at [] has.rest refl one_none;
       written = has.written;
@@ -255,12 +279,31 @@ module _ (watch : Watch) (now : FilesTold) (out : SinkTold) (reader : Reading) (
 
     -- or its write failed
     module _ (goes : GoesOn reader') (front : WritesFront out_now out' text) (failed : WriteFailed out_now out') where
+      -- not many bytes were taken after those that were given
+      next_given : (log : List ℕ) (has : HasTold watch log reader files session out out_now)
+          → ComesNext watch log reader reader' files' session' has.told text has.rest → (taken rest : List ℕ) → log ≡ taken ++ rest
+          → left_of files' reader'.name ≡ Some rest → length taken ≤ reader'.given + 0 + 65536
+      next_given log has next taken rest log_is left_is =
+          let (left, is, are) = left_there reader'.kept (left_of files' reader'.name) next.rest next.comes in
+          let same_rest : left ≡ rest = some_is_one left rest (sym is ∙ left_is) in
+          let a = ap length next.is_at.log_is in
+          let b = length-append (joined next.is_at.lines) next.rest in
+          let c = ap length are in
+          let d = length-append reader'.kept left in
+          let e = ap length log_is in
+          let f = length-append taken rest in
+          let g = ap length same_rest in
+          let h = next.is_at.given_is in
+          let few = goes.few in
+          omega (arith, a, b, c, d, e, f, g, h, few)
+
       part : (log : List ℕ) (has : HasTold watch log reader files session out out_now) (b : Bool) → Comes b watch log reader reader' files' session' has.told text has.rest
-          → IsToldInPart watch log out out'
+          → IsToldInPart watch log (left_of files' reader'.name) out out'
       part log has false next = (
         has.told ++ text,
         inl (
           reader'.given + 0,
+          λ taken rest log_is left_is. next_given log has next taken rest log_is left_is,
           told_is_due watch going.regular log reader'.number reader'.given next.rest session' (has.told ++ text) next.is_at [] next.rest refl one_none,
         ),
         WritesFront-second out out_now out' has.told text has.written front,
@@ -290,25 +333,17 @@ module _ (watch : Watch) (now : FilesTold) (out : SinkTold) (reader : Reading) (
         next_near : ComesNext watch log reader reader' files' session' has.told text has.rest → (taken rest : List ℕ) → log ≡ taken ++ rest
             → left_of files' reader'.name ≡ Some rest → length taken ≤ upto + 65536
         next_near next taken rest log_is left_is =
-            let (left, is, are) = left_there reader'.kept (left_of files' reader'.name) next.rest next.comes in
-            let same_rest : left ≡ rest = some_is_one left rest (sym is ∙ left_is) in
             let a = ap length next.is_at.log_is in
             let b = length-append (joined next.is_at.lines) next.rest in
-            let c = ap length are in
-            let d = length-append reader'.kept left in
-            let e = ap length log_is in
-            let f = length-append taken rest in
-            let g = ap length same_rest in
             let h = next.is_at.given_is in
             let k = ap length next.begin.are in
             let l = length-append next.line (10 ∷ next.rest) in
-            let few = goes.few in
             let size = log_size in
-            let behind : length taken ≤ reader'.given + 65536 = omega (arith, a, b, c, d, e, f, g, h, few) in
+            let near = next_given log has next taken rest log_is left_is in
             let line_end : reader'.given ≡ reader.given + length next.line + 1 = omega (arith, a, b, h, k, l, size) in
             elim (cases_lt upto reader'.given) [
               | inl early ↦ absurd (not_early next.line (10 ∷ next.rest) next.begin.are next.begin.one (omega (arith, early, line_end)))
-              | inr past ↦ omega (arith, past, behind)
+              | inr past ↦ omega (arith, past, near)
             ]
 
         last_near : ComesLast watch log reader reader' files' has.told text has.rest → (taken rest : List ℕ) → log ≡ taken ++ rest → length taken ≤ upto + 65536

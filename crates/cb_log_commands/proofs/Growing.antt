@@ -15,8 +15,9 @@ use Rattle.cb_network.specs.declared.edit.EditRefusal.{EditRefusal}
 use Rattle.cb_line_files.specs.Topologies.{MakesTopology, IsFirstWrong}
 use Rattle.cb_gen.specs.Model.{model_text}
 use Rattle.cb_gen.specs.Topology.{topology_text}
-use Rattle.cb_request.specs.Files.{Role, names_of}
-use Rattle.cb_request.specs.declared.request.Request.TheVariants.{Grow}
+use Rattle.cb_outcome.specs.Roles.{Role}
+use Rattle.cb_outcome.specs.Command.{file_words}
+use Rattle.cb_outcome.specs.Commands.Grow.{grow}
 use Rattle.cb_report.specs.declared.fault.Fault.{Fault}
 use Rattle.cb_report.specs.declared.fault.Fault.TheVariants as faults
 use Rattle.cb_outcome.specs.Judged.{nothing, parsed, Means, IsModelFault}
@@ -59,7 +60,7 @@ module _ (sites : ℕ) (text second : List ℕ) (e : text ≡ model_text) (f : s
 -- ---- a fault
 
 pub refused_comes : (sites start : ℕ) (fault : Fault) (result : Result Output Fault) → AnswersFault fault result
-    → IsWant fault ⊎ HasMadeUpFault sites fault → (files : FilesTold) → Comes (Grow sites start) files files result
+    → IsWant fault ⊎ HasMadeUpFault sites fault → (files : FilesTold) → Comes (grow sites start) files files result
 refused_comes sites start fault (Ok output) (empty, is, not) (inl want) files = absurd (not want)
 refused_comes sites start fault (Ok output) (empty, is, not) (inr has) files = record {
   known = nothing;
@@ -69,4 +70,4 @@ refused_comes sites start fault (Ok output) (empty, is, not) (inr has) files = r
   alone = refl;
 }
 refused_comes sites start fault (Err other) (is, want) has files =
-    inl (record { is = subst IsWant (sym is) want; whole = 0; read = reads_none files files (names_of (Grow sites start)) refl })
+    inl (record { is = subst IsWant (sym is) want; whole = 0; read = reads_none files files (file_words (grow sites start)) refl })

@@ -8,3 +8,4 @@ pub mod Summing
 pub mod Growing
 pub mod Counting
 pub mod Counted
+pub mod LineCosts

@@ -1,5 +1,5 @@
 -- What is left where the line that a log opens with isn't written.
-use Rattle.std.proofs.Common.{◌≡◌, ◌∙◌, ℕ, List, [], length, refl, sym, ap, inl, arith, append-nil, Result, Ok, Err, is_err, true}
+use Rattle.std.proofs.Common.{◌≡◌, ◌∙◌, ◌≤◌, ◌+◌, ℕ, List, [], ◌++◌, length, refl, sym, ap, inl, arith, append-nil, Result, Ok, Err, is_err, true}
 use Rattle.std.specs.Prelude.{Some, OnErr}
 use Rattle.std.proofs.lemmas.List.{length-append}
 use Rattle.cb_io.specs.Outside.{FilesTold, SinkTold, left_of, WritesFront, WriteFailed}
@@ -11,6 +11,14 @@ use Rattle.cb_log_commands.proofs.Following.{reads_nothing, told_by}
 same_bytes : (a b : List ℕ) → Some a ≡ Some b → a ≡ b
 same_bytes a b e = cc
 
+-- where all is left, nothing was read
+none_read : (log read rest : List ℕ) → log ≡ rest → log ≡ read ++ rest → length read ≤ 0 + 65536
+none_read log read rest all log_is =
+    let parts = ap length log_is in
+    let sum = length-append read rest in
+    let whole = ap length all in
+    omega (arith, parts, sum, whole)
+
 -- before the first line the opening alone is due
 opening_is_due : (watch : Watch) (log : List ℕ) → IsDueUpto watch log 0 watch.opening
 opening_is_due watch log = ([], ([], tt, refl), sym (append-nil watch.opening))
@@ -21,7 +29,11 @@ cannot_open watch name files out out' front failed = record {
   only = reads_nothing files name;
   wrong = failed;
   tells = told_by (left_of files name) _ (λ log is. record {
-    part = (watch.opening, inl (0, opening_is_due watch log), front);
+    part = (
+      watch.opening,
+      inl (0, λ read rest log_is left_is. none_read log read rest (same_bytes log rest (sym is ∙ left_is)) log_is, opening_is_due watch log),
+      front,
+    );
     near = λ some upto read rest due written log_is left_is is_due all less.
         let parts = ap length log_is in
         let sum = length-append read rest in

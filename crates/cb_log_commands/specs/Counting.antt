@@ -1,5 +1,5 @@
 -- How many steps are counted of a log that is followed, or summed up. `now` is told before it is read, `after` at last.
-use Rattle.std.specs.Prelude.{◌≡◌, ℕ, List, [], take, Bool, false, IfSome, Result, Ok}
+use Rattle.std.specs.Prelude.{◌≡◌, ◌+◌, ◌≤◌, ℕ, List, [], take, Bool, false, IfSome, Result, Ok}
 use Rattle.cb_io.specs.declared.line_reader.Line.{Line as Given}
 use Rattle.cb_io.specs.declared.line_reader.Line.TheVariants as given
 use Rattle.cb_io.specs.LineReading.{Reading}
@@ -12,8 +12,8 @@ use Rattle.cb_alarm.specs.Lines.{NumberedLine, log_lines, ComesTo}
 use Rattle.cb_report.specs.declared.summary.Summary.{Summary}
 use Rattle.cb_outcome.specs.LogJobs.{Watch}
 use Rattle.cb_outcome.specs.Reading.{LeavesRest}
-use Rattle.cb_outcome.specs.Steps.{CountsLines, lines_taken}
-use Rattle.cb_session.specs.Counted.{CountsEntry}
+use Rattle.cb_outcome.specs.Costs.{CountsLines, lines_taken}
+use Rattle.cb_session.specs.Counted.{IsEntryCost}
 use Rattle.cb_session.specs.State.{State}
 use Rattle.cb_log_commands.specs.declared.stop.LogStop.{LogStop}
 use Rattle.cb_log_commands.specs.Summing.{HasSummedUp}
@@ -21,9 +21,10 @@ use Rattle.cb_log_commands.specs.Telling.{IsAt}
 
 -- ---- a line
 
--- no more steps are counted than the edit costs that the line comes to
+-- over a regular model, no more steps are counted than the edit costs that the line comes to
 abbrev pub CountsLine : Topology → NumberedLine → ℕ → ℕ → Type 0
-CountsLine network line old new = (entry : LogEntry) → ComesTo line entry → CountsEntry network entry old new
+CountsLine network line old new = IsRegular network.model → (entry : LogEntry) → ComesTo line entry → (cost : ℕ) → IsEntryCost network entry cost
+    → new ≤ old + cost
 
 -- of the line that a reader gave, whose bytes are these where it isn't too long; none where it gave none
 abbrev pub CountsGiven : Topology → Given → List ℕ → ℕ → ℕ → Type 0

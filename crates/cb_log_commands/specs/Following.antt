@@ -2,16 +2,14 @@
 -- is left of the log then.
 use Rattle.std.specs.Prelude.{◌≡◌, ◌⊎◌, ℕ, ◌+◌, ◌<◌, ◌≤◌, ◌++◌, min, List, [], ◌∷◌, take, length, Option, None, Some, IsSome, IfSome, map}
 use Rattle.cb_io.specs.Outside.{FilesTold, SinkTold, left_of, ReadsEach, ReadFailed, NoCountFalls, WritesAll, WritesFront, WriteFailed}
-use Rattle.cb_request.specs.declared.request.Request.{Request}
-use Rattle.cb_request.specs.Files.{judged_of, logs_of}
-use Rattle.cb_request.specs.Ranges.{IsInRange}
 use Rattle.cb_report.specs.declared.fault.Fault.{Fault}
 use Rattle.cb_report.specs.declared.fault.Fault.TheVariants as faults
 use Rattle.cb_outcome.specs.Judged.{Known, nothing, PassFrom}
 use Rattle.cb_outcome.specs.Contents.{files_from}
 use Rattle.cb_outcome.specs.Reading.{Told}
 use Rattle.cb_outcome.specs.Clauses.{ahead_limit}
-use Rattle.cb_outcome.specs.LogJobs.{Watch, IsWatch, WholeTells, FrontTells, log_limit}
+use Rattle.cb_outcome.specs.LogJobs.{Watch, WholeTells, FrontTells, log_limit}
+use Rattle.cb_outcome.specs.Command.{Command, reads_of, IsWatch}
 use Rattle.cb_file_kinds.specs.Kinds.{ReadsOnly}
 
 -- what the first bytes of a log tell is due once so many were taken
@@ -47,16 +45,26 @@ pub record IsToldAsTaken (watch : Watch) (log : List ℕ) (left : Option (List �
   pub is_due : IsDueUpto watch log (length front) due
   pub written : WritesAll out out' due
 
--- what is due at some point of the log was written
-pub record IsToldSoFar (watch : Watch) (log : List ℕ) (out out' : SinkTold) : Type 0 where
-  pub taken : ℕ
+-- the point is no farther than the bytes that were taken
+abbrev pub IsTaken : List ℕ → Option (List ℕ) → ℕ → Type 0
+IsTaken log left upto = (front rest : List ℕ) → log ≡ front ++ rest → left ≡ Some rest → upto ≤ length front
+
+-- not many more bytes were taken than up to the point
+abbrev pub IsNearTaken : List ℕ → Option (List ℕ) → ℕ → Type 0
+IsNearTaken log left upto = (front rest : List ℕ) → log ≡ front ++ rest → left ≡ Some rest → length front ≤ upto + ahead_limit
+
+-- what is due at some point of what was taken was written
+pub record IsToldSoFar (watch : Watch) (log : List ℕ) (left : Option (List ℕ)) (out out' : SinkTold) : Type 0 where
+  pub upto : ℕ
+  pub within : IsTaken log left upto
   pub due : List ℕ
-  pub is_due : IsDueUpto watch log taken due
+  pub is_due : IsDueUpto watch log upto due
   pub written : WritesAll out out' due
 
--- a prefix of what is due at some point of the log, or at its end, was written
-abbrev pub IsToldInPart : Watch → List ℕ → SinkTold → SinkTold → Type 0
-IsToldInPart watch log out out' = (due : List ℕ) × (((taken : ℕ) × IsDueUpto watch log taken due) ⊎ IsDueOfAll watch log due) × WritesFront out out' due
+-- a prefix of what is due at some point near what was taken, or at the log's end, was written
+abbrev pub IsToldInPart : Watch → List ℕ → Option (List ℕ) → SinkTold → SinkTold → Type 0
+IsToldInPart watch log left out out' = (due : List ℕ)
+    × (((upto : ℕ) × IsNearTaken log left upto × IsDueUpto watch log upto due) ⊎ IsDueOfAll watch log due) × WritesFront out out' due
 
 -- where more is due at some point of the log than was written, not many more bytes than those were taken
 abbrev pub IsNotFar : Watch → List ℕ → Option (List ℕ) → SinkTold → SinkTold → Type 0
@@ -65,7 +73,7 @@ IsNotFar watch log left out out' = (upto : ℕ) (front rest due written : List �
 
 -- a write failed: a part of what is due was written, and the log wasn't read far ahead of it, where the output is told
 pub record IsCutShort (watch : Watch) (log : List ℕ) (left : Option (List ℕ)) (out out' : SinkTold) : Type 0 where
-  pub part : IsToldInPart watch log out out'
+  pub part : IsToldInPart watch log left out out'
   pub near : IsSome out.taken → IsNotFar watch log left out out'
 
 -- what was written of a log, by the fault that ended it, if there is one
@@ -74,7 +82,7 @@ TellsLog watch log left out out' None = IsToldWhole watch log left out out'
 TellsLog watch log left out out' (Some (faults.LimitBytes name)) = IsToldToLimit watch log out out'
 TellsLog watch log left out out' (Some (faults.ReadFault name)) = IsToldAsTaken watch log left out out'
 TellsLog watch log left out out' (Some faults.WriteFault) = IsCutShort watch log left out out'
-TellsLog watch log left out out' (Some fault) = IsToldSoFar watch log out out'
+TellsLog watch log left out out' (Some fault) = IsToldSoFar watch log left out out'
 
 -- what has gone wrong, by that fault: the log is too long, a read of it failed, a write failed, or memory ran out
 abbrev pub GoesWrong : List ℕ → FilesTold → FilesTold → SinkTold → SinkTold → Option Fault → Type 0
@@ -91,16 +99,16 @@ pub record EndsLog (watch : Watch) (name : List ℕ) (now new : FilesTold) (out 
   pub wrong : GoesWrong name now new out out' end
   pub tells : IfSome (left_of now name) (λ log. TellsLog watch log (left_of new name) out out' end)
 
--- the judged files of a request have passed, and its log was followed to this end
-pub record FollowsLog (request : Request) (old new : FilesTold) (out out' : SinkTold) (end : Option Fault) : Type 0 where
-  pub range : IsInRange request
+-- the judged files have passed, and the log was followed to this end
+pub record FollowsLog (c : Command) (old new : FilesTold) (out out' : SinkTold) (end : Option Fault) : Type 0 where
+  pub range : c.range
   pub known : Known
-  pub passed : Told old (λ left. PassFrom nothing (files_from left request) known)
+  pub passed : Told old (λ left. PassFrom nothing (files_from left (reads_of c)) known)
   pub watch : Watch
-  pub watches : IsWatch request known watch
+  pub watches : IsWatch c known watch
   pub name : List ℕ
-  pub log : logs_of request ≡ name ∷ []
+  pub log : (reads_of c).logs ≡ name ∷ []
   pub now : FilesTold
-  pub read : ReadsEach old now (map (λ file. file.1) (judged_of request))
+  pub read : ReadsEach old now (map (λ file. file.1) c.files)
   pub counts : NoCountFalls old now
   pub ends : EndsLog watch name now new out out' end

@@ -6,6 +6,7 @@ use Rattle.cb_log.specs.declared.event.Event.TheVariants.{Skipped}
 use Rattle.cb_log.specs.Entries.{LogEntry, records_of}
 use Rattle.cb_log.specs.Events.{EntriesGive}
 use Rattle.cb_network.specs.Topology.{Topology}
+use Rattle.cb_report.specs.Text.{bytes_of_text}
 use Rattle.cb_report.specs.declared.fault.Fault.{Fault}
 use Rattle.cb_report.specs.declared.summary.Summary.{Summary}
 use Rattle.cb_report.specs.SummaryText.{CountsEvents, grow_text}
@@ -46,5 +47,5 @@ GivesSummary sites start t text = (summary : Summary) × SumsUp sites start t su
 
 -- a fault is told beside an output without bytes, or alone where it is out of memory
 abbrev pub AnswersFault : Fault → Result Output Fault → Type 0
-AnswersFault fault (Ok output) = (output.bytes.items ≡ []) × (output.fault ≡ Some fault) × (¬ IsWant fault)
+AnswersFault fault (Ok output) = (bytes_of_text output.text ≡ []) × (output.fault ≡ Some fault) × (¬ IsWant fault)
 AnswersFault fault (Err other) = (other ≡ fault) × IsWant fault

@@ -1,15 +1,13 @@
 //! The command `correlate`.
-ghost use Rattle.std.specs.Prelude.{◌≡◌, ◌≤◌, ◌+◌, ℕ, [], Some, IfOk};
+ghost use Rattle.std.specs.Prelude.{◌≡◌, ◌≤◌, ◌+◌, ℕ, [], IfOk};
 ghost use Rattle.cb_cert.specs.Format.{IsWanted};
 ghost use Rattle.cb_change.specs.Costs.{IsOpenCost};
 ghost use Rattle.cb_log.specs.Basis.{wanted as for_wanted};
 ghost use Rattle.cb_network.specs.Regular.{IsRegular};
-ghost use Rattle.cb_request.specs.declared.request.Request.TheVariants.{Correlate};
-ghost use Rattle.cb_request.specs.Ranges.{IsInRange};
-ghost use Rattle.cb_outcome.specs.Steps.{BoundsSteps};
+ghost use Rattle.cb_outcome.specs.Commands.Correlate.{correlate as command};
 ghost use Rattle.cb_session.specs.State.{StandsForEntries};
 ghost use Rattle.cb_topo.specs.Numbered.{topology_of};
-ghost use Rattle.cb_log_commands.specs.Ways.{EndsRequest};
+ghost use Rattle.cb_log_commands.specs.Ways.{Ends};
 ghost use Rattle.cb_file_kinds.specs.Ending.{wrong};
 
 use crate::follow::follow;
@@ -43,10 +41,10 @@ pub fn correlate<'w, F: Files, O: Sink, L: Ledger>(
     asked: Correlation,
     steps: &mut Steps<L>,
 ) -> Result<(), Fault<'w>>
-    requires { IsInRange (Correlate model topology log asked.distance asked.window) }
-    ensures ends { EndsRequest (Correlate model.entry topology.entry log.entry asked.distance asked.window) (F.tells files.old) (F.tells files.new)
+    requires { (command model topology log asked.distance asked.window).range }
+    ensures ends { Ends (command model.entry topology.entry log.entry asked.distance asked.window) (F.tells files.old) (F.tells files.new)
         (O.tells out.old) (O.tells out.new) (wrong result) }
-    ensures steps { BoundsSteps (Some (Correlate model.entry topology.entry log.entry asked.distance asked.window)) (F.tells files.old) (F.tells files.new)
+    ensures steps { (command model.entry topology.entry log.entry asked.distance asked.window).counts (F.tells files.old) (F.tells files.new)
         steps.old steps.new }
 {
     let topology = read_network(alloc, files, model, topology)?;

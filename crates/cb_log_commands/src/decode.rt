@@ -3,15 +3,14 @@ ghost use Rattle.std.specs.Prelude.{◌≡◌, ◌≤◌, ◌^◌, IfOk};
 ghost use Rattle.cb_io.specs.Outside.{SinkTold};
 ghost use Rattle.cb_network.specs.Topology.{Topology as TopologyOf};
 ghost use Rattle.cb_cert.specs.declared.certificate.Certificate.{Certificate};
-ghost use Rattle.cb_request.specs.declared.request.Request.TheVariants.{Decode};
-ghost use Rattle.cb_request.specs.Ranges.{IsInRange};
+ghost use Rattle.cb_outcome.specs.Commands.Decode.{decode as command};
 ghost use Rattle.cb_outcome.specs.LogJobs.{Watch};
 ghost use Rattle.cb_topo.specs.Numbered.{topology_of};
 ghost use Rattle.cb_log_commands.specs.Following.{EndsLog};
 ghost use Rattle.cb_file_kinds.specs.Given.{IsGivenBy, IsGivenBySome};
 ghost use Rattle.cb_log_commands.specs.Fixed.{StandsFixed};
 ghost use Rattle.cb_log_commands.specs.Telling.{OpensBehind};
-ghost use Rattle.cb_log_commands.specs.Ways.{EndsRequest};
+ghost use Rattle.cb_log_commands.specs.Ways.{Ends};
 ghost use Rattle.cb_file_kinds.specs.Ending.{wrong};
 
 use crate::follow::follow;
@@ -44,8 +43,8 @@ pub fn decode<'w, F: Files, O: Sink, L: Ledger>(
     window: u64,
     steps: &mut Steps<L>,
 ) -> Result<(), Fault<'w>>
-    requires { IsInRange (Decode names.model names.topology names.book names.log window) }
-    ensures { EndsRequest (Decode names.entry.model names.entry.topology names.entry.book names.entry.log window) (F.tells files.old) (F.tells files.new)
+    requires { (command names.model names.topology names.book names.log window).range }
+    ensures { Ends (command names.entry.model names.entry.topology names.entry.book names.entry.log window) (F.tells files.old) (F.tells files.new)
         (O.tells out.old) (O.tells out.new) (wrong result) }
 {
     let topology = read_network(alloc, files, names.model, names.topology)?;

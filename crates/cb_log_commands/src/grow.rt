@@ -1,11 +1,10 @@
 //! The command `grow`.
 ghost use Rattle.std.specs.Prelude.{◌≡◌, ◌⊎◌, ◌≤◌, IfOk, IfErr};
 ghost use Rattle.cb_io.specs.Outside.{FilesTold};
-ghost use Rattle.cb_request.specs.declared.request.Request.TheVariants.{Grow};
-ghost use Rattle.cb_request.specs.Ranges.{IsInRange};
+ghost use Rattle.cb_outcome.specs.Commands.Grow.{grow as command};
 ghost use Rattle.cb_gen.specs.Log.{log_text as made_up_log};
 ghost use Rattle.cb_outcome.specs.Grown.{MakesUp, HasMadeUpFault};
-ghost use Rattle.cb_outcome.specs.Steps.{CountsLog, CountsGrow};
+ghost use Rattle.cb_outcome.specs.Costs.{CountsLog, CountsGrow};
 ghost use Rattle.cb_topo.specs.Numbered.{topology_of};
 ghost use Rattle.cb_file_kinds.specs.Ending.{Comes};
 ghost use Rattle.cb_file_kinds.specs.Kinds.{IsWant};
@@ -17,7 +16,7 @@ use cb_check::check;
 use cb_file_kinds::Output;
 use cb_gen::{log_text, model_text, topology_text};
 use cb_line_files::{LineFault, TopologyStop, read_topology};
-use cb_report::{Fault, Status, Summary, grow_text};
+use cb_report::{Fault, Status, Summary, Text, grow_text};
 use cb_steps::Steps;
 use cb_syntax::parse;
 use cb_topo::Topology;
@@ -37,13 +36,13 @@ pub fn grow<'w, L: Ledger>(
     start: u64,
     steps: &mut Steps<L>,
 ) -> Result<Output<'w>, Fault<'w>>
-    requires { IsInRange (Grow sites start) }
-    ensures comes { (files : FilesTold) → Comes (Grow sites start) files files result }
+    requires { (command sites start).range }
+    ensures comes { (files : FilesTold) → Comes (command sites start) files files result }
     ensures steps { CountsGrow sites start steps.old steps.new }
 {
     match made_up(alloc, sites as u32) {
         Ok(topology) => Ok(Output {
-            bytes: summary_of(alloc, topology, sites as u32, start, steps)?,
+            text: Text::Bytes(summary_of(alloc, topology, sites as u32, start, steps)?),
             fault: None,
         }),
         Err(fault) => refused(alloc, fault),
@@ -101,7 +100,7 @@ fn refused<'w>(alloc: Global, fault: Fault<'w>) -> Result<Output<'w>, Fault<'w>>
     match fault.status() {
         Status::Memory => Err(fault),
         _ => Ok(Output {
-            bytes: Vec::new(alloc),
+            text: Text::Bytes(Vec::new(alloc)),
             fault: Some(fault),
         }),
     }

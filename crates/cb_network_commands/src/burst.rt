@@ -1,13 +1,11 @@
 //! The command `burst`.
-ghost use Rattle.std.specs.Prelude.{Some};
-ghost use Rattle.cb_request.specs.declared.request.Request.TheVariants.{Burst};
-ghost use Rattle.cb_outcome.specs.Steps.{BoundsSteps};
+ghost use Rattle.cb_outcome.specs.Commands.Burst.{burst as command};
 ghost use Rattle.cb_file_kinds.specs.Ending.{Comes};
 
 use crate::judge::lines_of_burst;
 use cb_file_kinds::{Output, SymptomFile, read_as, read_network};
 use cb_io::Files;
-use cb_report::Fault;
+use cb_report::{Fault, Text};
 use cb_request::FileName;
 use cb_steps::Steps;
 use std::alloc::Global;
@@ -22,8 +20,8 @@ pub fn burst<'w, F: Files, L: Ledger>(
     symptoms: FileName<'w>,
     steps: &mut Steps<L>,
 ) -> Result<Output<'w>, Fault<'w>>
-    ensures comes { Comes (Burst model.entry topology.entry symptoms.entry) (F.tells files.old) (F.tells files.new) result }
-    ensures steps { BoundsSteps (Some (Burst model.entry topology.entry symptoms.entry)) (F.tells files.old) (F.tells files.new) steps.old steps.new }
+    ensures comes { Comes (command model.entry topology.entry symptoms.entry) (F.tells files.old) (F.tells files.new) result }
+    ensures steps { (command model.entry topology.entry symptoms.entry).counts (F.tells files.old) (F.tells files.new) steps.old steps.new }
 {
     let topology = read_network(alloc, files, model, topology)?;
     let kind = SymptomFile {
@@ -31,7 +29,7 @@ pub fn burst<'w, F: Files, L: Ledger>(
     };
     let raised = read_as(alloc, files, symptoms, kind)?;
     Ok(Output {
-        bytes: lines_of_burst(alloc, topology, &raised, steps)?,
+        text: Text::Bytes(lines_of_burst(alloc, topology, &raised, steps)?),
         fault: None,
     })
 }

@@ -1,8 +1,9 @@
 //! The command `codebook`.
 ghost use Rattle.std.specs.Prelude.{◌≡◌, IfOk};
 ghost use Rattle.cb_cert.specs.Format.{IsWanted};
-ghost use Rattle.cb_request.specs.declared.request.Request.TheVariants.{Codebook as CodebookRequest};
+ghost use Rattle.cb_outcome.specs.Commands.Codebook.{codebook as command};
 ghost use Rattle.cb_file_kinds.specs.Ending.{Comes};
+ghost use Rattle.cb_report.specs.Text.{bytes_of_text};
 ghost use Rattle.cb_network_commands.specs.Written.{CanBeWritten, IsWritten};
 
 use cb_cert::write;
@@ -10,7 +11,7 @@ use cb_certify::{Codebook, codebook_of};
 use cb_file_kinds::{Output, read_network};
 use cb_io::Files;
 use cb_model::GroupName;
-use cb_report::Fault;
+use cb_report::{Fault, Text};
 use cb_request::FileName;
 use cb_steps::Steps;
 use std::alloc::{AllocError, Global};
@@ -26,7 +27,7 @@ pub fn codebook<'w, F: Files, L: Ledger>(
     steps: &mut Steps<L>,
 ) -> Result<Output<'w>, Fault<'w>>
     requires { IsWanted distance }
-    ensures { Comes (CodebookRequest model.entry topology.entry distance) (F.tells files.old) (F.tells files.new) result }
+    ensures { Comes (command model.entry topology.entry distance) (F.tells files.old) (F.tells files.new) result }
 {
     let topology = read_network(alloc, files, model, topology)?;
     let wanted = wanted_of(distance);
@@ -46,15 +47,15 @@ fn wanted_of(distance: u64) -> u32
 // The certificate as its text, and what is wrong where there is no codebook, or no room for its certificate.
 fn written<'w>(alloc: Global, made: Codebook, wanted: u32) -> Result<Output<'w>, AllocError>
     requires { CanBeWritten made }
-    ensures { IfOk result (λ output. IsWritten made wanted output.bytes.items output.fault) }
+    ensures { IfOk result (λ output. IsWritten made wanted (bytes_of_text output.text) output.fault) }
 {
     match made {
         Codebook::Certified(certificate) => Ok(Output {
-            bytes: write(alloc, &certificate)?,
+            text: Text::Bytes(write(alloc, &certificate)?),
             fault: None,
         }),
         Codebook::TooManyEntries => Ok(Output {
-            bytes: Vec::new(alloc),
+            text: Text::Bytes(Vec::new(alloc)),
             fault: Some(Fault::LimitEntries),
         }),
         Codebook::TooClose {
@@ -63,7 +64,7 @@ fn written<'w>(alloc: Global, made: Codebook, wanted: u32) -> Result<Output<'w>,
             distance,
             certificate,
         } => Ok(Output {
-            bytes: write(alloc, &certificate)?,
+            text: Text::Bytes(write(alloc, &certificate)?),
             fault: Some(Fault::Distance {
                 wanted,
                 first,

@@ -18,7 +18,7 @@ use cb_graph::Graph;
 use cb_matrix::Matrix;
 use cb_model::{List, NodeName};
 use cb_reduce::{least, whole_book};
-use cb_report::{burst_text, matrix_text};
+use cb_report::{MatrixLines, burst_text};
 use cb_steps::Steps;
 use cb_topo::Topology;
 use std::alloc::{AllocError, Global};
@@ -47,18 +47,19 @@ pub(crate) fn lines_of_burst<L: Ledger>(
     burst_text(alloc, &finding)
 }
 
-/// The lines of the matrix.
+/// The lines of the matrix, to be written.
 pub(crate) fn lines_of_matrix<L: Ledger>(
     alloc: Global,
     topology: Topology,
     steps: &mut Steps<L>,
-) -> Result<Vec<u8>, AllocError>
-    ensures gives { IfOk result (λ bytes. (whole : ℕ) → MatrixGives (topology_of topology) whole (done bytes.items whole)) }
+) -> Result<MatrixLines, AllocError>
+    ensures gives { IfOk result (λ lines. (whole : ℕ) → MatrixGives (topology_of topology) whole (done lines whole)) }
     ensures cost { (cost : ℕ) → IsOpenCost (topology_of topology) cost → steps.new ≤ steps.old + cost }
 {
     let matrix = matrix_of(alloc, topology, steps)?;
     let least = least(matrix.codes());
-    matrix_text(alloc, matrix.columns(), matrix.coded_groups(), least)
+    let (columns, groups) = matrix.into_parts();
+    MatrixLines::of(alloc, columns, groups, least)
 }
 
 // The matrix of the topology. The memory of the rows that it is taken from is given back.

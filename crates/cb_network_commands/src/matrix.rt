@@ -1,13 +1,11 @@
 //! The command `matrix`.
-ghost use Rattle.std.specs.Prelude.{Some};
-ghost use Rattle.cb_request.specs.declared.request.Request.TheVariants.{Matrix};
-ghost use Rattle.cb_outcome.specs.Steps.{BoundsSteps};
+ghost use Rattle.cb_outcome.specs.Commands.Matrix.{matrix as command};
 ghost use Rattle.cb_file_kinds.specs.Ending.{Comes};
 
 use crate::judge::lines_of_matrix;
 use cb_file_kinds::{Output, read_network};
 use cb_io::Files;
-use cb_report::Fault;
+use cb_report::{Fault, Text};
 use cb_request::FileName;
 use cb_steps::Steps;
 use std::alloc::Global;
@@ -21,12 +19,12 @@ pub fn matrix<'w, F: Files, L: Ledger>(
     topology: FileName<'w>,
     steps: &mut Steps<L>,
 ) -> Result<Output<'w>, Fault<'w>>
-    ensures comes { Comes (Matrix model.entry topology.entry) (F.tells files.old) (F.tells files.new) result }
-    ensures steps { BoundsSteps (Some (Matrix model.entry topology.entry)) (F.tells files.old) (F.tells files.new) steps.old steps.new }
+    ensures comes { Comes (command model.entry topology.entry) (F.tells files.old) (F.tells files.new) result }
+    ensures steps { (command model.entry topology.entry).counts (F.tells files.old) (F.tells files.new) steps.old steps.new }
 {
     let topology = read_network(alloc, files, model, topology)?;
     Ok(Output {
-        bytes: lines_of_matrix(alloc, topology, steps)?,
+        text: Text::Matrix(lines_of_matrix(alloc, topology, steps)?),
         fault: None,
     })
 }

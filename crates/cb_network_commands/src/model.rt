@@ -1,10 +1,10 @@
 //! The command `model`.
-ghost use Rattle.cb_request.specs.declared.request.Request.TheVariants.{Model as ModelRequest};
+ghost use Rattle.cb_outcome.specs.Commands.Model.{model as command};
 ghost use Rattle.cb_file_kinds.specs.Ending.{Comes};
 
 use cb_file_kinds::{Output, TreeFile, read_as};
 use cb_io::Files;
-use cb_report::Fault;
+use cb_report::{Fault, Text};
 use cb_request::FileName;
 use cb_syntax::print;
 use std::alloc::Global;
@@ -15,11 +15,11 @@ pub fn model<'w, F: Files>(
     files: &mut F,
     model: FileName<'w>,
 ) -> Result<Output<'w>, Fault<'w>>
-    ensures { Comes (ModelRequest model.entry) (F.tells files.old) (F.tells files.new) result }
+    ensures { Comes (command model.entry) (F.tells files.old) (F.tells files.new) result }
 {
     let tree = read_as(alloc, files, model, TreeFile)?;
     Ok(Output {
-        bytes: print(alloc, &tree)?,
+        text: Text::Bytes(print(alloc, &tree)?),
         fault: None,
     })
 }

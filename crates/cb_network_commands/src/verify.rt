@@ -1,10 +1,10 @@
 //! The command `verify`.
-ghost use Rattle.cb_request.specs.declared.request.Request.TheVariants.{Verify};
+ghost use Rattle.cb_outcome.specs.Commands.Verify.{verify as command};
 ghost use Rattle.cb_file_kinds.specs.Ending.{Comes};
 
 use cb_file_kinds::{CertificateFile, Output, read_as, read_network};
 use cb_io::Files;
-use cb_report::{Fault, accepted_text};
+use cb_report::{Fault, Text, accepted_text};
 use cb_request::FileName;
 use cb_steps::Steps;
 use std::alloc::Global;
@@ -19,17 +19,17 @@ pub fn verify<'w, F: Files, L: Ledger>(
     certificate: FileName<'w>,
     steps: &mut Steps<L>,
 ) -> Result<Output<'w>, Fault<'w>>
-    ensures { Comes (Verify model.entry topology.entry certificate.entry) (F.tells files.old) (F.tells files.new) result }
+    ensures { Comes (command model.entry topology.entry certificate.entry) (F.tells files.old) (F.tells files.new) result }
 {
     let topology = read_network(alloc, files, model, topology)?;
-    let verified = read_as(
+    let valid = read_as(
         alloc,
         files,
         certificate,
         CertificateFile { topology, steps },
     )?;
     Ok(Output {
-        bytes: accepted_text(alloc, &verified.accepted)?,
+        text: Text::Bytes(accepted_text(alloc, &valid.shown.accepted)?),
         fault: None,
     })
 }

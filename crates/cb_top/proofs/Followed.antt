@@ -1,55 +1,49 @@
 -- The clauses of a run that has come to its log.
-use Rattle.std.proofs.Common.{◌≡◌, ◌≢◌, ◌⊎◌, ◌∙◌, ℕ, zero, suc, min, Bool, true, false, List, [], ◌∷◌, ◌++◌, append-nil, length, take, slice_get, refl, sym, ap, subst, inl, inr, arith}
+use Rattle.std.proofs.Common.{◌≡◌, ◌≢◌, ◌⊎◌, ◌∙◌, ◌≤◌, ◌+◌, ℕ, zero, suc, min, Bool, true, false, List, [], ◌∷◌, ◌++◌, append-nil, length, take, slice_get, refl, sym, ap, subst, inl, inr, arith}
 use Rattle.std.specs.Prelude.{Option, None, Some, IfSome, unwrap_or, cond}
 use Rattle.std.specs.List.{Contains, list_any}
 use Rattle.std.specs.Str.{bytes_eq}
+use Rattle.std.specs.Io.KnownBytes.{Consumes}
 use Rattle.std.proofs.lemmas.List.{length-append, length-map, length-take-le}
 use Rattle.std.proofs.lemmas.List.Elements.{Contains-append_right}
 use Rattle.std.proofs.lemmas.Map.Views.{Contains-from_any}
 use Rattle.std.proofs.lemmas.Slice.Eq.{bytes_eq-Decides}
 use Rattle.cb_model.proofs.Rising.{contains_head}
-use Rattle.cb_io.specs.Outside.{SinkTold, contents, left_of, TakesAll, ReadsEach, WritesAll, WritesFront}
+use Rattle.cb_io.specs.Outside.{contents, left_of, TakesAll, ReadsEach, WritesAll, WritesFront}
 use Rattle.cb_io.proofs.Told.{ReadFailed-after, ReadsEach-nil, ReadsEach-next}
-use Rattle.cb_network.specs.Regular.{IsRegular}
-use Rattle.cb_network.specs.Topology.{Topology}
-use Rattle.cb_cert.specs.declared.certificate.Certificate.{Certificate}
-use Rattle.cb_cert.specs.Format.{IsCertificate}
-use Rattle.cb_validity.specs.Valid.{IsValid}
-use Rattle.cb_log.specs.Basis.{fixed}
-use Rattle.cb_request.specs.declared.request.Request.{Request}
-use Rattle.cb_request.specs.declared.request.Request.TheVariants.{Burst, Model, Matrix, Codebook, Verify, Decode, Correlate, Grow}
-use Rattle.cb_request.specs.Files.{Role, judged_of, logs_of, names_of}
-use Rattle.cb_request.specs.Ranges.{IsInRange}
-use Rattle.cb_report.specs.declared.fault.Fault.{Fault}
-use Rattle.cb_report.specs.declared.fault.Fault.TheVariants as faults
+use Rattle.cb_outcome.specs.Roles.{Role}
 use Rattle.cb_report.specs.Status.{OnAnswer}
 use Rattle.cb_report.specs.Faults.{ending}
 use Rattle.cb_report.specs.FaultTexts.{line_text}
 use Rattle.cb_report.specs.Said.{TakesLine}
+use Rattle.cb_report.specs.declared.fault.Fault.{Fault}
+use Rattle.cb_report.specs.declared.fault.Fault.TheVariants as faults
+use Rattle.cb_report.specs.declared.status.Status.TheVariants as statuses
 use Rattle.cb_outcome.specs.Outcome.{Outcome, done, done_with}
-use Rattle.cb_outcome.specs.Judged.{Known, nothing, network, certified, PassFrom}
-use Rattle.cb_outcome.specs.Jobs.{JobGives}
-use Rattle.cb_outcome.specs.LogJobs.{Watch, IsWatch, WholeTells, FrontTells, LogTells, Follows, log_limit}
-use Rattle.cb_outcome.specs.Contents.{Left, with_texts, files_from, log_from}
+use Rattle.cb_outcome.specs.Judged.{Known, nothing, PassFrom}
+use Rattle.cb_outcome.specs.Contents.{Left, Reads, with_texts, files_from, log_from}
+use Rattle.cb_outcome.specs.Command.{Command, Task, makes, follows, refuses, IsDoing, logs_in, reads_of, file_words, WatchesLog, IsWatch, TaskGives, TaskFinds, JobGives}
+use Rattle.cb_outcome.specs.LogJobs.{Watch, WholeTells, FrontTells, LogTells, log_limit}
+use Rattle.cb_outcome.specs.Prints.{PrintsEvents}
 use Rattle.cb_outcome.specs.Answer.{IsOutcome, IsDue}
 use Rattle.cb_outcome.specs.Point.{Point}
 use Rattle.cb_outcome.specs.Reading.{Told, ReadsTo}
 use Rattle.cb_outcome.specs.Seen.{Seen}
-use Rattle.cb_outcome.specs.Ends.{RequestMayEnd, MayEnd}
-use Rattle.cb_outcome.specs.Clauses.{Answers, WritesDue, ReadsJudged, HaveAllPassed, HasComeToLog, KeepsQuiet, NamesFileWord, HasTaken, WritesAllDue, BlamesRead, WritesPastStart, IsNotFarAhead, ReadsNotFarAhead, BlamesWrite, Blames}
-use Rattle.cb_outcome.specs.Finds.{PrintsLog, FindsFor, Finds}
-use Rattle.cb_outcome.proofs.LogsOne.{watch_is_one, watch_is_regular}
-use Rattle.cb_outcome.proofs.Once.{pass_sound}
-use Rattle.cb_outcome.proofs.Outcomes.{texts_count, some_name}
+use Rattle.cb_outcome.specs.Ends.{MayEnd}
+use Rattle.cb_outcome.specs.Clauses.{Answers, WritesDue, ReadsJudged, HaveAllPassed, HasComeToLog, KeepsQuiet, NamesFileWord, HasTaken, WritesAllDue, BlamesRead, ahead_limit, IsNearPoint, WritesPastStart, IsNotFarAhead, ReadsNotFarAhead, BlamesWrite, StopsInLog, Blames}
+use Rattle.cb_outcome.specs.Finds.{Finds}
 use Rattle.cb_file_kinds.specs.Ending.{names}
-use Rattle.cb_log_commands.specs.Following.{IsDueUpto, IsDueOfAll, TellsLog, GoesWrong, FollowsLog}
+use Rattle.cb_log_commands.specs.Following.{IsDueUpto, IsDueOfAll, IsNearTaken, TellsLog, GoesWrong, FollowsLog}
 use Rattle.cb_file_kinds.proofs.Chain.{if_some, if_some2, take_whole, take_front, at_front, reads_all, reads_front}
-use Rattle.cb_file_kinds.proofs.Searched.{pass_is_one}
-use Rattle.cb_log_commands.proofs.Decoded.{given_keeps_apart, known_is_valid}
-use Rattle.cb_top.proofs.Logged.{AllApart, wanted_apart, fixed_apart, prints_log}
+use Rattle.cb_outcome.proofs.Ended.{some_name}
+use Rattle.cb_outcome.proofs.Lawful.{LawfulFor, IsLawful}
+use Rattle.cb_outcome.proofs.Logged.{prints_events}
 use Rattle.cb_top.proofs.Made.{gives_job}
+use Rattle.cb_outcome.proofs.Once.{pass_sound}
+use Rattle.cb_outcome.proofs.Outcomes.{texts_count}
+use Rattle.cb_file_kinds.proofs.Searched.{pass_is_one}
 
--- ---- facts of any request
+-- ---- facts of any command
 
 same_some : {X : Type 0} (x y : X) → Some x ≡ Some y → x ≡ y
 same_some x y e = cc
@@ -60,24 +54,51 @@ one_log name log e = cc
 there : {X : Type 0} (o : Option X) (P : X → Type 0) (x : X) → o ≡ Some x → IfSome o P → P x
 there {X} o P x e told = subst (λ (v : Option X). IfSome v P) e told
 
--- the job of a request with a log is to follow it
-job_follows : (left : Left) (request : Request) (name : List ℕ) (known : Known) (whole : ℕ) (outcome : Outcome) → logs_of request ≡ name ∷ []
-    → Follows left request name known whole outcome → JobGives left request known whole outcome
-job_follows left (Burst one two three) name known whole outcome e f = absurd (some_name name [] (sym e))
-job_follows left (Model one) name known whole outcome e f = absurd (some_name name [] (sym e))
-job_follows left (Matrix one two) name known whole outcome e f = absurd (some_name name [] (sym e))
-job_follows left (Codebook one two d) name known whole outcome e f = absurd (some_name name [] (sym e))
-job_follows left (Verify one two three) name known whole outcome e f = absurd (some_name name [] (sym e))
-job_follows left (Decode one two three log w) name known whole outcome e f =
-    subst (λ (n : List ℕ). Follows left (Decode one two three log w) n known whole outcome) (one_log name log e) f
-job_follows left (Correlate one two log d w) name known whole outcome e f =
-    subst (λ (n : List ℕ). Follows left (Correlate one two log d w) n known whole outcome) (one_log name log e) f
-job_follows left (Grow sites start) name known whole outcome e f = absurd (some_name name [] (sym e))
+-- a task with a log is to follow it
+task_follows_log : (log : List ℕ → List ℕ) (task : Task) (name : List ℕ) (known : Known) (watch : Watch) (whole : ℕ) (outcome : Outcome)
+    → logs_in task ≡ name ∷ [] → WatchesLog task known watch → LogTells watch name (log name) whole outcome → TaskGives log task known whole outcome
+task_follows_log log (makes making) name known watch whole outcome e is tells = absurd is
+task_follows_log log (follows own watches) name known watch whole outcome e is tells =
+    (watch, is, subst (λ (n : List ℕ). LogTells watch n (log n) whole outcome) (one_log name own e) tells)
+task_follows_log log (refuses fault) name known watch whole outcome e is tells = absurd is
+
+watch_one : (task : Task) (range : Type 0) (reads : Reads) → LawfulFor range reads task → (known : Known) (a b : Watch) → WatchesLog task known a
+    → WatchesLog task known b → a ≡ b
+watch_one (makes making) range reads law known a b p q = absurd p
+watch_one (follows name watches) range reads law known a b p q = law.one known a b p q
+watch_one (refuses fault) range reads law known a b p q = absurd p
+
+-- what is printed of a whole log finds what it is to find
+task_finds_log : (left : Left) (log : List ℕ → List ℕ) (task : Task) (range : Type 0) (reads : Reads) → LawfulFor range reads task → range → (name : List ℕ)
+    (known : Known) (watch : Watch) (due : List ℕ) (s : Seen) → logs_in task ≡ name ∷ [] → PassFrom nothing (files_from left reads) known
+    → WatchesLog task known watch → WholeTells watch (log name) due → WritesAll s.out s.out_after due → TaskFinds log task known statuses.Done s
+task_finds_log left log (makes making) range reads law here name known watch due s e passed is tells written = absurd is
+task_finds_log left log (follows own watches) range reads law here name known watch due s e passed is tells written =
+    let regular = law.regular known watch (pass_sound nothing (files_from left reads) known tt passed) is in
+    let apart = law.apart here left known passed watch is in (
+      watch,
+      is,
+      subst (λ (n : List ℕ). PrintsEvents watch (log n) s.out s.out_after) (one_log name own e)
+          (prints_events watch (log name) due s.out s.out_after regular apart tells written),
+    )
+task_finds_log left log (refuses fault) range reads law here name known watch due s e passed is tells written = absurd is
 
 take_none : (n : ℕ) (xs : List ℕ) → xs ≡ [] → take n xs ≡ []
 take_none zero xs e = refl
 take_none (suc n) [] e = refl
 take_none (suc n) (x ∷ xs) e = cc
+
+-- of these bytes a prefix came, and others are left
+consumed : (a b : Option (List ℕ)) (all front : List ℕ) → a ≡ Some all → Consumes a b front → (rest : List ℕ) × (all ≡ front ++ rest) × (b ≡ Some rest)
+consumed a b all front e came = rest_of b (subst (λ (o : Option (List ℕ)). Consumes o b front) e came)
+  where
+    rest_of : (o : Option (List ℕ)) → Consumes (Some all) o front → (rest : List ℕ) × (all ≡ front ++ rest) × (o ≡ Some rest)
+    rest_of None came = absurd came
+    rest_of (Some rest) came = (rest, came, refl)
+
+none_before : (xs ys : List ℕ) → [] ≡ xs ++ ys → length xs ≡ 0
+none_before [] ys e = refl
+none_before (x ∷ xs) ys e = cc
 
 no_more : (xs ys : List ℕ) → [] ≡ xs ++ ys → (xs ≡ []) × (ys ≡ [])
 no_more [] ys e = (refl, sym e)
@@ -86,77 +107,51 @@ no_more (x ∷ xs) ys e = cc
 any_contains : (names : List (List ℕ)) (name : List ℕ) → list_any (λ other. bytes_eq other name) names ≡ true → Contains names name
 any_contains names name e = Contains-from_any {eq = λ q k. bytes_eq k q} (λ x y same. sym ((bytes_eq-Decides y x).0 same)) name names e
 
--- what is known from the files of `decode` is valid
-book_is_valid : (left : Left) (one two three log : List ℕ) (w : ℕ) (t : Topology) (c : Certificate)
-    → PassFrom nothing (files_from left (Decode one two three log w)) (certified t c) → IsValid t c × IsCertificate c
-book_is_valid left one two three log w t c (first, says, (second, says', (third, says'', same))) =
-    known_is_valid second (contents left (one ∷ two ∷ []) three) third t c says''.means same
-
--- what is printed of a whole log finds what it is to find
-finds_log : (left : Left) (request : Request) (name : List ℕ) (known : Known) (watch : Watch) (due : List ℕ) (out out' : SinkTold)
-    → IsInRange request → logs_of request ≡ name ∷ [] → PassFrom nothing (files_from left request) known
-    → IsWatch request known watch → IsRegular watch.from.model → WholeTells watch (log_from left request name) due → WritesAll out out' due → FindsFor left request known out out'
-finds_log left (Burst one two three) name known watch due out out' range e passed watches regular tells written = absurd (some_name name [] (sym e))
-finds_log left (Model one) name known watch due out out' range e passed watches regular tells written = absurd (some_name name [] (sym e))
-finds_log left (Matrix one two) name known watch due out out' range e passed watches regular tells written = absurd (some_name name [] (sym e))
-finds_log left (Codebook one two d) name known watch due out out' range e passed watches regular tells written = absurd (some_name name [] (sym e))
-finds_log left (Verify one two three) name known watch due out out' range e passed watches regular tells written = absurd (some_name name [] (sym e))
-finds_log left (Decode one two three log w) name (certified t c) watch due out out' range e passed watches regular tells written =
-    let request = Decode one two three log w in
-    let valid = book_is_valid left one two three log w t c passed in
-    let apart = subst (λ (x : Watch). AllApart x.from x.mode) (sym watches.is)
-    (fixed_apart t (fixed watches.book) watches.book refl (given_keeps_apart t c watches.book valid.0 valid.1 watches.states)) in
-    subst (λ (n : List ℕ). PrintsLog left request n (certified t c) out out') (one_log name log e)
-    (prints_log left request name (certified t c) watch due out out' watches regular apart tells written)
-finds_log left (Decode one two three log w) name known watch due out out' range e passed watches regular tells written = absurd watches
-finds_log left (Correlate one two log d w) name (network t) watch due out out' range e passed watches regular tells written =
-    let request = Correlate one two log d w in
-    let apart = wanted_apart watch.from watch.mode d (ap (λ (x : Watch). x.mode) watches) range.0.0 in
-    subst (λ (n : List ℕ). PrintsLog left request n (network t) out out') (one_log name log e)
-    (prints_log left request name (network t) watch due out out' watches regular apart tells written)
-finds_log left (Correlate one two log d w) name known watch due out out' range e passed watches regular tells written = absurd watches
-finds_log left (Grow sites start) name known watch due out out' range e passed watches regular tells written = absurd (some_name name [] (sym e))
-
-module _ (request : Request) (s : Seen) (end : Option Fault)
-    (follows : FollowsLog request s.files s.files_after s.out s.out_after end) where
+module _ (c : Command) (law : IsLawful c) (doing : IsDoing c.task) (s : Seen) (end : Option Fault)
+    (follows : FollowsLog c s.files s.files_after s.out s.out_after end) where
   -- ---- how far files were read
 
-  names_are : names_of request ≡ names (judged_of request) ++ follows.name ∷ []
-  names_are = ap (λ (ns : List (List ℕ)). names (judged_of request) ++ ns) follows.log
+  names_are : file_words c ≡ names c.files ++ follows.name ∷ []
+  names_are = ap (λ (ns : List (List ℕ)). names c.files ++ ns) follows.log
 
-  read_judged : ReadsTo (length (judged_of request)) (names_of request) s.files s.files_after
+  read_judged : ReadsTo (length c.files) (file_words c) s.files s.files_after
   read_judged =
-      subst (λ (n : ℕ). ReadsTo n (names_of request) s.files s.files_after) (length-map (judged_of request) (λ (file : Role × List ℕ). file.1))
-      (reads_front s.files follows.now s.files_after (names (judged_of request)) [] follows.name (names_of request) names_are follows.read
+      subst (λ (n : ℕ). ReadsTo n (file_words c) s.files s.files_after) (length-map c.files (λ (file : Role × List ℕ). file.1))
+      (reads_front s.files follows.now s.files_after (names c.files) [] follows.name (file_words c) names_are follows.read
       follows.ends.only.others follows.ends.only.front)
 
-  has_read : ReadsJudged (Some request) s.files s.files_after
-  has_read = (length (judged_of request), omega arith, read_judged)
+  has_read : ReadsJudged c s
+  has_read = (length c.files, omega arith, read_judged)
 
-  has_passed : Told s.files (HaveAllPassed (Some request))
+  has_passed : Told s.files (HaveAllPassed c)
   has_passed = if_some s.files.left _ _ (λ left said. (follows.known, said)) follows.passed
 
-  has_come : HasComeToLog (Some request) s.files s.files_after
+  has_come : HasComeToLog c s
   has_come = record {
     follows = λ none. some_name follows.name [] (sym follows.log ∙ none);
     read = has_read;
     passed = has_passed;
   }
 
-  among : Contains (names_of request) follows.name
+  among : Contains (file_words c) follows.name
   among =
       subst (λ (ns : List (List ℕ)). Contains ns follows.name) (sym names_are)
-      (Contains-append_right (names (judged_of request)) (follows.name ∷ []) follows.name (contains_head follows.name []))
+      (Contains-append_right (names c.files) (follows.name ∷ []) follows.name (contains_head follows.name []))
 
   -- ---- what is due
 
   -- what is reported of the log, by the bytes left of each name
-  in_log : (P : List ℕ → Type 0) → IfSome (left_of follows.now follows.name) P → Told s.files (λ left. P (log_from left request follows.name))
+  in_log : (P : List ℕ → Type 0) → IfSome (left_of follows.now follows.name) P → Told s.files (λ left. P (log_from left (reads_of c) follows.name))
   in_log P told =
-      if_some s.files.left _ _ (λ left known. there (left_of follows.now follows.name) P (log_from left request follows.name) (known follows.name) told) follows.read
+      if_some s.files.left _ _ (λ left known. there (left_of follows.now follows.name) P (log_from left (reads_of c) follows.name) (known follows.name) told) follows.read
 
-  module _ (left : Left) (passed : PassFrom nothing (files_from left request) follows.known) where
-    due_upto : (taken : ℕ) (due : List ℕ) → IsDueUpto follows.watch (log_from left request follows.name) taken due → IsDue (Some request) left (Point.upto taken) due
+  -- this is due at a point near what was taken, or at the end
+  abbrev PartOf : Left → List ℕ → Type 0
+  PartOf left due = ((upto : ℕ) × IsNearTaken (log_from left (reads_of c) follows.name) (left_of s.files_after follows.name) upto
+      × IsDueUpto follows.watch (log_from left (reads_of c) follows.name) upto due) ⊎ IsDueOfAll follows.watch (log_from left (reads_of c) follows.name) due
+
+  module _ (left : Left) (passed : PassFrom nothing (files_from left (reads_of c)) follows.known) where
+    due_upto : (taken : ℕ) (due : List ℕ) → IsDueUpto follows.watch (log_from left (reads_of c) follows.name) taken due → IsDue c left (Point.upto taken) due
     due_upto taken due is_due = record {
       known = follows.known;
       pass = passed;
@@ -167,44 +162,40 @@ module _ (request : Request) (s : Seen) (end : Option Fault)
       tells = is_due;
     }
 
-    answers_as : (outcome : Outcome) → LogTells follows.watch follows.name (log_from left request follows.name) (length (judged_of request)) outcome
-        → IsOutcome (Some request) left outcome
+    answers_as : (outcome : Outcome) → LogTells follows.watch follows.name (log_from left (reads_of c) follows.name) (length c.files) outcome
+        → IsOutcome c left outcome
     answers_as outcome tells =
-        gives_job (JobGives left request) (files_from left request) nothing follows.known 0 outcome passed
+        gives_job (JobGives left c) (files_from left (reads_of c)) nothing follows.known 0 outcome passed
         (λ w e.
-        let count = texts_count left [] (judged_of request) in
-        let whole : length (judged_of request) ≡ w = omega (arith, e, count) in
-        job_follows left request follows.name follows.known w outcome follows.log (
-          follows.watch,
-          follows.watches,
-          subst (λ (n : ℕ). LogTells follows.watch follows.name (log_from left request follows.name) n outcome) whole tells,
-        ))
+        let count = texts_count left [] c.files in
+        let whole : length c.files ≡ w = omega (arith, e, count) in
+        task_follows_log (λ name. log_from left (reads_of c) name) c.task follows.name follows.known follows.watch w outcome follows.log follows.watches
+        (subst (λ (n : ℕ). LogTells follows.watch follows.name (log_from left (reads_of c) follows.name) n outcome) whole tells))
 
-    whole_outcome : (due : List ℕ) → IsDueOfAll follows.watch (log_from left request follows.name) due
-        → IsOutcome (Some request) left (done due (suc (length (judged_of request))))
-    whole_outcome due is = answers_as (done due (suc (length (judged_of request)))) (inl (record { short = is.short; out = due; tells = is.tells; gives = refl }))
+    whole_outcome : (due : List ℕ) → IsDueOfAll follows.watch (log_from left (reads_of c) follows.name) due
+        → IsOutcome c left (done due (suc (length c.files)))
+    whole_outcome due is = answers_as (done due (suc (length c.files))) (inl (record { short = is.short; out = due; tells = is.tells; gives = refl }))
 
-    -- one due, at a point past the start
-    part_due : (due : List ℕ) → ((taken : ℕ) × IsDueUpto follows.watch (log_from left request follows.name) taken due)
-        ⊎ IsDueOfAll follows.watch (log_from left request follows.name) due → WritesFront s.out s.out_after due → WritesPastStart (Some request) s.out s.out_after left
-    part_due due (inl (taken, is)) front = (Point.upto taken, tt, (due, due_upto taken due is, front))
-    part_due due (inr is) front = (Point.end, tt, (due, (done due (suc (length (judged_of request))), whole_outcome due is, refl), front))
+    -- a point at which this was due
+    point_of : (due : List ℕ) → PartOf left due → (point : Point) × IsDue c left point due
+    point_of due (inl (upto, near, is)) = (Point.upto upto, due_upto upto due is)
+    point_of due (inr is) = (Point.end, (done due (suc (length c.files)), whole_outcome due is, refl))
 
   front_all : (due : List ℕ) → WritesAll s.out s.out_after due → WritesFront s.out s.out_after due
   front_all due w = (length due, omega arith, subst (λ (l : List ℕ). WritesAll s.out s.out_after l) (sym (take_whole due)) w)
 
   -- all files were read whole, where the log was
   all_read : IfSome (left_of follows.now follows.name) (λ log. left_of s.files_after follows.name ≡ Some [])
-      → ReadsTo (suc (length (judged_of request))) (names_of request) s.files s.files_after
+      → ReadsTo (suc (length c.files)) (file_words c) s.files s.files_after
   all_read none =
       let all = unwrap_or (left_of follows.now follows.name) [] in
-      let each = ReadsEach-next s.files follows.now s.files_after (names (judged_of request)) follows.name all follows.read follows.ends.only.others
+      let each = ReadsEach-next s.files follows.now s.files_after (names c.files) follows.name all follows.read follows.ends.only.others
       (takes (left_of follows.now follows.name) (left_of s.files_after follows.name) none) in
-      let count = length-append (names (judged_of request)) (follows.name ∷ []) in
-      let judged = length-map (judged_of request) (λ (file : Role × List ℕ). file.1) in
+      let count = length-append (names c.files) (follows.name ∷ []) in
+      let judged = length-map c.files (λ (file : Role × List ℕ). file.1) in
       let names_count = ap length names_are in
-      subst (λ (n : ℕ). ReadsTo n (names_of request) s.files s.files_after) (omega (arith, count, judged, names_count))
-      (reads_all s.files s.files_after (names_of request) (subst (ReadsEach s.files s.files_after) (sym names_are) each))
+      subst (λ (n : ℕ). ReadsTo n (file_words c) s.files s.files_after) (omega (arith, count, judged, names_count))
+      (reads_all s.files s.files_after (file_words c) (subst (ReadsEach s.files s.files_after) (sym names_are) each))
     where
       takes : (a b : Option (List ℕ)) → IfSome a (λ log. b ≡ Some []) → TakesAll a b (unwrap_or a [])
       takes None b none = tt
@@ -223,10 +214,10 @@ module _ (request : Request) (s : Seen) (end : Option Fault)
       → TakesLine s.err s.err_after (line_text (Some (f follows.name)))
   named f other e says = subst (λ (n : List ℕ). TakesLine s.err s.err_after (line_text (Some (f n)))) e says
 
-  answer_by : (e : Option Fault) → Wrong e → TellsIt e → TakesLine s.err s.err_after (line_text e) → OnAnswer (ending e) (Told s.files (Answers (Some request) (ending e) s))
+  answer_by : (e : Option Fault) → Wrong e → TellsIt e → TakesLine s.err s.err_after (line_text e) → OnAnswer (ending e) (Told s.files (Answers c (ending e) s))
   answer_by None wrong tells says =
       if_some2 s.files.left _ _ _ (λ left passed is. record {
-        outcome = done is.due (suc (length (judged_of request)));
+        outcome = done is.due (suc (length c.files));
         is = whole_outcome left passed is.due is.is_due;
         status_is = refl;
         output = is.written;
@@ -235,8 +226,8 @@ module _ (request : Request) (s : Seen) (end : Option Fault)
       }) follows.passed (in_log _ tells)
   answer_by (Some (faults.LimitBytes other)) wrong tells says =
       if_some2 s.files.left _ _ _ (λ left passed is. record {
-        outcome = done_with is.due (faults.LimitBytes follows.name) (length (judged_of request));
-        is = answers_as left passed (done_with is.due (faults.LimitBytes follows.name) (length (judged_of request)))
+        outcome = done_with is.due (faults.LimitBytes follows.name) (length c.files);
+        is = answers_as left passed (done_with is.due (faults.LimitBytes follows.name) (length c.files))
             (inr (record { long = is.long; out = is.due; tells = is.tells; gives = refl }));
         status_is = refl;
         output = is.written;
@@ -248,12 +239,12 @@ module _ (request : Request) (s : Seen) (end : Option Fault)
   answer_by (Some faults.Memory) wrong tells says = tt
   answer_by (Some fault) wrong tells says = absurd wrong
 
-  front_by : (e : Option Fault) → Wrong e → TellsIt e → WritesDue (Some request) s.files s.out s.out_after
+  front_by : (e : Option Fault) → Wrong e → TellsIt e → WritesDue c s
   front_by None wrong tells =
       if_some2 s.files.left _ _ _ (λ left passed is. (
         Point.end,
         is.due,
-        (done is.due (suc (length (judged_of request))), whole_outcome left passed is.due is.is_due, refl),
+        (done is.due (suc (length c.files)), whole_outcome left passed is.due is.is_due, refl),
         front_all is.due is.written,
       )) follows.passed (in_log _ tells)
   front_by (Some (faults.LimitBytes other)) wrong tells =
@@ -261,8 +252,8 @@ module _ (request : Request) (s : Seen) (end : Option Fault)
         Point.end,
         is.due,
         (
-          done_with is.due (faults.LimitBytes follows.name) (length (judged_of request)),
-          answers_as left passed (done_with is.due (faults.LimitBytes follows.name) (length (judged_of request)))
+          done_with is.due (faults.LimitBytes follows.name) (length c.files),
+          answers_as left passed (done_with is.due (faults.LimitBytes follows.name) (length c.files))
               (inr (record { long = is.long; out = is.due; tells = is.tells; gives = refl })),
           refl,
         ),
@@ -273,13 +264,13 @@ module _ (request : Request) (s : Seen) (end : Option Fault)
       (Point.upto (length is.front), is.due, due_upto left passed (length is.front) is.due is.is_due, front_all is.due is.written)) follows.passed (in_log _ tells)
   front_by (Some faults.WriteFault) wrong tells =
       if_some2 s.files.left _ _ _ (λ left passed is.
-      let (point, past, written) = part_due left passed is.part.0 is.part.1 is.part.2 in (point, written.0, written.1, written.2)) follows.passed (in_log _ tells)
+      let (point, is_due) = point_of left passed is.part.0 is.part.1 in (point, is.part.0, is_due, is.part.2)) follows.passed (in_log _ tells)
   front_by (Some faults.Memory) wrong tells =
       if_some2 s.files.left _ _ _ (λ left passed is.
-      (Point.upto is.taken, is.due, due_upto left passed is.taken is.due is.is_due, front_all is.due is.written)) follows.passed (in_log _ tells)
+      (Point.upto is.upto, is.due, due_upto left passed is.upto is.due is.is_due, front_all is.due is.written)) follows.passed (in_log _ tells)
   front_by (Some fault) wrong tells = absurd wrong
 
-  quiet_by : (e : Option Fault) → Wrong e → KeepsQuiet (Some request) (ending e) s.files s.files_after s.out s.out_after
+  quiet_by : (e : Option Fault) → Wrong e → KeepsQuiet c (ending e) s
   quiet_by None wrong = tt
   quiet_by (Some (faults.LimitBytes other)) wrong = inr has_come
   quiet_by (Some (faults.ReadFault other)) wrong = inr has_come
@@ -287,46 +278,50 @@ module _ (request : Request) (s : Seen) (end : Option Fault)
   quiet_by (Some faults.Memory) wrong = inr has_come
   quiet_by (Some fault) wrong = absurd wrong
 
-  names_by : (e : Option Fault) → Wrong e → NamesFileWord (Some request) e
+  names_by : (e : Option Fault) → Wrong e → NamesFileWord c e
   names_by None wrong = tt
-  names_by (Some (faults.LimitBytes other)) wrong = subst (Contains (names_of request)) (sym wrong) among
-  names_by (Some (faults.ReadFault other)) wrong = subst (Contains (names_of request)) (sym wrong.0) among
+  names_by (Some (faults.LimitBytes other)) wrong = subst (Contains (file_words c)) (sym wrong) among
+  names_by (Some (faults.ReadFault other)) wrong = subst (Contains (file_words c)) (sym wrong.0) among
   names_by (Some faults.WriteFault) wrong = tt
   names_by (Some faults.Memory) wrong = tt
   names_by (Some fault) wrong = absurd wrong
 
-  some_file : names_of request ≢ []
-  some_file none = let (a, b) = no_more_names (names (judged_of request)) (sym none ∙ names_are) in b
+  some_file : file_words c ≢ []
+  some_file none = let (a, b) = no_more_names (names c.files) (sym none ∙ names_are) in b
     where
       no_more_names : (xs : List (List ℕ)) → [] ≡ xs ++ follows.name ∷ [] → ⊥ × ⊥
       no_more_names [] e = let none : ⊥ = some_name follows.name [] (sym e) in (none, none)
       no_more_names (x ∷ xs) e = let none : ⊥ = some_name x (xs ++ follows.name ∷ []) (sym e) in (none, none)
 
-  ends_by : (e : Option Fault) → Wrong e → RequestMayEnd request (ending e)
-  ends_by None wrong = tt
-  ends_by (Some (faults.LimitBytes other)) wrong = some_file
-  ends_by (Some (faults.ReadFault other)) wrong = some_file
-  ends_by (Some faults.WriteFault) wrong = tt
-  ends_by (Some faults.Memory) wrong = tt
+  ends_by : (e : Option Fault) → Wrong e → MayEnd c (ending e)
+  ends_by None wrong = inl (doing, tt)
+  ends_by (Some (faults.LimitBytes other)) wrong = inl (doing, some_file)
+  ends_by (Some (faults.ReadFault other)) wrong = inl (doing, some_file)
+  ends_by (Some faults.WriteFault) wrong = inl (doing, tt)
+  ends_by (Some faults.Memory) wrong = inl (doing, tt)
   ends_by (Some fault) wrong = absurd wrong
 
   -- ---- a read of the log failed
 
-  -- what was taken of the log's name
+  -- what was taken of the log's name, and what is due then
   taken_of : (left : Left) → left_of s.files follows.name ≡ Some (contents left [] follows.name) → (front rest : List ℕ)
-      → log_from left request follows.name ≡ front ++ rest → left_of s.files_after follows.name ≡ Some rest → (due : List ℕ)
-      → IsDueUpto follows.watch (log_from left request follows.name) (length front) due
-      → (taken : ℕ) × HasTaken follows.name taken s.files s.files_after left × IsDueUpto follows.watch (log_from left request follows.name) taken due
-  taken_of left before front rest log_is after due is_due =
-      by_test (list_any (λ other. bytes_eq other follows.name) (names (judged_of request))) refl
+      → log_from left (reads_of c) follows.name ≡ front ++ rest → left_of s.files_after follows.name ≡ Some rest
+      → (taken : ℕ) × HasTaken follows.name taken s left × (length front ≤ taken)
+      × ((due : List ℕ) → IsDueUpto follows.watch (log_from left (reads_of c) follows.name) (length front) due
+      → IsDueUpto follows.watch (log_from left (reads_of c) follows.name) taken due)
+  taken_of left before front rest log_is after =
+      by_test (list_any (λ other. bytes_eq other follows.name) (names c.files)) refl
     where
-      by_test : (b : Bool) → list_any (λ other. bytes_eq other follows.name) (names (judged_of request)) ≡ b
-          → (taken : ℕ) × HasTaken follows.name taken s.files s.files_after left × IsDueUpto follows.watch (log_from left request follows.name) taken due
+      by_test : (b : Bool) → list_any (λ other. bytes_eq other follows.name) (names c.files) ≡ b
+          → (taken : ℕ) × HasTaken follows.name taken s left × (length front ≤ taken)
+          × ((due : List ℕ) → IsDueUpto follows.watch (log_from left (reads_of c) follows.name) (length front) due
+          → IsDueUpto follows.watch (log_from left (reads_of c) follows.name) taken due)
       by_test true e =
           let all = contents left [] follows.name in
-          let none : log_from left request follows.name ≡ [] = ap (λ (b : Bool). cond b [] all) e in
-          let (front_none, rest_none) = no_more front rest (sym none ∙ log_is) in
-          let cut : (n : ℕ) → take n (log_from left request follows.name) ≡ [] = λ n. take_none n (log_from left request follows.name) none in (
+          let none : log_from left (reads_of c) follows.name ≡ [] = ap (λ (b : Bool). cond b [] all) e in
+          let front_none = none_before front rest (sym none ∙ log_is) in
+          let rest_none = (no_more front rest (sym none ∙ log_is)).1 in
+          let cut : (n : ℕ) → take n (log_from left (reads_of c) follows.name) ≡ [] = λ n. take_none n (log_from left (reads_of c) follows.name) none in (
             length all,
             record {
               within = omega arith;
@@ -334,11 +329,12 @@ module _ (request : Request) (s : Seen) (end : Option Fault)
               before = before ∙ ap (λ (l : List ℕ). Some l) (sym (take_whole all) ∙ sym (append-nil (take (length all) all)));
               after = after ∙ ap (λ (l : List ℕ). Some l) rest_none;
             },
-            subst (λ (l : List ℕ). FrontTells follows.watch l due) (cut (min (length front) log_limit) ∙ sym (cut (min (length all) log_limit))) is_due,
+            omega (arith, front_none),
+            λ due is_due. subst (λ (l : List ℕ). FrontTells follows.watch l due) (cut (min (length front) log_limit) ∙ sym (cut (min (length all) log_limit))) is_due,
           )
       by_test false e =
           let all = contents left [] follows.name in
-          let whole : log_from left request follows.name ≡ all = ap (λ (b : Bool). cond b [] all) e in
+          let whole : log_from left (reads_of c) follows.name ≡ all = ap (λ (b : Bool). cond b [] all) e in
           let parts : all ≡ front ++ rest = sym whole ∙ log_is in
           let size = ap length parts in
           let sum = length-append front rest in
@@ -350,7 +346,8 @@ module _ (request : Request) (s : Seen) (end : Option Fault)
               before = before ∙ ap (λ (l : List ℕ). Some l) (parts ∙ ap (λ (l : List ℕ). l ++ rest) (sym first));
               after = after;
             },
-            is_due,
+            omega arith,
+            λ due is_due. is_due,
           )
 
   -- what was left of each name at first
@@ -359,38 +356,37 @@ module _ (request : Request) (s : Seen) (end : Option Fault)
 
   -- the judged files have passed, and this was left of each name at first
   abbrev Begun : Left → Type 0
-  Begun left = PassFrom nothing (files_from left request) follows.known × ((name : List ℕ) → left_of s.files name ≡ Some (contents left [] name))
+  Begun left = PassFrom nothing (files_from left (reads_of c)) follows.known × ((name : List ℕ) → left_of s.files name ≡ Some (contents left [] name))
 
   begun : Told s.files Begun
   begun = if_some2 s.files.left _ _ Begun (λ left passed known. (passed, known)) follows.passed left_at_first
 
-  all_written : TellsIt (Some (faults.ReadFault follows.name)) → Told s.files (WritesAllDue (Some request) follows.name s)
+  all_written : TellsIt (Some (faults.ReadFault follows.name)) → Told s.files (WritesAllDue c follows.name s)
   all_written tells =
       if_some2 s.files.left Begun _ _ (λ left both is.
-      let (taken, has_taken, is_due) =
-      taken_of left (both.1 follows.name) is.front is.rest is.log_is is.left_is is.due is.is_due in record {
+      let (taken, has_taken, low, is_due) = taken_of left (both.1 follows.name) is.front is.rest is.log_is is.left_is in record {
         taken = taken;
         has_taken = has_taken;
         due = is.due;
-        is_due = due_upto left both.0 taken is.due is_due;
+        is_due = due_upto left both.0 taken is.due (is_due is.due is.is_due);
         written = is.written;
       }) begun (in_log _ tells)
 
   blames_read : Wrong (Some (faults.ReadFault follows.name)) → TellsIt (Some (faults.ReadFault follows.name))
-      → TakesLine s.err s.err_after (line_text (Some (faults.ReadFault follows.name))) → BlamesRead (Some request) s
+      → TakesLine s.err s.err_after (line_text (Some (faults.ReadFault follows.name))) → BlamesRead c s
   blames_read wrong tells says = record {
-    place = length (judged_of request);
+    place = length c.files;
     name = follows.name;
     is =
-        let judged = length-map (judged_of request) (λ (file : Role × List ℕ). file.1) in
-        subst (λ (n : ℕ). slice_get (names_of request) n ≡ Some follows.name) judged
-        (ap (λ (ns : List (List ℕ)). slice_get ns (length (names (judged_of request)))) names_are ∙ at_front (names (judged_of request)) [] follows.name);
+        let judged = length-map c.files (λ (file : Role × List ℕ). file.1) in
+        subst (λ (n : ℕ). slice_get (file_words c) n ≡ Some follows.name) judged
+        (ap (λ (ns : List (List ℕ)). slice_get ns (length (names c.files))) names_are ∙ at_front (names c.files) [] follows.name);
     failed = ReadFailed-after s.files follows.now s.files_after follows.name follows.counts wrong.1;
     read = read_judged;
     says = says;
     passed = if_some s.files.left _ _ (λ left said. (
       follows.known,
-      subst (λ (fs : List (Role × List ℕ)). PassFrom nothing (with_texts left [] fs) follows.known) (sym (take_whole (judged_of request))) said,
+      subst (λ (fs : List (Role × List ℕ)). PassFrom nothing (with_texts left [] fs) follows.known) (sym (take_whole c.files)) said,
     )) follows.passed;
     written = record {
       judged = λ before. absurd (omega (arith, before));
@@ -401,34 +397,57 @@ module _ (request : Request) (s : Seen) (end : Option Fault)
   -- ---- a write failed
 
   -- no judged file has the log's name
-  log_alone : (left : Left) → (¬ Contains (names (judged_of request)) follows.name) → log_from left request follows.name ≡ contents left [] follows.name
-  log_alone left not = by_test (list_any (λ other. bytes_eq other follows.name) (names (judged_of request))) refl
+  log_alone : (left : Left) → (¬ Contains (names c.files) follows.name) → log_from left (reads_of c) follows.name ≡ contents left [] follows.name
+  log_alone left not = by_test (list_any (λ other. bytes_eq other follows.name) (names c.files)) refl
     where
-      by_test : (b : Bool) → list_any (λ other. bytes_eq other follows.name) (names (judged_of request)) ≡ b
-          → log_from left request follows.name ≡ contents left [] follows.name
-      by_test true e = absurd (not (any_contains (names (judged_of request)) follows.name e))
+      by_test : (b : Bool) → list_any (λ other. bytes_eq other follows.name) (names c.files) ≡ b
+          → log_from left (reads_of c) follows.name ≡ contents left [] follows.name
+      by_test true e = absurd (not (any_contains (names c.files) follows.name e))
       by_test false e = ap (λ (b : Bool). cond b [] (contents left [] follows.name)) e
 
-  -- what is due by the clause is due by the watch
-  due_here : (left : Left) → PassFrom nothing (files_from left request) follows.known → (upto : ℕ) (due : List ℕ) → IsDue (Some request) left (Point.upto upto) due
-      → IsDueUpto follows.watch (log_from left request follows.name) upto due
-  due_here left passed upto due told =
-      let sound = pass_sound nothing (files_from left request) told.known tt told.pass in
-      let known : told.known ≡ follows.known = pass_is_one nothing (files_from left request) told.known follows.known tt told.pass passed in
-      let watch : told.watch ≡ follows.watch =
-      watch_is_one request follows.known told.watch follows.watch (subst (λ (k : Known). IsWatch request k told.watch) known told.follows) follows.watches in
-      let name : told.name ≡ follows.name = one_log told.name follows.name (sym follows.log ∙ told.log) in
-      subst (λ (n : List ℕ). FrontTells follows.watch (take (min upto log_limit) (log_from left request n)) due) name
-      (subst (λ (w : Watch). FrontTells w (take (min upto log_limit) (log_from left request told.name)) due) watch told.tells)
+  near_here : (left : Left) → Begun left → (upto taken : ℕ) → IsNearTaken (log_from left (reads_of c) follows.name) (left_of s.files_after follows.name) upto
+      → (¬ Contains (names c.files) follows.name) → HasTaken follows.name taken s left → taken ≤ upto + ahead_limit
+  near_here left both upto taken near alone has =
+      let all_of = contents left [] follows.name in
+      let bytes = same_some all_of (take taken all_of ++ has.rest) (sym (both.1 follows.name) ∙ has.before) in
+      let size = length-take-le taken all_of has.within in
+      let low = near (take taken all_of) has.rest (log_alone left alone ∙ bytes) has.after in
+      omega (arith, size, low)
 
-  not_far : TellsIt (Some faults.WriteFault) → Told s.files (ReadsNotFarAhead (Some request) s)
+  near_point : (left : Left) → Begun left → (upto : ℕ) → IsNearTaken (log_from left (reads_of c) follows.name) (left_of s.files_after follows.name) upto
+      → IsNearPoint c (Point.upto upto) s left
+  near_point left both upto near = λ other taken log alone has.
+      let name : other ≡ follows.name = one_log other follows.name (sym follows.log ∙ log) in
+      near_here left both upto taken near (subst (λ (n : List ℕ). ¬ Contains (names c.files) n) name alone)
+      (subst (λ (n : List ℕ). HasTaken n taken s left) name has)
+
+  -- a prefix of this was written, which was due at a point past the start
+  part_due : (left : Left) → Begun left → (due : List ℕ) → PartOf left due → WritesFront s.out s.out_after due → WritesPastStart c s left
+  part_due left both due (inl (upto, near, is)) front =
+      (Point.upto upto, tt, near_point left both upto near, (due, due_upto left both.0 upto due is, front))
+  part_due left both due (inr is) front =
+      (Point.end, tt, tt, (due, (done due (suc (length c.files)), whole_outcome left both.0 due is, refl), front))
+
+  -- what is due by the clause is due by the watch
+  due_here : (left : Left) → PassFrom nothing (files_from left (reads_of c)) follows.known → (upto : ℕ) (due : List ℕ) → IsDue c left (Point.upto upto) due
+      → IsDueUpto follows.watch (log_from left (reads_of c) follows.name) upto due
+  due_here left passed upto due told =
+      let sound = pass_sound nothing (files_from left (reads_of c)) told.known tt told.pass in
+      let known : told.known ≡ follows.known = pass_is_one nothing (files_from left (reads_of c)) told.known follows.known tt told.pass passed in
+      let watch : told.watch ≡ follows.watch =
+      watch_one c.task c.range (reads_of c) law follows.known told.watch follows.watch (subst (λ (k : Known). IsWatch c k told.watch) known told.follows) follows.watches in
+      let name : told.name ≡ follows.name = one_log told.name follows.name (sym follows.log ∙ told.log) in
+      subst (λ (n : List ℕ). FrontTells follows.watch (take (min upto log_limit) (log_from left (reads_of c) n)) due) name
+      (subst (λ (w : Watch). FrontTells w (take (min upto log_limit) (log_from left (reads_of c) told.name)) due) watch told.tells)
+
+  not_far : TellsIt (Some faults.WriteFault) → Told s.files (ReadsNotFarAhead c s)
   not_far tells =
       if_some2 s.files.left Begun _ _ (λ left both is other log alone some.
       let name : other ≡ follows.name = one_log other follows.name (sym follows.log ∙ log) in
-      subst (λ (n : List ℕ). IsNotFarAhead (Some request) n s left) (sym name)
+      subst (λ (n : List ℕ). IsNotFarAhead c n s left) (sym name)
       (λ upto taken due written has is_due all less.
       let all_of = contents left [] follows.name in
-      let alone_here = subst (λ (n : List ℕ). ¬ Contains (names (judged_of request)) n) name alone in
+      let alone_here = subst (λ (n : List ℕ). ¬ Contains (names c.files) n) name alone in
       let bytes = same_some all_of (take taken all_of ++ has.rest) (sym (both.1 follows.name) ∙ has.before) in
       let size = length-take-le taken all_of has.within in
       let near = is.near some upto (take taken all_of) has.rest due written (log_alone left alone_here ∙ bytes) has.after
@@ -437,17 +456,45 @@ module _ (request : Request) (s : Seen) (end : Option Fault)
       begun (in_log _ tells)
 
   blames_write : Wrong (Some faults.WriteFault) → TellsIt (Some faults.WriteFault) → TakesLine s.err s.err_after (line_text (Some faults.WriteFault))
-      → BlamesWrite (Some request) s
+      → BlamesWrite c s
   blames_write wrong tells says = record {
     failed = wrong;
     says = says;
     read = has_read;
     passed = has_passed;
-    due = if_some2 s.files.left _ _ _ (λ left passed is. part_due left passed is.part.0 is.part.1 is.part.2) follows.passed (in_log _ tells);
+    due = if_some2 s.files.left Begun _ _ (λ left both is. part_due left both is.part.0 is.part.1 is.part.2) begun (in_log _ tells);
     ahead = not_far tells;
   }
 
-  fault_by : (e : Option Fault) → Wrong e → TellsIt e → TakesLine s.err s.err_after (line_text e) → Blames (Some request) (ending e) s
+  -- ---- memory ran out
+
+  -- the run has come to the log
+  abbrev Come : Left → Type 0
+  Come left = Begun left × (left_of follows.now follows.name ≡ Some (log_from left (reads_of c) follows.name))
+
+  come : Told s.files Come
+  come = if_some2 s.files.left Begun _ Come (λ left both known. (both, known follows.name)) begun follows.read
+
+  stops_in_log : TellsIt (Some faults.Memory) → Told s.files (StopsInLog c s)
+  stops_in_log tells =
+      if_some2 s.files.left Come _ _ (λ left here is.
+      let (front, came) = follows.ends.only.front in
+      let (rest, log_is, after) =
+      consumed (left_of follows.now follows.name) (left_of s.files_after follows.name) (log_from left (reads_of c) follows.name) front here.1 came in
+      let (taken, has_taken, low, same_due) = taken_of left (here.0.1 follows.name) front rest log_is after in
+      let within = is.within front rest log_is after in record {
+        name = follows.name;
+        log = follows.log;
+        taken = taken;
+        has_taken = has_taken;
+        upto = is.upto;
+        within = omega (arith, low, within);
+        due = is.due;
+        is_due = due_upto left here.0.0 is.upto is.due is.is_due;
+        written = is.written;
+      }) come (in_log _ tells)
+
+  fault_by : (e : Option Fault) → Wrong e → TellsIt e → TakesLine s.err s.err_after (line_text e) → Blames c (ending e) s
   fault_by None wrong tells says = tt
   fault_by (Some (faults.LimitBytes other)) wrong tells says = tt
   fault_by (Some (faults.ReadFault other)) wrong tells says =
@@ -455,17 +502,16 @@ module _ (request : Request) (s : Seen) (end : Option Fault)
       let told = subst (λ (n : List ℕ). TellsIt (Some (faults.ReadFault n))) wrong.0 tells in
       blames_read here told (named (λ n. faults.ReadFault n) other wrong.0 says)
   fault_by (Some faults.WriteFault) wrong tells says = blames_write wrong tells says
-  fault_by (Some faults.Memory) wrong tells says = tt
+  fault_by (Some faults.Memory) wrong tells says = inr (stops_in_log tells)
   fault_by (Some fault) wrong tells says = absurd wrong
 
-  finds_by : (e : Option Fault) → Wrong e → TellsIt e → Finds (Some request) (ending e) s
+  finds_by : (e : Option Fault) → Wrong e → TellsIt e → Finds c (ending e) s
   finds_by None wrong tells =
-      if_some2 s.files.left _ _ _ (λ left passed is.
-      let regular = watch_is_regular request follows.known follows.watch (pass_sound nothing (files_from left request) follows.known tt passed) follows.watches in (
+      if_some2 s.files.left _ _ _ (λ left passed is. (
         follows.known,
         passed,
-        finds_log left request follows.name follows.known follows.watch is.due s.out s.out_after follows.range follows.log passed follows.watches regular
-            is.is_due.tells is.written,
+        task_finds_log left (λ name. log_from left (reads_of c) name) c.task c.range (reads_of c) law follows.range follows.name follows.known follows.watch is.due s
+            follows.log passed follows.watches is.is_due.tells is.written,
       )) follows.passed (in_log _ tells)
   finds_by (Some (faults.LimitBytes other)) wrong tells = tt
   finds_by (Some (faults.ReadFault other)) wrong tells = tt
@@ -475,26 +521,26 @@ module _ (request : Request) (s : Seen) (end : Option Fault)
 
   -- ---- the clauses
 
-  pub answer : TakesLine s.err s.err_after (line_text end) → OnAnswer (ending end) (Told s.files (Answers (Some request) (ending end) s))
+  pub answer : TakesLine s.err s.err_after (line_text end) → OnAnswer (ending end) (Told s.files (Answers c (ending end) s))
   answer says = answer_by end follows.ends.wrong follows.ends.tells says
 
-  pub front : WritesDue (Some request) s.files s.out s.out_after
+  pub front : WritesDue c s
   front = front_by end follows.ends.wrong follows.ends.tells
 
-  pub quiet : KeepsQuiet (Some request) (ending end) s.files s.files_after s.out s.out_after
+  pub quiet : KeepsQuiet c (ending end) s
   quiet = quiet_by end follows.ends.wrong
 
-  pub names_word : NamesFileWord (Some request) end
+  pub names_word : NamesFileWord c end
   names_word = names_by end follows.ends.wrong
 
-  pub ends : MayEnd (Some request) (ending end)
+  pub ends : MayEnd c (ending end)
   ends = ends_by end follows.ends.wrong
 
-  pub order : ReadsTo (length (judged_of request)) (names_of request) s.files s.files_after
+  pub order : ReadsTo (length c.files) (file_words c) s.files s.files_after
   order = read_judged
 
-  pub fault : TakesLine s.err s.err_after (line_text end) → Blames (Some request) (ending end) s
+  pub fault : TakesLine s.err s.err_after (line_text end) → Blames c (ending end) s
   fault says = fault_by end follows.ends.wrong follows.ends.tells says
 
-  pub finds : Finds (Some request) (ending end) s
+  pub finds : Finds c (ending end) s
   finds = finds_by end follows.ends.wrong follows.ends.tells

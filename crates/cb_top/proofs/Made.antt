@@ -1,7 +1,7 @@
 -- From files that passed and a job to an outcome.
 use Rattle.std.proofs.Common.{◌≡◌, ◌+◌, ℕ, suc, List, [], ◌∷◌, ◌++◌, length, refl, sym, ap, ◌∙◌, subst, inl, inr, arith}
 use Rattle.cb_io.specs.Outside.{contents}
-use Rattle.cb_request.specs.Files.{Role}
+use Rattle.cb_outcome.specs.Roles.{Role}
 use Rattle.cb_report.specs.declared.fault.Fault.{Fault}
 use Rattle.cb_outcome.specs.Outcome.{Outcome, refused}
 use Rattle.cb_outcome.specs.Judged.{File, Known, Refuses, Job, Gives, PassFrom}

@@ -1,9 +1,8 @@
 //! What is asked for, command by command.
-ghost use Rattle.std.specs.Prelude.{◌≡◌, [], Some};
-ghost use Rattle.cb_request.specs.Files.{names_of};
-ghost use Rattle.cb_request.specs.Ranges.{IsInRange};
-ghost use Rattle.cb_outcome.specs.Steps.{BoundsSteps};
-ghost use Rattle.cb_log_commands.specs.Ways.{EndsRequest};
+ghost use Rattle.std.specs.Prelude.{◌≡◌, []};
+ghost use Rattle.cb_outcome.specs.Asked.{command_of};
+ghost use Rattle.cb_outcome.specs.Command.{file_words};
+ghost use Rattle.cb_log_commands.specs.Ways.{Ends};
 ghost use Rattle.cb_file_kinds.specs.Ending.{wrong};
 
 use cb_file_kinds::deliver;
@@ -30,10 +29,10 @@ pub(crate) fn perform<'w, F: Files, O: Sink, L: Ledger>(
     out: &mut O,
     steps: &mut Steps<L>,
 ) -> Result<(), Fault<'w>>
-    requires range { IsInRange request }
-    ensures ends { EndsRequest request.entry (F.tells files.old) (F.tells files.new) (O.tells out.old) (O.tells out.new) (wrong result) }
-    ensures unread { names_of request.entry ≡ [] → files.new ≡ files.old }
-    ensures steps { BoundsSteps (Some request.entry) (F.tells files.old) (F.tells files.new) steps.old steps.new }
+    requires range { (command_of request).range }
+    ensures ends { Ends (command_of request.entry) (F.tells files.old) (F.tells files.new) (O.tells out.old) (O.tells out.new) (wrong result) }
+    ensures unread { file_words (command_of request.entry) ≡ [] → files.new ≡ files.old }
+    ensures steps { (command_of request.entry).counts (F.tells files.old) (F.tells files.new) steps.old steps.new }
 {
     match request {
         Request::Burst {

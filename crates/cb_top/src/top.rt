@@ -1,13 +1,12 @@
 //! The top call.
 ghost use Rattle.std.specs.Prelude.{◌≡◌, []};
-ghost use Rattle.cb_request.specs.Commands.{asked};
-ghost use Rattle.cb_request.specs.Files.{file_words};
-ghost use Rattle.cb_outcome.specs.Clauses.{AnswersOutcome, WritesDue, KeepsQuiet, SaysStatus, ReadsInOrder, Blames, IsComplete};
+ghost use Rattle.cb_outcome.specs.Asked.{command_in};
+ghost use Rattle.cb_outcome.specs.Command.{file_words};
+ghost use Rattle.cb_outcome.specs.Clauses.{AnswersOutcome, WritesDue, KeepsQuiet, SaysStatus, ReadsInOrder, Blames, IsComplete, BoundsSteps};
 ghost use Rattle.cb_outcome.specs.Ends.{MayEnd};
 ghost use Rattle.cb_outcome.specs.Finds.{Finds};
 ghost use Rattle.cb_outcome.specs.Seen.{seen};
-ghost use Rattle.cb_outcome.specs.Steps.{BoundsSteps};
-ghost use Rattle.cb_log_commands.specs.Ways.{EndsAsked};
+ghost use Rattle.cb_log_commands.specs.Ways.{Ends};
 ghost use Rattle.cb_file_kinds.specs.Ending.{wrong};
 
 use crate::conclude::conclude;
@@ -30,37 +29,38 @@ pub fn run<F: Files, O: Sink, E: Sink, L: Ledger>(
     steps: &mut Steps<L>,
 ) -> Status
     // What comes out. At every status but 8, 9 and 10 status, output, line and the files read are those of the outcome.
-    ensures answer { AnswersOutcome (asked words.now) result (seen F.tells O.tells E.tells files.old files.new out.old out.new err.old err.new) }
+    ensures answer { AnswersOutcome (command_in words.now) result (seen F.tells O.tells E.tells files.old files.new out.old out.new err.old err.new) }
     // At each, what was written is a prefix of what was due at some point of the run.
-    ensures front { WritesDue (asked words.now) (F.tells files.old) (O.tells out.old) (O.tells out.new) }
+    ensures front { WritesDue (command_in words.now) (seen F.tells O.tells E.tells files.old files.new out.old out.new err.old err.new) }
     // Nothing was written at any status but 0, 6 and 9; at 7, 8 and 10 unless the run has come to a log.
-    ensures quiet { KeepsQuiet (asked words.now) result (F.tells files.old) (F.tells files.new) (O.tells out.old) (O.tells out.new) }
+    ensures quiet { KeepsQuiet (command_in words.now) result (seen F.tells O.tells E.tells files.old files.new out.old out.new err.old err.new) }
     // The line is that of a fault of this status, which names no file but a file word; at 0 there is none.
-    ensures line { SaysStatus (asked words.now) result (E.tells err.old) (E.tells err.new) }
+    ensures line { SaysStatus (command_in words.now) result (seen F.tells O.tells E.tells files.old files.new out.old out.new err.old err.new) }
 
     // Which words end how, whatever the files tell: 2 comes exactly where they are none of the table, 4 for commands with a topology alone.
-    ensures ends { MayEnd (asked words.now) result }
+    ensures ends { MayEnd (command_in words.now) result }
     // Nothing is read where no word names a file.
-    ensures unread { file_words (asked words.now) ≡ [] → files.new ≡ files.old }
+    ensures unread { file_words (command_in words.now) ≡ [] → files.new ≡ files.old }
 
     // What was read: files in the order of the words, each whole before the next, and no other.
-    ensures order { ReadsInOrder (asked words.now) (F.tells files.old) (F.tells files.new) }
-    // At 8 a read of the file failed that the line names, and those before it have passed; at 9 a write failed, once all have passed.
-    ensures fault { Blames (asked words.now) result (seen F.tells O.tells E.tells files.old files.new out.old out.new err.old err.new) }
+    ensures order { ReadsInOrder (command_in words.now) (seen F.tells O.tells E.tells files.old files.new out.old out.new err.old err.new) }
+    // At 8 a read of the file failed that the line names, and those before it have passed; at 9 a write failed, once all have passed, and the
+    // log was read not far past the point up to which what was due was written; at 10 in a log all was written that was due at a point of it.
+    ensures fault { Blames (command_in words.now) result (seen F.tells O.tells E.tells files.old files.new out.old out.new err.old err.new) }
 
     // Where no read of a file word and no write fails, the run answers the outcome, or 10.
-    ensures complete { IsComplete (asked words.now) result (seen F.tells O.tells E.tells files.old files.new out.old out.new err.old err.new) }
+    ensures complete { IsComplete (command_in words.now) result (seen F.tells O.tells E.tells files.old files.new out.old out.new err.old err.new) }
 
     // The headline: what `burst` prints at 0 are exactly the groups nearest to what is raised, by codes from what causes what; and
     // where no more symptoms of one group are lost or spurious than the radius says, that group alone, and it is sure. What
     // `codebook` prints at 0 and at 6 is a valid certificate, and at 6 its line names two groups that are closer than wanted, with their
     // distance. Of each window of a log that `correlate` or `decode` follows to 0 the same as of `burst` is said, over the codebook in use, and
     // each thin line names two groups that are closer than wanted, too. No distance of 1 is refused so.
-    ensures finds { Finds (asked words.now) result (seen F.tells O.tells E.tells files.old files.new out.old out.new err.old err.new) }
+    ensures finds { Finds (command_in words.now) result (seen F.tells O.tells E.tells files.old files.new out.old out.new err.old err.new) }
     // No step is counted by `model`, nor where no topology comes of the files; by `burst` and `matrix` no more than it costs to search from each
     // problem of the topology; by `correlate` and `grow` no more than that, and again after each edit of the log for the problems that it makes dirty or new, of
     // `correlate` as far as the log was read. Of the others nothing is said.
-    ensures steps { BoundsSteps (asked words.now) (F.tells files.old) (F.tells files.new) steps.old steps.new }
+    ensures steps { BoundsSteps (command_in words.now) (seen F.tells O.tells E.tells files.old files.new out.old out.new err.old err.new) steps.old steps.new }
 {
     let end = answer(alloc, words, files, out, steps);
     conclude(end, err)
@@ -74,9 +74,9 @@ fn answer<'w, F: Files, O: Sink, L: Ledger>(
     out: &mut O,
     steps: &mut Steps<L>,
 ) -> Result<(), Fault<'w>>
-    ensures ends { EndsAsked (asked words.now) (F.tells files.old) (F.tells files.new) (O.tells out.old) (O.tells out.new) (wrong result) }
-    ensures unread { file_words (asked words.now) ≡ [] → files.new ≡ files.old }
-    ensures steps { BoundsSteps (asked words.now) (F.tells files.old) (F.tells files.new) steps.old steps.new }
+    ensures ends { Ends (command_in words.now) (F.tells files.old) (F.tells files.new) (O.tells out.old) (O.tells out.new) (wrong result) }
+    ensures unread { file_words (command_in words.now) ≡ [] → files.new ≡ files.old }
+    ensures steps { (command_in words.now).counts (F.tells files.old) (F.tells files.new) steps.old steps.new }
 {
     match Request::of(words) {
         Some(request) => perform(alloc, request, files, out, steps),

@@ -1,6 +1,6 @@
 -- What each way out of reading a network shows.
 use Rattle.std.proofs.Common.{[], ◌∷◌, refl, subst}
-use Rattle.cb_request.specs.Files.{Role}
+use Rattle.cb_outcome.specs.Roles.{Role}
 use Rattle.cb_outcome.specs.Judged.{Known, nothing}
 use Rattle.cb_file_kinds.specs.Ending.{Passed, network_files}
 use Rattle.cb_file_kinds.proofs.Chain.{passed_none, passed_next, stops_there, err_is, if_ok_more, if_err_more}

@@ -2,7 +2,7 @@
 use Rattle.std.proofs.Common.{[], ◌∷◌, refl, inl, inr, arith, Err}
 use Rattle.std.proofs.KnownBytes.{Appends-nil}
 use Rattle.cb_topo.specs.Numbered.{topology_of}
-use Rattle.cb_request.specs.declared.request.Request.TheVariants.{Correlate}
+use Rattle.cb_outcome.specs.Commands.Correlate.{correlate_reads}
 use Rattle.cb_report.specs.declared.fault.Fault.TheVariants.{Memory}
 use Rattle.cb_log.specs.Basis.{wanted}
 use Rattle.cb_outcome.specs.Judged.{network}
@@ -15,11 +15,10 @@ use Rattle.cb_log_commands.proofs.correlate.correlate.Goals as goal
 
 pub returns-in_err-topology-clause-ends : goal.returns-in_err-topology-clause-ends
 returns-in_err-topology-clause-ends g c =
-    let request = Correlate c.args.model c.args.topology c.args.log c.args.asked.distance c.args.asked.window in
     rw (err_is c.from_residual.result c.in_err-topology.field-0.0 c.from_residual.ensures.1)
     (inl (record {
       made = Err c.in_err-topology.field-0.0;
-      comes = c.in_err-topology.ensures.stops request [] refl;
+      comes = c.in_err-topology.ensures.stops (correlate_reads c.args.model c.args.topology c.args.log) [] refl;
       delivers = record { written = Appends-nil (g.O.Sink.tells c.args.out.now).taken; end_is = refl };
     }))
 
@@ -30,7 +29,6 @@ returns-in_err-session-clause-ends g c =
     let m = c.args.model in
     let t = c.args.topology in
     let nothing = reads_nothing two c.args.log in
-    let request = Correlate m t c.args.log c.args.asked.distance c.args.asked.window in
     rw (err_is c.from_residual-in_err-session.result Memory c.from_residual-in_err-session.ensures.1)
     (inl (record {
       made = Err Memory;
@@ -73,12 +71,12 @@ returns-clause-ends g c =
 
 pub returns-in_err-topology-clause-steps : goal.returns-in_err-topology-clause-steps
 returns-in_err-topology-clause-steps g c =
-    correlate_none c.args.model c.args.topology c.args.log c.args.asked.distance c.args.asked.window (g.F.Files.tells c.args.files.now)
+    correlate_none c.args.model c.args.topology c.args.log (g.F.Files.tells c.args.files.now)
     (g.F.Files.tells c.read_network.new.files) c.args.steps.now c.args.steps.now refl
 
 pub returns-in_err-session-clause-steps : goal.returns-in_err-session-clause-steps
 returns-in_err-session-clause-steps g c =
-    correlate_opened c.args.model c.args.topology c.args.log c.args.asked.distance c.args.asked.window (g.F.Files.tells c.args.files.now)
+    correlate_opened c.args.model c.args.topology c.args.log (g.F.Files.tells c.args.files.now)
     (g.F.Files.tells c.read_network.new.files) (topology_of c.in_ok-topology.topology) c.args.steps.now c.opened.new.steps c.in_ok-topology.ensures.passed.said
     c.in_ok-topology.ensures.passed.read c.opened.ensures.cost
 
@@ -96,7 +94,7 @@ returns-clause-steps g c =
       written = Appends-nil out.taken;
       faults = omega arith;
     } in
-    correlate_followed c.args.model c.args.topology c.args.log c.args.asked.distance c.args.asked.window (g.F.Files.tells c.args.files.now)
+    correlate_followed c.args.model c.args.topology c.args.log (g.F.Files.tells c.args.files.now)
     (g.F.Files.tells c.read_network.new.files) (g.F.Files.tells c.follow-end.new.files) t c.args.steps.now c.opened.new.steps c.follow-end.new.steps passed.said
     passed.read (c.follow-end.ensures.ends watch out opens).only.front c.opened.ensures.cost
     (c.follow-end.ensures.steps watch out c.args.asked.distance refl opens)

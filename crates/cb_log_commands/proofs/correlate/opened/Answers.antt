@@ -1,5 +1,6 @@
-use Rattle.std.proofs.Common.{IfOk, sym, subst, ◌∙◌, []}
-use Rattle.cb_change.specs.Costs.{IsOpenCost}
+use Rattle.std.proofs.Common.{IfOk, subst, ◌∙◌, [], arith}
+use Rattle.cb_change.specs.Costs.{IsOpenCost, CountsAtMost}
+use Rattle.cb_change.proofs.Totals.{every_open_cost}
 use Rattle.cb_topo.specs.Numbered.{Numbered, topology_of}
 use Rattle.cb_network.proofs.Typed.{typed_is_regular}
 use Rattle.cb_session.specs.State.{State, StandsForEntries}
@@ -20,7 +21,9 @@ returns-clause-stands g c =
     (c.in_ok-cache.ensures.graph ∙ c.in_ok-graph.ensures) c.open-2.ensures.stands
 
 pub returns-in_err-cache-clause-cost : goal.returns-in_err-cache-clause-cost
-returns-in_err-cache-clause-cost g c = λ cost is. c.open.ensures.cost cost (subst (λ (n : Numbered). IsOpenCost (topology_of n) cost) (sym c.in_ok-graph.ensures) is)
+returns-in_err-cache-clause-cost g c = λ cost is. let same = c.in_err-cache.ensures.steps in omega (arith, same)
 
 pub returns-clause-cost : goal.returns-clause-cost
-returns-clause-cost g c = λ cost is. c.open.ensures.cost cost (subst (λ (n : Numbered). IsOpenCost (topology_of n) cost) (sym c.in_ok-graph.ensures) is)
+returns-clause-cost g c =
+    every_open_cost (topology_of c.args.topology) c.args.steps.now c.open.new.steps
+    (subst (λ (n : Numbered). CountsAtMost (IsOpenCost (topology_of n)) c.args.steps.now c.open.new.steps) c.in_ok-graph.ensures c.in_ok-cache.ensures.cost)

@@ -2,8 +2,9 @@
 use Rattle.std.proofs.Common.{[], ◌∷◌, ◌∙◌, refl, subst, inl, inr, Err}
 use Rattle.std.proofs.KnownBytes.{Appends-nil}
 use Rattle.cb_topo.specs.Numbered.{topology_of}
-use Rattle.cb_request.specs.Files.{Role}
-use Rattle.cb_request.specs.declared.request.Request.TheVariants.{Decode}
+use Rattle.cb_outcome.specs.Roles.{Wanted, Role}
+use Rattle.cb_outcome.specs.Commands.Decode.{decode}
+use Rattle.cb_outcome.specs.Command.{reads_of}
 use Rattle.cb_report.specs.declared.fault.Fault.TheVariants.{Memory}
 use Rattle.cb_report.specs.CertificateTexts.{accepted_text}
 use Rattle.cb_log.specs.Basis.{fixed}
@@ -17,11 +18,11 @@ use Rattle.cb_log_commands.proofs.decode.decode.Goals as goal
 pub returns-in_err-topology : goal.returns-in_err-topology
 returns-in_err-topology g c =
     let names = c.args.names in
-    let request = Decode names.model names.topology names.book names.log c.args.window in
+    let reads = reads_of (decode names.model names.topology names.book names.log c.args.window) in
     rw (err_is c.from_residual.result c.in_err-topology.field-0.0 c.from_residual.ensures.1)
     (inl (record {
       made = Err c.in_err-topology.field-0.0;
-      comes = c.in_err-topology.ensures.stops request ((Role.book, names.book) ∷ []) refl;
+      comes = c.in_err-topology.ensures.stops reads ((Role.certificate Wanted.book, names.book) ∷ []) refl;
       delivers = record { written = Appends-nil (g.O.Sink.tells c.args.out.now).taken; end_is = refl };
     }))
 
@@ -31,12 +32,12 @@ returns-in_err-book g c =
     let old = g.F.Files.tells c.args.files.now in
     let two = g.F.Files.tells c.read_network.new.files in
     let three = g.F.Files.tells c.read_as.new.files in
-    let request = Decode names.model names.topology names.book names.log c.args.window in
+    let reads = reads_of (decode names.model names.topology names.book names.log c.args.window) in
     rw (err_is _ _ c.from_residual-in_err-book.ensures.1)
     (inl (record {
       made = Err c.in_err-book.field-0.0;
-      comes = stops_there (network_files names.model names.topology) Role.book names.book (network (topology_of c.in_ok-topology.topology)) old two three
-          c.in_ok-topology.ensures.passed c.in_err-book.ensures.only request [] refl _ _ refl c.in_err-book.ensures.stops;
+      comes = stops_there (network_files names.model names.topology) (Role.certificate Wanted.book) names.book (network (topology_of c.in_ok-topology.topology)) old two three
+          c.in_ok-topology.ensures.passed c.in_err-book.ensures.only reads [] refl _ _ refl c.in_err-book.ensures.stops;
       delivers = record { written = Appends-nil (g.O.Sink.tells c.args.out.now).taken; end_is = refl };
     }))
 
@@ -49,11 +50,10 @@ returns-in_err-session g c =
     let m = names.model in
     let t = names.topology in
     let b = names.book in
-    let request = Decode m t b names.log c.args.window in
     let third = c.in_ok-book.ensures.value in
     let net = network (topology_of c.in_ok-topology.topology) in
     let (known, given, says) = third.says net refl in
-    let after = passed_next (network_files m t) Role.book b net old two three c.in_ok-topology.ensures.passed c.in_ok-book.ensures.only third.text known third.read says in
+    let after = passed_next (network_files m t) (Role.certificate Wanted.book) b net old two three c.in_ok-topology.ensures.passed c.in_ok-book.ensures.only third.text known third.read says in
     let nothing = reads_nothing three names.log in
     rw (err_is c.from_residual-in_err-session.result Memory c.from_residual-in_err-session.ensures.1)
     (inl (record {
@@ -80,11 +80,10 @@ returns g c =
     let m = names.model in
     let t = names.topology in
     let b = names.book in
-    let request = Decode m t b names.log c.args.window in
     let third = c.in_ok-book.ensures.value in
     let net = network (topology_of c.in_ok-topology.topology) in
     let (known, given, says) = third.says net refl in
-    let after = passed_next (network_files m t) Role.book b net old two three c.in_ok-topology.ensures.passed c.in_ok-book.ensures.only third.text known third.read says in
+    let after = passed_next (network_files m t) (Role.certificate Wanted.book) b net old two three c.in_ok-topology.ensures.passed c.in_ok-book.ensures.only third.text known third.read says in
     let out = g.O.Sink.tells c.args.out.now in
     let from = topology_of c.in_ok-topology.topology in
     let certificate = given.0 in
@@ -92,7 +91,7 @@ returns g c =
     let shows = given.2.line in
     let accepted = shows.accepted in
     let watch : Watch = record { opening = accepted_text accepted; from = from; mode = fixed stands.book; window = c.args.window } in
-    let passed = subst (λ (k : Known). Passed ((Role.model, m) ∷ (Role.topology, t) ∷ (Role.book, b) ∷ []) k old three) given.1 after in
+    let passed = subst (λ (k : Known). Passed ((Role.model, m) ∷ (Role.topology, t) ∷ (Role.certificate Wanted.book, b) ∷ []) k old three) given.1 after in
     inr (record {
       range = c.requires;
       known = certified from certificate;

@@ -4,7 +4,7 @@ use Rattle.cb_log.specs.Basis.{Mode, wanted}
 use Rattle.cb_report.specs.declared.summary.Summary.{Summary}
 use Rattle.cb_outcome.specs.Grown.{SumsUpLog}
 use Rattle.cb_topo.specs.Numbered.{topology_of}
-use Rattle.cb_outcome.specs.Steps.{CountsLog}
+use Rattle.cb_outcome.specs.Costs.{CountsLog}
 use Rattle.cb_alarm.specs.Lines.{log_lines}
 use Rattle.cb_file_kinds.proofs.Chain.{if_ok_more}
 use Rattle.cb_log_commands.proofs.Counted.{none_counts, log_counts}

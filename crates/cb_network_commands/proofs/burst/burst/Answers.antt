@@ -2,8 +2,8 @@
 use Rattle.std.proofs.Common.{List, ℕ, [], ◌∷◌, refl, ap, inl, subst}
 use Rattle.std.specs.Prelude.{None}
 use Rattle.cb_topo.specs.Numbered.{topology_of}
-use Rattle.cb_request.specs.Files.{Role}
-use Rattle.cb_request.specs.declared.request.Request.TheVariants.{Burst}
+use Rattle.cb_outcome.specs.Roles.{Role}
+use Rattle.cb_outcome.specs.Commands.Burst.{burst, burst_reads}
 use Rattle.cb_report.specs.declared.fault.Fault.TheVariants.{Memory}
 use Rattle.cb_outcome.specs.Outcome.{done}
 use Rattle.cb_outcome.specs.Judged.{Known, network, raised}
@@ -15,7 +15,7 @@ use Rattle.cb_network_commands.proofs.burst.burst.Goals as goal
 pub returns-in_err-topology-clause-comes : goal.returns-in_err-topology-clause-comes
 returns-in_err-topology-clause-comes g c =
     rw (err_is _ _ c.from_residual.ensures.1)
-    (c.in_err-topology.ensures.stops (Burst c.args.model c.args.topology c.args.symptoms) ((Role.symptoms, c.args.symptoms) ∷ []) refl)
+    (c.in_err-topology.ensures.stops (burst_reads c.args.model c.args.topology c.args.symptoms) ((Role.symptoms, c.args.symptoms) ∷ []) refl)
 
 pub returns-in_err-raised-clause-comes : goal.returns-in_err-raised-clause-comes
 returns-in_err-raised-clause-comes g c =
@@ -27,7 +27,7 @@ returns-in_err-raised-clause-comes g c =
     let s = c.args.symptoms in
     rw (err_is _ _ c.from_residual-in_err-raised.ensures.1)
     (stops_there (network_files m t) Role.symptoms s (network (topology_of c.in_ok-topology.topology)) old two three c.in_ok-topology.ensures.passed
-    c.in_err-raised.ensures.only (Burst m t s) [] refl _ _ refl c.in_err-raised.ensures.stops)
+    c.in_err-raised.ensures.only (burst_reads m t s) [] refl _ _ refl c.in_err-raised.ensures.stops)
 
 pub lines_of_burst-requires : goal.lines_of_burst-requires
 lines_of_burst-requires g c =
@@ -47,7 +47,7 @@ returns-in_err-lines_of_burst-clause-comes g c =
     let (nodes, nodes_are, says) = third.says net refl in
     let after = passed_next (network_files m t) Role.symptoms s net old two three c.in_ok-topology.ensures.passed c.in_ok-raised.ensures.only third.text nodes third.read says in
     rw (err_is c.from_residual-in_err-lines_of_burst.result Memory c.from_residual-in_err-lines_of_burst.ensures.1)
-    (inl (wants (Burst m t s) ((Role.model, m) ∷ (Role.topology, t) ∷ (Role.symptoms, s) ∷ []) nodes old three after refl refl Memory refl))
+    (inl (wants (burst m t s) ((Role.model, m) ∷ (Role.topology, t) ∷ (Role.symptoms, s) ∷ []) nodes old three after refl refl Memory refl))
 
 pub returns-clause-comes : goal.returns-clause-comes
 returns-clause-comes g c =
@@ -63,24 +63,24 @@ returns-clause-comes g c =
     let after = passed_next (network_files m t) Role.symptoms s net old two three c.in_ok-topology.ensures.passed c.in_ok-raised.ensures.only third.text nodes third.read says in
     let files = (Role.model, m) ∷ (Role.topology, t) ∷ (Role.symptoms, s) ∷ [] in
     let (finding, found, text) = c.in_ok-lines_of_burst.ensures.found in
-    makes (Burst m t s) files (raised (topology_of c.in_ok-topology.topology) c.in_ok-raised.raised) old three
+    makes (burst m t s) files (raised (topology_of c.in_ok-topology.topology) c.in_ok-raised.raised) old three
     (subst (λ (k : Known). Passed files k old three) nodes_are.0 after) refl refl _ None
     (λ left whole. (finding, found, ap (λ (bytes : List ℕ). done bytes whole) text))
 
 pub returns-in_err-topology-clause-steps : goal.returns-in_err-topology-clause-steps
 returns-in_err-topology-clause-steps g c =
-    search_none (Burst c.args.model c.args.topology c.args.symptoms) (g.F.Files.tells c.args.files.now) c.args.steps.now c.args.steps.now refl
+    search_none (burst_reads c.args.model c.args.topology c.args.symptoms) (g.F.Files.tells c.args.files.now) c.args.steps.now c.args.steps.now refl
 
 pub returns-in_err-raised-clause-steps : goal.returns-in_err-raised-clause-steps
 returns-in_err-raised-clause-steps g c =
-    search_none (Burst c.args.model c.args.topology c.args.symptoms) (g.F.Files.tells c.args.files.now) c.args.steps.now c.args.steps.now refl
+    search_none (burst_reads c.args.model c.args.topology c.args.symptoms) (g.F.Files.tells c.args.files.now) c.args.steps.now c.args.steps.now refl
 
 pub returns-in_err-lines_of_burst-clause-steps : goal.returns-in_err-lines_of_burst-clause-steps
 returns-in_err-lines_of_burst-clause-steps g c =
-    search_counts (Burst c.args.model c.args.topology c.args.symptoms) (g.F.Files.tells c.args.files.now) (topology_of c.in_ok-topology.topology)
+    search_counts (burst_reads c.args.model c.args.topology c.args.symptoms) (g.F.Files.tells c.args.files.now) (topology_of c.in_ok-topology.topology)
     c.args.steps.now c.lines_of_burst.new.steps c.in_ok-topology.ensures.passed.said c.lines_of_burst.ensures.cost
 
 pub returns-clause-steps : goal.returns-clause-steps
 returns-clause-steps g c =
-    search_counts (Burst c.args.model c.args.topology c.args.symptoms) (g.F.Files.tells c.args.files.now) (topology_of c.in_ok-topology.topology)
+    search_counts (burst_reads c.args.model c.args.topology c.args.symptoms) (g.F.Files.tells c.args.files.now) (topology_of c.in_ok-topology.topology)
     c.args.steps.now c.lines_of_burst.new.steps c.in_ok-topology.ensures.passed.said c.lines_of_burst.ensures.cost

@@ -18,11 +18,11 @@ least-least-requires g c = record {
 pub returns-clause-gives : goal.returns-clause-gives
 returns-clause-gives g c =
     let made = c.in_ok-matrix.matrix in
-    if_ok_more c.matrix_text.result _ _ (λ bytes text. λ whole. record {
+    if_ok_more c.of.result _ _ (λ lines text. λ whole. record {
       columns = made.columns;
       groups = made.groups;
       matrix = c.in_ok-matrix.ensures.matrix;
       least = c.least-least.result;
       least_is = rw (c.codes.ensures.rows, c.codes.ensures.width) at c.least-least.ensures;
-      gives = ap (λ (out : List ℕ). done out whole) (rw (c.columns.ensures, c.coded_groups.ensures.groups) at text);
-    }) c.matrix_text.ensures
+      gives = ap (λ (out : List ℕ). done out whole) (rw (c.into_parts-columns.ensures.columns, c.into_parts-columns.ensures.groups) at text);
+    }) c.of.ensures

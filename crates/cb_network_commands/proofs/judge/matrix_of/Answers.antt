@@ -1,13 +1,13 @@
-use Rattle.std.proofs.Common.{◌≤◌, ◌+◌, ℕ, IfOk, subst, ◌∙◌}
-use Rattle.cb_change.specs.Costs.{IsOpenCost}
+use Rattle.std.proofs.Common.{IfOk, subst, ◌∙◌, arith}
+use Rattle.cb_change.specs.Costs.{IsOpenCost, CountsAtMost}
+use Rattle.cb_change.proofs.Totals.{every_open_cost}
 use Rattle.cb_finding.specs.Matrix.{IsMatrix}
 use Rattle.cb_topo.specs.Numbered.{Numbered, topology_of}
 use Rattle.cb_matrix.specs.declared.matrix.Matrix.{Matrix}
 use Rattle.cb_network_commands.proofs.judge.matrix_of.Goals as goal
 
 pub returns-in_err-cache-clause-cost : goal.returns-in_err-cache-clause-cost
-returns-in_err-cache-clause-cost g c =
-    subst (λ (n : Numbered). (cost : ℕ) → IsOpenCost (topology_of n) cost → c.open.new.steps ≤ c.args.steps.now + cost) c.in_ok-graph.ensures c.open.ensures.cost
+returns-in_err-cache-clause-cost g c = λ cost is. let same = c.in_err-cache.ensures.steps in omega (arith, same)
 
 pub returns-clause-matrix : goal.returns-clause-matrix
 returns-clause-matrix g c =
@@ -16,4 +16,5 @@ returns-clause-matrix g c =
 
 pub returns-clause-cost : goal.returns-clause-cost
 returns-clause-cost g c =
-    subst (λ (n : Numbered). (cost : ℕ) → IsOpenCost (topology_of n) cost → c.open.new.steps ≤ c.args.steps.now + cost) c.in_ok-graph.ensures c.open.ensures.cost
+    every_open_cost (topology_of c.args.topology) c.args.steps.now c.open.new.steps
+    (subst (λ (n : Numbered). CountsAtMost (IsOpenCost (topology_of n)) c.args.steps.now c.open.new.steps) c.in_ok-graph.ensures c.in_ok-cache.ensures.cost)

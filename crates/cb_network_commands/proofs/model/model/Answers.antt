@@ -1,7 +1,8 @@
 -- What each way out of `model` shows.
 use Rattle.std.proofs.Common.{List, ℕ, [], ◌∷◌, refl, ap, inl, subst}
-use Rattle.cb_request.specs.Files.{Role}
-use Rattle.cb_request.specs.declared.request.Request.TheVariants.{Model}
+use Rattle.cb_outcome.specs.Roles.{Role}
+use Rattle.cb_outcome.specs.Commands.Model.{model}
+use Rattle.cb_outcome.specs.Command.{reads_of}
 use Rattle.cb_report.specs.declared.fault.Fault.TheVariants.{Memory}
 use Rattle.cb_outcome.specs.Outcome.{done}
 use Rattle.cb_outcome.specs.Judged.{Known, nothing, parsed, PassFrom}
@@ -15,7 +16,7 @@ returns-in_err-tree g c =
     let old = g.F.Files.tells c.args.files.now in
     let new = g.F.Files.tells c.read_as.new.files in
     rw (err_is _ _ c.from_residual.ensures.1)
-    (stops_there [] Role.model c.args.model nothing old old new (passed_none old) c.in_err-tree.ensures.only (Model c.args.model) [] refl _ _ refl c.in_err-tree.ensures.stops)
+    (stops_there [] Role.model c.args.model nothing old old new (passed_none old) c.in_err-tree.ensures.only (reads_of (model c.args.model)) [] refl _ _ refl c.in_err-tree.ensures.stops)
 
 pub returns-in_err-print : goal.returns-in_err-print
 returns-in_err-print g c =
@@ -36,7 +37,7 @@ returns g c =
     let passed = passed_next [] Role.model c.args.model nothing old old new (passed_none old) c.in_ok-tree.ensures.only said.text known said.read says in
     record {
       known = parsed c.in_ok-tree.tree;
-      said = subst (λ (k : Known). Told old (λ left. PassFrom nothing (files_from left (Model c.args.model)) k)) is passed.said;
+      said = subst (λ (k : Known). Told old (λ left. PassFrom nothing (files_from left (reads_of (model c.args.model))) k)) is passed.said;
       gives = λ left whole. ap (λ (bytes : List ℕ). done bytes whole) c.in_ok-print.ensures;
       read = passed.read;
       alone = refl;
