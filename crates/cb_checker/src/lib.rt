@@ -1,10 +1,4 @@
 //! Certificates, checked against a topology.
-//!
-//! `check(alloc, &mut graph, &certificate, &mut steps)` says what a valid certificate shows, and of any other the first check that
-//! fails. It goes by nodes, columns, spans and claim, in the order of cb_validity's checks; each stage has one clause over its own slice of
-//! that list (`Judges`), and laws of cb_validity join them.
-//!
-//! Read `src/checked.rt` first, then `src/book.rt`, `src/span.rt` and `src/entries.rt`. All but the contract of `check` may be changed freely.
 #![tactic(auto)]
 
 mod all_columns;

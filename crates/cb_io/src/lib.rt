@@ -1,9 +1,4 @@
 //! What the program reads from and writes to: named files and sinks, which count their faults.
-//!
-//! A [`Files`] or a [`Sink`] tells contracts of itself: the bytes left of each name or the bytes taken, where it can know
-//! them, and how often it has failed. `MemFiles` and `MemSink` tell all, so what is proved over any files and sinks can
-//! be tested over them; `NeverFiles` and `NeverSink` never fail; `HostFiles` and `HostSink` stand for the machine, and tell
-//! their faults alone.
 #![tactic(auto)]
 
 mod calls;

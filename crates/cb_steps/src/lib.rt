@@ -1,8 +1,4 @@
 //! A count of steps that contracts see, and tests too.
-//!
-//! A bound on the time of a search is said by a number that each of its steps raises by one. The number is kept in
-//! tokens of `std::sync::ledger`, which have no bytes and whose calls do no work; only `tick` raises it. A test that wants to see
-//! exactly how many steps a search took reads it as `count`, for which one addition is left of `tick` in the built program.
 #![tactic(auto)]
 
 ghost use Rattle.std.specs.Prelude.{◌≡◌, ◌+◌, ◌<◌, ◌^◌, ℕ};
