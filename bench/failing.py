@@ -3,17 +3,19 @@
 
     bench/failing.py [--program PROGRAM] [--most N]
 
-Over all commands, on networks of examples/, on two small ones of its own and on some faulty inputs, it runs the program once undisturbed, and then
-again for the n-th allocation, read and write of the run, with that one call failing, and with all from it on failing. Of a command that makes more than
-so many calls of a kind only some are tried, evenly spread (`grow`). Wanted:
+Over all commands, on networks of examples/, on small ones of its own and on some faulty inputs, it runs the program once undisturbed, and then
+again for the n-th allocation, read and write of the run, with that one call failing, and with all calls from it on failing. Of a command that makes
+more than --most calls of a kind only some are tried, evenly spread (`grow`). Among the commands are logs that change their network: one that creates
+an instance and has a link refused, one that deletes what the alarms of an open window speak of, one that links the second place of a path, and one
+with an edit of each kind. ANSWERS has what they print undisturbed. With a call failing, wanted is
 
     allocation   status 10 with the line on memory (or none, where there was none for it), or the undisturbed answer
     read         status 8 with a line that names a file of the command
     write        status 9
     short        each read and write moves one byte: the undisturbed answer
 
-and a front of the undisturbed output in each case. For statuses 8 and 10 that front is empty, unless the command follows a log; at 8 it is
-empty even then, where the line names another file. Where an answer differs it is printed, and the status is 1. The calls are made to fail by
+and a prefix of the undisturbed output in each case. At statuses 8 and 10 that prefix is empty, unless the command follows a log; at 8 it is
+empty even then if the line names another file. An answer that differs is printed, and the status is 1. The calls are made to fail by
 failing.c beside this file, which needs gcc and Linux. The program is built by `rt run` in crates/cb_cli, which leaves it in out/.
 """
 import argparse
@@ -44,11 +46,12 @@ COMMANDS = [
     ["codebook", "link.model", "link.topology", "2"],
     ["verify", "link.model", "link.topology", "link.certificate"],
     ["verify", "link.model", "link.topology", "thin.certificate"],
-    ["correlate", "link.model", "link.topology", "edits.log", "1", "10"],
-    ["correlate", "link.model", "link.topology", "deleted.log", "1", "10"],
+    ["correlate", "link.model", "link.topology", "refused-link.log", "1", "10"],
+    ["correlate", "link.model", "link.topology", "deleted-link.log", "1", "10"],
+    ["correlate", "link.model", "link.topology", "each-edit.log", "1", "10"],
     ["correlate", "link.model", "link.topology", "cleared.log", "1", "10"],
     ["correlate", "link.model", "link.topology", "cleared.log", "2", "10"],
-    ["correlate", "pipe.model", "pipe.topology", "pipe.log", "1", "5"],
+    ["correlate", "path.model", "path.topology", "second-place.log", "1", "5"],
     ["model", "row.model"],
     ["burst", "row.model", "row.topology", "row.symptoms"],
     ["codebook", "row.model", "row.topology", "1"],
@@ -73,7 +76,7 @@ class Port {
 }
 """
 
-PIPE = """class A {
+PATH = """class A {
   problem P;
   relation mid to B many inverse top;
   rule r: P => mid.low.S;
@@ -109,20 +112,35 @@ def record(at, source, node=None, verb="raise"):
 FILES = {
     "link.model": LINK.splitlines(),
     "link.topology": ["create L1 Link", "create a Port", "create b Port", "link L1 ends a", "link b on L1"],
-    "pipe.model": PIPE.splitlines(),
-    "pipe.topology": ["create a1 A", "create b1 B", "create c1 C", "link a1 mid b1"],
-    # A create, and a link that is refused.
-    "edits.log": [record(1, "create L2 Link"), record(2, "link a on L2"), record(3, "c1", "NoSignal@a")],
-    # What is raised is gone when the window closes.
-    "deleted.log": [record(10, "c1", "Loss@L1"), record(11, "c1", "NoSignal@a"), record(12, "delete L1"), record(20, "tick")],
+    "path.model": PATH.splitlines(),
+    "path.topology": ["create a1 A", "create b1 B", "create c1 C", "link a1 mid b1"],
+    # A create, and a link that is refused, since the port is on another one.
+    "refused-link.log": [record(1, "create L2 Link"), record(2, "link a on L2"), record(3, "c1", "NoSignal@a")],
+    # The link whose alarm is raised is deleted before the window closes.
+    "deleted-link.log": [record(10, "c1", "Loss@L1"), record(11, "c1", "NoSignal@a"), record(12, "delete L1"), record(20, "tick")],
     "cleared.log": [
         record(5, "c1", "NoSignal@a"),
         record(6, "c1", "NoSignal@b"),
         record(7, "c1", "NoSignal@b", "clear"),
         record(15, "c1", "NoSignal@b"),
     ],
+    "each-edit.log": [
+        record(1, "create L2 Link"),
+        record(2, "create c Port"),
+        record(3, "link L2 ends c"),
+        record(4, "mute NoSignal@c"),
+        record(5, "c1", "NoSignal@a"),
+        record(6, "unlink L1 ends a"),
+        record(7, "unmute NoSignal@c"),
+        record(8, "link a on L2"),
+        record(9, "c2", "Loss@L2"),
+        record(10, "c2", "NoSignal@c"),
+        record(16, "delete L1"),
+        record(17, "delete b"),
+        record(30, "tick"),
+    ],
     # The edit changes what the problem causes by the second place of a path.
-    "pipe.log": [record(1, "link b1 low c1"), record(2, "s1", "S@c1")],
+    "second-place.log": [record(1, "link b1 low c1"), record(2, "s1", "S@c1")],
     "row.model": ROW.splitlines(),
     "row.topology": ["create s1 Site", "create s2 Site", "create s3 Site", "link s1 feeds s2", "link s2 feeds s3"],
     "row.symptoms": ["Dark@s2", "Dark@s3"],
@@ -134,6 +152,35 @@ FILES = {
 # Files that the program writes itself before it is disturbed.
 WRITTEN = {"link.certificate": "1", "thin.certificate": "2"}
 
+# What `correlate` is to print for some of the logs.
+ANSWERS = {
+    "refused-link.log": [
+        "refused 2 occupied",
+        "book columns 3 of 4 distance 1 radius 0 groups 5",
+        "diagnosis c1 3 3 raised 1 unknown 0 distance 0 radius 0 sure groups 1",
+        "  group Fail@a",
+    ],
+    "deleted-link.log": [
+        "book columns 2 of 2 distance 1 radius 0 groups 3",
+        "diagnosis c1 10 20 raised 2 unknown 1 distance 0 radius 0 sure groups 1",
+        "  group Fail@a",
+    ],
+    "each-edit.log": [
+        "book columns 4 of 5 distance 1 radius 0 groups 6",
+        "diagnosis c1 5 16 raised 1 unknown 0 distance 0 radius 0 sure groups 1",
+        "  group Fail@a",
+        "book columns 2 of 3 distance 1 radius 0 groups 4",
+        "diagnosis c2 9 30 raised 2 unknown 0 distance 0 radius 0 sure groups 1",
+        "  group Fail@c",
+    ],
+    "second-place.log": [
+        "book columns 1 of 1 distance 1 radius 0 groups 2",
+        "diagnosis s1 2 2 raised 1 unknown 0 distance 0 radius 0 sure groups 1",
+        "  group P@a1",
+    ],
+}
+
+# Which of a command's words is its log.
 LOGS = {"correlate": 3, "decode": 4}
 
 
@@ -169,19 +216,27 @@ class Runs:
         if answer == (self.status, self.out, self.err):
             return kind in ("malloc", "short")
         if kind == "malloc":
-            return status == 10 and self.is_front(out, self.log) and err in (b"", b"error 10 memory\n")
+            return status == 10 and self.may_be(out, self.log) and err in (b"", b"error 10 memory\n")
         if kind == "read":
-            return status == 8 and any(err == f"error 8 read {name}\n".encode() and self.is_front(out, name) for name in self.command[1:])
+            return status == 8 and any(err == f"error 8 read {name}\n".encode() and self.may_be(out, name) for name in self.command[1:])
         return kind == "write" and status == 9 and self.out.startswith(out) and err == b"error 9 write\n"
 
-    def is_front(self, out, name):
-        """Whether that may have been written: nothing, or a front where the log of this name is followed."""
+    def is_wanted(self):
+        """Whether the undisturbed output is that of ANSWERS, if it is there."""
+        wanted = ANSWERS.get(self.log)
+        return wanted is None or self.out == "".join(f"{line}\n" for line in wanted).encode()
+
+    def may_be(self, out, name):
+        """Whether that may have been written: nothing, or a prefix if the log of this name is followed."""
         return out == b"" or (self.log is not None and name == self.log and self.out.startswith(out))
 
 
 def disturb(runs, most):
-    """How many disturbed runs there were, and how many went wrong."""
+    """How many disturbed runs there were, and how many answers were wrong, the undisturbed one among them."""
     tried = wrong = 0
+    if not runs.is_wanted():
+        wrong += 1
+        print(f"WRONG: {' '.join(runs.command)}: undisturbed: {runs.out}")
     for kind, on in itertools.product(("malloc", "read", "write", "short"), (False, True)):
         calls = 1 if kind == "short" else runs.count(kind)
         for at in range(1, calls + 1, max(1, calls // most)):
