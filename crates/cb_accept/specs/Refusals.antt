@@ -1,5 +1,5 @@
 -- What is looked up to decide an edit.
-use Rattle.std.specs.Prelude.{◌≡◌, ℕ, ◌<◌, List, Some, slice_get}
+use Rattle.std.specs.Prelude.{◌≡◌, ◌<◌, Some, slice_get}
 use Rattle.cb_model.specs.declared.id.ClassId.{ClassId}
 use Rattle.cb_model.specs.declared.id.EventId.{EventId}
 use Rattle.cb_model.specs.declared.id.RelId.{RelId}
@@ -17,6 +17,7 @@ use Rattle.cb_instances.specs.Net.{Net, IsNamed, HasEventAt, node_at}
 use Rattle.cb_accept.specs.declared.counts.NodeCounts.{NodeCounts}
 use Rattle.cb_accept.specs.declared.link.Ends.{Ends}
 use Rattle.cb_accept.specs.declared.mute.Symptom.{Symptom}
+use Rattle.cb_network.specs.Words.{InstanceName, Word}
 
 -- a number is above the limit that this refusal speaks of
 abbrev pub IsAbove : NodeCounts → EditRefusal → Type 0
@@ -32,13 +33,13 @@ pub record IsFirstLimit (counts : NodeCounts) (why : EditRefusal) : Type 0 where
 
 -- the instance is of this class, which is one of the model's
 pub record IsClassAt (n : Net) (id : InstanceId) (class : ClassId) : Type 0 where
-  pub name : List ℕ
+  pub name : InstanceName
   pub named : IsNamed n id name
   pub of_class : HasClass n.topology name class
   pub within : IsClass n.topology.model class
 
 -- b's class is the target of the relation, or a descendant of that
-pub record FitsTarget (t : Topology) (b : List ℕ) (rel : RelId) : Type 0 where
+pub record FitsTarget (t : Topology) (b : InstanceName) (rel : RelId) : Type 0 where
   pub class : ClassId
   pub of_class : HasClass t b class
   pub row : RelRow
@@ -46,18 +47,18 @@ pub record FitsTarget (t : Topology) (b : List ℕ) (rel : RelId) : Type 0 where
   pub kind : IsA t.model class row.target
 
 -- these are the instances a and b, and the relation of this name that a's class has
-pub record AreEnds (n : Net) (a rel b : List ℕ) (ends : Ends) : Type 0 where
+pub record AreEnds (n : Net) (a : InstanceName) (rel : Word) (b : InstanceName) (ends : Ends) : Type 0 where
   pub from : IsNamed n ends.from a
   pub to : IsNamed n ends.to b
   pub at_a : IsRelationAt n.topology a rel ends.rel
 
 -- the event, of this name, is a symptom of the instance
-pub record IsSymptomAt (n : Net) (id : InstanceId) (event name : List ℕ) (e : EventId) : Type 0 where
+pub record IsSymptomAt (n : Net) (id : InstanceId) (event : Word) (name : InstanceName) (e : EventId) : Type 0 where
   pub symptom : IsSymptomNode n.topology (node_of event name)
   pub has : HasEventAt n id e
   pub node : node_at n id e ≡ node_of event name
 
 -- these are the instance and the event of these names, and the event is a symptom of the instance
-pub record IsSymptomNamed (n : Net) (event name : List ℕ) (s : Symptom) : Type 0 where
+pub record IsSymptomNamed (n : Net) (event : Word) (name : InstanceName) (s : Symptom) : Type 0 where
   pub named : IsNamed n s.id name
   pub symptom : IsSymptomAt n s.id event name s.event

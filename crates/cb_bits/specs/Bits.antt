@@ -26,7 +26,7 @@ pub record Packs (row : List Bool) (words : List ℕ) : Type 0 where
   pub small : All (λ word. word < 2 ^ 64) words
   pub bits : (k : ℕ) → k < length row → bit_of words k ≡ slice_index_or row k false
 
--- at how many places two rows differ
+-- at how many positions two rows differ
 abbrev pub differing : List Bool → List Bool → ℕ
 differing row other = count_by (λ k. not (beq (slice_index_or row k false) (slice_index_or other k false))) (range_with_len 0 (length row))
 
@@ -34,12 +34,12 @@ differing row other = count_by (λ k. not (beq (slice_index_or row k false) (sli
 abbrev pub without : List Bool → List Bool → List Bool
 without row other = zip2 (λ one other. one && not other) row other
 
--- of the places from one on, this is the first that is true
+-- of the positions from one on, this is the first that is true
 pub record IsNextOne (row : List Bool) (from k : ℕ) : Type 0 where
   pub on : from ≤ k
   pub is : slice_index_or row k false ≡ true
   pub first : (j : ℕ) → from ≤ j → j < k → slice_index_or row j false ≡ false
 
--- no place from this one on is true
+-- no position from this one on is true
 abbrev pub HasNoneFrom : List Bool → ℕ → Type 0
 HasNoneFrom row from = (k : ℕ) → from ≤ k → slice_index_or row k false ≡ false

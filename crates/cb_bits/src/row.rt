@@ -56,7 +56,7 @@ impl Row {
         self.len
     }
 
-    /// The value at a place.
+    /// The value at a position.
     pub fn get(&self, i: usize) -> bool
         requires { i < length self.now }
         ensures { result ≡ slice_index_or self.now i false }
@@ -64,7 +64,7 @@ impl Row {
         is_set(&self.words, i)
     }
 
-    /// Makes the value at a place true.
+    /// Makes the value at a position true.
     pub fn set(&mut self, i: usize)
         requires { i < length self.old }
         ensures { self.new ≡ slice_set self.old i true }
@@ -72,7 +72,7 @@ impl Row {
         set_bit(&mut self.words, i);
     }
 
-    /// Makes the value at a place false.
+    /// Makes the value at a position false.
     pub fn clear(&mut self, i: usize)
         requires { i < length self.old }
         ensures { self.new ≡ slice_set self.old i false }
@@ -103,7 +103,7 @@ impl Row {
         equal(as_words(&self.words), as_words(&other.words))
     }
 
-    /// The first true place from a place on.
+    /// The first true position from a position on.
     pub fn next_one(&self, from: usize) -> Option<usize>
         ensures next { IfSome result (IsNextOne self.now from) }
         ensures none { IfNone result (HasNoneFrom self.now from) }
@@ -111,7 +111,7 @@ impl Row {
         next_bit(&self.words, from)
     }
 
-    /// The first place from a place on that is true here and false in `other`.
+    /// The first position from a position on that is true here and false in `other`.
     pub fn next_not_in(&self, other: &Row, from: usize) -> Option<usize>
         requires { length self.now ≡ length other.now }
         ensures next { IfSome result (IsNextOne (without self.now other.now) from) }
@@ -127,7 +127,7 @@ impl Row {
         count_ones(&self.words)
     }
 
-    /// At how many places the two differ.
+    /// At how many positions the two differ.
     pub fn distance(&self, other: &Row) -> usize
         requires { length self.now ≡ length other.now }
         ensures { result ≡ differing self.now other.now }
@@ -135,7 +135,7 @@ impl Row {
         count_differing(&self.words, &other.words)
     }
 
-    /// At how many places the two differ, where these are fewer than the limit. It stops once there are as many.
+    /// At how many positions the two differ, where these are fewer than the limit. It stops once there are as many.
     pub fn distance_below(&self, other: &Row, limit: usize) -> Option<usize>
         requires { length self.now ≡ length other.now }
         ensures { let distance = differing self.now other.now in

@@ -16,7 +16,7 @@ pub(crate) fn as_words(words: &[u64]) -> &[u64]
     words
 }
 
-/// The bit at a place.
+/// The bit at a position.
 pub(crate) fn is_set(words: &[u64], k: usize) -> bool
     requires { k < 64 * length words.now }
     ensures { result ≡ bit_of words.now k }
@@ -24,7 +24,7 @@ pub(crate) fn is_set(words: &[u64], k: usize) -> bool
     words[k / 64] >> (k % 64) & 1 == 1
 }
 
-/// Makes the bit at a place one.
+/// Makes the bit at a position one.
 pub(crate) fn set_bit(words: &mut [u64], k: usize)
     requires { k < 64 * length words.old }
     ensures one { bit_of words.new k ≡ true }
@@ -33,7 +33,7 @@ pub(crate) fn set_bit(words: &mut [u64], k: usize)
     words[k / 64] |= 1 << (k % 64);
 }
 
-/// Makes the bit at a place zero.
+/// Makes the bit at a position zero.
 pub(crate) fn clear_bit(words: &mut [u64], k: usize)
     requires { k < 64 * length words.old }
     ensures zero { bit_of words.new k ≡ false }
@@ -103,7 +103,7 @@ pub(crate) fn count_differing_below(words: &[u64], other: &[u64], limit: usize) 
     if count < limit { Some(count) } else { None }
 }
 
-/// The first bit, from a place on, that is one. Words without a bit are passed at a look.
+/// The first bit, from a position on, that is one. Words without a bit are passed at a look.
 pub(crate) fn next_bit(words: &[u64], from: usize) -> Option<usize>
     requires { 64 * length words.now ≤ 2 ^ 64 }
     ensures next { IfSome result (IsNextBit words.now [] from) }

@@ -41,7 +41,7 @@ pub record IsLevelTree (edge : ℕ → ℕ → Type 0) (root : ℕ) (visits : Li
   pub first : (i j : ℕ) (v w : LevelVisit) → 0 < j → slice_get visits i ≡ Some v → slice_get visits j ≡ Some w → v.level + 1 ≡ w.level
       → edge v.node w.node → w.parent ≤ i + 1
 
--- an edge leads to the node from one of the visits between two places
+-- an edge leads to the node from one of the visits between two positions
 pub record IsLedTo (edge : ℕ → ℕ → Type 0) (visits : List LevelVisit) (from to node : ℕ) : Type 0 where
   pub place : ℕ
   pub visit : LevelVisit
@@ -50,7 +50,7 @@ pub record IsLedTo (edge : ℕ → ℕ → Type 0) (visits : List LevelVisit) (f
   pub is : slice_get visits place ≡ Some visit
   pub leads : edge visit.node node
 
--- the place, counted from 1, is that of the first of these visits with an edge to the node
+-- the position, counted from 1, is that of the first of these visits with an edge to the node
 pub record IsFirstFrom (edge : ℕ → ℕ → Type 0) (visits : List LevelVisit) (from to node parent : ℕ) : Type 0 where
   pub led : IsLedTo edge visits from to node
   pub is : parent ≡ led.place + 1
@@ -68,12 +68,12 @@ pub record AreFoundUpto (edge : ℕ → ℕ → Type 0) (visits : List LevelVisi
   pub room : length found ≡ length before
   pub parents_room : length parents ≡ length found
 
--- what edges lead to from the visits from a place on, and wasn't found before, in order
+-- what edges lead to from the visits from a position on, and wasn't found before, in order
 pub record IsTier (edge : ℕ → ℕ → Type 0) (visits : List LevelVisit) (from : ℕ) (before found : List Bool) (parents tier : List ℕ) : Type 0 where
   pub upto : AreFoundUpto edge visits from (length visits) before found parents
   pub list : IsListOf (IsNext edge visits from (length visits) before) tier
 
--- the visit of a node at a level from the parent that stands at its place
+-- the visit of a node at a level from the parent that stands at its position
 abbrev pub levelled : ℕ → List ℕ → ℕ → LevelVisit
 levelled level parents node = level_visit node level (slice_index_or parents node 0)
 

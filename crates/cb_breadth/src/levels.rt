@@ -68,7 +68,7 @@ pub(crate) fn grow_levels<L: Ledger, G: Edges>(
     Ok(visits)
 }
 
-// The nodes that edges lead to from the visits from a place on, and that aren't found yet, in order. They are found then, and for each the place of
+// The nodes that edges lead to from the visits from a position on, and that aren't found yet, in order. They are found then, and for each the position of
 // the first of these visits, counted from 1, stands among the parents.
 fn next_tier<L: Ledger, G: Edges>(
     alloc: Global,

@@ -160,7 +160,7 @@ fn visit_all(
     Ok(())
 }
 
-// Makes the row empty, which has exactly the nodes of the visits. Only their places are wiped.
+// Makes the row empty, which has exactly the nodes of the visits. Only their positions are wiped.
 fn forget(found: &mut Row, visits: &[Visit])
     requires { (node : ℕ) → Has found.old node ↔ IsVisited visits.now node }
     ensures { found.new ≡ replicate (length found.old) false }

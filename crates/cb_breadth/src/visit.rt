@@ -1,6 +1,6 @@
 //! Nodes in an order, and the visits to them.
 
-/// Numbers of nodes in an order. A node's rank is its place among them.
+/// Numbers of nodes in an order. A node's rank is its position among them.
 #[derive(Drop)]
 pub struct Order {
     /// For each rank the number of the node.
@@ -9,7 +9,7 @@ pub struct Order {
     pub ranks: Vec<u32>,
 }
 
-/// A node, by its rank; and the place among the visits, counted from 1, of the one that it was found from. The parent of the
+/// A node, by its rank; and the position among the visits, counted from 1, of the one that it was found from. The parent of the
 /// root is 0.
 #[derive(Clone, Copy, PartialEq, Eq)]
 pub struct Visit {
@@ -17,7 +17,7 @@ pub struct Visit {
     pub parent: u32,
 }
 
-/// A node, by its rank; the least number of edges of a chain to it from the root; and the place among the visits, counted from 1, of the
+/// A node, by its rank; the least number of edges of a chain to it from the root; and the position among the visits, counted from 1, of the
 /// least node one level below that has an edge to it. The parent of the root is 0.
 #[derive(Clone, Copy, PartialEq, Eq)]
 pub struct LevelVisit {

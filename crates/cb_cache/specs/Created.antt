@@ -34,12 +34,12 @@ abbrev pub IsNewProblem : Numbered → Edit → NodeId → Type 0
 IsNewProblem n (Create name class) id = (problem : NodeName) × IsNodeNamed n id problem × IsProblem (topology_of n) problem × (problem.instance ≡ name)
 IsNewProblem n edit id = ⊥
 
--- the pool has rows so wide and so many to spare; or there is a wider one with the same rows
+-- the pool has rows of that width and that many to spare; or there is a wider one with equal rows
 abbrev pub IsPoolFor : ℕ → ℕ → Pool → Option Pool → Type 0
 IsPoolFor width more p None = (p.width ≡ width) × (more ≤ p.spare)
 IsPoolFor width more p (Some wider) = (wider.width ≡ width) × WiderRows p wider × (more ≤ wider.spare)
 
--- there are places for so many nodes, with the slots that numbers have, and rows for so many further problems
+-- there are slots for `room` nodes, with those that numbers have, and rows for `more` further problems
 pub record IsFurtherFor (room more : ℕ) (rows : Rows) (further : Further) : Type 0 where
   pub slots : further.slots.items ≡ rows.slots.items ++ replicate (room - length rows.slots.items) None
   pub scratch : HasRoomFor room further.scratch
@@ -50,7 +50,7 @@ pub record IsFurtherFor (room more : ℕ) (rows : Rows) (further : Further) : Ty
 abbrev pub IsRoomWith : Numbered → Edit → Rows → Further → Type 0
 IsRoomWith n edit rows further = WellTyped (topology_of n).model × (more : ℕ) × HasEventsWithin (topology_of n).model edit more × ((new : Numbered) → Applies n edit new → IsFurtherFor (length new.nodes) more rows further)
 
--- the pool that takes another's place, if one does
+-- the pool that takes another's position, if one does
 abbrev pub pool_or : Pool → Option Pool → Pool
 pool_or p None = p
 pool_or p (Some wider) = wider

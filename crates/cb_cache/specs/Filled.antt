@@ -36,7 +36,7 @@ pub record AddsRows (n : Numbered) (ids : List NodeId) (slots new_slots : List (
   pub apart : OwnSlots new_slots
   pub taken : (slot : Slot) → IsTaken new slot → IsTaken p slot ⊎ ((i : ℕ) × HasSlot new_slots i slot)
 
--- the node of this number causes so many nodes
+-- the node of this number causes that many nodes
 abbrev pub HasSize : Numbered → NodeId → ℕ → Type 0
 HasSize n id size = (name : NodeName) → IsNodeNamed n id name → IsCount (Causes (topology_of n) name) size
 

@@ -29,17 +29,17 @@ pub record AreRight (n : Numbered) (slots : List (Option Slot)) (p : Pool) : Typ
   pub apart : OwnSlots slots
   pub owned : AreOwned slots p
 
--- a search has places for all numbers of nodes
+-- a search has positions for all numbers of nodes
 abbrev pub HasRoom : Numbered → Scratch → Type 0
 HasRoom n scratch = HasRoomFor (length n.nodes) scratch
 
--- there is a place for each number of a node, and the rows are as wide as the numbers need
+-- there is a position for each number of a node, and the rows are as wide as the numbers need
 pub record HaveRoom (n : Numbered) (rows : Rows) : Type 0 where
   pub slots : length rows.slots.items ≡ length n.nodes
   pub width : rows.pool.width ≡ words_for (length n.nodes)
   pub scratch : HasRoom n rows.scratch
 
--- the topology is whole, the rows are right, and there is room for searches and for edits
+-- the topology is whole, the rows are right, and the buffers are large enough for searches and edits
 pub record IsCacheOf (n : Numbered) (store : Store) : Type 0 where
   pub whole : IsWhole n
   pub right : AreRight n store.rows.slots.items store.rows.pool

@@ -6,7 +6,7 @@ use Rattle.cb_cache.specs.declared.rows.Store.{Store}
 use Rattle.cb_cache.specs.Most.{HasAtMost}
 use Rattle.cb_cache.specs.Room.{HasRoomFor, HasAgendaFor}
 
--- nothing is listed, no number has a slot, and none is taken; there is room for so many rows of so many nodes
+-- nothing is listed, no number has a slot, and none is taken; there is capacity for `count` rows of `room` nodes
 pub record IsEmptyFor (room count : ℕ) (store : Store) : Type 0 where
   pub order : store.agenda.problems.items ≡ []
   pub slots : store.rows.slots.items ≡ replicate room None
@@ -16,6 +16,6 @@ pub record IsEmptyFor (room count : ℕ) (store : Store) : Type 0 where
   pub agenda : HasAgendaFor room store.agenda
   pub spare : count ≤ store.rows.pool.spare
 
--- there is room for the rows of all problems
+-- there is capacity for the rows of all problems
 abbrev pub IsRoomFor : Numbered → Store → Type 0
 IsRoomFor n store = (count : ℕ) × HasAtMost (topology_of n) count × IsEmptyFor (length n.nodes) count store

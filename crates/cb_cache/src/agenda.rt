@@ -6,7 +6,7 @@ use cb_bits::Row;
 use cb_nodes::NodeId;
 use std::alloc::{AllocError, Global};
 
-/// What is to be done about an edit. It is kept for its room: no edit begins with what an earlier one left here.
+/// What is to be done about an edit. It is kept for its capacity: no edit begins with what an earlier one left here.
 #[derive(Drop)]
 pub struct Agenda {
     /// The nodes that the edit touches.
@@ -15,7 +15,7 @@ pub struct Agenda {
     pub problems: Vec<NodeId>,
 }
 
-/// Room for `room` nodes.
+/// An agenda for `room` nodes.
 pub(crate) fn agenda_for(alloc: Global, room: usize) -> Result<Agenda, AllocError>
     ensures room { IfOk result (HasAgendaFor room) }
     ensures none { IfOk result (λ agenda. agenda.problems.items ≡ []) }

@@ -32,7 +32,7 @@ use std::alloc::{AllocError, Global};
 use std::mem::swap;
 use std::sync::ledger::Ledger;
 
-/// What more nodes need: places for all, and, where rows must be longer, another pool.
+/// What more nodes need: positions for all, and, where rows must be longer, another pool.
 #[derive(Drop)]
 pub struct Further {
     slots: Vec<Option<Slot>>,
@@ -65,7 +65,7 @@ pub(crate) fn create<L: Ledger>(
     create_in(alloc, graph, edit, &mut further, store, steps)
 }
 
-// The same, in the room that was made for it.
+// Makes a Create, once all memory for it was taken.
 fn create_in<L: Ledger>(
     alloc: Global,
     graph: &mut Graph,
@@ -116,7 +116,7 @@ fn further_for(
     })
 }
 
-// Makes room for so many rows more; in another pool, where rows must be longer.
+// Reserves capacity for `more` further rows; in another pool, if rows must be longer.
 fn pool_for(
     alloc: Global,
     pool: &mut RowPool,
@@ -134,7 +134,7 @@ fn pool_for(
     Ok(None)
 }
 
-// The slots, with places for so many numbers.
+// A copy of the slots, for `room` numbers.
 fn slots_for(
     alloc: Global,
     slots: &[Option<Slot>],
@@ -148,7 +148,7 @@ fn slots_for(
     Ok(made)
 }
 
-// Puts the rows that are there into their new places. What is left behind doesn't matter.
+// Moves the rows into the new pool. What stays in the old one doesn't matter.
 fn move_in(further: &mut Further, store: &mut Store)
     ensures slots { store.new.rows.slots ≡ further.old.slots }
     ensures scratch { store.new.rows.scratch ≡ further.old.scratch }

@@ -1,4 +1,4 @@
-//! A graph with a row for each problem: all the nodes that the problem causes. README.md tells more.
+//! A graph with a row for each problem: all the nodes that the problem causes.
 #![tactic(auto)]
 
 mod agenda;

@@ -23,7 +23,7 @@ fn trade<T: Copy>(items: &mut Vec<T>, place: usize, other: usize)
     }
 }
 
-// The place with its bits backwards, after so many bits that no place has.
+// The position with its bits in reverse order, `idle` high bits left out, which no position has.
 fn mirrored(place: usize, idle: u32) -> usize {
     place.reverse_bits() >> idle.min(63)
 }

@@ -18,7 +18,7 @@ use cb_topo::Topology;
 use std::alloc::{AllocError, Global};
 use std::sync::ledger::Ledger;
 
-/// For the number of each problem the slot of its row, the rows, and room for a search.
+/// For the number of each problem the slot of its row, the rows, and the buffers of a search.
 #[derive(Drop)]
 pub struct Rows {
     pub slots: Vec<Option<Slot>>,
@@ -26,7 +26,7 @@ pub struct Rows {
     pub scratch: Scratch,
 }
 
-/// Rows, and room for what is to be done about them.
+/// Rows, and the agenda of what is to be done about them.
 #[derive(Drop)]
 pub struct Store {
     pub rows: Rows,
@@ -49,7 +49,7 @@ pub(crate) fn search_all<L: Ledger>(
     Ok(store)
 }
 
-// Searches from each problem, in the room that is there for it.
+// Searches from each problem, into rows that were reserved for it.
 fn search_each<L: Ledger>(graph: &mut Graph, store: &mut Store, steps: &mut Steps<L>)
     requires { IsRoomFor graph.old store.old }
     ensures same { graph.new ≡ graph.old }
@@ -67,7 +67,7 @@ fn room_now(alloc: Global, topology: &Topology) -> Result<Store, AllocError>
     make_room(alloc, topology.node_room(), problem_count(topology))
 }
 
-// Room for so many rows of so many nodes, none of which is there yet.
+// Capacity for `count` rows of `room` nodes, none of which is there yet.
 fn make_room(alloc: Global, room: usize, count: usize) -> Result<Store, AllocError>
     ensures { IfOk result (IsEmptyFor room count) }
 {
@@ -84,7 +84,7 @@ fn make_room(alloc: Global, room: usize, count: usize) -> Result<Store, AllocErr
     })
 }
 
-// So many places without a slot.
+// So many positions without a slot.
 fn no_slots(alloc: Global, room: usize) -> Result<Vec<Option<Slot>>, AllocError>
     ensures { IfOk result (λ slots. slots.items ≡ replicate room None) }
 {

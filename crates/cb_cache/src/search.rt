@@ -113,7 +113,7 @@ fn expand<L: Ledger, G: Edges>(
     ensures adds { AddsBelow (G.edge graph.old) nodes.now words.now (G.count graph.old) found.old found.new }
     ensures cost { CountsOnly (λ k. Has nodes.now k × (bit_of words.now k ≡ true)) (G.count graph.old) steps.old steps.new }
 {
-    // A length fits its type, and so does the place after a node.
+    // A length fits its type, and so does the position after a node.
     let _room = nodes.len();
     let mut from = 0;
     while let Some(node) = nodes.next_one(from) {
@@ -251,7 +251,7 @@ fn slot_of(slots: &[Option<Slot>], number: usize) -> Option<Slot>
     *slots.get(number)?
 }
 
-// A node that is found and not done: the next one from a place on, or else the first of all.
+// A node that is found and not done: the next one from a position on, or else the first of all.
 fn next_left(found: &Row, done: &Row, from: usize) -> Option<usize>
     requires { length found.now ≡ length done.now }
     ensures left { IfSome result (IsLeft found.now done.now) }

@@ -1,10 +1,10 @@
--- What may come at each place of a certificate's text.
+-- What may come at each position of a certificate's text.
 use Rattle.std.specs.Prelude.{⊤, ℕ, ◌<◌, ◌≤◌, List, [], ◌∷◌, ◌++◌, replicate}
 use Rattle.cb_cert.specs.declared.line.CertificateLine.{CertificateLine}
 use Rattle.cb_cert.specs.declared.line.CertificateLine.TheVariants as line
 use Rattle.cb_cert.specs.Format.{IsWanted, IsNode, IsEntry, column_limit, node_limit}
 
--- a place, by what stands there; the distance of a thin certificate, which may be 0, has a place of its own
+-- a position, by what stands there; the distance of a thin certificate, which may be 0, has a position of its own
 pub data TextPlace : Type 0 where
   at_header : TextPlace
   at_kind : TextPlace
@@ -21,7 +21,7 @@ pub data TextPlace : Type 0 where
   at_entry : TextPlace
   at_end : TextPlace
 
--- the line may stand at the place in a certificate with n nodes
+-- the line may stand at the position in a certificate with n nodes
 abbrev pub MayStand : ℕ → TextPlace → CertificateLine → Type 0
 MayStand n at_header line.Header = ⊤
 MayStand n at_kind line.Book = ⊤
@@ -41,7 +41,7 @@ MayStand n at_entry (line.Entry e) = IsEntry n e
 MayStand n at_end line.End = ⊤
 MayStand n place l = ⊥
 
--- the places that come right after a line
+-- the positions that come right after a line
 abbrev pub opened : CertificateLine → List TextPlace
 opened line.Book = at_distance ∷ at_nodes ∷ at_columns ∷ at_spans ∷ []
 opened line.Thin = at_wanted ∷ at_thin_distance ∷ at_nodes ∷ at_side ∷ at_span ∷ []
@@ -56,7 +56,7 @@ abbrev pub nodes_after : ℕ → CertificateLine → ℕ
 nodes_after n (line.Nodes m) = m
 nodes_after n l = n
 
--- these lines may come in a certificate with n nodes where these places are ahead
+-- these lines may come in a certificate with n nodes where these positions are ahead
 abbrev pub MayCome : ℕ → List TextPlace → List CertificateLine → Type 0
 MayCome n ahead [] = ⊤
 MayCome n [] (l ∷ ls) = ⊥

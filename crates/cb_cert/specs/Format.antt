@@ -15,15 +15,15 @@ use Rattle.cb_cert.specs.Lines.{certificate_lines, line_text}
 abbrev pub wanted_limit : ℕ
 wanted_limit = 9999
 
--- at most so many nodes
+-- at most this many nodes
 abbrev pub node_limit : ℕ
 node_limit = 65536
 
--- at most so many columns, and at most so many spans
+-- at most this many columns, and at most this many spans
 abbrev pub column_limit : ℕ
 column_limit = 8192
 
--- at most so many entries, in all spans together
+-- at most this many entries, in all spans together
 abbrev pub entry_limit : ℕ
 entry_limit = 1048576
 
@@ -53,7 +53,7 @@ IsDistance (Thin wanted distance nodes first second) d = d ≤ column_limit
 abbrev pub IsNode : NodeName → Type 0
 IsNode n = IsName n.event × IsInstance n.instance
 
--- an entry among so many nodes: its node is one of them, and its parent may be a place of a span, or 0
+-- an entry among that many nodes: its node is one of them, and its parent may be a position of a span, or 0
 abbrev pub IsEntry : ℕ → Entry → Type 0
 IsEntry nodes e = ((0 < e.node) × (e.node ≤ nodes)) × (e.parent ≤ node_limit)
 

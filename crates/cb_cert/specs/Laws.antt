@@ -25,7 +25,7 @@ ReadingIsOne = (text : List ℕ) (a b : Result Certificate CertText) → IsReadi
 abbrev pub WrittenIsRead : Type 0
 WrittenIsRead = (c : Certificate) (reading : Result Certificate CertText) → IsCertificate c → IsReading (text_of c) reading → reading ≡ Ok c
 
--- what may come place by place is exactly what some certificate begins with
+-- what may come position by position is exactly what some certificate begins with
 abbrev pub PlacesAreExact : Type 0
 PlacesAreExact = (ls : List CertificateLine) → MayCome 0 all_places ls ↔ Begins ls
 

@@ -13,7 +13,7 @@ use Rattle.cb_cert.specs.Format.{IsBetween, SpellsCertificate, entries_in, entry
 use Rattle.cb_cert.specs.Fronts.{Begins, IsFault}
 use Rattle.cb_cert.specs.Lines.{claim_lines, line_text}
 
--- of the text these lines were read, and exactly what may come where these places are ahead goes on from them
+-- of the text these lines were read, and exactly what may come where these positions are ahead goes on from them
 pub record HasRead (text : List ℕ) (reader : Reader) (before : List CertificateLine) (n : ℕ) (ahead : List TextPlace) : Type 0 where
   pub lines_are : lines_of text ≡ map line_text before ++ reader.lines
   pub number_is : reader.number ≡ length before
@@ -51,11 +51,11 @@ abbrev pub TakesForm : {X : Type 0} → (X → List ℕ) → (X → Type 0) → 
 TakesForm form P old new (Ok x) = Moves old new (form x) × P x
 TakesForm {X} form P old new (Err why) = Misses old (λ met. (x : X) → P x → met ≢ form x) why
 
--- so many entries are not too many for one span
+-- that many entries are not too many for one span
 abbrev pub IsLength : ℕ → Type 0
 IsLength = IsBetween 1 node_limit
 
--- the line is that of a span with so many entries
+-- the line is that of a span with `entries` entries
 pub record IsSpanLine (met : List ℕ) (entries : ℕ) : Type 0 where
   pub is : met ≡ line_text (line.Span entries)
   pub length_is : IsLength entries
@@ -73,7 +73,7 @@ abbrev pub ComesTo : {X : Type 0} → List ℕ → Reader → List CertificateLi
 ComesTo text new before ahead lines nodes (Ok x) = HasRead text new (before ++ lines x) (nodes x) ahead
 ComesTo text new before ahead lines nodes (Err why) = (why ≡ fault.NoMemory) ⊎ IsFault text why
 
--- wherever these places are ahead, the lines of what is read there are read, or the text's first fault is met
+-- wherever these positions are ahead, the lines of what is read there are read, or the text's first fault is met
 abbrev pub ReadsLines : {X : Type 0} → ℕ → List TextPlace → (X → List CertificateLine) → (X → ℕ) → Reader → Reader → Result X CertText → Type 0
 ReadsLines n places lines nodes old new result =
     (text : List ℕ) (before : List CertificateLine) (ahead : List TextPlace) → HasRead text old before n (places ++ ahead)
@@ -85,7 +85,7 @@ ReadsBehind first n places lines nodes old new result =
     (text : List ℕ) (before : List CertificateLine) (ahead : List TextPlace) → HasRead text old (before ++ first ∷ []) n (places ++ ahead)
     → ComesTo text new before ahead lines nodes result
 
--- a certificate is spelt by its text, or the text has this fault
+-- the text spells the certificate, or it has this fault
 abbrev pub EndsWell : List ℕ → Certificate → Result (Unit {0}) CertText → Type 0
 EndsWell text c (Ok done) = SpellsCertificate text c
 EndsWell text c (Err why) = IsFault text why

@@ -21,7 +21,7 @@ pub fn written_is_read()
     ensures { WrittenIsRead }
 {}
 
-/// Place by place exactly what some certificate begins with may come.
+/// Position by position exactly what some certificate begins with may come.
 pub fn places_are_exact()
     ensures { PlacesAreExact }
 {}

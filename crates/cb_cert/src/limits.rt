@@ -1,12 +1,12 @@
 //! How much a certificate may have.
 
-/// Certificates have at most so many nodes, and so have spans.
+/// A certificate has at most this many nodes, and so has a span.
 pub const MOST_NODES: u32 = 65_536;
 
-/// Certificates have at most so many columns, and so many spans.
+/// A certificate has at most this many columns, and at most this many spans.
 pub const MOST_COLUMNS: u32 = 8_192;
 
-/// The spans of a certificate have together at most so many entries.
+/// The spans of a certificate have together at most this many entries.
 pub const MOST_ENTRIES: u32 = 1_048_576;
 
 /// A distance that is wanted is at most this.

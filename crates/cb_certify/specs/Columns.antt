@@ -1,4 +1,4 @@
--- Columns by their places among all columns.
+-- Columns by their positions among all columns.
 use Rattle.std.specs.Prelude.{◌≡◌, ℕ, List, Some, length, slice_get}
 use Rattle.std.specs.List.{All, AllZip, Contains}
 use Rattle.cb_model.specs.declared.node.NodeName.{NodeName}
@@ -18,20 +18,20 @@ pub record AreAllColumns (n : Numbered) (ids : List NodeId) : Type 0 where
   pub are : AreColumns (topology_of n) names
   pub named : AreNamed n ids names
 
--- the same, with the place of each by its number
+-- these are the topology's columns in order, with the position of each by its number
 pub record AreColumnsIn (n : Numbered) (columns : Columns) : Type 0 where
   pub all : AreAllColumns n columns.nodes
   pub places : AreColumnPlaces (length n.nodes) columns.nodes columns.places.items
 
--- the numbers at these places
+-- the numbers at these positions
 abbrev pub AreAt : List NodeId → List ℕ → List NodeId → Type 0
 AreAt all places ids = AllZip (λ place id. slice_get all place ≡ Some id) places ids
 
--- the columns of these numbers have these places
+-- the columns of these numbers have these positions
 abbrev pub HaveNames : Numbered → List NodeName → List ℕ → List NodeId → Type 0
 HaveNames n all places ids = (columns : List NodeName) × AreNamed n ids columns × HavePlaces all columns places
 
--- among all columns of the topology, the columns of these numbers have these places
+-- among all columns of the topology, the columns of these numbers have these positions
 abbrev pub ArePlacesFor : Topology → List NodeName → List ℕ → List ℕ → Type 0
 ArePlacesFor t nodes numbers places = (all : List NodeName) → AreColumns t all → ArePlaces nodes all numbers places
 

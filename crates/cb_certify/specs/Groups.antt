@@ -22,7 +22,7 @@ pub record IsCodeBy (nodes : List ℕ) (columns : List NodeId) (visits : List Vi
   pub width : length code ≡ length columns
   pub each : (place node : ℕ) → slice_get columns place ≡ Some (number node) → Has code place ↔ HasNode nodes visits node
 
--- the code with the value at a place true, where there is one
+-- the code with the value at a position true, where there is one
 abbrev pub with_one : List Bool → Option ℕ → List Bool
 with_one code None = code
 with_one code (Some place) = slice_set code place true
@@ -60,7 +60,7 @@ pub record AreGroupsIn (n : Numbered) (made : CodedGroups) : Type 0 where
   pub codes : made.codes.rows ≡ codes_of groups.groups
   pub least : AreLeast n groups.groups made.least
 
--- the number at a place after the first; the first has none
+-- the number at a position after the first; the first has none
 abbrev pub IsLeastAt : List NodeId → ℕ → Option NodeId → Type 0
 IsLeastAt least place None = place ≡ 0
 IsLeastAt least place (Some id) = (0 < place) × (slice_get least (place - 1) ≡ Some id)

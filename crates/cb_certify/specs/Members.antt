@@ -11,7 +11,7 @@ use Rattle.cb_nodes.specs.declared.id.NodeId.{NodeId}
 use Rattle.cb_topo.specs.Numbered.{Numbered, topology_of, IsNodeNamed, IsLiveNode}
 use Rattle.cb_certify.specs.declared.shortfall.ClosePair.{ClosePair}
 
--- the least member of the group at a place
+-- the least member of the group at a position
 pub record IsLeastMember (groups : List NamedGroup) (place : ℕ) (node : NodeName) : Type 0 where
   pub group : NamedGroup
   pub at : slice_get groups place ≡ Some group
@@ -20,23 +20,23 @@ pub record IsLeastMember (groups : List NamedGroup) (place : ℕ) (node : NodeNa
 abbrev pub HasMember : List NamedGroup → ℕ → Type 0
 HasMember groups place = (node : NodeName) × IsLeastMember groups place node
 
--- the group at a place has a least member, which is a node of the topology
+-- the group at a position has a least member, which is a node of the topology
 pub record HasNode (n : Numbered) (groups : List NamedGroup) (place : ℕ) : Type 0 where
   pub node : NodeName
   pub least : IsLeastMember groups place node
   pub is_node : IsNodeOf (topology_of n) node
 
--- the number of the least member of the group at a place; the quiet one, which is the first, has none
+-- the number of the least member of the group at a position; the quiet one, which is the first, has none
 abbrev pub IsMemberAt : Numbered → List NamedGroup → ℕ → Option NodeId → Type 0
 IsMemberAt n groups place None = place ≡ 0
 IsMemberAt n groups place (Some id) = (0 < place) × (node : NodeName) × IsLeastMember groups place node × IsNodeNamed n id node
 
--- the group at a place is called by the node of this number; the quiet one has none
+-- the group at a position is called by the node of this number; the quiet one has none
 abbrev pub IsCalledBy : Numbered → List Group → ℕ → Option NodeId → Type 0
 IsCalledBy n groups place None = IsCalled groups place Quiet
 IsCalledBy n groups place (Some id) = (node : NodeName) × IsNodeNamed n id node × IsCalled groups place (Least node)
 
--- the two groups of a pair, as the relation P tells them by their places
+-- the two groups of a pair, as the relation P tells them by their positions
 pub record IsPairOf (P : ℕ → Option NodeId → Type 0) (pair : Pair) (close : ClosePair) : Type 0 where
   pub first : P pair.first close.first
   pub second : P pair.second (Some close.second)

@@ -45,8 +45,8 @@ pub enum Codebook {
     },
 }
 
-/// What is written of the codebook of the topology for a wanted distance. A search from each problem tells the groups and the
-/// certificate; where it would have too many entries, the groups are told by rows, in which searches find what earlier ones found.
+/// What is written of the codebook of the topology for a wanted distance. A search from each problem gives the groups and the
+/// certificate; if it would have too many entries, the groups result from rows, in which searches find what earlier ones found.
 pub fn codebook_of<L: Ledger>(
     alloc: Global,
     topology: Topology,
@@ -67,7 +67,7 @@ pub fn codebook_of<L: Ledger>(
     }
 }
 
-// The same, of a graph and the trees of its topology, which both end here.
+// The codebook of a graph by the trees of its topology; both end here.
 fn of_trees<L: Ledger>(
     alloc: Global,
     mut graph: Graph,
@@ -84,7 +84,7 @@ fn of_trees<L: Ledger>(
     made
 }
 
-// The same, by the trees of the graph's topology. They tell the groups, and then become the certificate.
+// The codebook of a topology by the trees of its graph. They give the groups, and then become the certificate.
 fn by_trees<L: Ledger>(
     alloc: Global,
     graph: &mut Graph,
@@ -152,7 +152,7 @@ fn by_rows<L: Ledger>(
     }
 }
 
-// The same, of a graph and the matrix of its topology, which both end here.
+// The codebook of a graph by the matrix of its topology; both end here.
 fn of_matrix<L: Ledger>(
     alloc: Global,
     mut graph: Graph,
@@ -173,7 +173,7 @@ fn of_matrix<L: Ledger>(
     made
 }
 
-// The same, of the graph's topology and its groups.
+// The codebook of a topology by its groups.
 fn by_groups<L: Ledger>(
     alloc: Global,
     graph: &mut Graph,

@@ -1,4 +1,4 @@
-//! Columns by their places.
+//! Columns by their positions.
 ghost use Rattle.std.specs.Prelude.{◌<◌, length, IfOk};
 ghost use Rattle.std.specs.List.{All};
 ghost use Rattle.cb_certify.specs.Columns.{AreAt};
@@ -7,7 +7,7 @@ use cb_model::List;
 use cb_nodes::NodeId;
 use std::alloc::{AllocError, Global};
 
-/// The numbers at these places among all columns.
+/// The numbers at these positions among all columns.
 pub(crate) fn columns_at(
     alloc: Global,
     all: &List<NodeId>,

@@ -21,7 +21,7 @@ use cb_span::{Trees, columns_in};
 use cb_topo::Topology;
 use std::alloc::{AllocError, Global};
 
-/// All columns of the topology, with their places.
+/// All columns of the topology, with their positions.
 pub(crate) fn all_columns(
     alloc: Global,
     topology: &Topology,
@@ -109,7 +109,7 @@ fn code_of(
     Ok(code)
 }
 
-// Makes the value at a place true, where there is one.
+// Makes the value at a position true, where there is one.
 fn set_at(code: &mut Row, place: Option<usize>)
     requires { IfSome place (λ k. k < length code.old) }
     ensures { code.new ≡ with_one code.old place }
@@ -119,7 +119,7 @@ fn set_at(code: &mut Row, place: Option<usize>)
     }
 }
 
-// The place among the columns of the node with a rank, where it is one.
+// The position among the columns of the node with a rank, where it is one.
 fn place_of(columns: &Columns, order: &Order, rank: u32) -> Option<usize>
     requires nodes { AreBelow (length columns.now.places.items) order.now.nodes.items }
     requires within { rank < length order.now.nodes.items }
@@ -129,7 +129,7 @@ fn place_of(columns: &Columns, order: &Order, rank: u32) -> Option<usize>
     columns.places[node as usize]
 }
 
-/// The two groups at the places of a pair.
+/// The two groups at the positions of a pair.
 pub(crate) fn close_groups(groups: &CodedGroups, pair: Pair) -> ClosePair
     requires first { pair.first ≤ length groups.now.least }
     requires second { pair.second ≤ length groups.now.least }
@@ -143,7 +143,7 @@ pub(crate) fn close_groups(groups: &CodedGroups, pair: Pair) -> ClosePair
     }
 }
 
-// The least member of the group at a place; the quiet one has none.
+// The least member of the group at a position; the quiet one has none.
 fn least_at(least: &List<NodeId>, place: u32) -> Option<NodeId>
     requires { place ≤ length least.now }
     ensures { IsLeastAt least.now place result }

@@ -71,7 +71,7 @@ fn called(
     }
 }
 
-/// The two groups at the places of a pair.
+/// The two groups at the positions of a pair.
 pub(crate) fn close_named(topology: &Topology, groups: &List<NamedGroup>, pair: Pair) -> ClosePair
     requires first { 0 < pair.first → HasNode topology.now groups.now pair.first }
     requires second { HasNode topology.now groups.now pair.second }
@@ -85,7 +85,7 @@ pub(crate) fn close_named(topology: &Topology, groups: &List<NamedGroup>, pair: 
     }
 }
 
-// The number of the least member of the group at a place; the quiet one has none.
+// The number of the least member of the group at a position; the quiet one has none.
 fn number_at(topology: &Topology, groups: &List<NamedGroup>, place: u32) -> Option<NodeId>
     requires { 0 < place → HasNode topology.now groups.now place }
     ensures { IsMemberAt topology.now groups.now place result }
@@ -96,7 +96,7 @@ fn number_at(topology: &Topology, groups: &List<NamedGroup>, place: u32) -> Opti
     Some(number_of(topology, least_member(groups, place)))
 }
 
-// The least member of the group at a place.
+// The least member of the group at a position.
 fn least_member(groups: &List<NamedGroup>, place: u32) -> &NodeName
     requires { HasMember groups.now place }
     ensures { IsLeastMember groups.now place result.now }

@@ -14,7 +14,7 @@ use cb_model::{List, NodeName};
 use cb_topo::Topology;
 use std::alloc::{AllocError, Global};
 
-/// The book at a distance over the columns that have these numbers among the nodes of a certificate. It has their places among all columns of
+/// The book at a distance over the columns that have these numbers among the nodes of a certificate. It has their positions among all columns of
 /// the topology.
 pub fn stated_book(
     alloc: Global,
@@ -37,7 +37,7 @@ pub fn stated_book(
     })
 }
 
-// The places among all columns of those with these numbers.
+// The positions among all columns of those with these numbers.
 fn places_of(
     alloc: Global,
     all: &List<NodeName>,
@@ -57,7 +57,7 @@ fn places_of(
     Ok(places)
 }
 
-// The place of a column among all.
+// The position of a column among all.
 fn place_of(columns: &List<NodeName>, column: &NodeName) -> u32
     requires rise { Rises node_cmp columns.now }
     requires few { length columns.now < 2 ^ 32 }

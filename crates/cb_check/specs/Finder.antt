@@ -36,7 +36,7 @@ NeedsOwn tree k name = ¬ (¬ Owns tree k (IsRelationNamed name))
 abbrev pub NeedsPath : Tree → ℕ → List PlaceToken → Type 0
 NeedsPath tree k path = (m : ℕ) (step : PlaceToken) (j : ℕ) → slice_get path m ≡ Some step → Leads tree k (take m path) j → NeedsRelation tree j step.name.name
 
--- an event, a relation or a rule stands at place i of the class at place j
+-- an event, a relation or a rule stands at position i of the class at position j
 abbrev pub HasNumber : Tree → ℕ → ℕ → Type 0
 HasNumber tree j i = (member : Member) × (token : Token) × MemberAt tree j i member × (declared member ≡ Some token)
 
@@ -50,11 +50,11 @@ pub record IsNumberAt (tree : Tree) (j i number : ℕ) : Type 0 where
   pub relation : IsNumberOf relation_in tree j i number
   pub rule : IsNumberOf rule_in tree j i number
 
--- the member is a relation, and its target is at place k
+-- the member is a relation, and its target is at position k
 abbrev pub IsRelationInto : Tree → Member → ℕ → Type 0
 IsRelationInto tree (Relation name target many inverse) k = IsNamed tree target.name k
 IsRelationInto tree member k = ⊥
 
--- the relation of this name leads from the class at place k to that at place j
+-- the relation of this name leads from the class at position k to that at position j
 abbrev pub StepsTo : Tree → ℕ → List ℕ → ℕ → ℕ → Type 0
 StepsTo tree k name r j = (step : DenotesRelation tree k name r) × IsNamed tree step.0.target j

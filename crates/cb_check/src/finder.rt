@@ -118,7 +118,7 @@ impl<'t> Finder<'t> {
         (RelId(self.number(place)), self.target_at(place))
     }
 
-    // The target of the relation at this place.
+    // The target of the relation at this position.
     fn target_at(&self, place: MemberPosition) -> ClassId
         requires { (member : TheMember) × MemberAt self.now place.class place.member member × IsRelation member }
         ensures { (member : TheMember) × MemberAt self.now place.class place.member member × IsRelationInto self.now member result.0 }
@@ -141,7 +141,7 @@ impl<'t> Finder<'t> {
             .unwrap()
     }
 
-    // The number of the event, the relation or the rule at this place.
+    // The number of the event, the relation or the rule at this position.
     fn number(&self, place: MemberPosition) -> u32
         requires { HasNumber self.now place.class place.member }
         ensures { IsNumberAt self.now place.class place.member result }

@@ -31,7 +31,7 @@ pub record IsReadOff (n : Numbered) (ids columns : List NodeId) (id : NodeId) (s
   pub lists : IsListing ids span listed
   pub coded : IsCodedBy n columns id listed p
 
--- the first problems, each with the code that is read off the span at its place
+-- the first problems, each with the code that is read off the span at its position
 pub record AreReadTo (n : Numbered) (ids problems columns : List NodeId) (spans : List Span) (to : ℕ) (coded : List Problem) : Type 0 where
   pub count : length coded ≡ to
   pub each : (i : ℕ) (p : Problem) → slice_get coded i ≡ Some p

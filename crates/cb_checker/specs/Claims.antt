@@ -19,7 +19,7 @@ use Rattle.cb_checker.specs.Places.{ArePlacesOf}
 abbrev pub HaveMembers : List Group → Type 0
 HaveMembers groups = (i : ℕ) (g : Group) → 0 < i → slice_get groups i ≡ Some g → 0 < length g.members
 
--- this is told of the two groups
+-- this is reported of the two groups
 pub record IsTooClose (groups : List Group) (pair : Pair) (why : Rejected) : Type 0 where
   pub first : GroupName
   pub second : GroupName

@@ -2,7 +2,7 @@
 use Rattle.std.specs.Prelude.{◌≡◌, false, ℕ, ◌<◌, List, Bool, Some, length, slice_get, slice_index_or}
 use Rattle.cb_nodes.specs.declared.id.NodeId.{NodeId}
 
--- all numbers are below the room
+-- all numbers are below the bound
 abbrev pub IsBelow : ℕ → List NodeId → Type 0
 IsBelow room ids = (i : ℕ) (id : NodeId) → slice_get ids i ≡ Some id → id.0 < room
 

@@ -9,7 +9,7 @@ use Rattle.cb_nodes.specs.declared.id.NodeId.{NodeId}
 use Rattle.cb_topo.specs.Numbered.{Numbered, topology_of, IsNodeNamed}
 use Rattle.cb_checker.specs.Known.{IsIdAt, IsKnown}
 
--- at this place there is the number of a column, which is greater than the one before
+-- at this position there is the number of a column, which is greater than the one before
 pub record IsColumnAt (n : Numbered) (ids : List NodeId) (columns : List ℕ) (place : ℕ) : Type 0 where
   pub number : ℕ
   pub id : NodeId

@@ -1,4 +1,4 @@
--- The first place at which something isn't so.
+-- The first position at which something isn't so.
 use Rattle.std.specs.Prelude.{◌≡◌, ℕ, ◌<◌, List, map, Result}
 use Rattle.cb_model.specs.declared.node.NodeName.{NodeName}
 use Rattle.cb_network.specs.Topology.{Topology}
@@ -7,11 +7,11 @@ use Rattle.cb_cert.specs.Format.{nodes_of}
 use Rattle.cb_validity.specs.declared.verdict.Rejected.{Rejected}
 use Rattle.cb_validity.specs.Checks.{Judges, node_check, places}
 
--- it is so at each place below the end
+-- it is so at each position below the end
 abbrev pub AreAll : (ℕ → Type 0) → ℕ → Type 0
 AreAll P end = (place : ℕ) → place < end → P place
 
--- it is so at each place before this one, which is below the end, and not here
+-- it is so at each position before this one, which is below the end, and not here
 pub record IsFirstNot (P : ℕ → Type 0) (end place : ℕ) : Type 0 where
   pub within : place < end
   pub before : AreAll P place

@@ -9,7 +9,7 @@ use Rattle.cb_graph.specs.Edges.{number}
 use Rattle.cb_checker.specs.declared.marks.SpanNodes.{SpanNodes}
 use Rattle.cb_checker.specs.Known.{IsIdAt}
 
--- the entry at the place lists this node
+-- the entry at the position lists this node
 pub record IsPlaced (ids : List NodeId) (span : Span) (place : ℕ) (id : NodeId) : Type 0 where
   pub entry : Entry
   pub is : slice_get span.entries place ≡ Some entry
@@ -28,7 +28,7 @@ IsAmong placed k = (place : ℕ) × (slice_get placed place ≡ Some (number k))
 abbrev pub AreListed : List Bool → List NodeId → Type 0
 AreListed listed placed = (k : ℕ) → Has listed k ↔ IsAmong placed k
 
--- the rows have a place for each number, and exactly the placed nodes are listed
+-- the rows have a position for each number, and exactly the placed nodes are listed
 pub record AreMarked (n : Numbered) (marks : SpanNodes) : Type 0 where
   pub room : length marks.listed ≡ length n.nodes
   pub spare : length marks.found ≡ length n.nodes

@@ -1,4 +1,4 @@
--- The places of columns among all columns, by numbers.
+-- The positions of columns among all columns, by numbers.
 use Rattle.std.specs.Prelude.{◌≡◌, ℕ, List, Option, Some, slice_get}
 use Rattle.std.specs.List.{AllZip}
 use Rattle.cb_nodes.specs.declared.id.NodeId.{NodeId}
@@ -10,7 +10,7 @@ use Rattle.cb_checker.specs.Listed.{IsAmong}
 abbrev pub IsOnce : List NodeId → Type 0
 IsOnce all = (i j : ℕ) (id : NodeId) → slice_get all i ≡ Some id → slice_get all j ≡ Some id → i ≡ j
 
--- for the number of each node its one place among these nodes, if it is one of them
+-- for the number of each node its one position among these nodes, if it is one of them
 pub record IsTable (all : List NodeId) (places : List (Option ℕ)) : Type 0 where
   pub each : (node place : ℕ) → slice_get places node ≡ Some (Some place) → slice_get all place ≡ Some (number node)
   pub whole : (node place : ℕ) → slice_get all place ≡ Some (number node) → slice_get places node ≡ Some (Some place)
@@ -23,7 +23,7 @@ IsThere all ids number = (id : NodeId) × IsIdAt ids number id × IsAmong all id
 abbrev pub AreThere : List NodeId → List NodeId → List ℕ → Type 0
 AreThere all ids numbers = (i number : ℕ) → slice_get numbers i ≡ Some number → IsThere all ids number
 
--- the node with this number has this place among them
+-- the node with this number has this position among them
 abbrev pub IsPlaceOf : List NodeId → List NodeId → ℕ → ℕ → Type 0
 IsPlaceOf all ids number place = (id : NodeId) × IsIdAt ids number id × (slice_get all place ≡ Some id)
 

@@ -16,7 +16,7 @@ use Rattle.cb_checker.specs.Known.{IsIdAt}
 use Rattle.cb_checker.specs.Listed.{IsPlaced}
 use Rattle.cb_checker.specs.Spans.{JudgesPart}
 
--- the entry at this place has an earlier parent, and these are the numbers of the parent's node and of its own
+-- the entry at this position has an earlier parent, and these are the numbers of the parent's node and of its own
 pub record IsStated (ids : List NodeId) (span : Span) (reason : Reason) : Type 0 where
   pub entry : Entry
   pub is : slice_get span.entries reason.place ≡ Some entry
@@ -24,7 +24,7 @@ pub record IsStated (ids : List NodeId) (span : Span) (reason : Reason) : Type 0
   pub from : IsPlaced ids span (entry.parent - 1) reason.from
   pub to : IsIdAt ids entry.node reason.to
 
--- entries before this place state these
+-- entries before this position state these
 abbrev pub AreStated : List NodeId → Span → ℕ → List Reason → Type 0
 AreStated ids span to reasons = (reason : Reason) → Contains reasons reason → (reason.place < to) × IsStated ids span reason
 
@@ -35,11 +35,11 @@ IsLed n reason = EdgeAt n reason.from.0 reason.to.0
 abbrev pub AreLed : Numbered → List Reason → Type 0
 AreLed n reasons = (reason : Reason) → Contains reasons reason → IsLed n reason
 
--- the edge that the entry at this place states, if it states one, is there
+-- the edge that the entry at this position states, if it states one, is there
 abbrev pub IsLedAt : Numbered → List Reason → ℕ → Type 0
 IsLedAt n reasons place = (reason : Reason) → Contains reasons reason → reason.place ≡ place → IsLed n reason
 
--- of these the one at this place isn't such, and those at earlier places are
+-- of these the one at this position isn't such, and those at earlier positions are
 pub record IsFirstLacking (P : Reason → Type 0) (reasons : List Reason) (place : ℕ) : Type 0 where
   pub reason : Reason
   pub is : Contains reasons reason
@@ -47,16 +47,16 @@ pub record IsFirstLacking (P : Reason → Type 0) (reasons : List Reason) (place
   pub lacks : ¬ P reason
   pub before : (other : Reason) → Contains reasons other → other.place < place → P other
 
--- the place of the first that isn't such, if there is one
+-- the position of the first that isn't such, if there is one
 abbrev pub IsFirstWithout : (Reason → Type 0) → List Reason → Option ℕ → Type 0
 IsFirstWithout P reasons None = (reason : Reason) → Contains reasons reason → P reason
 IsFirstWithout P reasons (Some place) = IsFirstLacking P reasons place
 
--- the place of the first whose edge isn't there, if there is one
+-- the position of the first whose edge isn't there, if there is one
 abbrev pub IsFirstUnled : Numbered → List Reason → Option ℕ → Type 0
 IsFirstUnled n reasons first = IsFirstWithout (IsLed n) reasons first
 
--- the lesser of two places, if there are two
+-- the lesser of two positions, if there are two
 abbrev pub IsSooner : Option ℕ → Option ℕ → Option ℕ → Type 0
 IsSooner None other sooner = sooner ≡ other
 IsSooner (Some place) None sooner = sooner ≡ Some place
@@ -81,7 +81,7 @@ HasEnd found reason = Has found reason.to.0
 abbrev pub HasNoEnds : List Reason → List Bool → Type 0
 HasNoEnds reasons found = (reason : Reason) → Contains reasons reason → ¬ HasEnd found reason
 
--- whatever the topology and the certificate, the checks of the entry at this place come to this
+-- whatever the topology and the certificate, the checks of the entry at this position come to this
 abbrev pub JudgesEntry : List NodeId → ℕ → Span → ℕ → Result (Unit {0}) Rejected → Type 0
 JudgesEntry ids before span place result = (n : Numbered) → JudgesPart n ids before span (λ a. entry_checks a place) result
 
@@ -98,7 +98,7 @@ JudgesEntries n ids before span result =
 abbrev pub JudgesIfLed : List NodeId → ℕ → Span → List Reason → Result (Unit {0}) Rejected → Type 0
 JudgesIfLed ids before span reasons result = (n : Numbered) → AreLed n reasons → JudgesEntries n ids before span result
 
--- and where some aren't, the first of these entries is told
+-- and where some aren't, the first of these entries is reported
 abbrev pub JudgesIfUnled : List NodeId → ℕ → Span → List Reason → Type 0
 JudgesIfUnled ids before span reasons = (n : Numbered) (place : ℕ) → IsFirstLacking (IsLed n) reasons place
     → JudgesEntries n ids before span (Err (NoEdge (before + place + 1)))

@@ -32,7 +32,7 @@ IsNamedRoot n None (Some name) = ⊥
 IsNamedRoot n (Some id) None = ⊥
 IsNamedRoot n (Some id) (Some name) = IsNodeNamed n id name
 
--- a span that is checked, after so many entries, with its root where one is asked for
+-- a span that is checked, with the number of entries before it, and its root where one is asked for
 abbrev pub asked : ℕ → Option NodeName → Span → Asked
 asked before root span = record { before = before; root = root; span = span }
 

@@ -1,4 +1,4 @@
-//! All columns of a topology, and the place of each.
+//! All columns of a topology, and the position of each.
 ghost use Rattle.std.specs.Prelude.{◌≡◌, ◌<◌, ◌^◌, ℕ, length, IfOk, IfSome, IfNone, Some, slice_get};
 ghost use Rattle.cb_checker.specs.Codes.{IsBelow};
 ghost use Rattle.cb_checker.specs.Listed.{IsAmong};
@@ -9,11 +9,11 @@ use cb_nodes::NodeId;
 use std::alloc::{AllocError, Global};
 use std::marker::Model;
 
-/// The numbers of all columns in order. Contracts see the list of them, and nothing of how a place is found.
+/// The numbers of all columns in order. Contracts see the list of them, and nothing of how a position is found.
 #[derive(Drop)]
 pub struct AllColumns {
     nodes: List<NodeId>,
-    // For the number of each node, its place among the columns.
+    // For the number of each node, its position among the columns.
     places: Vec<Option<u32>>,
 }
 
@@ -30,7 +30,7 @@ impl Model for AllColumns {
 }
 
 impl AllColumns {
-    /// The columns of these numbers. All numbers of nodes are below the room.
+    /// The columns of these numbers. All numbers of nodes are below `room`.
     pub fn of(alloc: Global, nodes: List<NodeId>, room: usize) -> Result<AllColumns, AllocError>
         requires once { IsOnce nodes }
         requires below { IsBelow room nodes }
@@ -48,7 +48,7 @@ impl AllColumns {
         self.nodes.len()
     }
 
-    /// The one place of a node among the columns, if it is one.
+    /// The one position of a node among the columns, if it is one.
     pub fn place(&self, id: NodeId) -> Option<u32>
         ensures found { IfSome result (λ place. slice_get self.now place ≡ Some id) }
         ensures alone { IfSome result (λ place. (other : ℕ) → slice_get self.now other ≡ Some id → other ≡ place) }
@@ -63,7 +63,7 @@ impl AllColumns {
     }
 }
 
-// For the number of each node, its place among the columns.
+// For the number of each node, its position among the columns.
 fn table_of(
     alloc: Global,
     columns: &List<NodeId>,

@@ -34,7 +34,7 @@ pub fn check<L: Ledger>(
     check_over(alloc, graph, &sides, certificate, steps)
 }
 
-// The same, over the problems and the columns of the topology.
+// Checks the certificate over the problems and the columns of the topology.
 fn check_over<L: Ledger>(
     alloc: Global,
     graph: &mut Graph,

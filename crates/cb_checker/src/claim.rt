@@ -61,7 +61,7 @@ fn too_close(alloc: Global, groups: &List<Group>, pair: Pair) -> Result<Rejected
     })
 }
 
-// What the group at a place is called.
+// What the group at a position is called.
 fn name_of(alloc: Global, groups: &List<Group>, place: usize) -> Result<GroupName, AllocError>
     requires place { place < length groups.now }
     requires members { HaveMembers groups.now }

@@ -71,7 +71,7 @@ fn add_all<L: Ledger>(graph: &mut Graph, placed: &[NodeId], found: &mut Row, ste
     }
 }
 
-// The same, node by node, with the first that has a successor which isn't listed.
+// Asks node by node, and gives the first that has a successor which isn't listed.
 fn check_each<L: Ledger>(
     alloc: Global,
     graph: &mut Graph,

@@ -28,7 +28,7 @@ pub(crate) fn check_columns(
     }
 }
 
-// The place of the first number that is no column's or isn't greater than the one before.
+// The position of the first number that is no column's or isn't greater than the one before.
 fn first_bad_column(topology: &Topology, ids: &[NodeId], columns: &[u32]) -> Option<usize>
     requires { AreLive topology.now ids.now }
     ensures bad { IfSome result (IsFirstNot (IsColumnAt topology.now ids.now columns.now) (length columns.now)) }

@@ -112,7 +112,7 @@ fn list_entry(
     Ok(())
 }
 
-// What the entry at a place states, if its parent is earlier and its node has a number.
+// What the entry at a position states, if its parent is earlier and its node has a number.
 fn reason_at(
     ids: &[NodeId],
     span: &Span,

@@ -31,7 +31,7 @@ impl SpanNodes {
         })
     }
 
-    /// Lists no node any more. Only the places of those that were listed are wiped.
+    /// Lists no node any more. Only the positions of those that were listed are wiped.
     pub fn forget(&mut self)
         requires { AreListed self.old.listed self.old.placed.items }
         ensures placed { self.new.placed.items ≡ [] }

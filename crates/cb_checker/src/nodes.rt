@@ -23,7 +23,7 @@ pub(crate) fn check_nodes(topology: &Topology, nodes: &[NodeName]) -> Result<(),
     }
 }
 
-// The place of the first node that is none of the topology or doesn't stand above the one before.
+// The position of the first node that is none of the topology or doesn't stand above the one before.
 fn first_bad_node(topology: &Topology, nodes: &[NodeName]) -> Option<usize>
     ensures bad { IfSome result (IsFirstNot (IsGoodNode (topology_of topology.now) nodes.now) (length nodes.now)) }
     ensures good { IfNone result (AreAll (IsGoodNode (topology_of topology.now) nodes.now) (length nodes.now)) }

@@ -1,4 +1,4 @@
-//! The places of a certificate's columns among all columns.
+//! The positions of a certificate's columns among all columns.
 ghost use Rattle.std.specs.Prelude.{IfOk};
 ghost use Rattle.cb_checker.specs.Places.{IsThere, AreThere, IsPlaceOf, ArePlacesOf};
 
@@ -7,7 +7,7 @@ use crate::known::id_at;
 use cb_nodes::NodeId;
 use std::alloc::{AllocError, Global};
 
-/// For each number of a column, its place among all columns.
+/// For each number of a column, its position among all columns.
 pub(crate) fn places_of(
     alloc: Global,
     all: &AllColumns,
@@ -24,7 +24,7 @@ pub(crate) fn places_of(
     Ok(places)
 }
 
-// The place of the column of this number.
+// The position of the column of this number.
 fn place_of(all: &AllColumns, ids: &[NodeId], number: u32) -> u32
     requires there { IsThere all.now ids.now number }
     ensures { IsPlaceOf all.now ids.now number result }

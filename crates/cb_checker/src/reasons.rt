@@ -11,7 +11,7 @@ use cb_steps::Steps;
 use cb_successors::Edges;
 use std::sync::ledger::Ledger;
 
-/// What an entry after the first one states: that an edge leads to its node from that of its parent. Its place counts from 0, and
+/// What an entry after the first one states: that an edge leads to its node from that of its parent. Its position counts from 0, and
 /// that of its parent from 1.
 #[derive(Clone, Copy)]
 pub struct Reason {
@@ -21,7 +21,7 @@ pub struct Reason {
     pub to: NodeId,
 }
 
-/// The place of the first entry that states an edge which isn't there. Entries of one parent are brought together, as they stand in a
+/// The position of the first entry that states an edge which isn't there. Entries of one parent are brought together, as they stand in a
 /// canonical span already, so that a parent is asked for its successors once.
 pub(crate) fn first_unled<L: Ledger>(
     graph: &mut Graph,
@@ -39,7 +39,7 @@ pub(crate) fn first_unled<L: Ledger>(
     first_by_parents(graph, reasons, found, steps)
 }
 
-// The same, whose parents are asked one after another.
+// The first wrong reason of entries whose parents are asked one after another.
 fn first_by_parents<L: Ledger>(
     graph: &mut Graph,
     reasons: &[Reason],
@@ -112,7 +112,7 @@ fn clear_ends(siblings: &[Reason], found: &mut Row)
     }
 }
 
-// The place of the first entry whose node the row hasn't.
+// The position of the first entry whose node the row hasn't.
 fn first_outside(siblings: &[Reason], found: &Row) -> Option<u32>
     requires { AreEndsBelow (length found.now) siblings.now }
     ensures { IsFirstWithout (HasEnd found.now) siblings.now result }
@@ -124,7 +124,7 @@ fn first_outside(siblings: &[Reason], found: &Row) -> Option<u32>
     first
 }
 
-// The place of the entry, if the row hasn't its node.
+// The position of the entry, if the row hasn't its node.
 fn outside(reason: Reason, found: &Row) -> Option<u32>
     requires { reason.to.0 < length found.now }
     ensures { IsFirstWithout (HasEnd found.now) (reason ∷ []) result }
@@ -136,7 +136,7 @@ fn outside(reason: Reason, found: &Row) -> Option<u32>
     }
 }
 
-// The lesser of two places, if there are two.
+// The lesser of two positions, if there are two.
 fn sooner(one: Option<u32>, other: Option<u32>) -> Option<u32>
     ensures { IsSooner one other result }
 {

@@ -17,7 +17,7 @@ use cb_validity::Rejected;
 use std::alloc::Global;
 use std::sync::ledger::Ledger;
 
-/// Checks a span, before which so many entries stand, and lists its nodes.
+/// Checks a span, with the number of entries before it, and lists its nodes.
 pub(crate) fn check_span<L: Ledger>(
     alloc: Global,
     graph: &mut Graph,

@@ -23,7 +23,7 @@ use cb_validity::Rejected;
 use std::alloc::{AllocError, Global};
 use std::sync::ledger::Ledger;
 
-/// Checks each span with the problem at its place, and reads the problem's code off it.
+/// Checks each span with the problem at its position, and reads the problem's code off it.
 pub(crate) fn check_spans<L: Ledger>(
     alloc: Global,
     graph: &mut Graph,

@@ -13,7 +13,7 @@ use Rattle.cb_codes.specs.EachOnce.{AreKeysOf}
 abbrev pub group : List Bool → List NodeName → Group
 group code members = record { code = code; members = members }
 
--- the problem joins the group at a place, which has its code
+-- the problem joins the group at a position, which has its code
 pub record Joins (p : Problem) (old new : List Group) : Type 0 where
   pub place : ℕ
   pub joined : Group
@@ -30,7 +30,7 @@ pub record Opens (p : Problem) (old new : List Group) : Type 0 where
 abbrev pub AddsProblem : Problem → List Group → List Group → Type 0
 AddsProblem p old new = Joins p old new ⊎ Opens p old new
 
--- a member joins the group at a place
+-- a member joins the group at a position
 pub record JoinsThere (place : ℕ) (member : NodeName) (old new : List NamedGroup) : Type 0 where
   pub joined : NamedGroup
   pub at : slice_get old place ≡ Some joined
@@ -54,7 +54,7 @@ pub record FitsTogether (width : ℕ) (grouping : Grouping) : Type 0 where
   pub keys : AreKeysOf grouping.codes.codes.rows grouping.codes.keys.keys
   pub fit : Fit grouping.codes.codes.rows grouping.named.items
 
--- these are the problems, each with the place of its group
+-- these are the problems, each with the position of its group
 pub record Holds (problems : List Problem) (grouping : Grouping) : Type 0 where
   pub names : grouping.problems ≡ map (λ p. p.name) problems
   pub places : AllZip (λ place p. slice_get grouping.codes.codes.rows place ≡ Some p.code) grouping.places problems

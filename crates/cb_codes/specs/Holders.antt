@@ -3,7 +3,7 @@ use Rattle.std.specs.Prelude.{◌≡◌, ◌⊎◌, ℕ, ◌<◌, List, [], ◌�
 use Rattle.std.specs.List.{filter, range_with_len}
 use Rattle.cb_coding.specs.Distance.{bit, code_at}
 
--- the places of the codes that have a column, in order
+-- the positions of the codes that have a column, in order
 abbrev pub holders_of : List (List Bool) → ℕ → List ℕ
 holders_of codes column = filter (λ i. bit (code_at codes i) column) (range_with_len 0 (length codes))
 
@@ -16,7 +16,7 @@ pub record AreHolders (width : ℕ) (codes : List (List Bool)) (lists : List (Li
 abbrev pub AreHoldersOrNone : ℕ → List (List Bool) → List (List ℕ) → Type 0
 AreHoldersOrNone width codes lists = (lists ≡ []) ⊎ AreHolders width codes lists
 
--- the place comes last in the lists of the columns that the code has, and the others are as they were
+-- the position comes last in the lists of the columns that the code has, and the others are as they were
 pub record AddsPlace (code : List Bool) (place : ℕ) (old new : List (List ℕ)) : Type 0 where
   pub all : length new ≡ length old
   pub has : (column : ℕ) → bit code column ≡ true → slice_index_or new column [] ≡ slice_index_or old column [] ++ place ∷ []

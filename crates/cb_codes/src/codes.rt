@@ -10,7 +10,7 @@ use cb_model::List;
 use std::alloc::{AllocError, Global};
 use std::marker::Model;
 
-/// Codes in order, each a row with one place a column, kept by its columns where these are few. Contracts see how many columns there
+/// Codes in order, each a row with one position a column, kept by its columns where these are few. Contracts see how many columns there
 /// are, and the rows. It keeps for each column which codes have it, as long as that takes little memory.
 #[derive(Drop)]
 pub struct Codes {
@@ -77,7 +77,7 @@ impl Codes {
         self.width
     }
 
-    /// The code at a place.
+    /// The code at a position.
     pub fn row(&self, i: usize) -> &CompactRow
         requires { i < length self.now.rows }
         ensures { slice_get self.now.rows i ≡ Some result.now }
@@ -95,7 +95,7 @@ impl Codes {
         self.rows[i].distance_below(&self.rows[j], limit)
     }
 
-    /// The places of the codes that have a column, in order. It is none where such lists aren't kept.
+    /// The positions of the codes that have a column, in order. It is none where such lists aren't kept.
     pub fn holders(&self, column: usize) -> Option<&List<u32>>
         ensures { IfSome result (λ places. places.now ≡ holders_of self.now.rows column) }
     {

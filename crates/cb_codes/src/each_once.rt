@@ -28,7 +28,7 @@ impl EachOnce {
         }
     }
 
-    /// The place of a code, which goes after the others where it isn't among them.
+    /// The position of a code, which goes after the others where it isn't among them.
     pub fn place_of(&mut self, alloc: Global, code: Row) -> Result<usize, AllocError>
         requires keys { AreKeysOf self.old.codes.rows self.old.keys.keys }
         requires width { length code ≡ self.old.codes.width }

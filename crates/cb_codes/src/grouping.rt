@@ -12,7 +12,7 @@ use cb_coding::Problem;
 use cb_model::{List, NamedGroup, NodeName};
 use std::alloc::{AllocError, Global};
 
-/// Problems, the groups that they are in, and for each the place of its group.
+/// Problems, the groups that they are in, and for each the position of its group.
 #[derive(Drop)]
 pub struct Grouping {
     pub problems: List<NodeName>,
@@ -69,7 +69,7 @@ impl Grouping {
     }
 }
 
-// Adds a member to the group at a place, or opens one with it after the last.
+// Adds a member to the group at a position, or opens one with it after the last.
 fn take_member(
     alloc: Global,
     named: &mut Vec<NamedGroup>,

@@ -35,7 +35,7 @@ fn empty_lists(alloc: Global, count: usize) -> Result<Vec<List<u32>>, AllocError
     Ok(lists)
 }
 
-/// Adds the place of a code to the lists of the columns that it has, or gives up all lists. `ones` says how many columns
+/// Adds the position of a code to the lists of the columns that it has, or gives up all lists. `ones` says how many columns
 /// all codes have together.
 pub(crate) fn hold(lists: &mut Vec<List<u32>>, code: &CompactRow, place: usize, ones: usize)
     ensures { (lists.new.items ≡ []) ⊎ AddsPlace code.now place lists.old.items lists.new.items }
@@ -46,7 +46,7 @@ pub(crate) fn hold(lists: &mut Vec<List<u32>>, code: &CompactRow, place: usize, 
     }
 }
 
-// Adds the place of a code to the lists of the columns that it has.
+// Adds the position of a code to the lists of the columns that it has.
 fn add_place(lists: &mut Vec<List<u32>>, code: &CompactRow, place: u32) -> Result<(), AllocError>
     requires { length code.now ≡ length lists.old.items }
     ensures { OnOk result (AddsPlace code.now place lists.old.items lists.new.items) }

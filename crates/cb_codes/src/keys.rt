@@ -21,7 +21,7 @@ pub(crate) fn key_of(alloc: Global, code: &Row) -> Result<Vec<u64>, AllocError>
 fn columns_below(alloc: Global, code: &Row, limit: usize) -> Result<Option<Vec<u64>>, AllocError>
     ensures { IfOk result (AreColumnsBelow code.now limit) }
 {
-    // A length fits its type, and so does the place after a column.
+    // A length fits its type, and so does the position after a column.
     let _width = code.len();
     let mut columns = Vec::new(alloc);
     let mut from = 0;

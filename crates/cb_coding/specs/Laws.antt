@@ -137,7 +137,7 @@ abbrev pub FewerColumnsAreCloser : Type 0
 FewerColumnsAreCloser = (width r : ℕ) (columns : List ℕ) (v w : List Bool) → IsStrictlyIncreasing columns → All (λ k. k < width) columns
     → distance (all_columns width) v w ≤ r → distance columns v w ≤ r
 
--- the group at a place has that problem
+-- the group at a position has that problem
 abbrev pub IsIn : List Group → ℕ → NodeName → Type 0
 IsIn groups i name = (g : Group) × (slice_get groups i ≡ Some g) × Contains g.members name
 

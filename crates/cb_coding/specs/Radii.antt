@@ -4,7 +4,7 @@ use Rattle.std.specs.Prelude.{◌≡◌, ◌≢◌, ℕ, ◌<◌, ◌≤◌, ◌
 use Rattle.cb_coding.specs.Answers.{radius}
 use Rattle.cb_coding.specs.Needs.{capped_need}
 
--- another place of codes
+-- another position of codes
 abbrev pub IsOther : List (List Bool) → ℕ → ℕ → Type 0
 IsOther codes i j = (j < length codes) × (j ≢ i)
 

@@ -6,7 +6,7 @@ use Rattle.cb_model.specs.declared.wish.Wish.TheVariants.{Plain, Cap}
 use Rattle.cb_coding.specs.Answers.{IsAnswerBy, radius}
 use Rattle.cb_coding.specs.Radii.{IsNearestNeed}
 
--- how many lost or spurious symptoms the code at a place tolerates
+-- how many lost or spurious symptoms the code at a position tolerates
 abbrev pub IsRadius : ℕ → List (List Bool) → Wish → ℕ → ℕ → Type 0
 IsRadius width codes (Plain d) i r = r ≡ radius d
 IsRadius width codes (Cap cap) i r = (d : ℕ) × IsNearestNeed width codes cap i d × (r ≡ radius d)

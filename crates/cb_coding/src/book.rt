@@ -1,7 +1,7 @@
 //! Codebooks, pairs of codes and answers.
 use cb_model::List;
 
-/// Two codes by their places, the lesser first, and at how many columns they differ.
+/// Two codes by their positions, the lesser first, and at how many columns they differ.
 #[derive(Clone, Copy, Debug, PartialEq, Eq)]
 pub struct Pair {
     pub first: u32,
@@ -9,14 +9,14 @@ pub struct Pair {
     pub distance: u32,
 }
 
-/// The columns that are looked at, as rising places, and a distance: over a good book any two codes are at least so far apart.
+/// The columns that are looked at, as rising positions, and a distance: over a good book any two codes are at least so far apart.
 #[derive(Drop)]
 pub struct Book {
     pub columns: List<u32>,
     pub distance: u32,
 }
 
-/// The columns that are looked at, as rising places; a cap; and for each code its radius, how many lost or spurious symptoms it
+/// The columns that are looked at, as rising positions; a cap; and for each code its radius, how many lost or spurious symptoms it
 /// tolerates. Over a good book any two codes are at least as far apart as over all columns, or
 /// as the cap where that is less.
 #[derive(Drop)]
@@ -26,7 +26,7 @@ pub struct CapBook {
     pub radii: List<u32>,
 }
 
-/// The groups nearest to a word, as rising places; at how many columns their codes differ from it; and whether that
+/// The groups nearest to a word, as rising positions; at how many columns their codes differ from it; and whether that
 /// is within the radius of one of them. Over a good book no other group can be meant then.
 #[derive(Drop)]
 pub struct Answer {

@@ -23,7 +23,7 @@ pub fn answer_is_one()
     ensures { AnswerIsOne }
 {}
 
-/// The same where each code has a radius of its own.
+/// There is one answer also where each code has a radius of its own.
 pub fn answer_by_radii_is_one()
     ensures { AnswerByRadiiIsOne }
 {}
@@ -89,7 +89,7 @@ pub fn coding_theorem()
     ensures { CodingTheorem }
 {}
 
-/// The same for each code by its own radius, where each two codes are as far apart as over all columns, or as a cap.
+/// A code within its own radius of the word is named alone, if each two codes are as far apart as over all columns, or as a cap.
 pub fn within_its_radius()
     ensures { WithinItsRadius }
 {}

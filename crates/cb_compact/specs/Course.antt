@@ -13,7 +13,7 @@ pub record IsMergedAt (v w : List Bool) (from : ℕ) (lists : Merged) : Type 0 w
   pub left_passed : AreBefore (ones_of v) from lists.left_passed
   pub right_passed : AreBefore (ones_of w) from lists.right_passed
 
--- what is known of two rows on their course fits them, from a place on
+-- what is known of two rows on their course fits them, from a position on
 abbrev pub IsOnCourse : List Bool → List Bool → ℕ → Course → Type 0
 IsOnCourse left right from (Words one other) = (one.now ≡ left) × (other.now ≡ right)
 IsOnCourse left right from (Lists lists) = IsMergedAt left right from lists

@@ -1,4 +1,4 @@
-//! At which places two whole rows differ, by the words of both.
+//! At which positions two whole rows differ, by the words of both.
 ghost use Rattle.std.specs.Prelude.{◌≡◌, ◌+◌, ◌<◌, ◌≤◌, ◌*◌, ◌^◌, [], true, length, bit_xor, count_ones, IfSome, IfNone};
 ghost use Rattle.std.specs.Simd.Lanes.{zip2};
 ghost use Rattle.std.specs.Slice.Scan.{HoldsNowhere};
@@ -8,7 +8,7 @@ ghost use Rattle.cb_compact.specs.Nth.{IsNthOne};
 
 use cb_bits::Row;
 
-/// The first place from one on at which two rows differ.
+/// The first position from one on at which two rows differ.
 pub(crate) fn next_apart(a: &Row, b: &Row, from: usize) -> Option<usize>
     requires { length a.now ≡ length b.now }
     ensures next { IfSome result (IsNextDiffering a.now b.now from) }
@@ -17,7 +17,7 @@ pub(crate) fn next_apart(a: &Row, b: &Row, from: usize) -> Option<usize>
     next_difference(a.words(), b.words(), from)
 }
 
-// The first bit, from a place on, at which two rows of words differ.
+// The first bit, from a position on, at which two rows of words differ.
 fn next_difference(a: &[u64], b: &[u64], from: usize) -> Option<usize>
     requires same { length a.now ≡ length b.now }
     requires few { 64 * length a.now ≤ 2 ^ 64 }
@@ -34,7 +34,7 @@ fn next_difference(a: &[u64], b: &[u64], from: usize) -> Option<usize>
     None
 }
 
-/// The nth place at which two rows differ, counted from the first, where it comes before the given one. Words before the one that has it are only counted.
+/// The nth position at which two rows differ, counted from the first, where it comes before the given one. Words before the one that has it are only counted.
 pub(crate) fn nth_apart(one: &Row, other: &Row, before: usize, n: usize) -> Option<usize>
     requires same { length one.now ≡ length other.now }
     requires some { 0 < n }

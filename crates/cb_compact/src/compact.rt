@@ -1,4 +1,4 @@
-//! A row of truth values, by the places of its ones where these are few.
+//! A row of truth values, by the positions of its ones where these are few.
 ghost use Rattle.std.specs.Prelude.{All, ◌≡◌, ◌+◌, ◌<◌, ◌≤◌, length, true, false, slice_index_or, count_by, SomeIff, IfSome, IfNone, IfOk};
 ghost use Rattle.cb_bits.specs.Bits.{differing, IsNextOne, HasNoneFrom};
 ghost use Rattle.cb_compact.specs.Compact.{ones_of, with_ones, AreRising, AreBefore, Keeps, differs, differing_before, differing_under};
@@ -11,21 +11,21 @@ use cb_bits::Row;
 use std::alloc::{AllocError, Global};
 use std::marker::Model;
 
-// The places of as many values fit 32 bits.
+// The positions of as many values fit 32 bits.
 const MOST_PLACES: usize = 4_294_967_296;
 
-// As many values have at most so many words as `distance_under` of cb_lanes takes.
+// This many values have no more words than `distance_under` of cb_lanes takes.
 const MOST_COUNTED: usize = 4_294_967_232;
 
-/// What is kept of a row: the places of its ones, in order, or all of it.
+/// What is kept of a row: the positions of its ones, in order, or all of it.
 #[derive(Drop)]
 enum Kept {
     Places(Vec<u32>),
     Whole(Row),
 }
 
-/// Truth values in order. Contracts see the list of them. It keeps the places of those that are true, where these are fewer than
-/// half of the words that all would take, rounded down, and how many they are.
+/// Truth values in order. Contracts see the list of them. Made of a row, it stores the positions of the true values if these are fewer
+/// than half of the words of the row, rounded down; made of positions, it stores these.
 #[derive(Drop)]
 pub struct CompactRow {
     len: usize,
@@ -46,7 +46,7 @@ impl Model for CompactRow {
 }
 
 impl CompactRow {
-    /// The same values as those of a row.
+    /// A compact row with the values of `row`.
     pub fn of(alloc: Global, row: &Row) -> Result<CompactRow, AllocError>
         ensures { IfOk result (λ compact. compact ≡ row.now) }
     {
@@ -56,7 +56,7 @@ impl CompactRow {
         Ok(CompactRow { len, weight, kept })
     }
 
-    /// So many values, of which those at these positions are true. The list is stored as it is, however long.
+    /// `len` values, of which those at `positions` are true. The list is stored as it is, however long.
     pub fn of_positions(len: usize, positions: Vec<u32>) -> CompactRow
         requires rising { AreRising positions.items }
         requires within { All (λ k. k < len) positions.items }
@@ -77,7 +77,7 @@ impl CompactRow {
         self.len
     }
 
-    /// The value at a place.
+    /// The value at a position.
     pub fn get(&self, i: usize) -> bool
         requires { i < length self.now }
         ensures { result ≡ slice_index_or self.now i false }
@@ -95,7 +95,7 @@ impl CompactRow {
         self.weight
     }
 
-    /// The first true place from a place on.
+    /// The first true position from a position on.
     pub fn next_one(&self, from: usize) -> Option<usize>
         ensures next { IfSome result (IsNextOne self.now from) }
         ensures none { IfNone result (HasNoneFrom self.now from) }
@@ -138,8 +138,8 @@ impl CompactRow {
         }
     }
 
-    /// At how many places the two differ, where these are fewer than the limit. It stops once there are as many, and looks at none where one
-    /// of the two has so many more ones than the other.
+    /// At how many positions the two differ, if these are fewer than `limit`. It compares nothing if the numbers of their ones differ
+    /// by `limit` or more.
     pub fn distance_below(&self, other: &CompactRow, limit: usize) -> Option<usize>
         requires { length self.now ≡ length other.now }
         ensures { let distance = differing self.now other.now in
@@ -160,7 +160,7 @@ impl CompactRow {
         count_below(self, other, limit)
     }
 
-    // The same of a whole row with so many ones: each of the two has its ones, and they share some.
+    // As `distance_below`, of a whole row with `ones` ones: each of the two has its ones, and they share some.
     #[inline(never)]
     fn distance_to_below(&self, row: &Row, ones: usize, limit: usize) -> Option<usize>
         requires same { length self.now ≡ length row.now }
@@ -222,7 +222,7 @@ impl CompactRow {
         count_under(self, other, mask)
     }
 
-    /// The same, where these are fewer than the limit. It stops once there are as many; if one of the two is whole it counts all.
+    /// As `distance_under`, if these are fewer than `limit`. It stops once there are as many; if one of the two is whole it counts all.
     pub fn distance_under_below(
         &self,
         other: &CompactRow,
@@ -248,7 +248,7 @@ impl CompactRow {
         count_under_below(self, other, mask, limit)
     }
 
-    /// The nth place at which the two differ, counted from the first, where it comes before the given one.
+    /// The nth position at which the two differ, counted from the first, where it comes before the given one.
     pub fn nth_differing(&self, other: &CompactRow, before: usize, n: usize) -> Option<usize>
         requires same { length self.now ≡ length other.now }
         requires some { 0 < n }
@@ -266,7 +266,7 @@ impl CompactRow {
     }
 }
 
-// The positions of so many ones, if these are fewer than half of the words of the row, and else a copy: a step in two lists takes as long as
+// The positions of the `ones` ones, if these are fewer than half of the words of the row, and else a copy: a step in two lists takes as long as
 // some two words.
 fn kept_of(alloc: Global, row: &Row, ones: usize) -> Result<Kept, AllocError>
     ensures { IfOk result (Keeps row.now) }

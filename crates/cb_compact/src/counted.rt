@@ -1,4 +1,4 @@
-//! At how many places two rows differ, and at which.
+//! At how many positions two rows differ, and at which.
 ghost use Rattle.std.specs.Prelude.{◌≡◌, ◌+◌, ◌<◌, ◌≤◌, true, length, SomeIff, IfSome, IfNone};
 ghost use Rattle.cb_bits.specs.Bits.{differing};
 ghost use Rattle.cb_compact.specs.Compact.{differs, differing_before, differing_under};
@@ -8,7 +8,7 @@ use crate::differing::Differing;
 use cb_bits::Row;
 use cb_lanes::distance_under;
 
-/// At how many places two rows differ, where these are fewer than the limit.
+/// At how many positions two rows differ, where these are fewer than the limit.
 #[inline(never)]
 pub(crate) fn count_below(left: &CompactRow, right: &CompactRow, limit: usize) -> Option<usize>
     requires { length left.now ≡ length right.now }
@@ -36,7 +36,7 @@ pub(crate) fn count_under(left: &CompactRow, right: &CompactRow, mask: &Row) -> 
     requires masked { length left.now ≡ length mask.now }
     ensures { result ≡ differing_under mask.now left.now right.now }
 {
-    // A length fits its type, and so does a count of places.
+    // A length fits its type, and so does a count of positions.
     let _len = left.len();
     let mut count = 0;
     let mut places = Differing::of(left, right);
@@ -95,7 +95,7 @@ pub(crate) fn below(count: usize, limit: usize) -> Option<usize>
     if count < limit { Some(count) } else { None }
 }
 
-/// The nth place at which two rows differ, counted from the first, where it comes before the given one.
+/// The nth position at which two rows differ, counted from the first, where it comes before the given one.
 #[inline(never)]
 pub(crate) fn nth_place(
     left: &CompactRow,

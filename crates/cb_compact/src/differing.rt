@@ -1,4 +1,4 @@
-//! The places at which two rows differ, one after the other.
+//! The positions at which two rows differ, one after the other.
 ghost use Rattle.std.specs.Prelude.{◌≡◌, ◌+◌, length, IfSome, IfNone};
 ghost use Rattle.cb_compact.specs.Compact.{IsNextDiffering, DifferNowhereFrom};
 ghost use Rattle.cb_compact.specs.Fronts.{IsFrontAt};
@@ -18,7 +18,7 @@ enum Course<'a> {
     Ones(Front, Front),
 }
 
-/// Two rows that are gone through together, from a place on.
+/// Two rows that are gone through together, from a position on.
 #[derive(Drop)]
 pub struct Differing<'a> {
     left: &'a CompactRow,
@@ -28,7 +28,7 @@ pub struct Differing<'a> {
 }
 
 impl<'a> Differing<'a> {
-    /// All places at which two rows differ.
+    /// All positions at which two rows differ.
     pub fn of(left: &'a CompactRow, right: &'a CompactRow) -> Differing<'a>
         ensures left { result.left.now ≡ left.now }
         ensures right { result.right.now ≡ right.now }
@@ -44,7 +44,7 @@ impl<'a> Differing<'a> {
         }
     }
 
-    /// The next place at which the two differ.
+    /// The next position at which the two differ.
     #[inline(always)]
     pub fn next(&mut self) -> Option<usize>
         requires same { length self.old.left.now ≡ length self.old.right.now }
@@ -81,21 +81,21 @@ fn course_of<'a>(left: &'a CompactRow, right: &'a CompactRow) -> Course<'a>
     }
 }
 
-// The next place at which two rows differ, by the words of both.
+// The next position at which two rows differ, by the words of both.
 fn next_by_words(one: &Row, other: &Row, from: &mut usize) -> Option<usize>
     requires { length one.now ≡ length other.now }
     ensures next { IfSome result (IsNextDiffering one.now other.now from.old) }
     ensures from { IfSome result (λ place. from.new ≡ place + 1) }
     ensures none { IfNone result (DifferNowhereFrom one.now other.now from.old) }
 {
-    // A length fits its type, and so does the place after one.
+    // A length fits its type, and so does the position after one.
     let _len = one.len();
     let place = next_apart(one, other, *from)?;
     *from = place + 1;
     Some(place)
 }
 
-// The next place at which two rows differ, by the ones of both.
+// The next position at which two rows differ, by the ones of both.
 fn next_by_ones(
     left: &CompactRow,
     right: &CompactRow,
@@ -112,7 +112,7 @@ fn next_by_ones(
     ensures from { IfSome result (λ place. from.new ≡ place + 1) }
     ensures none { IfNone result (DifferNowhereFrom left.now right.now from.old) }
 {
-    // A length fits its type, and so does the place after a one.
+    // A length fits its type, and so does the position after a one.
     let _len = left.len();
     while let Some(place) = one.lower(other) {
         let is = one.pass(left, place);

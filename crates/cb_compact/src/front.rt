@@ -12,7 +12,7 @@ pub struct Front {
 }
 
 impl Front {
-    /// At the first place of a row.
+    /// At the first position of a row.
     pub fn of(row: &CompactRow) -> Front
         ensures { IsFrontAt row.now 0 result.before result.next }
     {
@@ -35,7 +35,7 @@ impl Front {
         }
     }
 
-    /// Goes on past a place before which no one is left, and says whether it is a one itself.
+    /// Goes on past a position before which no one is left, and says whether it is a one itself.
     pub fn pass(&mut self, row: &CompactRow, place: usize) -> bool
         requires { IsFrontAt row.now place self.old.before self.old.next }
         ensures front { IsFrontAt row.now (place + 1) self.new.before self.new.next }
@@ -51,7 +51,7 @@ impl Front {
         is
     }
 
-    // Whether the next one is at a place.
+    // Whether the next one is at a position.
     fn stands_at(&self, place: usize) -> bool
         ensures { result ≡ is_at self.now.next place }
     {

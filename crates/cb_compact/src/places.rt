@@ -1,4 +1,4 @@
-//! The places of the ones of a row, in order.
+//! The positions of the ones of a row, in order.
 ghost use Rattle.std.specs.Prelude.{◌≡◌, ◌<◌, ◌≤◌, ◌+◌, ◌^◌, List, Bool, ℕ, false, length, slice_index_or, IsTrue, IfOk, IfSome, IfNone};
 ghost use Rattle.cb_bits.specs.Bits.{IsNextOne, HasNoneFrom};
 ghost use Rattle.cb_compact.specs.Compact.{ones_of, AreRising, AreBefore};
@@ -11,7 +11,7 @@ pub(crate) fn places_of(alloc: Global, row: &Row, ones: usize) -> Result<Vec<u32
     requires { length row.now ≤ 2 ^ 32 }
     ensures { IfOk result (λ places. places.items ≡ ones_of row.now) }
 {
-    // A length fits its type, and so does the index after a place.
+    // A length fits its type, and so does the index after a position.
     let _len = row.len();
     let mut places = Vec::with_capacity(alloc, ones)?;
     let mut from = 0;
@@ -22,7 +22,7 @@ pub(crate) fn places_of(alloc: Global, row: &Row, ones: usize) -> Result<Vec<u32
     Ok(places)
 }
 
-/// Whether a place is one of a row that has its ones at these.
+/// Whether a position is one of a row that has its ones at these.
 pub(crate) fn has_place(places: &[u32], place: usize) -> bool
     ensures { (row : List Bool) → places.now ≡ ones_of row → result ≡ slice_index_or row place false }
 {
@@ -30,7 +30,7 @@ pub(crate) fn has_place(places: &[u32], place: usize) -> bool
     at < places.len() && places[at] as usize == place
 }
 
-/// The first one from a place on of a row that has its ones at these.
+/// The first one from a position on of a row that has its ones at these.
 pub(crate) fn next_place(places: &[u32], from: usize) -> Option<usize>
     ensures next { IfSome result (λ place. (row : List Bool) → places.now ≡ ones_of row → IsNextOne row from place) }
     ensures none { IfNone result ((row : List Bool) → places.now ≡ ones_of row → HasNoneFrom row from) }
@@ -38,7 +38,7 @@ pub(crate) fn next_place(places: &[u32], from: usize) -> Option<usize>
     place_behind(places, first_from(places, from), from)
 }
 
-/// As `next_place`; `before` of them come before that place, and are skipped.
+/// As `next_place`; `before` of them come before that position, and are skipped.
 pub(crate) fn place_behind(places: &[u32], before: usize, from: usize) -> Option<usize>
     ensures next { IfSome result (λ place. (row : List Bool) → places.now ≡ ones_of row → AreBefore (ones_of row) from before → IsNextOne row from place) }
     ensures none { IfNone result ((row : List Bool) → places.now ≡ ones_of row → AreBefore (ones_of row) from before → HasNoneFrom row from) }
@@ -50,7 +50,7 @@ pub(crate) fn place_behind(places: &[u32], before: usize, from: usize) -> Option
     }
 }
 
-// How many places come before one, found by halves.
+// How many positions come before one, found by halves.
 fn first_from(places: &[u32], from: usize) -> usize
     ensures { AreRising places.now → AreBefore places.now from result }
 {

@@ -34,8 +34,8 @@ pub fn nearest(
     nearest_of(alloc, codes, book, &mask, word, 0, &None)
 }
 
-/// The same by the decoder of the book, which looks only at the lightest codes and at those that share a column with the word,
-/// where these are few.
+/// As `nearest`, by the decoder of the book, which compares only the lightest codes and those that share a column with the word,
+/// if these are few.
 pub fn nearest_by(
     alloc: Global,
     codes: &Codes,
@@ -55,7 +55,7 @@ pub fn nearest_by(
     nearest_of(alloc, codes, book, &decoder.mask, word, first, &marked)
 }
 
-/// The same with the mask of the book's columns, if they have one, where each code that is left out is farther than the first one told.
+/// As `nearest`, with the mask of the book's columns, if they have one, if each code that is left out is farther than the one at `first`.
 pub(crate) fn nearest_of(
     alloc: Global,
     codes: &Codes,
@@ -100,7 +100,7 @@ pub fn nearest_cap(
     nearest_cap_of(alloc, codes, book, &mask, word, 0, &None)
 }
 
-/// The same by the decoder of the book's columns.
+/// As `nearest_cap`, by the decoder of the book's columns.
 pub fn nearest_cap_by(
     alloc: Global,
     codes: &Codes,
@@ -121,7 +121,7 @@ pub fn nearest_cap_by(
     nearest_cap_of(alloc, codes, book, &decoder.mask, word, first, &marked)
 }
 
-// The same with the mask of the book's columns, if they have one, where each code that is left out is farther than the code at `first`.
+// As `nearest_cap`, with the mask of the book's columns, if they have one, if each code that is left out is farther than the one at `first`.
 fn nearest_cap_of(
     alloc: Global,
     codes: &Codes,

@@ -12,7 +12,7 @@ use cb_model::List;
 use cb_reduce::distance_from;
 use std::alloc::{AllocError, Global};
 
-/// How far the nearest codes are from a word, and which they are, as rising places.
+/// How far the nearest codes are from a word, and which they are, as rising positions.
 #[derive(Drop)]
 pub struct Nearest {
     pub distance: u32,
@@ -59,7 +59,7 @@ pub(crate) fn nearest_codes(
     })
 }
 
-// The first place at or after one, and below a count, that isn't left out.
+// The first position at or after one, and below a count, that isn't left out.
 fn next_of(marked: &Option<Row>, from: usize, count: usize) -> Option<usize>
     requires { IfSome marked.now (λ row. length row ≡ count) }
     ensures some { IfSome result (λ i. (from ≤ i) × (i < count) × AreLeftOut marked.now from i) }

@@ -1,4 +1,4 @@
--- What a command leaves whose output is made before it is written. `old` is told before its files are read, `new` after that.
+-- What a command leaves whose output is made before it is written. `old` is reported before its files are read, `new` after that.
 use Rattle.std.specs.Prelude.{◌≡◌, ◌⊎◌, ℕ, List, [], ◌∷◌, ◌++◌, length, map, Option, None, Some, Result, Ok, Err}
 use Rattle.cb_io.specs.Outside.{FilesTold, SinkTold, contents, ReadsEach, NoCountFalls, WritesAll, WritesFront, WriteFailed}
 use Rattle.cb_outcome.specs.Roles.{Role}
@@ -16,7 +16,7 @@ use Rattle.cb_file_kinds.specs.Kinds.{file_of, IsWant, FailsToRead}
 abbrev pub names : List (Role × List ℕ) → List (List ℕ)
 names files = map (λ file. file.1) files
 
--- files up to a place were read and have passed: this is known from them
+-- files up to a position were read and have passed: this is known from them
 pub record Passed (earlier : List (Role × List ℕ)) (known : Known) (old now : FilesTold) : Type 0 where
   pub said : Told old (λ left. PassFrom nothing (with_texts left [] earlier) known)
   pub read : ReadsEach old now (names earlier)

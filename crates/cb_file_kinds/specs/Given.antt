@@ -56,6 +56,6 @@ pub record IsShownBy (t : Topology) (c : Certificate) (shown : ShownBook) : Type
   pub given : IsGivenBy t c shown.book
   pub line : IsLineOf t c shown.line.items
 
--- the same, by what is known
+-- the book that was shown, by what is known
 abbrev pub IsKnownBook : Topology → ShownBook → Known → Type 0
 IsKnownBook t shown known = (c : Certificate) × (known ≡ certified t c) × IsShownBy t c shown

@@ -1,4 +1,4 @@
--- What reading and judging one file leaves. `old` is told before it, `new` after it.
+-- What reading and judging one file leaves. `old` is reported before it, `new` after it.
 use Rattle.std.specs.Prelude.{◌≡◌, ◌⊎◌, ℕ, List, IfSome}
 use Rattle.cb_io.specs.Outside.{FilesTold, left_of, ReadsAll, ReadsFront, KeepsOthers, NoCountFalls, ReadFailed}
 use Rattle.cb_network.specs.Topology.{Topology}
@@ -47,7 +47,7 @@ pub record ReadsSaying (role : Role) (name : List ℕ) (Before After : Known →
   pub read : ReadsAll old new name text
   pub says : SaysAfter Before After (file_of role name text)
 
--- the text is what was left of the name, where that is told
+-- the text is what was left of the name, where that is reported
 abbrev pub IsTextOf : FilesTold → List ℕ → List ℕ → Type 0
 IsTextOf old name text = IfSome (left_of old name) (λ left. text ≡ left)
 

@@ -20,7 +20,7 @@ use cb_topo::Topology;
 use std::alloc::Global;
 use std::sync::ledger::Ledger;
 
-/// A certificate file has at most so many bytes.
+/// The most bytes that a certificate file may have.
 pub const MOST_BYTES: usize = 32 << 20;
 
 /// What a certificate shows, and the graph that it was checked against.
@@ -113,7 +113,7 @@ fn shown_by<'w, L: Ledger>(
     }
 }
 
-// The same, of the graph's topology.
+// What the certificate shows of the graph's topology.
 fn checked<'w, L: Ledger>(
     alloc: Global,
     graph: &mut Graph,

@@ -9,7 +9,7 @@ use cb_report::Fault;
 use cb_request::FileName;
 use std::alloc::Global;
 
-/// A model, topology or symptom file has at most so many bytes.
+/// The most bytes that a model, topology or symptom file may have.
 pub const MOST_BYTES: usize = 16 << 20;
 
 /// A kind of files: what one is for, and what is made of its text after what is known from the files before it.
@@ -25,7 +25,7 @@ pub trait FileKind: Drop {
     /// What is known after it, by the value that is made of it.
     ghost after: { Self → Self.Value → Known → Type 0 };
 
-    /// A file of this kind has at most so many bytes.
+    /// The most bytes that a file of this kind may have.
     fn most_bytes(&self) -> usize
         ensures { result ≡ byte_limit role };
 

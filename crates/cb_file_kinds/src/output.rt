@@ -12,7 +12,7 @@ pub struct Output<'w> {
     pub fault: Option<Fault<'w>>,
 }
 
-/// Writes what a command has made, if it has made something. What is wrong is told by the caller.
+/// Writes what a command has made, if it has made something. What is wrong is reported by the caller.
 pub fn deliver<'w, O: Sink>(
     made: Result<Output<'w>, Fault<'w>>,
     out: &mut O,

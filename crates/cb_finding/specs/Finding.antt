@@ -33,15 +33,15 @@ word_of columns raised = map (is_among raised) columns
 abbrev pub unknown_of : List NodeName → List NodeName → ℕ
 unknown_of columns raised = count_by (λ n. not (is_among columns n)) raised
 
--- the group at a place, by its members; the first is the quiet one
+-- the group at a position, by its members; the first is the quiet one
 abbrev pub named_group : List Group → ℕ → NamedGroup
 named_group groups i = record { quiet = i == 0; members = slice_index_or (map (λ g. g.members) groups) i [] }
 
--- the groups at these places
+-- the groups at these positions
 abbrev pub named_groups : List Group → List ℕ → List NamedGroup
 named_groups groups places = map (named_group groups) places
 
--- what the group at a place is called: the first one is the quiet one, and any other is called by its least problem
+-- what the group at a position is called: the first one is the quiet one, and any other is called by its least problem
 abbrev pub IsCalled : List Group → ℕ → GroupName → Type 0
 IsCalled groups i Quiet = i ≡ 0
 IsCalled groups i (Least node) = (0 < i) × (g : Group) × (slice_get groups i ≡ Some g) × (slice_get g.members 0 ≡ Some node)

@@ -9,7 +9,7 @@ next_state x = (x * 6364136223846793005 + 1442695040888963407) % 2 ^ 64
 abbrev pub drawn : ℕ → ℕ → ℕ
 drawn x below = x / 2 ^ 33 % below
 
--- the state after so many draws
+-- the state after that many draws
 abbrev pub state_after : ℕ → ℕ → ℕ
 state_after zero x = x
 state_after (suc n) x = next_state (state_after n x)

@@ -48,7 +48,7 @@ pub data MadeUpLine : Type 0 where
 unfoldable pub round : List MadeUpLine
 round = replicate 50 Edit ++ (replicate 100 Alarm ++ Tick ∷ [])
 
--- so many rounds
+-- this many rounds
 unfoldable pub rounds : ℕ → List MadeUpLine
 rounds zero = []
 rounds (suc n) = round ++ rounds n

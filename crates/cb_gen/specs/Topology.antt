@@ -20,7 +20,7 @@ linked_with i j =
     link_line (codes "b") i (codes " ports p") i ++ link_line (codes "b") i (codes " ports q") i ++ link_line (codes "l") i (codes " ends p") i
     ++ link_line (codes "l") i (codes " ends q") j
 
--- that is the next of so many sites, and the first after the last
+-- the next site in a ring of that many sites: the first comes after the last
 abbrev pub linked : ℕ → ℕ → List ℕ
 linked sites i = linked_with i ((i + 1) % sites)
 

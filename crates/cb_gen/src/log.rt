@@ -43,7 +43,7 @@ impl Log {
         }
     }
 
-    // Adds so many rounds.
+    // Adds `count` rounds.
     fn push_rounds(&mut self, count: u64, sites: u64) -> Result<(), AllocError>
         requires some { 0 < sites }
         requires early { self.now.at ≡ 0 }
@@ -68,7 +68,7 @@ impl Log {
         self.push_next_tick()
     }
 
-    // Adds so many edits.
+    // Adds `count` edits.
     fn push_edits(&mut self, count: u64, sites: u64) -> Result<(), AllocError>
         requires some { 0 < sites }
         requires early { self.now.at < 2 ^ 33 }
@@ -82,7 +82,7 @@ impl Log {
         Ok(())
     }
 
-    // Adds so many alarms.
+    // Adds `count` alarms.
     fn push_alarms(&mut self, count: u64, sites: u64) -> Result<(), AllocError>
         requires some { 0 < sites }
         requires early { self.now.at < 2 ^ 33 }

@@ -121,6 +121,6 @@ abbrev pub next_part : List ClassDecl → Part → Lexeme → Option State
 next_part cs (parts.Inside c p) k = next_inside cs c p k
 next_part cs part k = with_part cs (next_head part k)
 
--- the state after one token more; none where the token has no place there
+-- the state after one token more; none where the token can't stand there
 abbrev pub next_state : State → Lexeme → Option State
 next_state s k = next_part s.classes s.part k

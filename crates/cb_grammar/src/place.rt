@@ -56,7 +56,7 @@ pub enum MemberSoFar {
     HideName(Token),
 }
 
-/// A place after one token more: still inside the member, after it, or nowhere.
+/// A position after one token more: still inside the member, after it, or nowhere.
 #[derive(Drop)]
 pub enum Grown {
     More(MemberSoFar),

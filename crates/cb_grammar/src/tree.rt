@@ -4,7 +4,7 @@ use cb_model::{List, Name};
 /// The most places of a rule's path.
 pub const LONGEST_PATH: usize = 4;
 
-/// A name, with its line, counted from 1, and the place of its first byte in the text.
+/// A name, with its line, counted from 1, and the position of its first byte in the text.
 #[derive(Drop)]
 pub struct Token {
     pub name: Name,

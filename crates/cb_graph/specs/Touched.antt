@@ -1,4 +1,4 @@
--- Nodes that an edit touches, by numbers, told before it is made.
+-- Nodes that an edit touches, by numbers, found before it is made.
 use Rattle.std.specs.Prelude.{◌≡◌, ◌≢◌, ◌⊎◌, ◌↔◌, ℕ, List, [], ◌∷◌, Bool, Some, slice_get}
 use Rattle.cb_model.specs.declared.id.ClassId.{ClassId}
 use Rattle.cb_model.specs.declared.id.EventId.{EventId}

@@ -39,7 +39,7 @@ IsLinked n r i k = LinkAt n i r (instance k)
 abbrev pub IsWhereLeads : Net → InstanceId → List Place → List Bool → Type 0
 IsWhereLeads n from path row = (k : ℕ) → Has row k ↔ LeadsAt n from path (instance k)
 
--- the row has a place for each instance, and as many as its numbers may need
+-- the row has a position for each instance, and as many as its numbers may need
 pub record HasPlaces (n : Net) (row : List Bool) : Type 0 where
   pub room : n.room ≤ length row
   pub each : (id : InstanceId) → IsLive n id → id.0 < length row

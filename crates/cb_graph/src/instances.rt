@@ -12,8 +12,8 @@ use cb_model::RelId;
 use cb_topo::Topology;
 use std::alloc::{AllocError, Global};
 
-/// A set of instances, which takes no memory once it has places enough. Its members are listed, so that going over them
-/// and forgetting them takes no longer than there are members. Contracts see the row of its places.
+/// A set of instances, which takes no memory once it is long enough. Its members are listed, so that going over them
+/// and forgetting them takes no longer than there are members. Contracts see it as a row of truth values.
 #[derive(Drop)]
 pub struct InstanceSet {
     list: Vec<InstanceId>,
@@ -32,7 +32,7 @@ impl std::marker::Model for InstanceSet {
     ghost invariant = { λ s. IsListed s.list.items s.row × (length s.row ≤ vec_capacity s.list) };
 }
 
-// Makes false the places of the listed instances, which are all that the row has.
+// Makes false the positions of the listed instances, which are all that the row has.
 fn clear_all(list: &[InstanceId], row: &mut Row)
     requires { (id : Id) → Contains list.now id ↔ Has row.old id.0 }
     ensures length { length row.new ≡ length row.old }
@@ -98,7 +98,7 @@ fn run_along(topology: &Topology, rel: RelId, list: &mut Vec<InstanceId>, row: &
 }
 
 impl InstanceSet {
-    /// A set without places.
+    /// A set of length 0.
     pub fn new(alloc: Global) -> Result<InstanceSet, AllocError>
         ensures { IfOk result (λ set. set ≡ []) }
     {
@@ -108,7 +108,7 @@ impl InstanceSet {
         })
     }
 
-    /// Adds places at the end, so that there are at least `n`.
+    /// Adds positions at the end, so that there are at least `n`.
     pub fn reserve(&mut self, n: usize) -> Result<(), AllocError>
         ensures ok { OnOk result (self.new ≡ self.old ++ replicate (n - length self.old) false) }
         ensures err { OnErr result (self.new ≡ self.old) }

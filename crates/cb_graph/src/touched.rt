@@ -117,7 +117,7 @@ fn add_causes(
     }
 }
 
-// Adds what is touched by the rule of the row at this place, at instances of whatever class.
+// Adds what is touched by the rule of the row at this position, at instances of whatever class.
 fn add_rule(
     topology: &Topology,
     moves: Moves,

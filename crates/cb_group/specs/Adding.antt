@@ -24,7 +24,7 @@ pub record AreWordsOf (groups : List Group) (keys : List (Vec ℕ)) : Type 0 whe
 abbrev pub IsNew : List Bool → List (Vec ℕ) → Type 0
 IsNew code keys = (key : Vec ℕ) → Contains keys key → ¬ Packs code key.items
 
--- the problem joins the group at a place, which has its code
+-- the problem joins the group at a position, which has its code
 pub record Joins (p : Problem) (old new : List Group) : Type 0 where
   pub place : ℕ
   pub joined : Group

@@ -5,11 +5,11 @@ use Rattle.cb_coding.specs.Distance.{apart, all_columns}
 use Rattle.cb_coding.specs.Pairs.{Good, IsFirstClose}
 use Rattle.cb_codes.specs.Codes.{Coded}
 
--- how far the codes at two places are apart over all their columns
+-- how far the codes at two positions are apart over all their columns
 abbrev pub far : Coded → ℕ → ℕ → ℕ
 far codes i j = apart (all_columns codes.width) codes.rows i j
 
--- the code at the second place stands after the first, and is less than d from it
+-- the code at the second position stands after the first, and is less than d from it
 pub record IsClose (codes : Coded) (first d second : ℕ) : Type 0 where
   pub behind : first < second
   pub within : second < length codes.rows

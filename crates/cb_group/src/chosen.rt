@@ -37,7 +37,7 @@ fn longest(groups: &List<Group>) -> usize
     longest
 }
 
-// For each column of so many, where it stands among these.
+// For each of `width` columns, at which positions of `columns` it stands.
 fn places_of(alloc: Global, columns: &[u32], width: usize) -> Result<Vec<List<usize>>, AllocError>
     ensures { IfOk result (λ places. IsChosenIndex columns.now width places.items) }
 {
@@ -82,7 +82,7 @@ fn over(
     Ok(row)
 }
 
-// Makes true what stands at these places.
+// Makes true what stands at these positions.
 fn set_all(row: &mut Row, places: &List<usize>)
     requires { All (λ place. place < length row.old) places.now }
     ensures { Sets places.now row.old row.new }

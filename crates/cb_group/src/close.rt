@@ -1,7 +1,7 @@
 //! The first two groups that are close to each other over some columns.
 //!
-//! A code that has none of so many columns of another is at least so far from it. So a code is compared with those alone that have one of so
-//! many of its columns as the distance wants, where few codes have these; and with all after it where it has no so many.
+//! A code that has none of k columns of another is at least k columns away from it. So, for a distance d, a code is compared with those alone
+//! that have one of d of its columns, if few codes have these; and with all after it if it has fewer than d columns.
 ghost use Rattle.std.specs.Prelude.{◌≡◌, ◌<◌, ◌≤◌, ◌^◌, ◌↔◌, ℕ, length, IfOk, IfSome, IfNone, IsTrue};
 ghost use Rattle.std.specs.List.{All, Contains};
 ghost use Rattle.cb_coding.specs.Distance.{all_columns};
@@ -66,14 +66,14 @@ fn pair_of(codes: &Codes, first: usize, second: usize, distance: u32) -> Option<
     }
 }
 
-// The place of the first code after this one that is less than the distance from it, or the end. A code that has none of the columns that
+// The position of the first code after this one that is less than the distance from it, or the end. A code that has none of the columns that
 // were looked at is as far from this one as they are many.
 fn first_behind(codes: &Codes, first: usize, distance: u32) -> usize
     requires { first < length codes.now.rows }
     ensures { IsFirstBehind codes.now first distance result }
 {
     let code = codes.row(first);
-    // A length fits its type, and so does the place after a column. All codes have one width.
+    // A length fits its type, and so does the position after a column. All codes have one width.
     let _width = code.len();
     let _wide = codes.width();
     let mut end = codes.len();
@@ -92,7 +92,7 @@ fn first_behind(codes: &Codes, first: usize, distance: u32) -> usize
     end
 }
 
-// The codes that have a column, where all such lists of so many columns together are no longer than that of all codes.
+// The codes that have a column, if such lists of `columns` columns together are no longer than the list of all codes.
 fn few_holders(codes: &Codes, column: usize, columns: u32) -> Option<&List<u32>>
     requires { 0 < columns }
     ensures { IfSome result (λ places. places.now ≡ holders_of codes.now.rows column) }
@@ -109,7 +109,7 @@ fn few_holders(codes: &Codes, column: usize, columns: u32) -> Option<&List<u32>>
     }
 }
 
-// The first code before the end that stands at one of these places, after this one, and is less than the distance from it; or the end.
+// The first code before the end that stands at one of these positions, after this one, and is less than the distance from it; or the end.
 fn close_among(
     codes: &Codes,
     first: usize,

@@ -82,7 +82,7 @@ impl Grouping {
     }
 }
 
-// The place of the words of a code.
+// The position of the words of a code.
 fn place_of(words: &IndexSet<Vec<u64>>, code: &Row) -> Option<usize>
     ensures found { IfSome result (λ i. (key : Items ℕ) × (slice_get words.now.keys i ≡ Some key) × Packs code.now key.items) }
     ensures none { IfNone result (IsNew code.now words.now.keys) }

@@ -14,6 +14,7 @@ use Rattle.cb_model.specs.NodeOrder.{node_cmp}
 use Rattle.cb_model.specs.Order.{name_cmp}
 use Rattle.cb_network.specs.Topology.{Topology, Link, link_cmp}
 use Rattle.cb_instances.specs.Net.{Net}
+use Rattle.cb_network.specs.Words.{InstanceName}
 
 abbrev pub name_encoding : Coded (List ℕ)
 name_encoding = coded_list coded_ℕ
@@ -34,7 +35,7 @@ topology_encoding =
 abbrev pub net_encoding : Coded Net
 net_encoding =
     code_by
-    (Topology × (List (Option (List ℕ)) × (ℕ × ℕ)))
+    (Topology × (List (Option InstanceName) × (ℕ × ℕ)))
     (coded× topology_encoding (coded× (coded_list (coded_option name_encoding)) (coded× coded_ℕ coded_ℕ)))
     (λ n. (n.topology, (n.names, (n.room, n.next))))
     (λ p. record { topology = p.0; names = p.1.0; room = p.1.1.0; next = p.1.1.1 })

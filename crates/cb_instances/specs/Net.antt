@@ -12,11 +12,12 @@ use Rattle.cb_model.specs.declared.tables.Tables.{Tables}
 use Rattle.cb_network.specs.Topology.{Topology, empty_topology, HasLink, IsMuted, HasClass, IsLive as IsLiveName}
 use Rattle.cb_network.specs.Edits.{with_instance, without_instance, with_link, without_link, with_mute, without_mute, node_of}
 use Rattle.cb_instances.specs.declared.id.InstanceId.{InstanceId}
+use Rattle.cb_network.specs.Words.{InstanceName, Word}
 
 -- a topology, the name of the instance of each number, a number above all of them, and the number that the next instance gets
 pub record Net : Type 0 where
   pub topology : Topology
-  pub names : List (Option (List ℕ))
+  pub names : List (Option InstanceName)
   pub room : ℕ
   pub next : ℕ
 
@@ -29,12 +30,12 @@ abbrev pub slot : {X : Type 0} → List (Option X) → ℕ → Option X
 slot xs i = slice_index_or xs i None
 
 -- the instance of this number has this name
-abbrev pub IsNamed : Net → InstanceId → List ℕ → Type 0
+abbrev pub IsNamed : Net → InstanceId → InstanceName → Type 0
 IsNamed n id name = slot n.names id.0 ≡ Some name
 
 -- the number is that of an instance
 abbrev pub IsLive : Net → InstanceId → Type 0
-IsLive n id = (name : List ℕ) × IsNamed n id name
+IsLive n id = (name : InstanceName) × IsNamed n id name
 
 -- the number is that of no instance
 abbrev pub IsFree : Net → InstanceId → Type 0
@@ -42,8 +43,8 @@ IsFree n id = slot n.names id.0 ≡ None
 
 -- a link leads from the one instance to the other by the relation
 pub record LinkAt (n : Net) (i : InstanceId) (r : RelId) (j : InstanceId) : Type 0 where
-  pub from : List ℕ
-  pub to : List ℕ
+  pub from : InstanceName
+  pub to : InstanceName
   pub from_is : IsNamed n i from
   pub to_is : IsNamed n j to
   pub linked : HasLink n.topology from r to
@@ -54,7 +55,7 @@ pub record SetsOnly {X : Type 0} (old new : List (Option X)) (i : InstanceId) (x
   pub others : (j : InstanceId) → j ≢ i → slot new j.0 ≡ slot old j.0
 
 -- the net has an instance more, of this name and class, under a number that was free
-pub record Creates (old new : Net) (id : InstanceId) (name : List ℕ) (class : ClassId) : Type 0 where
+pub record Creates (old new : Net) (id : InstanceId) (name : InstanceName) (class : ClassId) : Type 0 where
   pub free : IsFree old id
   pub named : SetsOnly old.names new.names id (Some name)
   pub made : new.topology ≡ with_instance old.topology name class
@@ -72,12 +73,12 @@ inverse_in r (Some row) = row.inverse
 abbrev pub inverse_of : Tables → RelId → RelId
 inverse_of tables r = inverse_in r (slice_get tables.relations r.0)
 
-abbrev pub name_or : Option (List ℕ) → List ℕ
+abbrev pub name_or : Option InstanceName → InstanceName
 name_or None = []
 name_or (Some name) = name
 
 -- the name of the instance of this number
-abbrev pub name_at : Net → InstanceId → List ℕ
+abbrev pub name_at : Net → InstanceId → InstanceName
 name_at n id = name_or (slot n.names id.0)
 
 -- the net with the link and its inverse
@@ -94,17 +95,17 @@ without n i = record n { topology = without_instance n.topology (name_at n i); n
 
 -- names tell instances apart, and links end at instances
 pub record IsWhole (n : Net) : Type 0 where
-  pub one : (i j : InstanceId) (name : List ℕ) → IsNamed n i name → IsNamed n j name → i ≡ j
-  pub named : (name : List ℕ) → IsLiveName n.topology name → (i : InstanceId) × IsNamed n i name
-  pub live : (i : InstanceId) (name : List ℕ) → IsNamed n i name → IsLiveName n.topology name
-  pub ends : (a : List ℕ) (r : RelId) (b : List ℕ) → HasLink n.topology a r b → (i : InstanceId) × (j : InstanceId) × IsNamed n i a × IsNamed n j b
+  pub one : (i j : InstanceId) (name : InstanceName) → IsNamed n i name → IsNamed n j name → i ≡ j
+  pub named : (name : InstanceName) → IsLiveName n.topology name → (i : InstanceId) × IsNamed n i name
+  pub live : (i : InstanceId) (name : InstanceName) → IsNamed n i name → IsLiveName n.topology name
+  pub ends : (a : InstanceName) (r : RelId) (b : InstanceName) → HasLink n.topology a r b → (i : InstanceId) × (j : InstanceId) × IsNamed n i a × IsNamed n j b
 
-abbrev pub name_in_row : Option EventRow → List ℕ
+abbrev pub name_in_row : Option EventRow → Word
 name_in_row None = []
 name_in_row (Some row) = row.name
 
 -- the name of an event of the tables
-abbrev pub event_name : Tables → EventId → List ℕ
+abbrev pub event_name : Tables → EventId → Word
 event_name tables e = name_in_row (slice_get tables.events e.0)
 
 -- the node of an event at the instance of this number

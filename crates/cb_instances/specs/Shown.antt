@@ -15,20 +15,21 @@ use Rattle.cb_instances.specs.declared.instance.Instance.{Instance}
 use Rattle.cb_instances.specs.declared.links.LinkRow.{LinkRow}
 use Rattle.cb_instances.specs.Net.{Net, slot, event_name}
 use Rattle.cb_instances.specs.Slots.{Slots, At, NamedAt, ListsInstance}
+use Rattle.cb_network.specs.Words.{InstanceName}
 
-abbrev pub name_in : Option Instance → Option (List ℕ)
+abbrev pub name_in : Option Instance → Option InstanceName
 name_in None = None
 name_in (Some x) = Some x.name
 
-abbrev pub entries_in : Option Instance → List (List ℕ × ClassId)
+abbrev pub entries_in : Option Instance → List (InstanceName × ClassId)
 entries_in None = []
 entries_in (Some x) = (x.name, x.class) ∷ []
 
-abbrev pub links_to : List ℕ → RelId → Option Instance → List Link
+abbrev pub links_to : InstanceName → RelId → Option Instance → List Link
 links_to a r None = []
 links_to a r (Some y) = link_of a r y.name ∷ []
 
-abbrev pub links_by : Slots → List ℕ → LinkRow → List Link
+abbrev pub links_by : Slots → InstanceName → LinkRow → List Link
 links_by slots a row = flat_map (λ j. links_to a row.rel (slot slots j.0)) row.to.items
 
 abbrev pub links_in : Slots → Option Instance → List Link
@@ -57,7 +58,7 @@ abbrev pub seen : Tables → Slots → ℕ → ℕ → Net
 seen tables slots room next = record { topology = topology_of tables slots; names = map name_in slots; room = room; next = next }
 
 -- some slot has an instance of this name and class
-pub record HoldsInstance (slots : Slots) (name : List ℕ) (c : ClassId) : Type 0 where
+pub record HoldsInstance (slots : Slots) (name : InstanceName) (c : ClassId) : Type 0 where
   pub at : InstanceId
   pub instance : Instance
   pub is : At slots at instance
@@ -65,7 +66,7 @@ pub record HoldsInstance (slots : Slots) (name : List ℕ) (c : ClassId) : Type 
   pub of_class : instance.class ≡ c
 
 -- some slot has an instance of name a that lists one of name b under the relation
-pub record HoldsLink (slots : Slots) (a : List ℕ) (r : RelId) (b : List ℕ) : Type 0 where
+pub record HoldsLink (slots : Slots) (a : InstanceName) (r : RelId) (b : InstanceName) : Type 0 where
   pub from : InstanceId
   pub to : InstanceId
   pub from_is : NamedAt slots from a
@@ -84,6 +85,6 @@ pub record HoldsMute (tables : Tables) (slots : Slots) (n : NodeName) : Type 0 w
 
 -- the topology has what the slots hold, and nothing else
 pub record Shows (slots : Slots) (t : Topology) : Type 0 where
-  pub instances : (name : List ℕ) (c : ClassId) → HasClass t name c ↔ HoldsInstance slots name c
-  pub links : (a : List ℕ) (r : RelId) (b : List ℕ) → HasLink t a r b ↔ HoldsLink slots a r b
+  pub instances : (name : InstanceName) (c : ClassId) → HasClass t name c ↔ HoldsInstance slots name c
+  pub links : (a : InstanceName) (r : RelId) (b : InstanceName) → HasLink t a r b ↔ HoldsLink slots a r b
   pub mutes : (n : NodeName) → IsMuted t n ↔ HoldsMute t.model slots n

@@ -1,5 +1,5 @@
 -- Slots of instances, and what they have.
-use Rattle.std.specs.Prelude.{◌≡◌, ℕ, List, Option, Some}
+use Rattle.std.specs.Prelude.{◌≡◌, List, Option, Some}
 use Rattle.std.specs.List.{Contains}
 use Rattle.std.specs.Global.{Global}
 use Rattle.std.specs.declared.vec.Vec.{Vec}
@@ -10,10 +10,11 @@ use Rattle.cb_instances.specs.declared.id.InstanceId.{InstanceId}
 use Rattle.cb_instances.specs.declared.instance.Instance.{Instance}
 use Rattle.cb_instances.specs.Net.{slot}
 use Rattle.cb_instances.specs.Rows.{row_of}
+use Rattle.cb_network.specs.Words.{InstanceName}
 
 -- what an instance is but for its links
 pub record Head : Type 0 where
-  pub name : List ℕ
+  pub name : InstanceName
   pub class : ClassId
   pub muted : Vec EventId Global
 
@@ -28,7 +29,7 @@ abbrev pub At : Slots → InstanceId → Instance → Type 0
 At slots i x = slot slots i.0 ≡ Some x
 
 -- the slot of this number has an instance of this name
-abbrev pub NamedAt : Slots → InstanceId → List ℕ → Type 0
+abbrev pub NamedAt : Slots → InstanceId → InstanceName → Type 0
 NamedAt slots i name = (x : Instance) × At slots i x × (x.name ≡ name)
 
 -- the instance at i lists that at j under the relation

@@ -4,7 +4,7 @@ ghost use Rattle.std.specs.Bool.{Decides};
 ghost use Rattle.std.specs.List.{position};
 ghost use Rattle.cb_instances.specs.Items.{Loses};
 
-// The first place of the item.
+// The first position of the item.
 fn place_of<T: Copy + PartialEq>(list: &[T], item: T) -> Option<usize>
     ensures { result ≡ position (λ other. T.eq other item) list.now }
 {

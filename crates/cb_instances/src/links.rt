@@ -32,7 +32,7 @@ impl Links {
         }
     }
 
-    // The place of the relation's row.
+    // The position of the relation's row.
     fn place_of(&self, rel: RelId) -> Option<usize>
         ensures { result ≡ position (is_of rel) self.now.rows.items }
     {
@@ -49,7 +49,7 @@ impl Links {
         }
     }
 
-    /// Makes room for one instance more under the relation.
+    /// Reserves capacity for one instance more under the relation.
     pub fn reserve(&mut self, alloc: Global, rel: RelId) -> Result<(), AllocError>
         ensures same { Puts self.old.rows.items self.new.rows.items rel (row_of self.old.rows.items rel) }
         ensures spare { OnOk result (HasSpare self.new.rows.items rel) }

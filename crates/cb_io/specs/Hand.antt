@@ -1,26 +1,26 @@
--- What is in hand of a file that is read line by line, and what more bytes make of it.
+-- The buffered bytes of a file that is read line by line, and how further bytes change them.
 use Rattle.std.specs.Prelude.{◌≡◌, ℕ, ◌≤◌, List, ◌++◌, length, take, drop, Result}
 use Rattle.std.specs.Result.{MatchResult}
 use Rattle.std.specs.Io.KnownBytes.{Keeps, Consumes, IsAtEnd}
 use Rattle.cb_io.specs.Outside.{FilesTold, left_of}
 use Rattle.cb_io.specs.Pieces.{piece_limit}
 
--- the text of the last line, the bytes that were taken after it, and how many bytes there is room for
+-- the text of the last line, the bytes that were read after it, and the capacity in bytes
 pub record Held : Type 0 where
   pub text : List ℕ
   pub kept : List ℕ
   pub size : ℕ
 
--- a part of so many bytes, from one place to another
+-- a part of `size` bytes, from one position to another
 pub record IsPart (size from to : ℕ) : Type 0 where
   pub in_order : from ≤ to
   pub within : to ≤ size
 
--- the first bytes of what was kept are the text, and those from a place on are kept
+-- the first bytes of what was kept are the text, and those from a position on are kept
 abbrev pub with_text : Held → ℕ → ℕ → Held
 with_text held line behind = record held { text = take line held.kept; kept = drop behind held.kept }
 
--- so many bytes of the file came, at most one piece, and stand after those that were kept; none came only at the end
+-- `count` bytes of the file were read, at most one piece, and stand after those that were kept; none only at the end of the file
 pub record Grows (old new : Held) (before after : FilesTold) (name : List ℕ) (count : ℕ) : Type 0 where
   pub more : List ℕ
   pub kept : new.kept ≡ old.kept ++ more

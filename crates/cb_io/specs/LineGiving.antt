@@ -6,7 +6,7 @@ use Rattle.cb_io.specs.declared.line_reader.Line.TheVariants.{Text, Long, End}
 use Rattle.cb_io.specs.LineReading.{Reading}
 use Rattle.cb_io.specs.LineSearch.{behind_of, size_of}
 
--- the reader after the line, with so many of the bytes that were kept as its text
+-- the reader after the line, whose text is that many of the buffered bytes
 abbrev pub behind_line : Reading → LineEnd → ℕ → ℕ → Reading
 behind_line old end number text = record old
     { number = number; given = old.given + size_of end; text = take text old.kept; kept = drop (behind_of end) old.kept; ended = end.is_last; refused = false }

@@ -79,7 +79,7 @@ pub record GivesText (old new : Reading) (after : FilesTold) (bytes : List ℕ) 
   pub line : GivesLine old new after bytes new.text
   pub short : length new.text ≤ old.line_most
 
--- the next line was told, which is too long
+-- the next line was given, and it is too long
 pub record TellsLong (old new : Reading) (after : FilesTold) (bytes : List ℕ) : Type 0 where
   pub line : List ℕ
   pub gives : GivesLine old new after bytes line
@@ -134,7 +134,7 @@ IsNumbered new (Text number) = number ≡ new.number
 IsNumbered new (Long number) = number ≡ new.number
 IsNumbered new End = Unit {0}
 
--- a reader that gave an answer goes on: it was not refused, has at most one piece in hand, and its last text is no longer than a line may be
+-- a reader that gave an answer goes on: it was not refused, has at most one piece in its buffer, and its last text is no longer than a line may be
 pub record GoesOn (new : Reading) : Type 0 where
   pub refused : new.refused ≡ false
   pub few : length new.kept ≤ piece_limit

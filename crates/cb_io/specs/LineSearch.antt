@@ -1,4 +1,4 @@
--- How the end of the next line is looked for, among the bytes in hand and those that are read after them.
+-- How the end of the next line is searched for, among the buffered bytes and those that are read after them.
 use Rattle.std.specs.Prelude.{◌≡◌, ◌≢◌, ◌⊎◌, ℕ, ◌+◌, ◌<◌, ◌≤◌, ◌++◌, List, [], ◌∷◌, length, take, drop, Bool, true, false}
 use Rattle.std.specs.Io.KnownBytes.{Consumes, IsAtEnd}
 use Rattle.cb_io.specs.declared.line_end.LineEnd.{LineEnd}
@@ -21,7 +21,7 @@ pub record HasCome (start : List ℕ) (before after : FilesTold) (name all : Lis
 abbrev pub IsLostWhole : ℕ → ℕ → Type 0
 IsLostWhole line_most lost = (lost ≡ 0) ⊎ (line_most < lost)
 
--- the bytes in hand of an open line were thrown away, or the line isn't too long yet
+-- the buffered bytes of an open line were thrown away, or the line isn't too long yet
 pub record ThrowsLong (line_most : ℕ) (old new : Held) (lost now_lost : ℕ) : Type 0 where
   pub thrown : List ℕ
   pub kept : old.kept ≡ thrown ++ new.kept
@@ -34,7 +34,7 @@ abbrev pub lf_count : Bool → ℕ
 lf_count true = 0
 lf_count false = 1
 
--- how many of the bytes in hand are those of the line, with its LF
+-- how many of the buffered bytes are those of the line, with its LF
 abbrev pub behind_of : LineEnd → ℕ
 behind_of end = end.length + lf_count end.is_last
 
@@ -42,12 +42,12 @@ behind_of end = end.length + lf_count end.is_last
 abbrev pub size_of : LineEnd → ℕ
 size_of end = end.lost + behind_of end
 
--- the bytes in hand end a line at a place: a LF is there, or nothing comes after them
+-- the buffered bytes end a line at a position: a LF is there, or the file has nothing after them
 abbrev pub EndsBy : List ℕ → FilesTold → List ℕ → ℕ → Bool → Type 0
 EndsBy kept after name length_is true = (length_is ≡ length kept) × IsAtEnd (left_of after name)
 EndsBy kept after name length_is false = kept ≡ take length_is kept ++ 10 ∷ drop (length_is + 1) kept
 
--- the end of the line was found, and there is room for the line
+-- the end of the line was found, and the line fits
 pub record Finds (start : List ℕ) (before after : FilesTold) (name : List ℕ) (line_most room : ℕ) (hand : Held) (end : LineEnd) : Type 0 where
   pub thrown : List ℕ
   pub lost_is : length thrown ≡ end.lost
@@ -59,7 +59,7 @@ pub record Finds (start : List ℕ) (before after : FilesTold) (name : List ℕ)
   pub few : length hand.kept ≤ behind_of end + piece_limit
   pub long : IsLostWhole line_most end.lost
 
--- there are more bytes than there is room for, and no LF among those for which there is
+-- there are more than `room` bytes, and no LF among the first `room`
 pub record IsOver (room : ℕ) (all : List ℕ) : Type 0 where
   pub front : List ℕ
   pub behind : List ℕ

@@ -20,7 +20,7 @@ pub record FilesState : Type 0 where
   pub piece : ℕ
   pub calls : CallsState
 
--- a sink: the bytes taken; the room in all; the greatest answer of a write; the failed writes
+-- a sink: the bytes taken; the capacity; the greatest answer of a write; the failed writes
 pub record SinkState : Type 0 where
   pub bytes : List ℕ
   pub room : ℕ
@@ -75,7 +75,7 @@ abbrev pub after_fault_at : FilesState → List ℕ → Option FileState → Fil
 after_fault_at state name None = record (after_call state) { unknown = next_count state.unknown }
 after_fault_at state name (Some file) = with_file (after_call state) name (record file { faults = next_count file.faults })
 
--- the same, whether the name was added or not
+-- the files after a failed read of the name, whether it was added or not
 abbrev pub after_fault : FilesState → List ℕ → FilesState
 after_fault state name = after_fault_at state name (look_up state.files name)
 
@@ -86,11 +86,11 @@ files_told state = record {
   faults = λ name. (file_of state name).faults;
 }
 
--- a sink with so much room, which has taken nothing, and takes as many bytes as there is room for
+-- a sink of that capacity, which has taken nothing, and takes as many bytes as fit
 abbrev pub new_sink : ℕ → SinkState
 new_sink room = record { bytes = []; room = room; piece = 2 ^ 64 - 1; calls = no_calls; faults = 0 }
 
--- how many bytes there is room for
+-- how many bytes still fit
 abbrev pub room_left : SinkState → ℕ
 room_left sink = sink.room - length sink.bytes
 

@@ -1,4 +1,4 @@
--- What files and sinks tell of themselves, and what a call changes of it. `old` is told before the call, `new` after it.
+-- What files and sinks report of themselves, and what a call changes of it. `old` is reported before the call, `new` after it.
 use Rattle.std.specs.Prelude.{◌≡◌, ◌≢◌, ℕ, ◌+◌, ◌-◌, ◌^◌, ◌≤◌, ◌<◌, min, List, [], take, length, Option, None, Some, unwrap_or, Result, IfSome, if◌then◌else◌, ⊤}
 use Rattle.std.specs.Option.{option_map}
 use Rattle.std.specs.List.{list_any}
@@ -6,12 +6,12 @@ use Rattle.std.specs.Str.{bytes_eq}
 use Rattle.std.specs.Io.KnownBytes.{Keeps, Consumes, Appends, ReadConsumes, WriteAppends}
 use Rattle.cb_io.specs.Pairs.{look_up}
 
--- files: the names with the bytes left of each, where that is told, and how often reads of each name have failed
+-- files: the names with the bytes left of each, where that is reported, and how often reads of each name have failed
 pub record FilesTold : Type 0 where
   pub left : Option (List (List ℕ × List ℕ))
   pub faults : List ℕ → ℕ
 
--- a sink: the bytes taken, where that is told, and how often writes have failed
+-- a sink: the bytes taken, where that is reported, and how often writes have failed
 pub record SinkTold : Type 0 where
   pub taken : Option (List ℕ)
   pub faults : ℕ
@@ -28,11 +28,11 @@ Rose before after = next_count before ≤ after
 abbrev pub bytes_of : List (List ℕ × List ℕ) → List ℕ → List ℕ
 bytes_of left name = unwrap_or (look_up left name) []
 
--- the bytes left of a name, where that is told
+-- the bytes left of a name, where that is reported
 abbrev pub left_of : FilesTold → List ℕ → Option (List ℕ)
 left_of told name = option_map (λ left. bytes_of left name) told.left
 
--- a read moved the front of what was left of the name to the front of buf, no byte only at the end, and none with an error
+-- a read moved a prefix of what was left of the name to the start of buf, no byte only at the end, and none with an error
 abbrev pub ReadsBytes : {E : Type 0} → FilesTold → FilesTold → List ℕ → Result ℕ E → List ℕ → Type 0
 ReadsBytes old new name result buf = ReadConsumes (left_of old name) (left_of new name) result buf
 
@@ -49,11 +49,11 @@ ReadsAll old new name all = TakesAll (left_of old name) (left_of new name) all
 abbrev pub ReadsFront : FilesTold → FilesTold → List ℕ → Type 0
 ReadsFront old new name = (front : List ℕ) × Consumes (left_of old name) (left_of new name) front
 
--- a prefix of what was left of the name came, of at most so many bytes
+-- a prefix of what was left of the name was read, of at most that many bytes
 abbrev pub ReadsNoMoreThan : FilesTold → FilesTold → List ℕ → ℕ → Type 0
 ReadsNoMoreThan old new name most = (front : List ℕ) × (length front ≤ most) × Consumes (left_of old name) (left_of new name) front
 
--- more than so many bytes of the name came
+-- more than that many bytes of the name were read
 abbrev pub ReadsMoreThan : FilesTold → FilesTold → List ℕ → ℕ → Type 0
 ReadsMoreThan old new name most = (front : List ℕ) × (most < length front) × Consumes (left_of old name) (left_of new name) front
 
@@ -85,7 +85,7 @@ contents left earlier name = if list_any (λ other. bytes_eq other name) earlier
 abbrev pub ReadsEach : FilesTold → FilesTold → List (List ℕ) → Type 0
 ReadsEach old new names = IfSome old.left (λ left. (name : List ℕ) → left_of new name ≡ Some (contents left names name))
 
--- a write took the front of these bytes, and nothing with an error
+-- a write took a prefix of these bytes, and nothing with an error
 abbrev pub Writes : {E : Type 0} → SinkTold → SinkTold → Result ℕ E → List ℕ → Type 0
 Writes old new result bytes = WriteAppends old.taken new.taken result bytes
 

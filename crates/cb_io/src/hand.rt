@@ -1,4 +1,4 @@
-//! The bytes in hand of a file that is read line by line.
+//! The buffered bytes of a file that is read line by line.
 ghost use Rattle.std.specs.Prelude.{◌≡◌, ◌+◌, ◌-◌, ◌<◌, ◌≤◌, [], length, take, drop, slice_range, vec_len, IfOk, IsErrOf};
 ghost use Rattle.cb_io.specs.Hand.{Refills, with_text};
 ghost use Rattle.cb_io.specs.Outside.{KeepsOthers, NoCountFalls, ReadFailed, ReadsBytes};
@@ -36,7 +36,7 @@ impl Model for Hand {
 }
 
 impl Hand {
-    // Nothing in hand, and room for so many bytes and a piece after them.
+    // An empty buffer, with capacity for `most` bytes and a piece after them.
     pub(crate) fn new(alloc: Global, most: usize) -> Result<Self, AllocError>
         ensures text { IfOk result (λ hand. hand.text ≡ []) }
         ensures kept { IfOk result (λ hand. hand.kept ≡ []) }
@@ -63,7 +63,7 @@ impl Hand {
         &self.buffer[self.kept_from..self.kept_to]
     }
 
-    // The first bytes of what was kept become the text, and those from a place on are kept.
+    // The first bytes of what was kept become the text, and those from a position on are kept.
     pub(crate) fn give(&mut self, line: usize, behind: usize)
         requires text { line ≤ length self.old.kept }
         requires kept { behind ≤ length self.old.kept }
@@ -74,7 +74,7 @@ impl Hand {
         self.kept_from += behind;
     }
 
-    // Reads a piece of the file after what is kept, which moves to the front. The last text is gone.
+    // Reads a piece of the file after what is kept, which moves to the start. The last text is gone.
     pub(crate) fn refill<F: Files>(&mut self, files: &mut F, name: &str) -> Result<usize, FileStop>
         requires { length self.old.kept < self.old.size }
         ensures size { self.new.size ≡ self.old.size }
@@ -95,7 +95,7 @@ impl Hand {
     }
 }
 
-// A buffer of so many bytes and a piece.
+// A buffer of `most` bytes and a piece.
 fn make_buffer(alloc: Global, most: usize) -> Result<Vec<u8>, AllocError>
     ensures { IfOk result (λ buffer. most < vec_len buffer) }
 {

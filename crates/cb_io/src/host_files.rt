@@ -114,14 +114,14 @@ impl<'a, R: rt::Files + Input> Model for HostFiles<'a, R> {
     ghost view = { λ h. h.opened.items };
 }
 
-// The place of the first entry of a name.
+// The position of the first entry of a name.
 fn place_of<R: rt::Files + Input>(opened: &[Opened<R>], name: &str) -> Option<usize>
     ensures { result ≡ position (λ o. bytes_eq o.0 name.now) opened.now }
 {
     opened.iter().position(|o| o.is_named(name))
 }
 
-// The place of a name, which stood there or is added without faults.
+// The position of a name, which stood there or is added without faults.
 fn admit<R: rt::Files + Input>(
     alloc: Global,
     opened: &mut Vec<Opened<R>>,

@@ -9,7 +9,7 @@ use crate::hand::Hand;
 use crate::{Files, ReadStop};
 use memchr::memchr;
 
-// Where a line ends: how many of its bytes were thrown away, how many it has of those in hand, and whether it is the last one,
+// Where a line ends: how many of its bytes were thrown away, how many of the buffered ones it has, and whether it is the last one,
 // which the end of the file ends, not a LF.
 #[derive(Clone, Copy)]
 pub(crate) struct LineEnd {
@@ -19,7 +19,7 @@ pub(crate) struct LineEnd {
 }
 
 impl LineEnd {
-    // How many of the bytes in hand are those of the line, with its LF.
+    // How many of the buffered bytes are those of the line, with its LF.
     pub(crate) fn behind(&self) -> usize
         requires { behind_of self.now < 2 ^ 64 }
         ensures { result ≡ behind_of self.now }
@@ -40,7 +40,7 @@ impl LineEnd {
     }
 }
 
-// The place of the first LF, which isn't among the bytes that were searched before.
+// The position of the first LF, which isn't among the bytes that were searched before.
 fn find_lf(bytes: &[u8], searched: usize) -> Option<usize>
     requires within { searched ≤ length bytes.now }
     requires none { IsOneLine (take searched bytes.now) }
@@ -53,7 +53,7 @@ fn find_lf(bytes: &[u8], searched: usize) -> Option<usize>
     Some(searched + at)
 }
 
-// The line that a LF ends, if there is room for it.
+// The line that a LF ends, if it fits into `room`.
 fn end_at(lost: u64, length: usize, room: u64) -> Result<LineEnd, ReadStop>
     requires { lost ≤ room }
     ensures end { IfOk result (λ end. end ≡ record { lost = lost; length = length; is_last = false }) }
@@ -70,7 +70,7 @@ fn end_at(lost: u64, length: usize, room: u64) -> Result<LineEnd, ReadStop>
     })
 }
 
-// Throws away what is in hand of a line without its end, where the line is too long, and says how many bytes of it are lost.
+// Throws away what is buffered of a line without its end, if the line is too long, and says how many bytes of it are lost.
 fn throw_long(hand: &mut Hand, lost: u64, line_most: usize, room: u64) -> Result<u64, ReadStop>
     requires room { lost ≤ room }
     requires long { IsLostWhole line_most lost }
@@ -91,7 +91,7 @@ fn throw_long(hand: &mut Hand, lost: u64, line_most: usize, room: u64) -> Result
     Ok(open)
 }
 
-// Reads on to the end of the next line. A line has at most `line_most` bytes without its LF, and there is room for so many with it.
+// Reads on to the end of the next line. A line has at most `line_most` bytes without its LF, and `room` has at least one more.
 pub(crate) fn find_end<F: Files>(
     hand: &mut Hand,
     files: &mut F,

@@ -82,8 +82,8 @@ impl<'n> LineReader<'n> {
         })
     }
 
-    /// The next line. Where one is there already, nothing is read. A reader that was refused is of no more use: a front of the line
-    /// that was to come may be lost.
+    /// The next line. If a whole one is buffered, nothing is read. A reader that was refused is of no more use: a prefix of the line
+    /// that comes next may be lost.
     pub fn next_line<F: Files>(&mut self, files: &mut F) -> Result<Line, ReadStop>
         requires { self.old.refused ≡ false }
         ensures same { ReadsSame self.old self.new }
@@ -106,7 +106,7 @@ impl<'n> LineReader<'n> {
         Ok(self.give(end))
     }
 
-    // Goes after the line whose end was found, for which there is room.
+    // Moves after the line whose end was found, which fits.
     fn give(&mut self, end: LineEnd) -> Line
         requires in_hand { behind_of end ≤ length self.old.kept }
         requires within { self.old.given + size_of end ≤ self.old.total_most }

@@ -63,7 +63,7 @@ impl NamedBytes {
         self.bytes.extend_from_slice(bytes)
     }
 
-    // Moves at most so many bytes to the front of `buf`.
+    // Moves at most `most` bytes to the start of `buf`.
     fn give(&mut self, most: usize, buf: &mut [u8]) -> usize
         ensures count { result ≡ min (min (length self.old.1.left) most) (length buf.old) }
         ensures given { self.old.1.left ≡ take result buf.new ++ self.new.1.left }
@@ -77,14 +77,14 @@ impl NamedBytes {
     }
 }
 
-// The place of the first entry of a name.
+// The position of the first entry of a name.
 fn place_of(entries: &[NamedBytes], name: &str) -> Option<usize>
     ensures { result ≡ position (λ e. bytes_eq e.0 name.now) entries.now }
 {
     entries.iter().position(|e| e.is_named(name))
 }
 
-/// Files that were added. They can be told to give small pieces, and to fail at certain calls; a read of a name that
+/// Files that were added. They can be set to give small pieces, and to fail at certain calls; a read of a name that
 /// wasn't added fails always.
 #[derive(Drop)]
 pub struct MemFiles {

@@ -9,8 +9,8 @@ use crate::{Failed, Sink};
 use std::alloc::{AllocError, Global};
 use std::marker::Model;
 
-/// A sink that keeps what it takes. All its room is taken when it is made, so that a write needs no memory; it can be
-/// told to take small pieces, and to fail at certain calls.
+/// A sink that keeps what it takes. All its memory is taken when it is made, so that a write needs none; it can be
+/// set to take small pieces, and to fail at certain calls.
 #[derive(Drop)]
 pub struct MemSink {
     bytes: Vec<u8>,
@@ -33,7 +33,7 @@ impl Model for MemSink {
 }
 
 impl MemSink {
-    /// A sink with room for `room` bytes, which takes as many at once as fit.
+    /// A sink with capacity for `room` bytes, which takes as many at once as fit.
     pub fn new(alloc: Global, room: usize) -> Result<Self, AllocError>
         ensures { IfOk result (λ sink. sink ≡ new_sink room) }
     {

@@ -68,7 +68,7 @@ impl Files for NeverFiles {
 pub struct NeverSink;
 
 impl NeverSink {
-    /// A sink with room for everything.
+    /// A sink that takes everything.
     pub fn new() -> Self {
         NeverSink
     }

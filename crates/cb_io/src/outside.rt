@@ -16,12 +16,12 @@ pub enum FileStop {
 #[derive(Clone, Copy, Debug, PartialEq, Eq)]
 pub struct Failed;
 
-/// Named files, each of which is read once from front to back: a name that is used again goes on where it was left.
+/// Named files, each of which is read once from start to end: a name that is used again goes on where it was left.
 pub trait Files {
-    /// What contracts know of the files: the bytes left of each name, where that is told, and the faults of each name.
+    /// What contracts know of the files: the bytes left of each name, where that is reported, and the faults of each name.
     ghost tells: { Self → FilesTold };
 
-    /// Moves bytes from the front of a file to the front of `buf`, and says how many; 0 is the file's end. With an error
+    /// Moves the next bytes of a file to the start of `buf`, and says how many; 0 is the file's end. With an error
     /// `buf` may hold any bytes.
     fn read(&mut self, name: &str, buf: &mut [u8]) -> Result<usize, FileStop>
         requires { 0 < length buf.old }
@@ -34,10 +34,10 @@ pub trait Files {
 
 /// What bytes are written to.
 pub trait Sink {
-    /// What contracts know of the sink: the bytes taken so far, where that is told, and its faults.
+    /// What contracts know of the sink: the bytes taken so far, where that is reported, and its faults.
     ghost tells: { Self → SinkTold };
 
-    /// Takes bytes from the front of `bytes`, at least one, and says how many. A sink that can take none fails.
+    /// Takes a prefix of `bytes`, at least one byte, and says how many. A sink that can take none fails.
     fn write(&mut self, bytes: &[u8]) -> Result<usize, Failed>
         requires { 0 < length bytes.now }
         ensures some { IfOk result (λ n. 0 < n) }

@@ -33,7 +33,7 @@ HaveCommonBit a b = (k : ℕ) × (bit_of a k ≡ true) × (bit_of b k ≡ true)
 abbrev pub in_not : List ℕ → List ℕ → ℕ → Bool
 in_not words others k = bit_of words k && not (bit_of others k)
 
--- of the bits from a place on, this is the first that is one in the words and zero in the others
+-- of the bits from a position on, this is the first that is one in the words and zero in the others
 pub record IsNextBit (words others : List ℕ) (from k : ℕ) : Type 0 where
   pub on : from ≤ k
   pub is : in_not words others k ≡ true

@@ -5,7 +5,7 @@ ghost use Rattle.cb_lanes.specs.Parts.{SameWords, WordsApart};
 
 use std::simd::prelude::*;
 
-/// Whether four words, from a place on, are the same in both rows.
+/// Whether four words, from a position on, are the same in both rows.
 #[inline(always)]
 pub(crate) fn same_four(a: &[u64], b: &[u64], at: usize) -> bool
     requires first { at + 4 ≤ length a.now }
@@ -15,7 +15,7 @@ pub(crate) fn same_four(a: &[u64], b: &[u64], at: usize) -> bool
     (load(a, at) ^ load(b, at)).reduce_or() == 0
 }
 
-/// Whether no bit of four words, from a place on, is one in both rows.
+/// Whether no bit of four words, from a position on, is one in both rows.
 #[inline(always)]
 pub(crate) fn apart_four(a: &[u64], b: &[u64], at: usize) -> bool
     requires first { at + 4 ≤ length a.now }
@@ -25,7 +25,7 @@ pub(crate) fn apart_four(a: &[u64], b: &[u64], at: usize) -> bool
     (load(a, at) & load(b, at)).reduce_or() == 0
 }
 
-// The four words from a place on.
+// The four words from a position on.
 #[inline(always)]
 fn load(words: &[u64], at: usize) -> u64x4
     requires { at + 4 ≤ length words.now }

@@ -3,7 +3,7 @@ ghost use Rattle.std.specs.Prelude.{◌≡◌, ◌≤◌, ◌*◌, ◌^◌, leng
 ghost use Rattle.std.specs.Slice.Scan.{HoldsNowhere};
 ghost use Rattle.cb_lanes.specs.Words.{in_not, IsNextBit};
 
-/// The first bit, from a place on, that is one in `a` and zero in `b`.
+/// The first bit, from a position on, that is one in `a` and zero in `b`.
 pub fn next_in_a_not_b(a: &[u64], b: &[u64], from: usize) -> Option<usize>
     requires same { length a.now ≡ length b.now }
     requires few { 64 * length a.now ≤ 2 ^ 64 }

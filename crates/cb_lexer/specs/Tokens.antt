@@ -78,14 +78,14 @@ abbrev pub EndsRun : List ℕ → Type 0
 EndsRun [] = Unit {0}
 EndsRun (b ∷ bs) = is_name_byte b ≡ false
 
--- a name with its line and its place, which the rest of the text does not lengthen
+-- a name with its line and its position, which the rest of the text does not lengthen
 pub record IsNameAt (text : List ℕ) (start : ℕ) (t : Token) (rest : List ℕ) : Type 0 where
   pub ends : EndsRun rest
   pub name : IsName t.name
   pub line : t.line ≡ line_of text start
   pub start_is : t.start ≡ start
 
--- what a token asks at its place: a run of name bytes is the longest, and a name has its line and its place
+-- what a token asks at its position: a run of name bytes is the longest, and a name has its line and its position
 abbrev pub IsTokenAt : List ℕ → ℕ → Lexeme → List ℕ → Type 0
 IsTokenAt text start lexemes.Open rest = Unit {0}
 IsTokenAt text start lexemes.Close rest = Unit {0}
@@ -97,7 +97,7 @@ IsTokenAt text start lexemes.Plus rest = Unit {0}
 IsTokenAt text start (lexemes.Name t) rest = IsNameAt text start t rest
 IsTokenAt text start k rest = EndsRun rest
 
--- token k is the next one from a place on: it begins at start and ends at end
+-- token k is the next one from a position on: it begins at start and ends at end
 pub record Stands (text : List ℕ) (from start : ℕ) (k : Lexeme) (end : ℕ) : Type 0 where
   pub after : from ≤ start
   pub within : end ≤ length text
@@ -106,18 +106,18 @@ pub record Stands (text : List ℕ) (from start : ℕ) (k : Lexeme) (end : ℕ) 
   pub bytes : slice_range text start end ≡ bytes_of k
   pub whole : IsTokenAt text start k (drop end text)
 
--- these tokens stand in the text, one after the other, from one place to another
+-- these tokens stand in the text, one after the other, from one position to another
 abbrev pub ReadsTokens : List ℕ → ℕ → List Lexeme → ℕ → Type 0
 ReadsTokens text from [] to = from ≡ to
 ReadsTokens text from (k ∷ ks) to = (start mid : ℕ) × Stands text from start k mid × ReadsTokens text mid ks to
 
--- a name that begins at a place
+-- a name that begins at a position
 pub record IsNameFrom (start : Spot) (t : Token) : Type 0 where
   pub name : IsName t.name
   pub line : t.line ≡ start.line
   pub start_is : t.start ≡ start.at
 
--- a reserved word, or a name that begins at a place
+-- a reserved word, or a name that begins at a position
 abbrev pub IsWordAt : Spot → Lexeme → Type 0
 IsWordAt start (lexemes.Name t) = IsNameFrom start t
 IsWordAt start k = IsWord k

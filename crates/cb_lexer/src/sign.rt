@@ -4,7 +4,7 @@ ghost use Rattle.cb_lexer.specs.Tokens.{IsSignAt, NoSign};
 
 use cb_grammar::Lexeme;
 
-/// The sign at the front of the bytes, and its length.
+/// The sign that the bytes begin with, and its length.
 pub(crate) fn sign(bytes: &[u8]) -> Option<(Lexeme, usize)>
     ensures { MatchOption result (NoSign bytes.now) (λ found. IsSignAt bytes.now found.0 found.1) }
 {

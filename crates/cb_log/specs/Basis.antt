@@ -57,7 +57,7 @@ abbrev pub book_made : {network : Topology} {mode : Mode} → Basis network mode
 book_made basis =
     BookMade (length basis.book.columns) (length basis.columns) basis.book.distance (radius basis.book.distance) (length basis.groups)
 
--- a codebook that is made anew is told, and before it that the groups are too close, where they are
+-- a codebook that is made anew is reported, and before it that the groups are too close, where they are
 abbrev pub IsAnnounced : {network : Topology} {mode : Mode} → Basis network mode → ℕ → List Event → Type 0
 IsAnnounced basis d events =
     (Good (codes_of basis.groups) (all_columns (length basis.columns)) d × (events ≡ book_made basis ∷ []))

@@ -31,7 +31,7 @@ abbrev pub WindowsAreOne : Type 0
 WindowsAreOne = (records : List Record) (w : ℕ) (source : List ℕ) (xs ys : List Window) → AreWindows records w source xs
     → AreWindows records w source ys → xs ≡ ys
 
--- at a place one list of windows closes
+-- at a position one list of windows closes
 abbrev pub ClosingIsOne : Type 0
 ClosingIsOne = (records : List Record) (w place : ℕ) (xs ys : List Closed) → AreClosing records w place xs
     → AreClosing records w place ys → xs ≡ ys
@@ -74,7 +74,7 @@ abbrev pub ClosingStays : Type 0
 ClosingStays = (records later : List Record) (w place : ℕ) (closing : List Closed) → place < length records
     → AreClosing records w place closing → AreClosing (records ++ later) w place closing
 
--- from a topology of a checked model, one list of events comes of entries, and one of the end
+-- from a topology of a checked model, one list of events results from entries, and one from the end
 abbrev pub EventsAreOne : Type 0
 EventsAreOne = (t : Topology) (mode : Mode) (w : ℕ) (before entries : List LogEntry) (xs ys : List Event) → IsRegular t.model
     → (EntriesGive t mode w before entries xs → EntriesGive t mode w before entries ys → xs ≡ ys)

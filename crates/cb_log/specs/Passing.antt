@@ -44,7 +44,7 @@ pub record Clears (old new : Kept) (source : List ℕ) (node : NodeName) : Type 
   pub none : map.get old.windows source ≡ None → map.get new.windows source ≡ None
   pub others : (other : List ℕ) → other ≢ source → map.get new.windows other ≡ map.get old.windows other
 
--- an open window is told with its times and nodes
+-- an open window is reported with its times and nodes
 pub record IsTold (kept : Kept) (now : ℕ) (c : Closed) : Type 0 where
   pub window : OpenWindow
   pub is : map.get kept.windows c.from ≡ Some window

@@ -40,7 +40,7 @@ pub enum RefusedWhy {
     Fixed,
 }
 
-/// One thing that comes of a log.
+/// One thing that results from a log.
 #[derive(Drop)]
 pub enum Event {
     /// The line of this number has no record.
@@ -60,7 +60,7 @@ pub enum Event {
         second: GroupName,
         distance: u32,
     },
-    /// From now on a codebook is in use, with so many columns of all columns, at which so many groups are that far apart.
+    /// From now on a codebook is in use, with `kept` of all columns, over which the groups are at least `distance` apart.
     BookMade {
         columns: u32,
         of: u32,

@@ -71,7 +71,7 @@ pub fn thins_are_close()
     ensures { ThinsAreClose }
 {}
 
-/// The same holds of the events so far, while a log goes on.
+/// Each thin event so far, while a log goes on, names two groups that are closer than wanted.
 pub fn thins_so_far_are_close()
     ensures { ThinsSoFarAreClose }
 {}

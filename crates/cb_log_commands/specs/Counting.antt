@@ -1,4 +1,4 @@
--- How many steps are counted of a log that is followed, or summed up. `now` is told before it is read, `after` at last.
+-- How many steps are counted of a log that is followed, or summed up. `now` is reported before it is read, `after` at last.
 use Rattle.std.specs.Prelude.{◌≡◌, ◌+◌, ◌≤◌, ℕ, List, [], take, Bool, false, IfSome, Result, Ok}
 use Rattle.cb_io.specs.declared.line_reader.Line.{Line as Given}
 use Rattle.cb_io.specs.declared.line_reader.Line.TheVariants as given
@@ -59,7 +59,7 @@ pub record HasCounted (watch : Watch) (now : FilesTold) (reader : Reading) (star
   pub mode : watch.mode ≡ wanted distance
   pub counts : IfSome (left_of now reader.name) (λ log. CountsLines watch.from (log_lines (take reader.given log)) start steps)
 
--- the same, where it goes on
+-- the steps of a line that was taken, where the log goes on
 abbrev pub CountsOn : Watch → FilesTold → Reading → ℕ → ℕ → Result Bool LogStop → Type 0
 CountsOn watch now reader start steps (Ok false) = HasCounted watch now reader start steps
 CountsOn watch now reader start steps result = Unit {0}

@@ -1,4 +1,4 @@
--- What following a log leaves. `old` is told before the run, `now` and `out` before the log is read, `new` and `out'` after it; `left` is what
+-- What following a log leaves. `old` is reported before the run, `now` and `out` before the log is read, `new` and `out'` after it; `left` is what
 -- is left of the log then.
 use Rattle.std.specs.Prelude.{◌≡◌, ◌⊎◌, ℕ, ◌+◌, ◌<◌, ◌≤◌, ◌++◌, min, List, [], ◌∷◌, take, length, Option, None, Some, IsSome, IfSome, map}
 use Rattle.cb_io.specs.Outside.{FilesTold, SinkTold, left_of, ReadsEach, ReadFailed, NoCountFalls, WritesAll, WritesFront, WriteFailed}
@@ -12,7 +12,7 @@ use Rattle.cb_outcome.specs.LogJobs.{Watch, WholeTells, FrontTells, log_limit}
 use Rattle.cb_outcome.specs.Command.{Command, reads_of, IsWatch}
 use Rattle.cb_file_kinds.specs.Kinds.{ReadsOnly}
 
--- what the first bytes of a log tell is due once so many were taken
+-- the output of the first bytes of a log is due once that many were taken
 abbrev pub IsDueUpto : Watch → List ℕ → ℕ → List ℕ → Type 0
 IsDueUpto watch log taken due = FrontTells watch (take (min taken log_limit) log) due
 
@@ -71,7 +71,7 @@ abbrev pub IsNotFar : Watch → List ℕ → Option (List ℕ) → SinkTold → 
 IsNotFar watch log left out out' = (upto : ℕ) (front rest due written : List ℕ) → log ≡ front ++ rest → left ≡ Some rest
     → IsDueUpto watch log upto due → WritesAll out out' written → length written < length due → length front ≤ upto + ahead_limit
 
--- a write failed: a part of what is due was written, and the log wasn't read far ahead of it, where the output is told
+-- a write failed: a part of what is due was written, and the log wasn't read far ahead of it, where the output is reported
 pub record IsCutShort (watch : Watch) (log : List ℕ) (left : Option (List ℕ)) (out out' : SinkTold) : Type 0 where
   pub part : IsToldInPart watch log left out out'
   pub near : IsSome out.taken → IsNotFar watch log left out out'

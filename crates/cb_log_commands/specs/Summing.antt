@@ -45,7 +45,7 @@ pub record KeepsCounts (old new : Summary) : Type 0 where
 abbrev pub GivesSummary : ℕ → ℕ → Topology → List ℕ → Type 0
 GivesSummary sites start t text = (summary : Summary) × SumsUp sites start t summary × (text ≡ grow_text summary)
 
--- a fault is told beside an output without bytes, or alone where it is out of memory
+-- a fault is reported beside an output without bytes, or alone where it is out of memory
 abbrev pub AnswersFault : Fault → Result Output Fault → Type 0
 AnswersFault fault (Ok output) = (bytes_of_text output.text ≡ []) × (output.fault ≡ Some fault) × (¬ IsWant fault)
 AnswersFault fault (Err other) = (other ≡ fault) × IsWant fault

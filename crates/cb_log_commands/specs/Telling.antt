@@ -30,7 +30,7 @@ joined lines = flat_map (λ line. line ++ 10 ∷ []) lines
 abbrev pub numbered : List (List ℕ) → List NumberedLine
 numbered lines = map line_of (enumerate_from 1 lines)
 
--- A log, read up to a line's end: these bytes come, and this text was told, after what the watch opens with.
+-- A log, read up to a line's end: these bytes come, and this text was given, after what the watch opens with.
 pub record IsAt (watch : Watch) (log : List ℕ) (number given : ℕ) (rest : List ℕ) (session : State) (told : List ℕ) : Type 0 where
   pub lines : List (List ℕ)
   pub one_each : All IsOneLine lines
@@ -54,7 +54,7 @@ pub record StepTells (old new : State) (opening : Topology) (before : List LogEn
   pub text_is : text ≡ events_text events
   pub stands : StandsForEntries new opening (before ++ entry ∷ [])
 
--- the same, whatever it stands for before
+-- the text of a line, whatever log the session stands for before
 pub record TellsLine (old new : State) (line : NumberedLine) (text : List ℕ) : Type 0 where
   pub entry : LogEntry
   pub comes : ComesTo line entry
@@ -113,7 +113,7 @@ pub record ReadsLog (reader : Reading) : Type 0 where
   pub total_most : reader.total_most ≡ log_limit
   pub going : reader.refused ≡ false
 
--- what was told is written, and these bytes come
+-- what was given is written, and these bytes come
 pub record HasTold (watch : Watch) (log : List ℕ) (reader : Reading) (files : FilesTold) (session : State) (out out' : SinkTold) : Type 0 where
   pub rest : List ℕ
   pub comes : coming reader files ≡ Some rest
@@ -121,7 +121,7 @@ pub record HasTold (watch : Watch) (log : List ℕ) (reader : Reading) (files : 
   pub is_at : IsAt watch log reader.number reader.given rest session told
   pub written : WritesAll out out' told
 
--- The log is followed as the watch says. `now` and `out` are told before it is read.
+-- The log is followed as the watch says. `now` and `out` are reported before it is read.
 pub record Going (watch : Watch) (now : FilesTold) (out : SinkTold) (reader : Reading) (files : FilesTold) (out' : SinkTold) (session : State) : Type 0 where
   pub regular : IsRegular watch.from.model
   pub only : ReadsOnly reader.name now files

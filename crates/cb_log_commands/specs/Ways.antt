@@ -1,4 +1,4 @@
--- How a run ends: the files are told before and after it, the output too, and `end` is what is wrong, if something is.
+-- How a run ends: files and output are reported before and after it, and `end` is what is wrong, if something is.
 use Rattle.std.specs.Prelude.{◌≡◌, ◌⊎◌, [], Option, Some, Result}
 use Rattle.cb_io.specs.Outside.{FilesTold, SinkTold, WritesAll}
 use Rattle.cb_report.specs.declared.fault.Fault.{Fault}

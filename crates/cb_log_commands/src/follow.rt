@@ -21,10 +21,10 @@ use cb_steps::Steps;
 use std::alloc::{AllocError, Global};
 use std::sync::ledger::Ledger;
 
-/// A line of a log has at most so many bytes, without its LF.
+/// A line of a log has at most this many bytes, without its LF.
 pub const MOST_LINE: usize = 65_536;
 
-/// A log has at most so many bytes.
+/// A log has at most this many bytes.
 const MOST_LOG: u64 = 1 << 40;
 
 /// Follows a log from its beginning: writes what results from each line, and then from the end.
@@ -47,7 +47,7 @@ pub(crate) fn follow<'w, F: Files, O: Sink, L: Ledger>(
     }
 }
 
-// The same, of the file of this name.
+// Follows the log in the file of this name.
 fn follow_lines<F: Files, O: Sink, L: Ledger>(
     alloc: Global,
     files: &mut F,

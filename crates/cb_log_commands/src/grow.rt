@@ -29,7 +29,7 @@ const ASKED: Correlation = Correlation {
     window: 40,
 };
 
-/// Makes up a network of so many sites and a log of it, follows the log as `correlate` does, and gives what `grow` prints of that.
+/// Makes up a network of `sites` sites and a log of it, follows the log as `correlate` does, and gives what `grow` prints of that.
 pub fn grow<'w, L: Ledger>(
     alloc: Global,
     sites: u64,

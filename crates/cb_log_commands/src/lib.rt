@@ -1,4 +1,4 @@
-//! The commands on a log: `correlate` and `decode`, which follow one line by line, and `grow`, which sums one up that it makes up. README.md tells more.
+//! The commands on a log: `correlate` and `decode`, which follow one line by line, and `grow`, which generates one and sums it up.
 #![tactic(auto)]
 
 pub mod correlate;

@@ -10,17 +10,17 @@ use Rattle.cb_matrix.specs.declared.codes.Columns.{Columns}
 abbrev pub IsOnce : List NodeId → Type 0
 IsOnce ids = (i j : ℕ) (id : NodeId) → slice_get ids i ≡ Some id → slice_get ids j ≡ Some id → i ≡ j
 
--- all numbers are below the room
+-- all numbers are below the bound
 abbrev pub IsBelow : ℕ → List NodeId → Type 0
 IsBelow room ids = (i : ℕ) (id : NodeId) → slice_get ids i ≡ Some id → id.0 < room
 
--- for the number of each node its place among the columns, if it is one
+-- for the number of each node its position among the columns, if it is one
 pub record IsColumnIndex (room : ℕ) (columns : List NodeId) (places : List (Option ℕ)) : Type 0 where
   pub size : length places ≡ room
   pub each : (node place : ℕ) → slice_get places node ≡ Some (Some place) → slice_get columns place ≡ Some (number node)
   pub all : (node place : ℕ) → slice_get columns place ≡ Some (number node) → slice_get places node ≡ Some (Some place)
 
--- the columns of these numbers, with their places
+-- the columns of these numbers, with their positions
 pub record AreIndexed (room : ℕ) (ids : List NodeId) (columns : Columns) : Type 0 where
   pub nodes : columns.nodes ≡ ids
   pub places : IsColumnIndex room ids columns.places.items

@@ -14,19 +14,19 @@ pub record Parts : Type 0 where
   pub problems : List Problem
   pub groups : List Group
 
--- the problems of these names, with the codes at these places
+-- the problems of these names, with the codes at these positions
 abbrev pub problems_with : List (List Bool) → List NodeName → List ℕ → List Problem
 problems_with codes [] places = []
 problems_with codes (name ∷ names) [] = []
 problems_with codes (name ∷ names) (place ∷ places) = record { name = name; code = code_at codes place } ∷ problems_with codes names places
 
--- each problem has the place of a group, and codes are as wide as there are columns
+-- each problem has the position of a group, and codes are as wide as there are columns
 pub record AreParts (columns names : List NodeName) (places : List ℕ) (groups : Grouped) : Type 0 where
   pub wide : groups.width ≡ length columns
   pub all : length places ≡ length names
   pub within : All (λ place. place < length groups.groups) places
 
--- each problem has the place of a code
+-- each problem has the position of a code
 pub record HavePlaces (grouping : Grouping) : Type 0 where
   pub all : length grouping.places ≡ length grouping.problems
   pub within : All (λ place. place < length grouping.codes.codes.rows) grouping.places

@@ -10,16 +10,16 @@ use cb_model::List;
 use cb_nodes::NodeId;
 use std::alloc::{AllocError, Global};
 
-/// Columns, and the place of each by its number.
+/// Columns, and the position of each by its number.
 #[derive(Drop)]
 pub struct Columns {
     /// The numbers of the columns in order.
     pub nodes: List<NodeId>,
-    /// For the number of each node, its place among the columns.
+    /// For the number of each node, its position among the columns.
     pub places: Vec<Option<usize>>,
 }
 
-/// The columns of these numbers. All numbers of nodes are below the room.
+/// The columns of these numbers. All numbers of nodes are below `room`.
 pub fn indexed(alloc: Global, nodes: List<NodeId>, room: usize) -> Result<Columns, AllocError>
     requires once { IsOnce nodes }
     requires below { IsBelow room nodes }
@@ -29,7 +29,7 @@ pub fn indexed(alloc: Global, nodes: List<NodeId>, room: usize) -> Result<Column
     Ok(Columns { nodes, places })
 }
 
-// For the number of each node, its place among the columns.
+// For the number of each node, its position among the columns.
 fn places_of(
     alloc: Global,
     columns: &List<NodeId>,
@@ -78,7 +78,7 @@ fn has_fewer(reached: &[u64], limit: usize) -> bool {
     true
 }
 
-// How many nodes four words have, from a place on. Most have none.
+// How many nodes four words have, from a position on. Most have none.
 fn ones_of_four(words: &[u64], at: usize) -> usize
     requires { at + 4 ≤ length words.now }
 {
@@ -92,7 +92,7 @@ fn ones_of_four(words: &[u64], at: usize) -> usize
     count
 }
 
-// The same, by what the row has.
+// The code of a row, by the nodes that the row has.
 fn code_by_nodes(
     alloc: Global,
     columns: &Columns,
@@ -115,7 +115,7 @@ fn code_by_nodes(
     Ok(code)
 }
 
-// The same, column by column.
+// The code of a row, column by column.
 fn code_by_columns(alloc: Global, nodes: &List<NodeId>, reached: &[u64]) -> Result<Row, AllocError>
     requires { IsBelow (64 * length reached.now) nodes.now }
     ensures { IfOk result (IsCodeOf nodes.now (bits reached.now)) }

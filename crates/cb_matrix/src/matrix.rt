@@ -23,7 +23,7 @@ use std::marker::Model;
 pub struct Matrix {
     columns: List<NodeName>,
     problems: List<NodeName>,
-    // For each problem the place of its group.
+    // For each problem the position of its group.
     places: List<usize>,
     groups: Groups,
 }
@@ -65,7 +65,7 @@ impl Matrix {
         &self.problems
     }
 
-    /// The code of the problem at a place.
+    /// The code of the problem at a position.
     pub fn row(&self, problem: usize) -> &CompactRow
         requires { problem < length self.now.problems }
         ensures { slice_get (map (λ p. p.code) self.now.problems) problem ≡ Some result.now }

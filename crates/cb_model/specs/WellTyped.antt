@@ -13,7 +13,7 @@ use Rattle.cb_model.specs.declared.tables.RelRow.{RelRow}
 use Rattle.cb_model.specs.declared.tables.RuleRow.{RuleRow}
 use Rattle.cb_model.specs.Classes.{ancestor, IsA, HasEvent, HasRelation}
 
--- the numbers that are places of rows
+-- the numbers that are positions of rows
 abbrev pub IsClass : Tables → ClassId → Type 0
 IsClass t c = c.0 < length t.classes
 
@@ -27,7 +27,7 @@ IsRelation t r = r.0 < length t.relations
 abbrev pub IsPlace : Tables → Place → Type 0
 IsPlace t place = IsRelation t place.rel
 
--- every number in a row is the place of a row
+-- every number in a row is the position of a row
 pub record HasPlaces (t : Tables) : Type 0 where
   pub classes : All (λ row. IfSome row.parent (IsClass t)) t.classes
   pub events : All (λ row. IsClass t row.class) t.events
@@ -43,7 +43,7 @@ pub record HasNames (t : Tables) : Type 0 where
   pub relations : All (λ row. IsName row.name) t.relations
   pub rules : All (λ row. IsName row.name) t.rules
 
--- what a class declares under a name, by its table and its place there
+-- what a class declares under a name, by its table and its position there
 pub data Member : Type 0 where
   event : ℕ → Member
   relation : ℕ → Member
@@ -72,7 +72,7 @@ LeadsOn t r = (row : RelRow) × (slice_get t.relations r.0 ≡ Some row) × IsA 
 abbrev pub MayRepeat : Tables → Place → Type 0
 MayRepeat t place = place.plus ≡ true → LeadsOn t place.rel
 
--- no more than so many different things meet P
+-- at most that many different things satisfy P
 abbrev pub AtMost : {X : Type 0} → ℕ → (X → Type 0) → Type 0
 AtMost {X} most P = (xs : List X) → AllPairs (λ x y. x ≢ y) xs → All P xs → length xs ≤ most
 
@@ -84,7 +84,7 @@ pub record HasInverse (t : Tables) (r : RelId) (row : RelRow) : Type 0 where
   pub to_class : back.target ≡ row.class
   pub again : back.inverse ≡ r
 
--- the type rules, but for those on names that lead nowhere, since a row has places where a text has names
+-- the type rules, but for those on names that lead nowhere, since a row has positions where a text has names
 pub record KeepsTypeRules (t : Tables) : Type 0 where
   -- no two classes have one name
   pub class_names : AllPairs (λ one other. one.name ≢ other.name) t.classes

@@ -3,7 +3,7 @@ use crate::id::{ClassId, EventId, RelId};
 use crate::list::List;
 use crate::name::Name;
 
-/// All declarations of a model. A number in a row is the place of a row of another table.
+/// All declarations of a model. A number in a row is the position of a row of another table.
 #[derive(Drop)]
 pub struct Tables {
     pub classes: List<ClassRow>,
@@ -57,7 +57,7 @@ pub struct RuleRow {
     pub effect: EventId,
 }
 
-/// A class that does without a rule of its ancestors; the rule is its place among the rules.
+/// A class that does without a rule of its ancestors; the rule is its position among the rules.
 #[derive(Drop)]
 pub struct BlockRow {
     pub class: ClassId,

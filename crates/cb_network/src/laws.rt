@@ -61,7 +61,7 @@ pub fn typed_is_regular()
 {}
 
 /// An edit comes out in one way: one refusal, or one changed topology. The names of the model's classes and
-/// relations must be told apart.
+/// relations must differ.
 pub fn after_is_one()
     ensures { AfterIsOne }
 {}

@@ -44,7 +44,7 @@ fn wanted_of(distance: u64) -> u32
     distance as u32
 }
 
-// The certificate as its text, and what is wrong where there is no codebook, or no room for its certificate.
+// The certificate as its text, and what is wrong if there is no codebook, or if its certificate has too many entries.
 fn written<'w>(alloc: Global, made: Codebook, wanted: u32) -> Result<Output<'w>, AllocError>
     requires { CanBeWritten made }
     ensures { IfOk result (λ output. IsWritten made wanted (bytes_of_text output.text) output.fault) }

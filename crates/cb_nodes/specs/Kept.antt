@@ -20,7 +20,7 @@ pub record AreKept (n : Numbers) : Type 0 where
   pub once : Once n.free.items
   pub spare : length n.slots.items ≤ vec_capacity n.free
 
--- so many nodes more fit without memory
+-- `more` further nodes fit without memory
 pub record HasSpareFor (n : Numbers) (more : ℕ) : Type 0 where
   pub slots : room_with n.slots.items more ≤ vec_capacity n.slots
   pub free : room_with n.slots.items more ≤ vec_capacity n.free
@@ -67,7 +67,7 @@ list_at lists i = items_in (slice_get lists i.0)
 abbrev pub SameLists : NodeLists → NodeLists → Type 0
 SameLists old new = (i : InstanceId) → list_at new i ≡ list_at old i
 
--- the instance has a list, in which so many more fit without memory
+-- the instance has a list, in which `more` further events fit without memory
 pub record HasSpareIn (lists : NodeLists) (i : InstanceId) (more : ℕ) : Type 0 where
   pub list : Vec Listed Global
   pub is : slice_get lists i.0 ≡ Some list

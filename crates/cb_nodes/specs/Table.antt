@@ -35,7 +35,7 @@ pub record AreEventsAt (nodes : Table) (i : InstanceId) (events : List EventId) 
 abbrev pub count_of : Table → ℕ
 count_of nodes = count_by is_some nodes
 
--- how many numbers there are in use, had or free, once so many nodes more have theirs
+-- how many numbers there are, in use or free, once that many further nodes have theirs
 abbrev pub room_with : Table → ℕ → ℕ
 room_with nodes more = max (length nodes) (count_of nodes + more)
 

@@ -15,7 +15,7 @@ use cb_instances::InstanceId;
 use cb_model::EventId;
 use std::alloc::{AllocError, Global};
 
-/// Makes room in the instance's list for `more` further events.
+/// Reserves capacity in the instance's list for `more` further events.
 pub(crate) fn reserve(
     alloc: Global,
     lists: &mut Vec<Vec<Listed>>,

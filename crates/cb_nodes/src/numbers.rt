@@ -11,7 +11,7 @@ use std::alloc::{AllocError, Global};
 #[derive(Drop)]
 pub struct Numbers {
     pub slots: Vec<Option<Node>>,
-    // There is room for all numbers, so that giving one back takes no memory.
+    // It has capacity for all numbers, so that giving one back takes no memory.
     pub free: Vec<NodeId>,
 }
 
@@ -44,7 +44,7 @@ impl Numbers {
         self.slots.len().max(self.count() + more)
     }
 
-    /// Makes room for `more` further nodes.
+    /// Reserves capacity for `more` further nodes.
     pub fn reserve(&mut self, more: usize) -> Result<(), AllocError>
         requires kept { AreKept self.old }
         requires fits { room_with self.old.slots.items more < 2 ^ 64 }

@@ -90,11 +90,11 @@ ReadsInOrder c s = (whole : ℕ) × ReadsTo whole (file_words c) s.files s.files
 
 -- ---- the cause of 8 and 9
 
--- the judged files before a place have passed
+-- the judged files before a position have passed
 abbrev pub HavePassed : Command → ℕ → Left → Type 0
 HavePassed c place left = Pass (files_before place left (reads_of c))
 
--- so many bytes of this name were taken
+-- `taken` bytes of this name were taken
 pub record HasTaken (name : List ℕ) (taken : ℕ) (s : Seen) (left : Left) : Type 0 where
   pub within : taken ≤ length (contents left [] name)
   pub rest : List ℕ
@@ -114,7 +114,7 @@ pub record WritesAt (c : Command) (place : ℕ) (name : List ℕ) (s : Seen) : T
   pub judged : place < length c.files → WritesAll s.out s.out_after []
   pub log : length c.files ≤ place → Told s.files (WritesAllDue c name s)
 
--- A read of the file word at a place failed, the line names it, those before it were read whole and have passed, and what was due was
+-- A read of the file word at a position failed, the line names it, those before it were read whole and have passed, and what was due was
 -- written.
 pub record BlamesRead (c : Command) (s : Seen) : Type 0 where
   pub place : ℕ
@@ -147,12 +147,12 @@ abbrev pub WritesPastStart : Command → Seen → Left → Type 0
 WritesPastStart c s left = (point : Point) × IsPastStart point × IsNearPoint c point s left
     × ((due : List ℕ) × IsDue c left point due × WritesFront s.out s.out_after due)
 
--- if what is due once so many bytes of the log were taken is longer than what was written, not many more bytes than those were taken
+-- if what is due once a number of bytes of the log was taken is longer than what was written, not many more bytes than those were taken
 abbrev pub IsNotFarAhead : Command → List ℕ → Seen → Left → Type 0
 IsNotFarAhead c name s left = (upto taken : ℕ) (due written : List ℕ) → HasTaken name taken s left
     → IsDue c left (Point.upto upto) due → WritesAll s.out s.out_after written → length written < length due → taken ≤ upto + ahead_limit
 
--- the log isn't read far ahead, where no judged file has its name and the output is told
+-- the log isn't read far ahead, where no judged file has its name and the output is reported
 abbrev pub ReadsNotFarAhead : Command → Seen → Left → Type 0
 ReadsNotFarAhead c s left = (name : List ℕ) → (reads_of c).logs ≡ name ∷ []
     → (¬ Contains (map (λ file. file.1) c.files) name) → IsSome s.out.taken → IsNotFarAhead c name s left

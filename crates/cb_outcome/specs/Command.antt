@@ -29,7 +29,7 @@ FindsNothing known statuses.Done s = Unit {0}
 FindsNothing known status s = ⊥
 
 -- What is done once all judged files have passed: an output is made, or the log of a name is followed, by what is known from the files; or
--- nothing is done, since this is wrong.
+-- nothing is done: the words are refused with this fault.
 pub data Task : Type 1 where
   makes : Making → Task
   follows : List ℕ → (Known → Watch → Type 0) → Task

@@ -33,7 +33,7 @@ with_texts left earlier (file ∷ files) =
 abbrev pub files_from : Left → Reads → List File
 files_from left reads = with_texts left [] reads.judged
 
--- those of them that stand before a place
+-- those of them that stand before a position
 abbrev pub files_before : ℕ → Left → Reads → List File
 files_before place left reads = with_texts left [] (take place reads.judged)
 

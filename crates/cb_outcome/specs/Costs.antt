@@ -1,4 +1,4 @@
--- Bounds on steps. `after` is told after the run.
+-- Bounds on steps. `after` is what the files say after the run.
 use Rattle.std.specs.Prelude.{◌≡◌, ℕ, ◌+◌, ◌≤◌, List, [], ◌∷◌}
 use Rattle.cb_change.specs.Costs.{IsOpenCost}
 use Rattle.cb_change.specs.InTurn.{IsCostInTurn}

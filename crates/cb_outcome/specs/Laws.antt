@@ -54,7 +54,7 @@ abbrev pub DueIsFront : Type 0
 DueIsFront = (asked : Option Request) (left : Left) (point : Point) (due : List ℕ) (outcome : Outcome)
     → IsOutcome (command_for asked) left outcome → IsDue (command_for asked) left point due → BeginsWith outcome.out due
 
--- each thin event of what is due, once so many bytes of a log were taken, names two groups that are closer than wanted, in the topology of
+-- each thin event of what is due, once a number of bytes of a log was taken, names two groups that are closer than wanted, in the topology of
 -- that moment
 abbrev pub FrontThinsAreClose : Type 0
 FrontThinsAreClose = (watch : Watch) (front out : List ℕ) (tells : FrontTells watch front out) (event : Event) → Contains tells.0 event
@@ -65,7 +65,7 @@ abbrev pub SummedThinsAreClose : Type 0
 SummedThinsAreClose = (t : Topology) (mode : Mode) (w : ℕ) (log : List ℕ) (summary : Summary) (sums : SumsUpLog t mode w log summary) (event : Event)
     → Contains sums.events event → IsTrue (is_thin event) → TellsThin t mode w (records_of sums.gives.entries) event
 
--- where all judged files pass, the outcome is what the task gives, and no refusal
+-- where all judged files pass, the outcome is what the task gives: no file is refused
 abbrev pub PassedGoToJob : Type 0
 PassedGoToJob = (asked : Option Request) (left : Left) (known : Known) (outcome : Outcome)
     → PassFrom nothing (files_from left (reads_of (command_for asked))) known → IsOutcome (command_for asked) left outcome

@@ -17,7 +17,7 @@ use Rattle.cb_report.specs.CertificateTexts.{accepted_text}
 use Rattle.cb_report.specs.EventTexts.{events_text}
 use Rattle.cb_outcome.specs.Outcome.{Outcome, done, done_with}
 
--- a log has at most so many bytes
+-- the most bytes that a log may have
 abbrev pub log_limit : ℕ
 log_limit = 2 ^ 40
 
@@ -28,7 +28,7 @@ pub record Watch : Type 0 where
   pub mode : Mode
   pub window : ℕ
 
--- the codebook that a certificate states, by the places of its columns among all
+-- the codebook that a certificate states, by the positions of its columns among all
 pub record StatesBook (t : Topology) (distance : ℕ) (nodes : List NodeName) (numbers : List ℕ) (book : Book) : Type 0 where
   pub columns : List NodeName
   pub columns_are : AreColumns t columns

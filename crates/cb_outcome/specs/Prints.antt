@@ -32,7 +32,7 @@ use Rattle.cb_outcome.specs.Judged.{IsShortFor}
 use Rattle.cb_outcome.specs.LogJobs.{Watch}
 use Rattle.cb_outcome.specs.Seen.{Seen, SaysFault}
 
--- no group is nearer than the one at a place, where `far` tells how far each is
+-- no group is nearer than the one at position `i`; `far` gives the distance of each
 abbrev pub IsNearest : List Group → (ℕ → ℕ) → ℕ → Type 0
 IsNearest groups far i = (i < length groups) × ((j : ℕ) → j < length groups → far i ≤ far j)
 
@@ -45,7 +45,7 @@ pub record ListsTheNearest (groups : List Group) (far : ℕ → ℕ) (finding : 
   pub alone : (i : ℕ) → i < length groups → far i ≤ finding.radius
       → (finding.groups ≡ named_groups groups (i ∷ [])) × IsTrue finding.sure
 
--- at how many of a codebook's columns the raised nodes differ from the code of the group at a place
+-- at how many of a codebook's columns the raised nodes differ from the code of the group at a position
 abbrev pub far_from : List ℕ → List NodeName → List Group → List NodeName → ℕ → ℕ
 far_from book columns groups nodes i = from_word book (codes_of groups) (word_of columns nodes) i
 

@@ -13,7 +13,7 @@ pub data Role : Type 0 where
   symptoms : Role
   certificate : Wanted → Role
 
--- a file has at most so many bytes
+-- the most bytes that a file of this role may have
 abbrev pub byte_limit : Role → ℕ
 byte_limit Role.model = 16777216
 byte_limit Role.topology = 16777216

@@ -7,7 +7,7 @@ pub fn outcome_is_one()
     ensures { OutcomeIsOne }
 {}
 
-/// The outcome goes by the bytes of the file words alone: what other files there are, and in what order names are told, makes no difference.
+/// The outcome goes by the bytes of the file words alone: what other files there are, and in what order names are listed, makes no difference.
 pub fn outcome_goes_by_bytes()
     ensures { OutcomeGoesByBytes }
 {}

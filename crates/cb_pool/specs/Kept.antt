@@ -6,11 +6,11 @@ use Rattle.cb_pool.specs.declared.slot.Slot.{Slot}
 use Rattle.cb_pool.specs.declared.slots.Slots.{Slots}
 use Rattle.cb_pool.specs.Pool.{row_at}
 
--- the slot at a place is taken
+-- the slot at a position is taken
 abbrev pub IsOut : List Bool → ℕ → Type 0
 IsOut taken i = slice_index_or taken i false ≡ true
 
--- each slot that was ever taken is taken or free; the free ones are listed, each once; there is room for all others, and for listing all
+-- each slot that was ever taken is taken or free; the free ones are listed, each once; the lists have capacity for all slots
 pub record AreKept (s : Slots) : Type 0 where
   pub counted : length s.free.items + count_by (λ out. out) s.taken.items ≡ length s.taken.items
   pub within : (slot : Slot) → Contains s.free.items slot → slot.0 < length s.taken.items
@@ -25,18 +25,18 @@ pub record AreKept (s : Slots) : Type 0 where
 abbrev pub spare_of : Slots → ℕ
 spare_of s = length s.free.items + (s.room - length s.taken.items)
 
--- the slot at a place is taken, which was free, and others are as they were
+-- the slot at a position is taken, which was free, and others are as they were
 pub record TakesSlot (old new : List Bool) (i : ℕ) : Type 0 where
   pub free : slice_index_or old i false ≡ false
   pub out : IsOut new i
   pub others : (j : ℕ) → j ≢ i → slice_index_or new j false ≡ slice_index_or old j false
 
--- the row at a place is zero, and others are as they were
+-- the row at a position is zero, and others are as they were
 pub record Clears (width : ℕ) (old new : List ℕ) (i : ℕ) : Type 0 where
   pub zeros : row_at width new i ≡ replicate width 0
   pub others : (j : ℕ) → j ≢ i → width * j + width ≤ length old → row_at width new j ≡ row_at width old j
 
--- the block has the words of all slots that were ever taken, and room for those of all others
+-- the block has the words of all slots that were ever taken, and capacity for those of all others
 pub record IsPoolOf (width : ℕ) (words : Vec ℕ) (s : Slots) : Type 0 where
   pub block : length words.items ≡ width * length s.taken.items
   pub room : width * s.room ≤ vec_capacity words

@@ -10,7 +10,7 @@ pub record Pool : Type 0 where
   pub taken : List Bool
   pub spare : ℕ
 
--- the row at a place; rows of one width lie one after the other
+-- the row at a position; rows of one width lie one after the other
 abbrev pub row_at : ℕ → List ℕ → ℕ → List ℕ
 row_at width words i = take width (drop (width * i) words)
 

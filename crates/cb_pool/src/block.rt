@@ -7,7 +7,7 @@ ghost use Rattle.cb_pool.specs.Kept.{Clears};
 use cb_lanes::or_into;
 use std::alloc::{AllocError, Global};
 
-/// Makes room for this many rows.
+/// Reserves capacity for `rows` rows.
 pub(crate) fn reserve_rows(
     words: &mut Vec<u64>,
     width: usize,
@@ -63,7 +63,7 @@ pub(crate) fn unite_rows(words: &mut [u64], width: usize, into: usize, from: usi
     }
 }
 
-// The words at a place, united with those at a later one.
+// The words at a position, united with those at a later one.
 fn unite_with_later(words: &mut [u64], width: usize, at: usize, later: usize)
     requires apart { at + width ≤ later }
     requires within { later + width ≤ length words.old }
@@ -73,7 +73,7 @@ fn unite_with_later(words: &mut [u64], width: usize, at: usize, later: usize)
     or_into(&mut front[at..at + width], &back[..width]);
 }
 
-// The words at a later place, united with those at an earlier one.
+// The words at a later position, united with those at an earlier one.
 fn unite_with_earlier(words: &mut [u64], width: usize, at: usize, later: usize)
     requires apart { at + width ≤ later }
     requires within { later + width ≤ length words.old }
@@ -83,7 +83,7 @@ fn unite_with_earlier(words: &mut [u64], width: usize, at: usize, later: usize)
     or_into(&mut back[..width], &front[at..at + width]);
 }
 
-/// Adds a row of zeros, for which there is room.
+/// Adds a row of zeros, for which there is capacity.
 pub(crate) fn add_row(words: &mut Vec<u64>, width: usize, i: usize)
     requires behind { length words.old.items ≡ width * i }
     requires room { width * i + width ≤ vec_capacity words.old }
@@ -94,7 +94,7 @@ pub(crate) fn add_row(words: &mut Vec<u64>, width: usize, i: usize)
     words.resize(words.len() + width, 0).unwrap();
 }
 
-/// The rows with zeros after each, in a block with room for more.
+/// The rows with zeros after each, in a block with capacity for more.
 pub(crate) fn widened(
     alloc: Global,
     words: &[u64],
@@ -118,7 +118,7 @@ pub(crate) fn widened(
     Ok(made)
 }
 
-// Adds a row with zeros after it, for which there is room.
+// Adds a row with zeros after it, for which there is capacity.
 fn add_wider(made: &mut Vec<u64>, row: &[u64], wider: usize, i: usize)
     requires behind { length made.old.items ≡ wider * i }
     requires room { wider * i + wider ≤ vec_capacity made.old }

@@ -62,7 +62,7 @@ impl RowPool {
         self.slots.spare()
     }
 
-    /// Makes room, so that this many rows can be taken without memory. More slots than 32 bits can number count as out of memory.
+    /// Reserves capacity, so that `rows` rows can be taken without memory. More slots than 32 bits can number count as out of memory.
     pub fn reserve(&mut self, rows: usize) -> Result<(), AllocError>
         ensures width { self.new.width ≡ self.old.width }
         ensures rows { SameRows self.old self.new }
@@ -91,7 +91,7 @@ impl RowPool {
         Ok(())
     }
 
-    /// A copy under the same slots whose rows are longer, by zeros, with room so that this many further rows can be taken without memory.
+    /// A copy under the same slots whose rows are longer, by zeros, with capacity for `rows` further ones, so that they can be taken without memory.
     /// More slots than 32 bits can number count as out of memory.
     pub fn wider(&self, alloc: Global, width: usize, rows: usize) -> Result<RowPool, AllocError>
         requires { self.now.width ≤ width }

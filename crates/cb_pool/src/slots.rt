@@ -1,4 +1,4 @@
-//! Slots that are taken, slots that are free, and room for slots that were never taken.
+//! Slots that are taken, slots that are free, and capacity for slots that were never taken.
 ghost use Rattle.std.specs.Prelude.{◌≡◌, ◌<◌, ◌≤◌, ◌+◌, ◌^◌, [], length, vec_capacity, OnOk, OnErr, IfOk};
 ghost use Rattle.cb_pool.specs.Kept.{AreKept, TakesSlot, IsOut, spare_of};
 
@@ -12,14 +12,14 @@ const MOST_SLOTS: usize = u32::MAX as usize;
 #[derive(Drop)]
 pub struct Slots {
     pub taken: Vec<bool>,
-    // There is room for all slots, so that giving one back takes no memory.
+    // It has capacity for all slots, so that giving one back takes no memory.
     pub free: Vec<Slot>,
     // How many slots there can be.
     pub room: usize,
 }
 
 impl Slots {
-    /// No slot, and no room for any.
+    /// No slot, and no capacity for any.
     pub fn new(alloc: Global) -> Slots
         ensures kept { AreKept result }
         ensures none { result.taken.items ≡ [] }
@@ -56,7 +56,7 @@ impl Slots {
         Ok(room)
     }
 
-    /// Makes room for this many slots.
+    /// Reserves capacity for `room` slots.
     pub fn reserve(&mut self, room: usize) -> Result<(), AllocError>
         requires kept { AreKept self.old }
         requires more { self.old.room ≤ room }
@@ -73,7 +73,7 @@ impl Slots {
         Ok(())
     }
 
-    /// A copy with room for this many slots.
+    /// A copy with capacity for `room` slots.
     pub fn copy(&self, alloc: Global, room: usize) -> Result<Slots, AllocError>
         requires kept { AreKept self.now }
         requires more { self.now.room ≤ room }
@@ -136,7 +136,7 @@ impl Slots {
     }
 }
 
-// These items, with room for so many.
+// A copy of `items`, with capacity for `room`.
 fn copied<T: Copy>(alloc: Global, items: &[T], room: usize) -> Result<Vec<T>, AllocError>
     ensures items { IfOk result (λ made. made.items ≡ items.now) }
     ensures room { IfOk result (λ made. room ≤ vec_capacity made) }

@@ -30,7 +30,7 @@ pub enum Refused {
     NoMemory,
 }
 
-/// The book at a wanted distance. Where two codes are closer over all columns, the first such pair is told.
+/// The book at a wanted distance. If two codes are closer over all columns, the first such pair is the error.
 pub fn reduce(alloc: Global, codes: &Codes, wanted: u32) -> Result<Book, Refused>
     requires places_fit { length codes.now.rows ≤ 2 ^ 16 }
     requires columns_fit { codes.now.width ≤ 2 ^ 16 }

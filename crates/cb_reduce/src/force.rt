@@ -12,7 +12,7 @@ pub(crate) fn mark_alone(a: &CompactRow, b: &CompactRow, marked: &mut Row)
     requires b { length b.now ≡ length marked.old }
     ensures { MarksOnly a.now b.now marked.old marked.new }
 {
-    // A length fits its type, and so does the place after a column.
+    // A length fits its type, and so does the position after a column.
     let _width = a.len();
     let mut from = 0;
     while let Some(column) = a.next_one(from) {

@@ -1,4 +1,4 @@
-//! Codes told apart: the closest pair, and codebooks, the columns that suffice to keep codes apart.
+//! Codes kept apart: the closest pair, and codebooks, the columns that suffice to keep codes apart.
 #![tactic(auto)]
 
 mod close;

@@ -15,14 +15,14 @@ use cb_codes::Codes;
 use cb_model::{List, Wish};
 use std::alloc::AllocError;
 
-/// Two codes by their places, the lesser first.
+/// Two codes by their positions, the lesser first.
 #[derive(Clone, Copy)]
 pub struct Waiter {
     pub first: u16,
     pub second: u16,
 }
 
-/// Lets a pair wait at its place before a column.
+/// Lets a pair wait at its position before a column.
 pub(crate) fn wait(
     codes: &Codes,
     pair: Waiter,
@@ -51,7 +51,7 @@ pub(crate) fn wait(
     }
 }
 
-/// Lets a pair wait at its place among all columns, as long as none is kept.
+/// Lets a pair wait at its position among all columns, as long as none is kept.
 pub(crate) fn wait_first(
     codes: &Codes,
     pair: Waiter,
@@ -154,7 +154,7 @@ pub(crate) fn decide(
     }
 }
 
-/// Lets pairs that waited at a column wait at their places before it.
+/// Lets pairs that waited at a column wait at their positions before it.
 pub(crate) fn move_on(
     codes: &Codes,
     wish: Wish,

@@ -5,7 +5,7 @@ ghost use Rattle.cb_coding.specs.Needs.{need_of, capped_need};
 use cb_codes::Codes;
 use cb_model::Wish;
 
-/// How far apart a wish wants the codes at two places.
+/// How far apart a wish wants the codes at two positions.
 pub(crate) fn need(codes: &Codes, wish: Wish, first: usize, second: usize) -> u32
     requires first { first < length codes.now.rows }
     requires second { second < length codes.now.rows }

@@ -29,7 +29,7 @@ pub fn radii(alloc: Global, codes: &Codes, cap: u32) -> Result<List<u32>, AllocE
     Ok(radii)
 }
 
-// The least need of a code and another one, or the cap where it is alone. `marked` has a place for each code.
+// The least need of a code and another one, or the cap where it is alone. `marked` has a position for each code.
 fn nearest_need(codes: &Codes, quiet: bool, cap: u32, place: usize, marked: &mut Row) -> u32
     requires within { place < length codes.now.rows }
     requires quiet { IsTrue quiet → StartsWithZero codes.now.rows }
@@ -44,7 +44,7 @@ fn nearest_need(codes: &Codes, quiet: bool, cap: u32, place: usize, marked: &mut
     }
 }
 
-// The same, found among the marked codes, of which the first is one and all that share a column with this one are.
+// How near the nearest other code is, found among the marked codes: the first and all that share a column with this one.
 fn nearest_marked(codes: &Codes, cap: u32, place: usize, marked: &Row) -> u32
     requires within { place < length codes.now.rows }
     requires zero { StartsWithZero codes.now.rows }
@@ -53,7 +53,7 @@ fn nearest_marked(codes: &Codes, cap: u32, place: usize, marked: &Row) -> u32
     requires counting { (i : ℕ) → i < length codes.now.rows → MayBeClose codes.now.rows i place → bit marked.now i ≡ true }
     ensures { IsNearestNeed codes.now.width codes.now.rows cap place result }
 {
-    // A length fits its type, and so does the place after a code.
+    // A length fits its type, and so does the position after a code.
     let _count = marked.len();
     let mut best = cap;
     let mut from = 0;
@@ -64,7 +64,7 @@ fn nearest_marked(codes: &Codes, cap: u32, place: usize, marked: &Row) -> u32
     best
 }
 
-// The same, found among all codes.
+// How near the nearest other code is, found among all codes.
 fn nearest_other(codes: &Codes, cap: u32, place: usize) -> u32
     requires within { place < length codes.now.rows }
     ensures { IsNearestNeed codes.now.width codes.now.rows cap place result }

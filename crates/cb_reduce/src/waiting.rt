@@ -51,7 +51,7 @@ pub(crate) fn wait_all(
     Ok(forced)
 }
 
-// Lets the pairs of a code with those before it wait. `marked` has a place for each code.
+// Lets the pairs of a code with those before it wait. `marked` has a position for each code.
 fn wait_for(
     codes: &Codes,
     quiet: bool,
@@ -113,7 +113,7 @@ fn wait_with_marked(
     ensures held { OnOk result ((i : ℕ) → bit marked.now i ≡ true → i < second
         → IsCovered codes.now.rows (kept_of forced.new) [] (need_of codes.now.width codes.now.rows wish i second) waiting.new.items width i second) }
 {
-    // A length fits its type, and so does the place after a code.
+    // A length fits its type, and so does the position after a code.
     let _count = marked.len();
     let mut from = 0;
     while let Some(first) = marked.next_one(from) {
@@ -148,7 +148,7 @@ fn wait_with_earlier(
     Ok(())
 }
 
-// Lets a pair wait, where it is one: the lesser place comes first.
+// Lets a pair wait, where it is one: the lesser position comes first.
 fn wait_before(
     codes: &Codes,
     first: usize,

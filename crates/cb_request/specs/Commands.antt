@@ -56,6 +56,6 @@ abbrev pub request_of : List (List ℕ) → Option Request
 request_of [] = None
 request_of (command ∷ words) = option_and_then (λ reads. reads words) (look_up commands command)
 
--- the same, of the words as the program gets them
+-- what words ask for, as the program gets them
 abbrev pub asked : List (String Global) → Option Request
 asked words = request_of (texts words)

@@ -1,5 +1,5 @@
--- The fifteen type rules: what each forbids, and the line that is blamed. Six are of a class, at place k of the text, and
--- nine of a member, at place i of that class. A rule is of interest only where those before it are kept.
+-- The fifteen type rules: what each forbids, and the line that is blamed. Six are of a class, at position k of the text, and
+-- nine of a member, at position i of that class. A rule is of interest only where those before it are kept.
 use Rattle.std.specs.Prelude.{◌≡◌, ◌≢◌, ◌⊎◌, ℕ, suc, ◌<◌, List, length, take, Some, slice_get, true}
 use Rattle.std.specs.List.{All, AllPairs}
 use Rattle.cb_model.specs.Limits.{class_limit, ancestor_limit, event_limit, relation_limit, rule_limit}
@@ -41,7 +41,7 @@ abbrev pub HasNoTarget : Tree → ℕ → ℕ → Member → ℕ → Type 0
 HasNoTarget tree k i (Relation name target many inverse) line = (line ≡ target.line) × IsNoClass tree target.name
 HasNoTarget tree k i member line = ⊥
 
--- the class at place k itself declares such a member
+-- the class at position k itself declares such a member
 abbrev pub Owns : Tree → ℕ → (Member → Type 0) → Type 0
 Owns tree k P = (i : ℕ) × (member : Member) × MemberAt tree k i member × P member
 
@@ -94,7 +94,7 @@ HidesNothing tree k i member line = ⊥
 abbrev pub IsOneTooMany : Tree → ℕ → ClassDecl → ℕ → Type 0
 IsOneTooMany tree k decl line = (k ≡ class_limit) × (line ≡ decl.name.line)
 
--- the class has more members such that P than so many: the list has different places of such, by class and place in it
+-- the class has more than `limit` members such that P: the list has different positions of such, by class and position in it
 abbrev pub HasMoreThan : Tree → ℕ → ℕ → (Member → Type 0) → Type 0
 HasMoreThan tree k most P = (places : List (ℕ × ℕ)) × AllPairs (λ one other. one ≢ other) places × All (λ place. HasAt tree k P place.0 place.1) places
     × (most < length places)
@@ -104,7 +104,7 @@ abbrev pub HasTooMany : Tree → ℕ → ClassDecl → ℕ → Type 0
 HasTooMany tree k decl line = (line ≡ decl.name.line)
     × (HasMoreThan tree k event_limit IsEvent ⊎ HasMoreThan tree k relation_limit IsRelation ⊎ HasMoreThan tree k rule_limit IsRule)
 
--- the relation of this name that the class at place k has leads to the class that declares it, which stands at place `home`, or to a descendant of that class
+-- the relation of this name that the class at position k has leads to the class that declares it, which stands at position `home`, or to a descendant of that class
 abbrev pub LeadsHome : Tree → ℕ → List ℕ → Type 0
 LeadsHome tree k name = (home : ℕ) × (i : ℕ) × (to : List ℕ) × (next : ℕ) × (n : ℕ) × HasAt tree k (Declares name) home i
     × Has tree k (IsRelationTo name to) × IsNamed tree to next × IsAbove tree next n home

@@ -11,7 +11,7 @@ use crate::entry::MemberKind;
 use cb_grammar::{Member, PlaceToken};
 use cb_model::MOST_ANCESTORS;
 
-/// Whether a class before this place has the name.
+/// Whether a class before this position has the name.
 pub(crate) fn is_named_before(directory: &Directory<'_>, class: usize, name: &[u8]) -> bool
     ensures { IsTrue result ↔ IsNamedBefore directory.now class name.now }
 {
@@ -21,7 +21,7 @@ pub(crate) fn is_named_before(directory: &Directory<'_>, class: usize, name: &[u
     }
 }
 
-/// Whether the class declares the name before this place of its members.
+/// Whether the class declares the name before this position of its members.
 pub(crate) fn declares_before(
     directory: &Directory<'_>,
     class: usize,

@@ -58,7 +58,7 @@ impl TypeRule {
         TypeRule::NoRepeat,
     ];
 
-    /// The place of the rule in that order, from 1.
+    /// The position of the rule in that order, from 1.
     pub fn number(self) -> u8
         ensures { result ≡ number_of self }
     {

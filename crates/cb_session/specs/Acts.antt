@@ -29,12 +29,12 @@ Acts network line (Change edit) new changed events =
     (result : Result Topology EditRefusal) × IsAfter network edit result × IsRefusal line result events × Leaves network result new changed
 Acts network line body new changed events = (new ≡ network) × (changed ≡ false) × (events ≡ [])
 
--- the same, with what is reported put after the events so far
+-- what an entry's body does, with what is reported put after the events so far
 abbrev pub ActsBehind : Topology → ℕ → Body → Topology → Bool → List Event → List Event → Type 0
 ActsBehind network line body new changed old events =
     (told : List Event) × Acts network line body new changed told × (events ≡ old ++ told)
 
--- an edit is refused where the codebook is fixed, and of no other body anything is told
+-- an edit is refused where the codebook is fixed, and of no other body anything is reported
 abbrev pub RefusesEdit : ℕ → Body → List Event → Type 0
 RefusesEdit line (Change edit) events = events ≡ Refused line Fixed ∷ []
 RefusesEdit line body events = events ≡ []

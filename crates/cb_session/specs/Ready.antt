@@ -38,7 +38,7 @@ pub record HasBasis {network : Topology} {mode : Mode} (basis : Basis network mo
   pub groups : basis.groups ≡ ready.matrix.groups
   pub book : basis.book ≡ ready.book
 
--- the group at a place is called by something
+-- the group at a position is called by something
 abbrev pub HasName : List Group → ℕ → Type 0
 HasName groups place = (name : GroupName) × IsCalled groups place name
 

@@ -1,4 +1,4 @@
--- What a source is told, whatever other sources say.
+-- What is reported of a source, whatever other sources say.
 use Rattle.std.specs.Prelude.{◌≡◌, ℕ, List}
 use Rattle.cb_network.specs.Topology.{Topology}
 use Rattle.cb_log.specs.declared.event.Event.{Event}
@@ -7,7 +7,7 @@ use Rattle.cb_log.specs.Entries.{LogEntry, records_of}
 use Rattle.cb_log.specs.Events.{EntryGives, EndGives}
 use Rattle.cb_log.specs.Sources.{quieted, quiet_entry, diagnoses_of}
 
--- of each source, the diagnoses are those that come of the entry in the log in which other sources say nothing
+-- of each source, the diagnoses are those that result from the entry in the log in which other sources say nothing
 abbrev pub StandsAlone : Topology → Mode → ℕ → List LogEntry → LogEntry → List Event → Type 0
 StandsAlone opening mode w before entry events = (source : List ℕ) (quiet : List Event)
     → EntryGives opening mode w (records_of (quieted source before)) (quiet_entry source entry) quiet

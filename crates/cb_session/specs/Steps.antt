@@ -11,7 +11,7 @@ use Rattle.cb_log.specs.Events.{EntryGives, EndGives}
 use Rattle.cb_log.specs.Kept.{Kept, StandsFor}
 use Rattle.cb_session.specs.State.{State, StandsForEntries}
 
--- these events come of the entry
+-- these events result from the entry
 abbrev pub EntryTells : State → LogEntry → List Event → Type 0
 EntryTells s entry events = (opening : Topology) (before : List LogEntry) → IsRegular opening.model → StandsForEntries s opening before
     → EntryGives opening s.mode s.windows.length (records_of before) entry events
@@ -25,7 +25,7 @@ EntryStands old new entry = (opening : Topology) (before : List LogEntry) → Is
 abbrev pub ClosesAtEnd : Kept → List Closed → Type 0
 ClosesAtEnd windows closing = (records : List Record) → StandsFor windows records → AreClosing records windows.length (length records) closing
 
--- these events come of the end
+-- these events result from the end
 abbrev pub TellsAtEnd : State → List Event → Type 0
 TellsAtEnd s events = (opening : Topology) (before : List LogEntry) → StandsForEntries s opening before
     → EndGives opening s.mode s.windows.length (records_of before) events

@@ -192,7 +192,7 @@ fn thin(alloc: Global, groups: &Groups, pair: Pair, wanted: u32) -> Result<Event
     })
 }
 
-// What the group at a place is called.
+// What the group at a position is called.
 fn called(alloc: Global, groups: &Groups, place: u32) -> Result<GroupName, AllocError>
     requires { HasName groups.now.groups place }
     ensures { IfOk result (IsCalled groups.now.groups place) }

@@ -84,7 +84,7 @@ impl Session {
         })
     }
 
-    /// The same by one codebook, whose columns are places among those of the topology. It makes no codebook, and refuses each edit, since that
+    /// A session by one codebook, whose columns are positions among those of the topology. It makes no codebook, and refuses each edit, since that
     /// might make the given one wrong.
     pub fn fixed(
         alloc: Global,

@@ -58,7 +58,7 @@ impl<L: Ledger> Steps<L> {
         self.count = self.count.saturating_add(1);
     }
 
-    /// How many steps were counted, as long as a `u64` has room for that.
+    /// How many steps were counted, as long as that fits into a `u64`.
     pub fn count(&self) -> u64
         ensures { self.now < 2 ^ 64 → result ≡ self.now }
     {

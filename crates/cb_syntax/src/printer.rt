@@ -167,7 +167,7 @@ pub fn canonical_spells()
     ensures { CanonicalSpells }
 {}
 
-/// Trees with one canonical text are the same, but for the lines and starts of their names.
+/// Trees with one canonical text are equal, but for the lines and starts of their names.
 pub fn one_canonical()
     ensures { OneCanonical }
 {}

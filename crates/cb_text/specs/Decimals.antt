@@ -2,7 +2,7 @@
 use Rattle.std.specs.Prelude.{◌≡◌, ℕ, ◌+◌, ◌-◌, ◌*◌, ◌<◌, ◌^◌, List, [], ◌∷◌, length, get_or, true, decimal}
 use Rattle.std.specs.Str.{all_ascii_digits}
 
--- the bytes are the digits that the number is written with: no zero stands in front, but in `0` itself
+-- the bytes are the digits that the number is written with: it has no leading zero, but for `0` itself
 pub record IsDecimal (bytes : List ℕ) (number : ℕ) : Type 0 where
   pub small : number < 2 ^ 64
   pub written : bytes ≡ decimal number
@@ -20,6 +20,6 @@ number_after number (b ∷ bs) = number_after (number * 10 + (b - 48)) bs
 abbrev pub number_of : List ℕ → ℕ
 number_of bytes = number_after 0 bytes
 
--- a zero stands in front of another byte
+-- a leading zero, with another byte after it
 abbrev pub HasZeroInFront : List ℕ → Type 0
 HasZeroInFront bytes = (1 < length bytes) × (get_or bytes 0 0 ≡ 48)

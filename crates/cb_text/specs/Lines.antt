@@ -27,14 +27,14 @@ abbrev pub EndsAt : List ℕ → LineAt → Type 0
 EndsAt text line =
     ((line.end ≡ length text) × (line.next ≡ length text)) ⊎ ((slice_get text line.end ≡ Some 10) × (line.next ≡ line.end + 1))
 
--- the line that begins at a place: it has no LF, and ends at one or at the text's end
+-- the line that begins at a position: it has no LF, and ends at one or at the text's end
 pub record IsLineAt (text : List ℕ) (from : ℕ) (line : LineAt) : Type 0 where
   pub start_is : line.start ≡ from
   pub in_order : line.start ≤ line.end
   pub one_line : ¬ Contains (slice_range text line.start line.end) 10
   pub ends : EndsAt text line
 
--- from a place on, these are the lines that `line_from` gives, with their numbers from one on, until the text ends
+-- from a position on, these are the lines that `line_from` gives, with their numbers from one on, until the text ends
 abbrev pub MeetsFrom : List ℕ → ℕ → ℕ → List (ℕ × List ℕ) → Type 0
 MeetsFrom text from number [] = from ≡ length text
 MeetsFrom text from number (met ∷ later) =
@@ -45,7 +45,7 @@ MeetsFrom text from number (met ∷ later) =
 abbrev pub LinesAreMet : Type 0
 LinesAreMet = (text : List ℕ) (met : List (ℕ × List ℕ)) → MeetsFrom text 0 1 met ↔ (met ≡ numbered_lines text)
 
--- a line has at most so many bytes, without its LF
+-- a line has at most this many bytes, without its LF
 abbrev pub line_limit : ℕ
 line_limit = 4096
 

@@ -3,7 +3,7 @@ use Rattle.std.specs.Prelude.{◌≡◌, ◌≢◌, ℕ, ◌≤◌, ◌++◌, Li
 use Rattle.std.specs.List.{All, Contains}
 use Rattle.std.specs.Int.{is_in_range}
 
--- a name has at most so many bytes, be it of an instance or of anything else
+-- a name has at most this many bytes, be it of an instance or of anything else
 abbrev pub name_limit : ℕ
 name_limit = 63
 

@@ -4,7 +4,7 @@ ghost use Rattle.std.specs.Char.{is_ascii_digit};
 ghost use Rattle.std.specs.Option.{SomeIff};
 ghost use Rattle.cb_text.specs.Decimals.{IsDecimal, AreDigits, HasZeroInFront, number_of};
 
-/// The number that is written with these bytes. Other forms of a number, with a plus or with zeros in front, are none.
+/// The number that is written with these bytes. Other forms of a number, with a plus or with leading zeros, are none.
 pub fn decimal_of(bytes: &[u8]) -> Option<u64>
     ensures number { IfSome result (IsDecimal bytes.now) }
     ensures none { IfNone result ((number : ℕ) → ¬ IsDecimal bytes.now number) }
@@ -18,14 +18,14 @@ pub fn decimal_of(bytes: &[u8]) -> Option<u64>
     read_digits(bytes)
 }
 
-// Whether a zero stands in front of other bytes.
+// Whether there is a leading zero with other bytes after it.
 fn is_padded(bytes: &[u8]) -> bool
     ensures { IsTrue result ↔ HasZeroInFront bytes.now }
 {
     bytes.len() > 1 && bytes[0] == b'0'
 }
 
-// The number of these digits, of which some in front may be zeros.
+// The number of these digits, of which the first may be zeros.
 fn read_digits(bytes: &[u8]) -> Option<u64>
     ensures number { IfSome result (λ number. AreDigits bytes.now × (number_of bytes.now ≡ number) × (number < 2 ^ 64)) }
     ensures none { IfNone result (AreDigits bytes.now → ¬ (number_of bytes.now < 2 ^ 64)) }

@@ -7,7 +7,7 @@ use crate::limits::LONGEST_LINE;
 use memchr::memchr;
 use std::marker::Model;
 
-/// A line of a text: its bytes from `start` up to `end`, and the place at which the next line begins.
+/// A line of a text: its bytes from `start` up to `end`, and the position at which the next line begins.
 #[derive(Clone, Copy, Debug, PartialEq, Eq)]
 pub struct LineAt {
     pub start: usize,
@@ -15,7 +15,7 @@ pub struct LineAt {
     pub next: usize,
 }
 
-/// The line that begins at a place, which is 0 or the `next` of the line before.
+/// The line that begins at a position, which is 0 or the `next` of the line before.
 pub fn line_from(text: &[u8], from: usize) -> Option<LineAt>
     requires { from ≤ length text.now }
     ensures none { IsNone result ↔ (from ≡ length text.now) }

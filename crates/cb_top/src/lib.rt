@@ -1,4 +1,4 @@
-//! The top call: from the words of the command line and the bytes of the files to the output. README.md tells more.
+//! The top call: from the words of the command line and the bytes of the files to the output.
 #![tactic(auto)]
 
 mod conclude;

@@ -37,7 +37,7 @@ pub fn run<F: Files, O: Sink, E: Sink, L: Ledger>(
     // The line is that of a fault of this status, which names no file but a file word; at 0 there is none.
     ensures line { SaysStatus (command_in words.now) result (seen F.tells O.tells E.tells files.old files.new out.old out.new err.old err.new) }
 
-    // Which words end how, whatever the files tell: 2 comes exactly where they are none of the table, 4 for commands with a topology alone.
+    // Which words end how, whatever the files have: 2 comes exactly where they are none of the table, and 4 only for commands with a topology.
     ensures ends { MayEnd (command_in words.now) result }
     // Nothing is read where no word names a file.
     ensures unread { file_words (command_in words.now) ≡ [] → files.new ≡ files.old }
@@ -45,7 +45,8 @@ pub fn run<F: Files, O: Sink, E: Sink, L: Ledger>(
     // What was read: files in the order of the words, each whole before the next, and no other.
     ensures order { ReadsInOrder (command_in words.now) (seen F.tells O.tells E.tells files.old files.new out.old out.new err.old err.new) }
     // At 8 a read of the file failed that the line names, and those before it have passed; at 9 a write failed, once all have passed, and the
-    // log was read not far past the point up to which what was due was written; at 10 in a log all was written that was due at a point of it.
+    // log was read at most 65,536 bytes past the first line whose events weren't all written; at 10 in a log all was written that was due at
+    // a point of it.
     ensures fault { Blames (command_in words.now) result (seen F.tells O.tells E.tells files.old files.new out.old out.new err.old err.new) }
 
     // Where no read of a file word and no write fails, the run answers the outcome, or 10.
@@ -57,7 +58,7 @@ pub fn run<F: Files, O: Sink, E: Sink, L: Ledger>(
     // distance. Of each window of a log that `correlate` or `decode` follows to 0 the same as of `burst` is said, over the codebook in use, and
     // each thin line names two groups that are closer than wanted, too. No distance of 1 is refused so.
     ensures finds { Finds (command_in words.now) result (seen F.tells O.tells E.tells files.old files.new out.old out.new err.old err.new) }
-    // No step is counted by `model`, nor where no topology comes of the files; by `burst` and `matrix` no more than it costs to search from each
+    // No step is counted by `model`, nor where no topology results from the files; by `burst` and `matrix` no more than it costs to search from each
     // problem of the topology; by `correlate` and `grow` no more than that, and again after each edit of the log for the problems that it makes dirty or new, of
     // `correlate` as far as the log was read. Of the others nothing is said.
     ensures steps { BoundsSteps (command_in words.now) (seen F.tells O.tells E.tells files.old files.new out.old out.new err.old err.new) steps.old steps.new }

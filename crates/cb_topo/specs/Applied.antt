@@ -17,10 +17,11 @@ use Rattle.cb_nodes.specs.Table.{room_with}
 use Rattle.cb_topo.specs.declared.fault.EditFault.{EditFault}
 use Rattle.cb_topo.specs.declared.fault.EditFault.TheVariants.{Refused, NoMemory}
 use Rattle.cb_topo.specs.Numbered.{Numbered, topology_of, IsNodeNamed}
+use Rattle.cb_network.specs.Words.{InstanceName}
 
 -- an instance that is live before and after keeps its number
 abbrev pub KeepsInstances : Numbered → Numbered → Type 0
-KeepsInstances old new = (id : InstanceId) (name : List ℕ) → IsNamed old.net id name → IsLive (topology_of new) name → IsNamed new.net id name
+KeepsInstances old new = (id : InstanceId) (name : InstanceName) → IsNamed old.net id name → IsLive (topology_of new) name → IsNamed new.net id name
 
 -- so does a node
 abbrev pub KeepsNodes : Numbered → Numbered → Type 0

@@ -1,5 +1,5 @@
 -- What is kept of a topology beside its instances: numbers of nodes, and counts.
-use Rattle.std.specs.Prelude.{◌≤◌, ℕ, List, length}
+use Rattle.std.specs.Prelude.{◌≤◌, length}
 use Rattle.cb_model.specs.declared.id.ClassId.{ClassId}
 use Rattle.cb_model.specs.declared.id.EventId.{EventId}
 use Rattle.cb_model.specs.WellTyped.{WellTyped, IsClass}
@@ -12,6 +12,7 @@ use Rattle.cb_nodes.specs.declared.node.Node.{Node}
 use Rattle.cb_nodes.specs.Table.{Table, IsNode, HasEvent as HasEventIn, IsOne}
 use Rattle.cb_accept.specs.declared.counts.NodeCounts.{NodeCounts}
 use Rattle.cb_accept.specs.Counts.{AreCounts}
+use Rattle.cb_network.specs.Words.{InstanceName}
 
 -- exactly the events of live instances have numbers, each has one, and the numbers are below the limit of nodes
 pub record FitsTable (net : Net) (nodes : Table) : Type 0 where
@@ -23,7 +24,7 @@ pub record FitsTable (net : Net) (nodes : Table) : Type 0 where
 
 -- instances are of classes of the model
 abbrev pub AreClassed : Topology → Type 0
-AreClassed t = (name : List ℕ) (c : ClassId) → HasClass t name c → IsClass t.model c
+AreClassed t = (name : InstanceName) (c : ClassId) → HasClass t name c → IsClass t.model c
 
 -- the topology is sound, its instances are of the model's classes, its nodes have numbers, and the counts are its own
 pub record IsTopologyOf (net : Net) (nodes : Table) (counts : NodeCounts) : Type 0 where

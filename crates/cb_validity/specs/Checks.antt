@@ -32,7 +32,7 @@ pub record Asked : Type 0 where
   pub root : Option NodeName
   pub span : Span
 
--- the checks, with places that count from 0
+-- the checks, with positions that count from 0
 pub data Check : Type 0 where
   node_check : ℕ → Check
   column_check : ℕ → Check
@@ -45,7 +45,7 @@ pub data Check : Type 0 where
   no_more_spans : List NodeName → List Span → Check
   claim_check : Check
 
--- the places of a list, in order
+-- the positions of a list, in order
 abbrev pub places : {X : Type 0} → List X → List ℕ
 places xs = range_with_len 0 (length xs)
 
@@ -57,7 +57,7 @@ entry_checks a k = parent_check a k ∷ edge_check a k ∷ new_check a k ∷ []
 abbrev pub span_checks : Asked → List Check
 span_checks a = root_check a ∷ (flat_map (entry_checks a) (range_with_len 1 (length a.span.entries - 1)) ++ map (closed_check a) (places a.span.entries))
 
--- the spans with the problems at the same places
+-- the spans with the problems at the same positions
 abbrev pub asked_of : ℕ → List NodeName → List Span → List Asked
 asked_of before [] spans = []
 asked_of before (p ∷ ps) [] = []
@@ -92,14 +92,14 @@ abbrev pub columns_of : Certificate → List ℕ
 columns_of (Book distance nodes columns spans) = columns
 columns_of (Thin wanted distance nodes first second) = []
 
--- at this place there is a node of the topology, above the one before
+-- at this position there is a node of the topology, above the one before
 pub record IsGoodNode (t : Topology) (nodes : List NodeName) (place : ℕ) : Type 0 where
   pub node : NodeName
   pub is : slice_get nodes place ≡ Some node
   pub live : IsNodeOf t node
   pub above : (before : ℕ) (other : NodeName) → place ≡ suc before → slice_get nodes before ≡ Some other → node_cmp other node ≡ Less
 
--- at this place there is the number of a column, above the one before
+-- at this position there is the number of a column, above the one before
 pub record IsGoodColumn (t : Topology) (nodes : List NodeName) (columns : List ℕ) (place : ℕ) : Type 0 where
   pub number : ℕ
   pub column : NodeName
@@ -123,16 +123,16 @@ pub record IsGoodRoot (t : Topology) (nodes : List NodeName) (a : Asked) : Type 
   pub right : IsAskedFor t a.root node
   pub alone : entry.parent ≡ 0
 
--- there is an entry at the place, such that P
+-- there is an entry at the position, such that P
 abbrev pub EntryIs : Span → ℕ → (Entry → Type 0) → Type 0
 EntryIs span place P = (entry : Entry) × (slice_get span.entries place ≡ Some entry) × P entry
 
--- the node of the entry at the place isn't listed before
+-- the node of the entry at the position isn't listed before
 abbrev pub IsNew : List NodeName → Span → ℕ → Type 0
 IsNew nodes span place = (before : ℕ) (node : NodeName) → before < place → IsListedAt nodes span before node
     → ¬ IsListedAt nodes span place node
 
--- all successors of the node of the entry at the place are listed
+-- all successors of the node of the entry at the position are listed
 abbrev pub IsClosedAt : Topology → List NodeName → Span → ℕ → Type 0
 IsClosedAt t nodes span place = (p q : NodeName) → IsListedAt nodes span place p → Edge t p q → ListsNode nodes span q
 
@@ -182,7 +182,7 @@ TellsClaim t (Book distance nodes columns spans) (TooClose first second far) = A
 TellsClaim t (Thin wanted distance nodes first second) (NotThin far) = AreAt t nodes first second far
 TellsClaim t c why = ⊥
 
--- what is reported where a check fails: the place of a node, a column or a span, or the number of an entry, all of which count from 1
+-- what is reported where a check fails: the position of a node, a column or a span, or the number of an entry, all of which count from 1
 abbrev pub ReportsCheck : Topology → Certificate → Check → Rejected → Type 0
 ReportsCheck t c (node_check place) why = why ≡ BadNode (place + 1)
 ReportsCheck t c (column_check place) why = why ≡ BadColumn (place + 1)

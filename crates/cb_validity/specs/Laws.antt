@@ -64,7 +64,7 @@ abbrev pub CanonicalBookIsOne : Type 0
 CanonicalBookIsOne = (t : Topology) (columns : List NodeName) (distance : ℕ) (a b : Certificate)
     → IsCanonicalBook t columns distance a → IsCanonicalBook t columns distance b → a ≡ b
 
--- these columns have these places among all
+-- these columns have these positions among all
 abbrev pub HavePlaces : List NodeName → List NodeName → List ℕ → Type 0
 HavePlaces all columns places = AllZip (λ column place. slice_get all place ≡ Some column) columns places
 
@@ -136,7 +136,7 @@ ThinIsOfFormat = (t : Topology) (wanted far : ℕ) (nodes : List NodeName) (firs
 abbrev pub TotalReachIsOne : Type 0
 TotalReachIsOne = (t : Topology) (m n : ℕ) → IsTotalReach t m → IsTotalReach t n → m ≡ n
 
--- so many nodes are expanded by a search from each problem
+-- the number of nodes that all problems reach together is what a search from each problem expands
 abbrev pub TotalReachIsOpenCost : Type 0
 TotalReachIsOpenCost = (t : Topology) (total : ℕ) → IsTotalReach t total ↔ IsOpenCost t total
 
@@ -144,7 +144,7 @@ TotalReachIsOpenCost = (t : Topology) (total : ℕ) → IsTotalReach t total ↔
 abbrev pub FewAreNotMany : Type 0
 FewAreNotMany = (t : Topology) → HasFewEntries t → HasManyEntries t → ⊥
 
--- where the problems cause so many nodes together, that number tells whether the entries are few or many
+-- the number of nodes that the problems cause together decides whether the entries are few or many
 abbrev pub EntriesAreFewOrMany : Type 0
 EntriesAreFewOrMany = (t : Topology) (total : ℕ) → IsTotalReach t total
     → (HasFewEntries t ↔ (total ≤ entry_limit)) × (HasManyEntries t ↔ (entry_limit < total))

@@ -32,13 +32,13 @@ pub record MakeGroups (t : Topology) (nodes : List NodeName) (spans : List Span)
     pub codes_are : AllZip (λ span p. IsCodeOf nodes columns span p.code) spans problems
     pub groups_are : AreGroups (length columns) problems groups
 
--- the column with this number has this place among all columns
+-- the column with this number has this position among all columns
 pub record IsPlaceOf (nodes columns : List NodeName) (number place : ℕ) : Type 0 where
   pub column : NodeName
   pub names : StandsFor nodes number column
   pub is : slice_get columns place ≡ Some column
 
--- the columns with these numbers have these places among all columns
+-- the columns with these numbers have these positions among all columns
 abbrev pub ArePlaces : List NodeName → List NodeName → List ℕ → List ℕ → Type 0
 ArePlaces nodes columns numbers places = AllZip (IsPlaceOf nodes columns) numbers places
 

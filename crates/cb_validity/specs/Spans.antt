@@ -20,7 +20,7 @@ pub record StandsFor (nodes : List NodeName) (number : ℕ) (node : NodeName) : 
   pub counted : 0 < number
   pub is : slice_get nodes (number - 1) ≡ Some node
 
--- the entry at a place of the span, which counts from 0, lists the node
+-- the entry at a position of the span, which counts from 0, lists the node
 pub record IsListedAt (nodes : List NodeName) (span : Span) (place : ℕ) (node : NodeName) : Type 0 where
   pub entry : Entry
   pub is : slice_get span.entries place ≡ Some entry
@@ -30,7 +30,7 @@ pub record IsListedAt (nodes : List NodeName) (span : Span) (place : ℕ) (node 
 abbrev pub ListsNode : List NodeName → Span → NodeName → Type 0
 ListsNode nodes span node = (place : ℕ) × IsListedAt nodes span place node
 
--- the parent is the place, counted from 1, of an entry before this place, which counts from 0
+-- the parent is the position, counted from 1, of an entry before this position, which counts from 0
 abbrev pub IsEarlier : Entry → ℕ → Type 0
 IsEarlier entry place = (0 < entry.parent) × (entry.parent ≤ place)
 

@@ -1,4 +1,4 @@
--- How much all problems cause together, and whether a certificate may have so many entries.
+-- How many nodes all problems cause together, and whether a certificate may have that many entries.
 use Rattle.std.specs.Prelude.{◌≡◌, ℕ, ◌<◌, ◌≤◌, List, ◌++◌, sum}
 use Rattle.std.specs.List.{AllZip}
 use Rattle.std.specs.FinSet as set
@@ -9,19 +9,19 @@ use Rattle.cb_network.specs.Causes.{Reaches}
 use Rattle.cb_network.specs.Nodes.{AreProblems}
 use Rattle.cb_cert.specs.Format.{entry_limit}
 
--- the node causes so many nodes
+-- the node causes `size` nodes
 pub record IsReach (t : Topology) (p : NodeName) (size : ℕ) : Type 0 where
   pub reached : set.FinSet node_cmp
   pub is : Reaches t p reached
   pub size_is : set.len reached ≡ size
 
--- these nodes cause so many, each by itself, all together
+-- the sum over these nodes of how many each of them causes is `total`
 pub record CauseTogether (t : Topology) (nodes : List NodeName) (total : ℕ) : Type 0 where
   pub sizes : List ℕ
   pub sizes_are : AllZip (IsReach t) nodes sizes
   pub total_is : total ≡ sum sizes
 
--- the problems cause so many nodes together
+-- the problems cause `total` nodes together
 pub record IsTotalReach (t : Topology) (total : ℕ) : Type 0 where
   pub problems : List NodeName
   pub problems_are : AreProblems t problems

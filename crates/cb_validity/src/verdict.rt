@@ -1,4 +1,4 @@
-//! What becomes of a certificate that is checked.
+//! The result of checking a certificate.
 
 use cb_model::{GroupName, NodeName};
 
@@ -22,7 +22,7 @@ pub enum Accepted {
     },
 }
 
-/// The first check that fails. Places of nodes, columns and spans count from 1, and so do entries, over all spans.
+/// The first check that fails. Positions of nodes, columns and spans count from 1, and so do entries, over all spans.
 #[derive(Debug, Drop)]
 pub enum Rejected {
     /// No node of the topology has this name, or it doesn't stand above the one before.
@@ -45,7 +45,7 @@ pub enum Rejected {
     BadRoot {
         entry: u32,
     },
-    /// The parent is no place of an earlier entry of the span.
+    /// The parent is no position of an earlier entry of the span.
     BadParent {
         entry: u32,
     },

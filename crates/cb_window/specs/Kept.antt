@@ -57,7 +57,7 @@ GoesIfDue old new w time = (source : List ℕ) → GoesOrStays w time (tree.get 
 abbrev pub IsLive : BTreeMap (List ℕ) Open → Turn → Type 0
 IsLive windows turn = (o : Open) × (tree.get name_cmp windows turn.from ≡ Some o) × (o.opened ≡ turn.opened)
 
--- this is told of the window of the turn, which closes at that time
+-- this is reported of the window of the turn, which closes at that time
 pub record IsToldSo (windows : BTreeMap (List ℕ) Open) (turn : Turn) (time : ℕ) (c : Closed) : Type 0 where
   pub from : c.from ≡ turn.from
   pub opened : c.opened ≡ turn.opened
@@ -74,7 +74,7 @@ pub record AreToldUpTo (windows : BTreeMap (List ℕ) Open) (queue : BTreeSet Tu
   pub early : (turn : Turn) → Contains front turn → turn.opened ≤ last
   pub late : (turn : Turn) → Contains rest turn → last < turn.opened
 
--- all windows in the queue are told
+-- all windows in the queue are reported
 pub record AreToldAll (windows : BTreeMap (List ℕ) Open) (queue : BTreeSet Turn) (time : ℕ) (closing : List Closed) : Type 0 where
   pub last : ℕ
   pub up : AreToldUpTo windows queue last time closing
