@@ -303,7 +303,7 @@ of `{FUNCTION}`.** No body of a function, no proof and no other definition needs
 claims, and README.md what the toolchain is.
 
 **In which order.** Begin at the clauses, below, with the one that matters to you. Read the definitions that
-it cites, then those that they cite. In the table, each clause needs little beyond those before it. In the
+it cites, then those that they cite. In the table, each clause but the first needs little beyond those before it. In the
 lists by crate, the column "For" names the first clause of that order for which a definition is needed. So you
 can stop at a clause and leave out what is only for later ones. Or read from the ground: crates come lowest
 first, in each the types before the definitions, and a file after those of its crate that it imports.
