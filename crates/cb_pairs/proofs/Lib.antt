@@ -1,0 +1,9 @@
+pub mod Lists
+pub mod Rows
+pub mod Guessing
+pub mod Apart
+pub mod Coded
+pub mod Seen
+pub mod Searching
+pub mod Made
+pub mod Fitting
