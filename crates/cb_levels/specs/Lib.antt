@@ -1,0 +1,12 @@
+pub mod Level
+pub mod Listed
+pub mod Valid
+pub mod Canonical
+pub mod Trails
+pub mod Checks
+pub mod Text
+pub mod Format
+pub mod Faults
+pub mod Numbers
+pub mod Steps
+pub mod Laws
