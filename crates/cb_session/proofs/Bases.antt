@@ -18,6 +18,8 @@ use Rattle.cb_coding.specs.Distance.{all_columns}
 use Rattle.cb_coding.specs.Groups.{IsGroup, codes_of, group_of, zeros}
 use Rattle.cb_coding.specs.Pairs.{Good, IsFirstClose}
 use Rattle.cb_decode.specs.Decoder.{IsDecoder}
+use Rattle.cb_decode.specs.Names.{HasName}
+use Rattle.cb_decode.proofs.Names.{has_name as named_in}
 use Rattle.cb_finding.specs.Matrix.{IsMatrix}
 use Rattle.cb_log.specs.declared.closed.Closed.{Closed}
 use Rattle.cb_log.specs.declared.event.Event.{Event}
@@ -25,7 +27,7 @@ use Rattle.cb_log.specs.Basis.{Mode, wanted, Basis, IsDiagnosis, IsAnnounced, bo
 use Rattle.cb_network.specs.Sound.{problem_limit, symptom_limit}
 use Rattle.cb_network.specs.Topology.{Topology}
 use Rattle.cb_session.specs.declared.basis.Ready.{Ready}
-use Rattle.cb_session.specs.Ready.{IsReady, HasBasis, HasName, NamesPair}
+use Rattle.cb_session.specs.Ready.{IsReady, HasBasis, NamesPair}
 
 -- what is ready has its basis
 pub ready_has_basis : (network : Topology) (mode : Mode) (ready : Ready) → IsReady network mode ready
@@ -54,31 +56,12 @@ is_ready network d ready matrix few_columns few_groups used decoder =
       few_kept = omega (arith, narrow, few_columns);
     }
 
-first_of : {X : Type 0} (xs : List X) → xs ≢ [] → (x : X) × (slice_get xs 0 ≡ Some x)
-first_of [] some = absurd (some refl)
-first_of (x ∷ xs) some = (x, refl)
-
-named_at : (problems : List Problem) (quiet : Group) (others : List Group) → ((g : Group) → Contains others g → IsGroup problems g)
-    → (i : ℕ) → i < length (quiet ∷ others) → HasName (quiet ∷ others) i
-named_at problems quiet others each zero within = (Quiet, refl)
-named_at problems quiet others each (suc i) within =
-    let none : Group = record { code = []; members = [] } in
-    let g = get_or others i none in
-    let inside : i < length others = omega arith in
-    let is = each g (Contains-get_or others i none inside) in
-    let (node, first) = first_of g.members is.some in
-    (Least node, (omega arith, g, slice_get-get_or others i none inside, first))
-
 -- each group of a topology is called by something
 pub has_name : (network : Topology) (ready : Ready) (mode : Mode) → IsReady network mode ready → (i : ℕ) → i < length (codes_of ready.matrix.groups)
     → HasName ready.matrix.groups i
 has_name network ready mode is i within =
     let groups = ready.matrix.groups in
-    let are = is.matrix.groups_are in
-    let inside : i < length groups = omega (arith, length-map groups (λ (g : Group). g.code)) in
-    subst (λ (gs : List Group). HasName gs i) (sym are.quiet)
-    (named_at is.matrix.problems (group_of is.matrix.problems (zeros (length ready.matrix.columns))) are.others are.each i
-    (subst (λ (gs : List Group). i < length gs) are.quiet inside))
+    named_in network ready.matrix.columns groups is.matrix i (omega (arith, length-map groups (λ (g : Group). g.code)))
 
 -- the diagnoses of these windows stand after the events
 abbrev pub Diagnosed : Ready → List Closed → List Event → List Event → Type 0

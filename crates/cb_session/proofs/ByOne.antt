@@ -2,6 +2,7 @@
 use Rattle.std.proofs.Common.{◌≡◌, ◌++◌, ℕ, List, [], ◌∷◌, length, refl, sym, subst, append-nil}
 use Rattle.std.specs.List.{AllZip}
 use Rattle.cb_coding.specs.declared.book.Book.{Book}
+use Rattle.cb_cache.specs.Cached.{Cached}
 use Rattle.cb_network.specs.Topology.{Topology}
 use Rattle.cb_log.specs.declared.closed.Closed.{Closed}
 use Rattle.cb_log.specs.declared.event.Event.{Event}
@@ -13,6 +14,7 @@ use Rattle.cb_log.specs.Closing.{AreClosing}
 use Rattle.cb_log.specs.Entries.{LogEntry, said, records_of}
 use Rattle.cb_log.specs.Events.{BodyGives, ClosingGives, Diagnoses}
 use Rattle.cb_log.specs.Kept.{Kept, StandsFor}
+use Rattle.cb_topo.specs.Numbered.{topology_of}
 use Rattle.cb_session.specs.declared.basis.Ready.{Ready}
 use Rattle.cb_session.specs.Acts.{GoesOn, RefusesEdit}
 use Rattle.cb_session.specs.Course.{fixed_state}
@@ -35,7 +37,10 @@ refusal_comes t book records line (Clear source node) events told = told
 refusal_comes t book records line (Change edit) events told = told
 refusal_comes t book records line Tick events told = told
 
-module _ (network : Topology) (ready : Ready) where
+module _ (cache : Cached) (ready : Ready) where
+  abbrev network : Topology
+  network = topology_of cache.graph
+
   diagnosed : (opening : Topology) → network ≡ opening → (w : ℕ) (records : List Record) (closing : List Closed) (events : List Event)
       → TellsInUse network (fixed ready.book) ready closing events → Diagnoses opening (fixed ready.book) w records closing events
   diagnosed opening same w records [] events tells = none_told (IsDiagnosis tells.basis) events tells.each
@@ -63,7 +68,7 @@ module _ (network : Topology) (ready : Ready) where
   -- at a record
   pub fixed_tells : (number : ℕ) (r : Record) (windows : Kept) (closing : List Closed) → Closes windows r.at closing
       → (events : List Event) → TellsInUse network (fixed ready.book) ready closing events
-      → (refusals : List Event) → RefusesEdit number r.body refusals → EntryTells (fixed_state network windows ready) (said number r) (events ++ refusals)
+      → (refusals : List Event) → RefusesEdit number r.body refusals → EntryTells (fixed_state cache windows ready) (said number r) (events ++ refusals)
   fixed_tells number r windows closing closes events tells refusals refuses = λ opening before regular stands. record {
     closings = events;
     closing = closing_comes opening stands.network windows.length (records_of before) (r ∷ []) closing (closes (records_of before) r refl stands.windows) events tells;
@@ -73,7 +78,7 @@ module _ (network : Topology) (ready : Ready) where
   }
 
   pub fixed_stands : (number : ℕ) (r : Record) (windows later : Kept) → GoesOn windows later r
-      → EntryStands (fixed_state network windows ready) (fixed_state network later ready) (said number r)
+      → EntryStands (fixed_state cache windows ready) (fixed_state cache later ready) (said number r)
   fixed_stands number r windows later goes = λ opening before regular stands. record {
     network = stands.network;
     windows = subst (StandsFor later) (sym (records_said before number r)) (goes (records_of before) stands.windows);
@@ -82,7 +87,7 @@ module _ (network : Topology) (ready : Ready) where
 
   -- at the end
   pub fixed_ends : (windows : Kept) (closing : List Closed) → ClosesAtEnd windows closing → (events : List Event)
-      → TellsInUse network (fixed ready.book) ready closing events → TellsAtEnd (fixed_state network windows ready) events
+      → TellsInUse network (fixed ready.book) ready closing events → TellsAtEnd (fixed_state cache windows ready) events
   fixed_ends windows closing closes events tells = λ opening before stands.
       closing_comes opening stands.network windows.length (records_of before) [] closing
       (subst (λ (rs : List Record). AreClosing rs windows.length (length (records_of before)) closing) (sym (append-nil (records_of before)))

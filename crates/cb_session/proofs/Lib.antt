@@ -7,3 +7,4 @@ pub mod Stepping
 pub mod ByOne
 pub mod Sessions
 pub mod Counting
+pub mod Numbers

@@ -2,6 +2,7 @@
 use Rattle.std.proofs.Common.{◌≡◌, ℕ, List, Option, Result, Ok, Err, sym, subst}
 use Rattle.std.specs.Prelude.{IfOk, OnOk}
 use Rattle.std.specs.List.{All}
+use Rattle.cb_cache.specs.Cached.{Cached}
 use Rattle.cb_network.specs.Topology.{Topology}
 use Rattle.cb_network.specs.Regular.{IsRegular}
 use Rattle.cb_log.specs.declared.closed.Closed.{Closed}
@@ -10,6 +11,7 @@ use Rattle.cb_log.specs.Basis.{fixed}
 use Rattle.cb_log.specs.Entries.{LogEntry, records_of}
 use Rattle.cb_log.specs.Events.{EndGives}
 use Rattle.cb_log.specs.Kept.{Kept}
+use Rattle.cb_topo.specs.Numbered.{topology_of}
 use Rattle.cb_session.specs.declared.basis.Ready.{Ready}
 use Rattle.cb_session.specs.declared.course.Course.{Course}
 use Rattle.cb_session.specs.declared.course.Course.TheVariants.{Wanted, Fixed}
@@ -28,10 +30,14 @@ pub on_ok_more : {V E : Type 0} (result : Result V E) (P Q : Type 0) → (P → 
 on_ok_more (Ok x) P Q f h = f h
 on_ok_more (Err e) P Q f h = tt
 
-module _ (network : Topology) (windows : Kept) (course : Course) (s : State) (view : state_of network windows course ≡ s) (fits : Fits network windows course) where
+module _ (cache : Cached) (windows : Kept) (course : Course) (s : State) (view : state_of cache windows course ≡ s)
+    (fits : Fits (topology_of cache.graph) windows course) where
+  abbrev network : Topology
+  network = topology_of cache.graph
+
   module _ (d : ℕ) (ready : Option Ready) (is : course ≡ Wanted d ready) where
-    pub wanted_view : wanted_state network d windows ready ≡ s
-    wanted_view = subst (λ (c : Course). state_of network windows c ≡ s) is view
+    pub wanted_view : wanted_state cache d windows ready ≡ s
+    wanted_view = subst (λ (c : Course). state_of cache windows c ≡ s) is view
 
     pub wanted_fits : IsSettled network d windows ready
     wanted_fits = subst (Fits network windows) is fits
@@ -45,11 +51,11 @@ module _ (network : Topology) (windows : Kept) (course : Course) (s : State) (vi
     pub wanted_tells : (closing : List Closed) → ClosesAtEnd s.windows closing → (told : Told) → ReportsWindows network d ready closing told → TellsAtEnd s told.events
     wanted_tells closing closes told tells =
         subst (λ (x : State). TellsAtEnd x told.events) wanted_view
-        (λ opening before stands. end_tells network d windows ready closing told (closes_wanted closing closes) tells opening before stands)
+        (λ opening before stands. end_tells cache d windows ready closing told (closes_wanted closing closes) tells opening before stands)
 
   module _ (ready : Ready) (is : course ≡ Fixed ready) where
-    pub fixed_view : fixed_state network windows ready ≡ s
-    fixed_view = subst (λ (c : Course). state_of network windows c ≡ s) is view
+    pub fixed_view : fixed_state cache windows ready ≡ s
+    fixed_view = subst (λ (c : Course). state_of cache windows c ≡ s) is view
 
     pub fixed_fits : IsFixed network windows ready
     fixed_fits = subst (Fits network windows) is fits
@@ -63,7 +69,7 @@ module _ (network : Topology) (windows : Kept) (course : Course) (s : State) (vi
     pub fixed_tells_end : (closing : List Closed) → ClosesAtEnd s.windows closing → (events : List Event)
         → TellsInUse network (fixed ready.book) ready closing events → TellsAtEnd s events
     fixed_tells_end closing closes events tells =
-        subst (λ (x : State). TellsAtEnd x events) fixed_view (fixed_ends network ready windows closing (closes_fixed closing closes) events tells)
+        subst (λ (x : State). TellsAtEnd x events) fixed_view (fixed_ends cache ready windows closing (closes_fixed closing closes) events tells)
 
 -- what is reported at the end stands alone
 pub if_ends_alone : {E : Type 0} (s : State) (result : Result (List Event) E) → IfOk result (TellsAtEnd s)

@@ -8,6 +8,7 @@ use Rattle.cb_model.specs.Order.{Rises}
 use Rattle.cb_cert.specs.Format.{IsWanted}
 use Rattle.cb_coding.specs.declared.book.Book.{Book}
 use Rattle.cb_edits.specs.Spelled.{HasNames}
+use Rattle.cb_cache.specs.Cached.{Cached}
 use Rattle.cb_network.specs.declared.edit.Edit.{Edit}
 use Rattle.cb_network.specs.declared.edit.Edit.TheVariants.{Create, Delete, Link, Unlink, Mute, Unmute}
 use Rattle.cb_network.specs.Laws.{HasGoodName}
@@ -27,13 +28,14 @@ use Rattle.cb_log.specs.Network.{IsNow}
 use Rattle.cb_alarm.specs.Lines.{NumberedLine, text, long, ComesTo}
 use Rattle.cb_alarm.specs.Spelled.{SpellsRecord, SaysBody}
 use Rattle.cb_alarm.proofs.OneSkip.{comes_to_one}
+use Rattle.cb_topo.specs.Numbered.{topology_of}
 use Rattle.cb_session.specs.declared.basis.Ready.{Ready}
 use Rattle.cb_session.specs.declared.told.Told.{Told}
 use Rattle.cb_session.specs.Acts.{Acts, GoesOn, IsWellNamed}
 use Rattle.cb_session.specs.Ready.{IsReady}
 use Rattle.cb_session.specs.Course.{wanted_state}
 use Rattle.cb_session.specs.Settled.{IsOverSome, IsSettled}
-use Rattle.cb_session.specs.State.{State, IsBookOf, KeepsBook, StandsForEntries}
+use Rattle.cb_session.specs.State.{State, network_of, IsBookOf, KeepsBook, StandsForEntries}
 use Rattle.cb_session.specs.Steps.{EntryTells, EntryStands, ClosesAtEnd}
 use Rattle.cb_session.specs.Told.{ReportsWindows, kept_of}
 use Rattle.cb_session.proofs.Bases.{ready_has_basis}
@@ -76,7 +78,7 @@ pub aside_stands : (s : State) (entry : LogEntry) → records_of (entry ∷ []) 
 aside_stands s entry none = λ opening before regular stands.
     let same : records_of before ≡ records_of (before ++ entry ∷ []) = sym (records_stay before entry none) in
     record {
-      network = subst (λ (rs : List Record). IsNetwork opening s.mode rs s.network) same stands.network;
+      network = subst (λ (rs : List Record). IsNetwork opening s.mode rs (network_of s)) same stands.network;
       windows = subst (StandsFor s.windows) same stands.windows;
       book = keeps_same opening s.mode s.windows.length s before (before ++ entry ∷ []) same stands.book;
     }
@@ -100,7 +102,13 @@ abbrev pub Closes : Kept → ℕ → List Closed → Type 0
 Closes windows at closing = (records : List Record) (r : Record) → r.at ≡ at → StandsFor windows records
     → AreClosing (records ++ r ∷ []) windows.length (length records) closing
 
-module _ (d number : ℕ) (r : Record) (network new : Topology) (windows later : Kept) (ready : Option Ready) where
+module _ (d number : ℕ) (r : Record) (cache fresh : Cached) (windows later : Kept) (ready : Option Ready) where
+  abbrev network : Topology
+  network = topology_of cache.graph
+
+  abbrev new : Topology
+  new = topology_of fresh.graph
+
   -- a record closes windows, is told, and acts
   pub record Goes (closing : List Closed) (told : Told) (changed : Bool) (acted : List Event) : Type 0 where
     pub closes : Closes windows r.at closing
@@ -111,7 +119,7 @@ module _ (d number : ℕ) (r : Record) (network new : Topology) (windows later :
     pub settled : IsSettled network d windows ready
 
   module _ (closing : List Closed) (told : Told) (changed : Bool) (acted : List Event) (goes : Goes closing told changed acted) where
-    pub record_tells : EntryTells (wanted_state network d windows ready) (said number r) (told.events ++ acted)
+    pub record_tells : EntryTells (wanted_state cache d windows ready) (said number r) (told.events ++ acted)
     record_tells = λ opening before regular stands. record {
       closings = told.events;
       closing = told_comes opening d windows.length (records_of before) (r ∷ []) network stands.network ready stands.book.0 closing
@@ -145,7 +153,7 @@ module _ (d number : ℕ) (r : Record) (network new : Topology) (windows later :
       ready_is = ready_kept;
     }
 
-    pub record_stands : EntryStands (wanted_state network d windows ready) (wanted_state new d later kept) (said number r)
+    pub record_stands : EntryStands (wanted_state cache d windows ready) (wanted_state fresh d later kept) (said number r)
     record_stands = λ opening before regular stands.
         let same : records_of before ++ r ∷ [] ≡ records_of (before ++ said number r ∷ []) = sym (records_said before number r) in
         let by : IsChangedBy opening regular (records_of before) network stands.network r new changed =
@@ -181,11 +189,11 @@ pub end_rise : (windows : Kept) (closing : List Closed) → IsOverSome windows �
 end_rise windows closing over closes = all_rise over.0 windows.length (length over.0) closing (closes over.0 over.1)
 
 -- what is reported of them is what results from the end
-pub end_tells : (network : Topology) (d : ℕ) (windows : Kept) (ready : Option Ready) (closing : List Closed) (told : Told) → ClosesAtEnd windows closing
-    → ReportsWindows network d ready closing told → (opening : Topology) (before : List LogEntry) → StandsForEntries (wanted_state network d windows ready) opening before
+pub end_tells : (cache : Cached) (d : ℕ) (windows : Kept) (ready : Option Ready) (closing : List Closed) (told : Told) → ClosesAtEnd windows closing
+    → ReportsWindows (topology_of cache.graph) d ready closing told → (opening : Topology) (before : List LogEntry) → StandsForEntries (wanted_state cache d windows ready) opening before
     → EndGives opening (wanted d) windows.length (records_of before) told.events
-end_tells network d windows ready closing told closes tells opening before stands =
-    told_comes opening d windows.length (records_of before) [] network stands.network ready stands.book.0 closing
+end_tells cache d windows ready closing told closes tells opening before stands =
+    told_comes opening d windows.length (records_of before) [] (topology_of cache.graph) stands.network ready stands.book.0 closing
     (subst (λ (rs : List Record). AreClosing rs windows.length (length (records_of before)) closing) (sym (append-nil (records_of before)))
     (closes (records_of before) stands.windows)) told tells
 
@@ -193,8 +201,8 @@ end_tells network d windows ready closing told closes tells opening before stand
 no_book : (opening : Topology) (w : ℕ) → IsSome {T = Book} None ↔ HasBook opening w []
 no_book opening w = (λ e. absurd (cc), λ has. let within = has.within in absurd (omega arith))
 
-pub opened_stands : (network : Topology) (d : ℕ) (windows : Kept) → StandsFor windows [] → StandsForEntries (wanted_state network d windows None) network []
-opened_stands network d windows stands = record { network = refl; windows = stands; book = (no_book network windows.length, tt) }
+pub opened_stands : (cache : Cached) (d : ℕ) (windows : Kept) → StandsFor windows [] → StandsForEntries (wanted_state cache d windows None) (topology_of cache.graph) []
+opened_stands cache d windows stands = record { network = refl; windows = stands; book = (no_book (topology_of cache.graph) windows.length, tt) }
 
 pub opened_settled : (network : Topology) (d : ℕ) (windows : Kept) → IsWanted d → StandsFor windows [] → IsSettled network d windows None
 opened_settled network d windows distance stands = record { distance = distance; over = ([], stands); ready_is = tt }

@@ -3,8 +3,8 @@ use Rattle.std.specs.Prelude.{◌≡◌, ℕ, Option, None, Some, refl}
 use Rattle.std.specs.Coded.{Coded, code_by, coded×, coded_ℕ, coded_option}
 use Rattle.cb_coding.specs.contracts.book.Book as book
 use Rattle.cb_coding.specs.declared.book.Book.{Book}
-use Rattle.cb_instances.specs.Encoding.{topology_encoding}
-use Rattle.cb_network.specs.Topology.{Topology}
+use Rattle.cb_cache.specs.Cached.{Cached}
+use Rattle.cb_cache.specs.Encoding.{cached_encoding}
 use Rattle.cb_log.specs.Basis.{Mode, wanted, fixed}
 use Rattle.cb_log.specs.Kept.{Kept}
 use Rattle.cb_window.specs.Encoding.{kept_encoding}
@@ -31,8 +31,8 @@ mode_encoding = code_by (Option Book × ℕ) (coded× (coded_option book.the_row
 abbrev pub state_encoding : Coded State
 state_encoding =
     code_by
-    (Mode × (Topology × (Kept × Option Book)))
-    (coded× mode_encoding (coded× topology_encoding (coded× kept_encoding (coded_option book.the_row.coded))))
-    (λ s. (s.mode, (s.network, (s.windows, s.book))))
-    (λ p. record { mode = p.0; network = p.1.0; windows = p.1.1.0; book = p.1.1.1 })
+    (Mode × (Cached × (Kept × Option Book)))
+    (coded× mode_encoding (coded× cached_encoding (coded× kept_encoding (coded_option book.the_row.coded))))
+    (λ s. (s.mode, (s.cache, (s.windows, s.book))))
+    (λ p. record { mode = p.0; cache = p.1.0; windows = p.1.1.0; book = p.1.1.1 })
     (λ _. refl)

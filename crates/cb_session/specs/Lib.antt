@@ -9,3 +9,4 @@ pub mod Acts
 pub mod Steps
 pub mod Sources
 pub mod Counted
+pub mod Numbers

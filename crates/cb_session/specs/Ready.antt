@@ -38,10 +38,6 @@ pub record HasBasis {network : Topology} {mode : Mode} (basis : Basis network mo
   pub groups : basis.groups ≡ ready.matrix.groups
   pub book : basis.book ≡ ready.book
 
--- the group at a position is called by something
-abbrev pub HasName : List Group → ℕ → Type 0
-HasName groups place = (name : GroupName) × IsCalled groups place name
-
 -- it tells these two groups by their names, with their distance
 pub record NamesPair (groups : List Group) (wanted : ℕ) (pair : Pair) (event : Event) : Type 0 where
   pub first : GroupName

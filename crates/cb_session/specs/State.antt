@@ -7,15 +7,21 @@ use Rattle.cb_log.specs.Entries.{LogEntry, records_of}
 use Rattle.cb_log.specs.Events.{IsNetwork, HasBook}
 use Rattle.cb_log.specs.Kept.{Kept, StandsFor}
 use Rattle.cb_alarm.specs.Lines.{NumberedLine, text, long, log_line_limit}
+use Rattle.cb_cache.specs.Cached.{Cached}
+use Rattle.cb_topo.specs.Numbered.{topology_of}
 use Rattle.cb_session.specs.declared.line.LogLine.{LogLine}
 use Rattle.cb_session.specs.declared.line.LogLine.TheVariants.{Text, Long}
 
--- the mode, the topology of the cache, what is kept of the windows, and the codebook in use, if there is one
+-- the mode, the topology with its numbers and rows, what is kept of the windows, and the codebook in use, if there is one
 pub record State : Type 0 where
   pub mode : Mode
-  pub network : Topology
+  pub cache : Cached
   pub windows : Kept
   pub book : Option Book
+
+-- the topology as it is
+abbrev pub network_of : State → Topology
+network_of s = topology_of s.cache.graph
 
 -- this is the codebook in use for the topology
 abbrev pub IsBookOf : Topology → Mode → Book → Type 0
@@ -23,12 +29,12 @@ IsBookOf network mode book = (basis : Basis network mode) × (basis.book ≡ boo
 
 -- for a wanted distance a codebook is kept exactly where one is in use; a fixed one is kept always
 abbrev pub KeepsBook : Topology → Mode → ℕ → State → List LogEntry → Type 0
-KeepsBook opening (wanted d) w s entries = (IsSome s.book ↔ HasBook opening w (records_of entries)) × IfSome s.book (IsBookOf s.network (wanted d))
+KeepsBook opening (wanted d) w s entries = (IsSome s.book ↔ HasBook opening w (records_of entries)) × IfSome s.book (IsBookOf (network_of s) (wanted d))
 KeepsBook opening (fixed book) w s entries = s.book ≡ Some book
 
 -- it stands for an opening topology and what the lines come to
 pub record StandsForEntries (s : State) (opening : Topology) (entries : List LogEntry) : Type 0 where
-  pub network : IsNetwork opening s.mode (records_of entries) s.network
+  pub network : IsNetwork opening s.mode (records_of entries) (network_of s)
   pub windows : StandsFor s.windows (records_of entries)
   pub book : KeepsBook opening s.mode s.windows.length s entries
 

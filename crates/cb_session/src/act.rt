@@ -8,6 +8,7 @@ ghost use Rattle.cb_log.specs.declared.record.Body.TheVariants.{Change};
 ghost use Rattle.cb_topo.specs.Numbered.{topology_of};
 ghost use Rattle.cb_session.specs.Acts.{ActsBehind, GoesOn, IsWellNamed};
 ghost use Rattle.cb_session.specs.Counted.{IsEntryCost};
+ghost use Rattle.cb_session.specs.Numbers.{KeepsNumbers};
 
 use cb_cache::Cache;
 use cb_log::{Body, Event, Record, RefusedWhy};
@@ -32,6 +33,7 @@ pub(crate) fn act<L: Ledger>(
     requires { IsWellNamed next.now.body }
     ensures acts { IfOk result (λ changed. ActsBehind (topology_of cache.old.graph) number next.now.body (topology_of cache.new.graph) changed events.old events.new) }
     ensures goes_on { OnOk result (GoesOn windows.old windows.new next.now) }
+    ensures numbers { OnOk result (KeepsNumbers cache.old.graph cache.new.graph) }
     ensures length { windows.new.length ≡ windows.old.length }
     ensures same_cache { OnErr result (cache.new ≡ cache.old) }
     ensures same_windows { OnErr result (windows.new ≡ windows.old) }
@@ -70,6 +72,7 @@ fn change<L: Ledger>(
 ) -> Result<bool, AllocError>
     requires { HasGoodName edit.now }
     ensures acts { IfOk result (λ changed. ActsBehind (topology_of cache.old.graph) number (Change edit.now) (topology_of cache.new.graph) changed events.old events.new) }
+    ensures numbers { OnOk result (KeepsNumbers cache.old.graph cache.new.graph) }
     ensures same { OnErr result (cache.new ≡ cache.old) }
     ensures steps { OnErr result (steps.new ≡ steps.old) }
     ensures cost { OnOk result (CountsAtMost (IsCostInTurn (topology_of cache.old.graph) (edit.now ∷ [])) steps.old steps.new) }

@@ -8,22 +8,22 @@ ghost use Rattle.cb_coding.specs.Distance.{all_columns};
 ghost use Rattle.cb_coding.specs.Groups.{codes_of};
 ghost use Rattle.cb_coding.specs.Pairs.{Good, IsFirstClose};
 ghost use Rattle.cb_decode.specs.Decoder.{IsDecoder};
-ghost use Rattle.cb_finding.specs.Finding.{IsCalled};
+ghost use Rattle.cb_decode.specs.Names.{HasName};
 ghost use Rattle.cb_log.specs.Basis.{Mode, wanted as for_wanted, fixed as by_fixed, Basis, IsDiagnosis, IsAnnounced, book_made as book_made_by};
 ghost use Rattle.cb_log.specs.declared.event.Event.{Event as EventOf};
 ghost use Rattle.cb_model.specs.NodeOrder.{node_cmp};
 ghost use Rattle.cb_model.specs.Order.{Rises};
 ghost use Rattle.cb_network.specs.Topology.{Topology};
-ghost use Rattle.cb_session.specs.Ready.{IsReady, IsReadyFor, IsSomewhereReady, HasBasis, HasName, NamesPair};
+ghost use Rattle.cb_session.specs.Ready.{IsReady, IsReadyFor, IsSomewhereReady, HasBasis, NamesPair};
 ghost use Rattle.cb_topo.specs.Numbered.{topology_of};
 
 use cb_cache::Cache;
 use cb_codes::{Codes, Groups};
 use cb_coding::{Book, Pair};
-use cb_decode::{Decoder, find_by};
+use cb_decode::{Decoder, called, find_by};
 use cb_log::{Closed, Event};
 use cb_matrix::Matrix;
-use cb_model::{GroupName, List, Name};
+use cb_model::{List, Name};
 use cb_reduce::{book_in_use, first_close};
 use std::alloc::{AllocError, Global};
 
@@ -190,18 +190,6 @@ fn thin(alloc: Global, groups: &Groups, pair: Pair, wanted: u32) -> Result<Event
         second,
         distance: pair.distance,
     })
-}
-
-// What the group at a position is called.
-fn called(alloc: Global, groups: &Groups, place: u32) -> Result<GroupName, AllocError>
-    requires { HasName groups.now.groups place }
-    ensures { IfOk result (IsCalled groups.now.groups place) }
-{
-    if place == 0 {
-        return Ok(GroupName::Quiet);
-    }
-    let group = groups.named().at(place as usize);
-    Ok(GroupName::Least(group.members.at(0).copy(alloc)?))
 }
 
 // How many lost or spurious symptoms codes that are so far apart put up with.

@@ -5,7 +5,7 @@ ghost use Rattle.cb_session.specs.State.{line_of};
 ghost use Rattle.cb_session.specs.Taken.{entry_of_taken};
 
 use crate::line::LogLine;
-use cb_alarm::{Skip, read_record};
+use cb_alarm::{Scratch, Skip, plain_record, read_record};
 use cb_log::{Record, SkipWhy};
 use cb_text::has_no_word;
 use std::alloc::{AllocError, Global};
@@ -21,12 +21,16 @@ pub(crate) enum Taken {
     Said { number: u64, record: Record },
 }
 
-/// What the line comes to.
-pub(crate) fn entry_of(alloc: Global, line: LogLine<'_>) -> Result<Taken, AllocError>
+/// What the line comes to. The scratch may be kept from line to line.
+pub(crate) fn entry_of(
+    alloc: Global,
+    scratch: &mut Scratch,
+    line: LogLine<'_>,
+) -> Result<Taken, AllocError>
     ensures { IfOk result (λ taken. ComesTo (line_of line.entry) (entry_of_taken taken)) }
 {
     match line {
-        LogLine::Text { number, bytes } => entry_of_text(alloc, number, bytes),
+        LogLine::Text { number, bytes } => entry_of_text(alloc, scratch, number, bytes),
         LogLine::Long { number } => Ok(Taken::Skipped {
             number,
             why: SkipWhy::Long,
@@ -34,12 +38,21 @@ pub(crate) fn entry_of(alloc: Global, line: LogLine<'_>) -> Result<Taken, AllocE
     }
 }
 
-// What the line of these bytes comes to.
-fn entry_of_text(alloc: Global, number: u64, bytes: &[u8]) -> Result<Taken, AllocError>
+// What the line of these bytes comes to. Most lines of a log spell their record plainly; of the others it is found, or why there is none, by
+// their JSON value.
+fn entry_of_text(
+    alloc: Global,
+    scratch: &mut Scratch,
+    number: u64,
+    bytes: &[u8],
+) -> Result<Taken, AllocError>
     ensures { IfOk result (λ taken. ComesTo (text number bytes.now) (entry_of_taken taken)) }
 {
     if is_blank(bytes) {
         return Ok(Taken::Blank);
+    }
+    if let Some(record) = plain_record(alloc, scratch, bytes)? {
+        return Ok(Taken::Said { number, record });
     }
     match read_record(alloc, bytes) {
         Ok(record) => Ok(Taken::Said { number, record }),

@@ -3,7 +3,8 @@ ghost use Rattle.std.specs.Prelude.{◌≡◌, ◌++◌, List as Items, IfOk, On
 ghost use Rattle.cb_log.specs.Basis.{fixed as by_fixed};
 ghost use Rattle.cb_log.specs.Entries.{said};
 ghost use Rattle.cb_log.specs.declared.event.Event.{Event as EventOf};
-ghost use Rattle.cb_network.specs.Topology.{Topology};
+ghost use Rattle.cb_cache.specs.Cached.{Cached};
+ghost use Rattle.cb_topo.specs.Numbered.{topology_of};
 ghost use Rattle.cb_session.specs.Acts.{GoesOn, RefusesEdit};
 ghost use Rattle.cb_session.specs.Course.{fixed_state};
 ghost use Rattle.cb_session.specs.Ready.{IsReady, IsSomewhereReady};
@@ -28,10 +29,10 @@ pub(crate) fn go_on_fixed(
 ) -> Result<List<Event>, AllocError>
     requires ready { IsSomewhereReady ready.now }
     requires over { IsOverSome windows.old }
-    ensures gives { IfOk result (λ events. (network : Topology) → IsReady network (by_fixed ready.now.book) ready.now
-        → EntryTells (fixed_state network windows.old ready.now) (said number next.now) events) }
-    ensures stands { OnOk result ((network : Topology)
-        → EntryStands (fixed_state network windows.old ready.now) (fixed_state network windows.new ready.now) (said number next.now)) }
+    ensures gives { IfOk result (λ events. (cache : Cached) → IsReady (topology_of cache.graph) (by_fixed ready.now.book) ready.now
+        → EntryTells (fixed_state cache windows.old ready.now) (said number next.now) events) }
+    ensures stands { OnOk result ((cache : Cached)
+        → EntryStands (fixed_state cache windows.old ready.now) (fixed_state cache windows.new ready.now) (said number next.now)) }
     ensures over { IsOverSome windows.new }
     ensures length { windows.new.length ≡ windows.old.length }
     ensures same { OnErr result (windows.new ≡ windows.old) }

@@ -14,8 +14,10 @@ ghost use Rattle.cb_topo.specs.Numbered.{topology_of};
 ghost use Rattle.cb_session.specs.Acts.{IsWellNamed};
 ghost use Rattle.cb_session.specs.Counted.{CountsEntry};
 ghost use Rattle.cb_session.specs.Sources.{StandsAlone, EndsAlone};
-ghost use Rattle.cb_session.specs.State.{State, StandsForEntries, line_of, IsFitting};
+ghost use Rattle.cb_session.specs.Numbers.{KeepsNumbers};
+ghost use Rattle.cb_session.specs.State.{State, StandsForEntries, line_of, network_of, IsFitting};
 ghost use Rattle.cb_session.specs.Steps.{EntryTells, EntryStands, ClosesAtEnd, TellsAtEnd};
+ghost use Rattle.cb_session.specs.Taken.{entry_of_taken};
 
 use crate::basis::Ready;
 use crate::course::Course;
@@ -24,6 +26,7 @@ use crate::fixed::go_on_fixed;
 use crate::line::LogLine;
 use crate::told::{tell, told_in_use};
 use crate::wanted::go_on_wanted;
+use cb_alarm::Scratch;
 use cb_cache::Cache;
 use cb_coding::Book;
 use cb_log::{Closed, Event, Record};
@@ -40,6 +43,8 @@ pub struct Session {
     cache: Cache,
     windows: Windows,
     course: Course,
+    // Lines are read over it. Contracts don't see it.
+    scratch: Scratch,
 }
 
 impl Model for Session {
@@ -53,7 +58,7 @@ impl Model for Session {
 
     ghost coded = { state_encoding };
 
-    ghost view = { λ s. state_of (topology_of s.cache.graph) s.windows s.course };
+    ghost view = { λ s. state_of s.cache s.windows s.course };
 
     ghost invariant = { λ s. Fits (topology_of s.cache.graph) s.windows s.course };
 }
@@ -71,6 +76,7 @@ impl Session {
         requires length { 1 ≤ length }
         ensures mode { IfOk result (λ s. s.mode ≡ for_wanted wanted) }
         ensures length { IfOk result (λ s. s.windows.length ≡ length) }
+        ensures cache { IfOk result (λ s. s.cache ≡ cache) }
         ensures stands { IfOk result (λ s. StandsForEntries s (topology_of cache.graph) []) }
         ensures never_fails { IsOk result }
     {
@@ -81,6 +87,7 @@ impl Session {
                 distance: wanted,
                 ready: None,
             },
+            scratch: Scratch::new(alloc),
         })
     }
 
@@ -96,6 +103,7 @@ impl Session {
         requires length { 1 ≤ length }
         ensures mode { IfOk result (λ s. s.mode ≡ by_fixed book) }
         ensures length { IfOk result (λ s. s.windows.length ≡ length) }
+        ensures cache { IfOk result (λ s. s.cache ≡ cache) }
         ensures stands { IfOk result (λ s. StandsForEntries s (topology_of cache.graph) []) }
     {
         let ready = Ready::by(alloc, &cache, book)?;
@@ -103,6 +111,7 @@ impl Session {
             cache,
             windows: Windows::new(alloc, length),
             course: Course::Fixed { ready },
+            scratch: Scratch::new(alloc),
         })
     }
 
@@ -125,15 +134,18 @@ impl Session {
         ensures stands { OnOk result ((opening : Topology) (before : Items LogEntry) (entry : LogEntry) → IsRegular opening.model
             → ComesTo (line_of line.entry) entry → StandsForEntries self.old opening before
             → StandsForEntries self.new opening (before ++ entry ∷ [])) }
+        ensures numbers { OnOk result (KeepsNumbers self.old.cache.graph self.new.cache.graph) }
         ensures mode { self.new.mode ≡ self.old.mode }
         ensures length { self.new.windows.length ≡ self.old.windows.length }
         ensures same { OnErr result (self.new ≡ self.old) }
         ensures steps { OnErr result (steps.new ≡ steps.old) }
         ensures cost { OnOk result ((entry : LogEntry) → ComesTo (line_of line.entry) entry
-            → CountsEntry self.old.mode self.old.network entry steps.old steps.new) }
+            → CountsEntry self.old.mode (network_of self.old) entry steps.old steps.new) }
         ensures fixed { (book : BookOf) → self.old.mode ≡ by_fixed book → steps.new ≡ steps.old }
+        ensures regular { IsRegular (network_of self.old).model }
     {
-        match entry_of(alloc, line)? {
+        self.regular();
+        match self.entry(alloc, line)? {
             Taken::Blank => Ok(List::new(alloc)),
             Taken::Skipped { number, why } => {
                 let mut events = List::new(alloc);
@@ -142,6 +154,21 @@ impl Session {
             }
             Taken::Said { number, record } => self.go_on(alloc, number, &record, steps),
         }
+    }
+
+    // What the line comes to.
+    fn entry(&mut self, alloc: Global, line: LogLine<'_>) -> Result<Taken, AllocError>
+        ensures comes { IfOk result (λ taken. ComesTo (line_of line.entry) (entry_of_taken taken)) }
+        ensures same { self.new ≡ self.old }
+    {
+        entry_of(alloc, &mut self.scratch, line)
+    }
+
+    // Every session has a checked model.
+    fn regular(&self)
+        ensures { IsRegular (network_of self.now).model }
+    {
+        let _typed = self.cache().graph().topology().model();
     }
 
     // What results from the next record. Its body acts after the windows that it closes.
@@ -155,11 +182,12 @@ impl Session {
         requires { IsWellNamed next.now.body }
         ensures gives { IfOk result (EntryTells self.old (said number next.now)) }
         ensures stands { OnOk result (EntryStands self.old self.new (said number next.now)) }
+        ensures numbers { OnOk result (KeepsNumbers self.old.cache.graph self.new.cache.graph) }
         ensures mode { self.new.mode ≡ self.old.mode }
         ensures length { self.new.windows.length ≡ self.old.windows.length }
         ensures same { OnErr result (self.new ≡ self.old) }
         ensures steps { OnErr result (steps.new ≡ steps.old) }
-        ensures cost { OnOk result (CountsEntry self.old.mode self.old.network (said number next.now) steps.old steps.new) }
+        ensures cost { OnOk result (CountsEntry self.old.mode (network_of self.old) (said number next.now) steps.old steps.new) }
         ensures fixed { (book : BookOf) → self.old.mode ≡ by_fixed book → steps.new ≡ steps.old }
     {
         match &mut self.course {
@@ -209,7 +237,7 @@ impl Session {
 
     /// The topology as it is, with its rows.
     pub fn cache(&self) -> &Cache
-        ensures { topology_of result.now.graph ≡ self.now.network }
+        ensures { result.now ≡ self.now.cache }
     {
         &self.cache
     }

@@ -6,6 +6,7 @@ ghost use Rattle.cb_topo.specs.Numbered.{topology_of};
 ghost use Rattle.cb_session.specs.Acts.{IsWellNamed};
 ghost use Rattle.cb_session.specs.Counted.{IsEntryCost};
 ghost use Rattle.cb_session.specs.Course.{wanted_state};
+ghost use Rattle.cb_session.specs.Numbers.{KeepsNumbers};
 ghost use Rattle.cb_session.specs.Settled.{IsSettled};
 ghost use Rattle.cb_session.specs.Steps.{EntryTells, EntryStands};
 
@@ -33,10 +34,11 @@ pub(crate) fn go_on_wanted<L: Ledger>(
 ) -> Result<List<Event>, AllocError>
     requires named { IsWellNamed next.now.body }
     requires settled { IsSettled (topology_of cache.old.graph) distance windows.old ready.old }
-    ensures gives { IfOk result (EntryTells (wanted_state (topology_of cache.old.graph) distance windows.old ready.old) (said number next.now)) }
-    ensures stands { OnOk result (EntryStands (wanted_state (topology_of cache.old.graph) distance windows.old ready.old)
-        (wanted_state (topology_of cache.new.graph) distance windows.new ready.new) (said number next.now)) }
+    ensures gives { IfOk result (EntryTells (wanted_state cache.old distance windows.old ready.old) (said number next.now)) }
+    ensures stands { OnOk result (EntryStands (wanted_state cache.old distance windows.old ready.old)
+        (wanted_state cache.new distance windows.new ready.new) (said number next.now)) }
     ensures settled { IsSettled (topology_of cache.new.graph) distance windows.new ready.new }
+    ensures numbers { OnOk result (KeepsNumbers cache.old.graph cache.new.graph) }
     ensures length { windows.new.length ≡ windows.old.length }
     ensures same_cache { OnErr result (cache.new ≡ cache.old) }
     ensures same_windows { OnErr result (windows.new ≡ windows.old) }

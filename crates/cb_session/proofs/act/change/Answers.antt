@@ -4,6 +4,7 @@ use Rattle.cb_network.specs.Edits.{IsAfter}
 use Rattle.cb_log.specs.declared.event.Event.TheVariants.{Refused}
 use Rattle.cb_log.specs.declared.event.RefusedWhy.TheVariants.{Edit as EditWhy}
 use Rattle.cb_topo.specs.Numbered.{Numbered, topology_of}
+use Rattle.cb_session.proofs.Numbers.{numbers_stay}
 use Rattle.cb_session.proofs.act.change.Goals as goal
 
 pub returns-in-Err-clause-acts : goal.returns-in-Err-clause-acts
@@ -38,3 +39,9 @@ returns-in-Ok-clause-cost g c =
       is_cost = alone_costs (topology_of c.args.cache.now.graph) c.args.edit.now (topology_of c.apply.new.self.graph) counts.cost made counts.is_cost;
       few = counts.few;
     }
+
+pub returns-in-Err-clause-numbers : goal.returns-in-Err-clause-numbers
+returns-in-Err-clause-numbers g c = numbers_stay c.args.cache.now.graph
+
+pub returns-in-Ok-clause-numbers : goal.returns-in-Ok-clause-numbers
+returns-in-Ok-clause-numbers g c = (c.in-Ok.ensures.made.instances, c.in-Ok.ensures.made.nodes)

@@ -2,6 +2,7 @@ use Rattle.std.proofs.Common.{List, sym, subst}
 use Rattle.cb_log.specs.declared.event.Event.{Event}
 use Rattle.cb_log.specs.Basis.{fixed}
 use Rattle.cb_log.specs.Entries.{said}
+use Rattle.cb_topo.specs.Numbered.{topology_of}
 use Rattle.cb_session.specs.Course.{fixed_state}
 use Rattle.cb_session.specs.Steps.{EntryTells}
 use Rattle.cb_session.proofs.ByOne.{fixed_tells, fixed_stands}
@@ -12,14 +13,14 @@ pub told_in_use-events-requires-clause-rise : goal.told_in_use-events-requires-c
 told_in_use-events-requires-clause-rise c = due_rise c.args.windows.now c.args.next.now c.in_ok-closing.closing c.requires.over c.in_ok-closing.ensures
 
 pub returns-clause-gives : goal.returns-clause-gives
-returns-clause-gives c = λ network is.
+returns-clause-gives c = λ cache is.
     let ready = c.args.ready.now in
     let windows = c.args.windows.now in
     let refuses = c.in_ok-refuse_edit.ensures.refuses in
-    subst (λ (es : List Event). EntryTells (fixed_state network windows ready) (said c.args.number c.args.next.now) es) (sym refuses.2)
-    (fixed_tells network ready c.args.number c.args.next.now windows c.in_ok-closing.closing c.in_ok-closing.ensures c.in_ok-events.events
-    (c.in_ok-events.ensures network (fixed ready.book) is) refuses.0 refuses.1)
+    subst (λ (es : List Event). EntryTells (fixed_state cache windows ready) (said c.args.number c.args.next.now) es) (sym refuses.2)
+    (fixed_tells cache ready c.args.number c.args.next.now windows c.in_ok-closing.closing c.in_ok-closing.ensures c.in_ok-events.events
+    (c.in_ok-events.ensures (topology_of cache.graph) (fixed ready.book) is) refuses.0 refuses.1)
 
 pub returns-clause-stands : goal.returns-clause-stands
-returns-clause-stands c = λ network.
-    fixed_stands network c.args.ready.now c.args.number c.args.next.now c.args.windows.now c.refuse_edit.new.windows c.in_ok-refuse_edit.ensures.goes_on
+returns-clause-stands c = λ cache.
+    fixed_stands cache c.args.ready.now c.args.number c.args.next.now c.args.windows.now c.refuse_edit.new.windows c.in_ok-refuse_edit.ensures.goes_on

@@ -16,15 +16,15 @@ tell-told-requires-clause-rise g c =
 
 pub returns-clause-settled : goal.returns-clause-settled
 returns-clause-settled g c =
-    let network = topology_of c.args.cache.now.graph in
-    let new = topology_of c.act.new.cache.graph in
+    let cache = c.args.cache.now in
+    let fresh = c.act.new.cache in
     let d = c.args.distance in
     let windows = c.args.windows.now in
     let later = c.act.new.windows in
     let ready = c.args.ready.now in
     let told = c.in_ok-told.told in
     let acts = c.in_ok-changed.ensures.acts in
-    let goes : Goes d c.args.number c.args.next.now network new windows later ready c.in_ok-closing.closing told c.in_ok-changed.changed acts.0 = record {
+    let goes : Goes d c.args.number c.args.next.now cache fresh windows later ready c.in_ok-closing.closing told c.in_ok-changed.changed acts.0 = record {
       closes = c.in_ok-closing.ensures;
       tells = c.in_ok-told.ensures;
       acts = acts.1;
@@ -32,19 +32,19 @@ returns-clause-settled g c =
       same_length = c.in_ok-changed.ensures.length;
       settled = c.requires.settled;
     } in
-    subst (IsSettled new d later) (sym c.keep.ensures) (settled_still d c.args.number c.args.next.now network new windows later ready c.in_ok-closing.closing told c.in_ok-changed.changed acts.0 goes)
+    subst (IsSettled (topology_of fresh.graph) d later) (sym c.keep.ensures) (settled_still d c.args.number c.args.next.now cache fresh windows later ready c.in_ok-closing.closing told c.in_ok-changed.changed acts.0 goes)
 
 pub returns-clause-gives : goal.returns-clause-gives
 returns-clause-gives g c =
-    let network = topology_of c.args.cache.now.graph in
-    let new = topology_of c.act.new.cache.graph in
+    let cache = c.args.cache.now in
+    let fresh = c.act.new.cache in
     let d = c.args.distance in
     let windows = c.args.windows.now in
     let later = c.act.new.windows in
     let ready = c.args.ready.now in
     let told = c.in_ok-told.told in
     let acts = c.in_ok-changed.ensures.acts in
-    let goes : Goes d c.args.number c.args.next.now network new windows later ready c.in_ok-closing.closing told c.in_ok-changed.changed acts.0 = record {
+    let goes : Goes d c.args.number c.args.next.now cache fresh windows later ready c.in_ok-closing.closing told c.in_ok-changed.changed acts.0 = record {
       closes = c.in_ok-closing.ensures;
       tells = c.in_ok-told.ensures;
       acts = acts.1;
@@ -53,20 +53,20 @@ returns-clause-gives g c =
       settled = c.requires.settled;
     } in
     let entry = said c.args.number c.args.next.now in
-    subst (λ (es : List Event). EntryTells (wanted_state network d windows ready) entry es) (sym acts.2)
-    (record_tells d c.args.number c.args.next.now network new windows later ready c.in_ok-closing.closing told c.in_ok-changed.changed acts.0 goes)
+    subst (λ (es : List Event). EntryTells (wanted_state cache d windows ready) entry es) (sym acts.2)
+    (record_tells d c.args.number c.args.next.now cache fresh windows later ready c.in_ok-closing.closing told c.in_ok-changed.changed acts.0 goes)
 
 pub returns-clause-stands : goal.returns-clause-stands
 returns-clause-stands g c =
-    let network = topology_of c.args.cache.now.graph in
-    let new = topology_of c.act.new.cache.graph in
+    let cache = c.args.cache.now in
+    let fresh = c.act.new.cache in
     let d = c.args.distance in
     let windows = c.args.windows.now in
     let later = c.act.new.windows in
     let ready = c.args.ready.now in
     let told = c.in_ok-told.told in
     let acts = c.in_ok-changed.ensures.acts in
-    let goes : Goes d c.args.number c.args.next.now network new windows later ready c.in_ok-closing.closing told c.in_ok-changed.changed acts.0 = record {
+    let goes : Goes d c.args.number c.args.next.now cache fresh windows later ready c.in_ok-closing.closing told c.in_ok-changed.changed acts.0 = record {
       closes = c.in_ok-closing.ensures;
       tells = c.in_ok-told.ensures;
       acts = acts.1;
@@ -75,5 +75,5 @@ returns-clause-stands g c =
       settled = c.requires.settled;
     } in
     let entry = said c.args.number c.args.next.now in
-    subst (λ (kept : Option Ready). EntryStands (wanted_state network d windows ready) (wanted_state new d later kept) entry) (sym c.keep.ensures)
-    (record_stands d c.args.number c.args.next.now network new windows later ready c.in_ok-closing.closing told c.in_ok-changed.changed acts.0 goes)
+    subst (λ (kept : Option Ready). EntryStands (wanted_state cache d windows ready) (wanted_state fresh d later kept) entry) (sym c.keep.ensures)
+    (record_stands d c.args.number c.args.next.now cache fresh windows later ready c.in_ok-closing.closing told c.in_ok-changed.changed acts.0 goes)

@@ -2,7 +2,7 @@ use Rattle.std.proofs.Common.{subst, sym, ap, ◌∙◌, ◌≡◌, arith, List,
 use Rattle.cb_coding.specs.declared.group.Group.{Group}
 use Rattle.cb_log.specs.Basis.{IsAnnounced, book_made, wanted}
 use Rattle.cb_log.specs.declared.event.Event.{Event}
-use Rattle.cb_session.specs.Ready.{HasName}
+use Rattle.cb_decode.specs.Names.{HasName}
 use Rattle.cb_session.proofs.Bases.{has_name, announced_good, announced_thin}
 use Rattle.cb_session.proofs.basis.Ready.announce.Goals.{in-Some+in_ok-thin+in_ok-push, in_default}
 use Rattle.cb_session.proofs.basis.Ready.announce.Goals as goal

@@ -6,36 +6,31 @@ use Rattle.cb_session.proofs.session.Session.told_of.Goals as goal
 
 pub tell-requires-clause-rise : goal.tell-requires-clause-rise
 tell-requires-clause-rise c =
-    let network = topology_of c.self.inside.cache.graph in
     let parts = c.self.inside in
-    wanted_rise network parts.windows parts.course c.args.self.now c.self.view_is c.self.invariant c.in-Wanted.distance c.in-Wanted.ready c.in-Wanted.is
+    wanted_rise parts.cache parts.windows parts.course c.args.self.now c.self.view_is c.self.invariant c.in-Wanted.distance c.in-Wanted.ready c.in-Wanted.is
     c.args.closing.now c.requires
 
 pub told_in_use-requires-clause-ready : goal.told_in_use-requires-clause-ready
 told_in_use-requires-clause-ready c =
-    let network = topology_of c.self.inside.cache.graph in
     let parts = c.self.inside in
-    let fits = fixed_fits network parts.windows parts.course c.args.self.now c.self.view_is c.self.invariant c.in-Fixed.ready c.in-Fixed.is in
-    (network, fixed c.in-Fixed.ready.book, fits.ready_is)
+    let fits = fixed_fits parts.cache parts.windows parts.course c.args.self.now c.self.view_is c.self.invariant c.in-Fixed.ready c.in-Fixed.is in
+    (topology_of parts.cache.graph, fixed c.in-Fixed.ready.book, fits.ready_is)
 
 pub told_in_use-requires-clause-rise : goal.told_in_use-requires-clause-rise
 told_in_use-requires-clause-rise c =
-    let network = topology_of c.self.inside.cache.graph in
     let parts = c.self.inside in
-    fixed_rise network parts.windows parts.course c.args.self.now c.self.view_is c.self.invariant c.in-Fixed.ready c.in-Fixed.is c.args.closing.now c.requires
+    fixed_rise parts.cache parts.windows parts.course c.args.self.now c.self.view_is c.self.invariant c.in-Fixed.ready c.in-Fixed.is c.args.closing.now c.requires
 
 pub returns-in_ok-tell-in-Wanted : goal.returns-in_ok-tell-in-Wanted
 returns-in_ok-tell-in-Wanted c =
-    let network = topology_of c.self.inside.cache.graph in
     let parts = c.self.inside in
-    wanted_tells network parts.windows parts.course c.args.self.now c.self.view_is c.self.invariant c.in-Wanted.distance c.in-Wanted.ready c.in-Wanted.is
+    wanted_tells parts.cache parts.windows parts.course c.args.self.now c.self.view_is c.self.invariant c.in-Wanted.distance c.in-Wanted.ready c.in-Wanted.is
     c.args.closing.now c.requires c.in_ok-tell-in-Wanted.field-0 c.in_ok-tell-in-Wanted.ensures
 
 pub returns-in-Fixed : goal.returns-in-Fixed
 returns-in-Fixed c =
-    let network = topology_of c.self.inside.cache.graph in
     let parts = c.self.inside in
-    let fits = fixed_fits network parts.windows parts.course c.args.self.now c.self.view_is c.self.invariant c.in-Fixed.ready c.in-Fixed.is in
+    let fits = fixed_fits parts.cache parts.windows parts.course c.args.self.now c.self.view_is c.self.invariant c.in-Fixed.ready c.in-Fixed.is in
     if_ok_more c.told_in_use.result _ _
-    (λ events tells. fixed_tells_end network parts.windows parts.course c.args.self.now c.self.view_is c.self.invariant c.in-Fixed.ready c.in-Fixed.is
-    c.args.closing.now c.requires events (tells network (fixed c.in-Fixed.ready.book) fits.ready_is)) c.told_in_use.ensures
+    (λ events tells. fixed_tells_end parts.cache parts.windows parts.course c.args.self.now c.self.view_is c.self.invariant c.in-Fixed.ready c.in-Fixed.is
+    c.args.closing.now c.requires events (tells (topology_of parts.cache.graph) (fixed c.in-Fixed.ready.book) fits.ready_is)) c.told_in_use.ensures
