@@ -24,6 +24,7 @@ pub record IsOther (command : List ℕ) : Type 0 where
   pub decode : command ≢ codes "decode"
   pub correlate : command ≢ codes "correlate"
   pub grow : command ≢ codes "grow"
+  pub pairs : command ≢ codes "pairs"
 
 pub other_asks_for_nothing : (command : List ℕ) (words : List (List ℕ)) → IsOther command → None ≡ request_of (command ∷ words)
 other_asks_for_nothing command words is =
@@ -36,4 +37,5 @@ other_asks_for_nothing command words is =
       differs (codes "decode") command is.decode,
       differs (codes "correlate") command is.correlate,
       differs (codes "grow") command is.grow,
+      differs (codes "pairs") command is.pairs,
     ) refl

@@ -45,11 +45,16 @@ abbrev pub grow_of : List (List ℕ) → Option Request
 grow_of (sites ∷ start ∷ []) = option_and_then (λ n. option_map (requests.Grow n) (start_in start)) (sites_in sites)
 grow_of words = None
 
+abbrev pub pairs_of : List (List ℕ) → Option Request
+pairs_of (one ∷ two ∷ three ∷ []) = Some (requests.Pairs one two three)
+pairs_of words = None
+
 -- the commands, each with what the words after it ask for
 abbrev pub commands : List (List ℕ × (List (List ℕ) → Option Request))
 commands =
     (codes "burst", burst_of) ∷ (codes "model", model_of) ∷ (codes "matrix", matrix_of) ∷ (codes "codebook", codebook_of)
-    ∷ (codes "verify", verify_of) ∷ (codes "decode", decode_of) ∷ (codes "correlate", correlate_of) ∷ (codes "grow", grow_of) ∷ []
+    ∷ (codes "verify", verify_of) ∷ (codes "decode", decode_of) ∷ (codes "correlate", correlate_of) ∷ (codes "grow", grow_of)
+    ∷ (codes "pairs", pairs_of) ∷ []
 
 -- what the words of the command line ask for, if they ask for something
 abbrev pub request_of : List (List ℕ) → Option Request

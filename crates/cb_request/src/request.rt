@@ -47,6 +47,12 @@ pub enum Request<'w> {
         distance: u64,
         window: u64,
     },
+    /// Which group, or which two at once, fit the symptoms of a file.
+    Pairs {
+        model: FileName<'w>,
+        topology: FileName<'w>,
+        symptoms: FileName<'w>,
+    },
     /// A summary of a generated log.
     Grow {
         sites: u64,

@@ -1,6 +1,6 @@
 //! The table of commands.
 ghost use Rattle.std.specs.Prelude.{◌≡◌, ◌∷◌};
-ghost use Rattle.cb_request.specs.Commands.{asked, texts, request_of, burst_of, model_of, matrix_of, codebook_of, verify_of, decode_of, correlate_of, grow_of};
+ghost use Rattle.cb_request.specs.Commands.{asked, texts, request_of, burst_of, model_of, matrix_of, codebook_of, verify_of, decode_of, correlate_of, grow_of, pairs_of};
 
 use crate::file_name::FileName;
 use crate::numbers::{distance_in, sites_in, start_in, window_in};
@@ -31,6 +31,7 @@ fn read<'w>(command: &str, words: &'w [String]) -> Option<Request<'w>>
         "decode" => decode(words),
         "correlate" => correlate(words),
         "grow" => grow(words),
+        "pairs" => pairs(words),
         _ => None,
     }
 }
@@ -134,6 +135,19 @@ fn grow<'w>(words: &'w [String]) -> Option<Request<'w>>
         [sites, start] => Some(Request::Grow {
             sites: sites_in(sites.as_str())?,
             start: start_in(start.as_str())?,
+        }),
+        _ => None,
+    }
+}
+
+fn pairs<'w>(words: &'w [String]) -> Option<Request<'w>>
+    ensures { result ≡ pairs_of (texts words.now) }
+{
+    match words {
+        [model, topology, symptoms] => Some(Request::Pairs {
+            model: FileName(model.as_str()),
+            topology: FileName(topology.as_str()),
+            symptoms: FileName(symptoms.as_str()),
         }),
         _ => None,
     }

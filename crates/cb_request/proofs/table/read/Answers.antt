@@ -14,4 +14,5 @@ returns-in_default c =
       decode = is.not-decode;
       correlate = is.not-correlate;
       grow = is.not-grow;
+      pairs = is.not-pairs;
     })
