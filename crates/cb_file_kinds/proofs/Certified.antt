@@ -14,12 +14,14 @@ use Rattle.cb_validity.specs.Verdicts.{TellsWhy}
 use Rattle.cb_outcome.specs.Roles.{Wanted, Role, byte_limit}
 use Rattle.cb_report.specs.declared.fault.Fault.{Fault}
 use Rattle.cb_report.specs.declared.fault.Fault.TheVariants as faults
-use Rattle.cb_outcome.specs.Judged.{File, Known, network, certified, Says, Refuses}
+use Rattle.cb_report.specs.FaultSources.{fault_of_text, fault_of_rejected}
+use Rattle.cb_outcome.specs.Judged.{File, Known, network, certified, Says, IsRejection, IsCertificateFault, Refuses}
 use Rattle.cb_outcome.specs.Texts.{IsWantedKind}
-use Rattle.cb_file_kinds.specs.Kinds.{file_of, IsWant, SaysAfter, StopsJudging, IsRejection}
+use Rattle.cb_file_kinds.specs.Kinds.{file_of, IsWant, SaysAfter, StopsJudging}
 
 -- why a certificate is rejected, as a fault
-pub rejection : (t : Topology) (c : Certificate) (why : Rejected) → TellsWhy t c why → IsWant (faults.CertRejected why) ⊎ IsRejection t c (faults.CertRejected why)
+pub rejection : (t : Topology) (c : Certificate) (why : Rejected) → TellsWhy t c why
+    → IsWant (fault_of_rejected why) ⊎ IsRejection t c (fault_of_rejected why)
 rejection t c rejected.NoMemory tells = inl refl
 rejection t c (rejected.BadNode place) tells = inr (record { why = rejected.BadNode place; fails = tells; is = refl })
 rejection t c (rejected.BadColumn place) tells = inr (record { why = rejected.BadColumn place; fails = tells; is = refl })
@@ -48,24 +50,24 @@ module _ (wanted : Wanted) (name text : List ℕ) (short : length text ≤ byte_
   certificate_long line first = refuses (faults.LimitLine name line) (inr (inl (record { bytes = short; limited = tt; line = line; first = first; is = refl })))
 
   module _ (lines : HasShortLines text) where
-    pub certificate_bad : (why : CertText) → (why ≡ texts.NoMemory) ⊎ IsTextFault text why → StopsJudging Network TextFile (faults.CertBad why)
+    faulty : (fault : Fault) → IsCertificateFault t text fault → StopsJudging Network TextFile fault
+    faulty fault has = refuses fault (inr (inr (record { short = record { bytes = short; lines = λ limited. lines }; has = inl has })))
+
+    pub certificate_bad : (why : CertText) → (why ≡ texts.NoMemory) ⊎ IsTextFault text why → StopsJudging Network TextFile (fault_of_text why)
     certificate_bad why (inl want) = inl (rw want refl)
-    certificate_bad why (inr is) =
-        refuses (faults.CertBad why) (inr (inr (record { short = record { bytes = short; lines = λ limited. lines }; has = is })))
+    certificate_bad why (inr is) = faulty (fault_of_text why) (inl (record { why = why; has = is; is = refl }))
 
     pub certificate_refused : (c : Certificate) → SpellsCertificate text c → (fault : Fault) → IsWant fault ⊎ IsRejection t c fault
         → StopsJudging Network TextFile fault
     certificate_refused c spelled fault (inl want) = inl want
-    certificate_refused c spelled fault (inr r) =
-        subst (StopsJudging Network TextFile) (sym r.is)
-        (refuses (faults.CertRejected r.why) (inr (inr (record { short = record { bytes = short; lines = λ limited. lines }; has = (c, spelled, r.fails) }))))
+    certificate_refused c spelled fault (inr r) = faulty fault (inr (c, spelled, r))
 
     -- a valid one that isn't of the wanted kind
     pub certificate_unwanted : (c : Certificate) → SpellsCertificate text c → IsValid t c → (¬ IsWantedKind wanted c) → StopsJudging Network TextFile faults.NotBook
     certificate_unwanted c spelled valid other =
         refuses faults.NotBook (inr (inr (record {
           short = record { bytes = short; lines = λ limited. lines };
-          has = (c, record { spelled = spelled; valid = valid }, other);
+          has = inr (record { certificate = c; valid = record { spelled = spelled; valid = valid }; other = other; is = refl });
         })))
 
     -- and one that is

@@ -1,6 +1,6 @@
 -- What judging the text of a file shows.
 use Rattle.std.proofs.Common.{◌≡◌, ◌≤◌, ◌<◌, ℕ, List, length, refl, sym, subst, inl, inr, arith, length-append}
-use Rattle.std.specs.Prelude.{Option, None, Some, IfSome}
+use Rattle.std.specs.Prelude.{Option, None, Some, IfSome, Err}
 use Rattle.std.specs.Io.KnownBytes.{Consumes}
 use Rattle.cb_io.specs.Outside.{FilesTold, left_of, TakesAll, ReadsAll, ReadsMoreThan}
 use Rattle.cb_model.specs.declared.node.NodeName.{NodeName}
@@ -11,8 +11,10 @@ use Rattle.cb_syntax.specs.Laws.{TellsFault}
 use Rattle.cb_syntax.specs.declared.fault.SyntaxFault.{SyntaxFault}
 use Rattle.cb_rules.specs.declared.rule.BrokenRule.{BrokenRule}
 use Rattle.cb_rules.specs.Fault.{KeepsAll, IsFault as IsTypeFault}
-use Rattle.cb_check.specs.Stands.{Stands}
+use Rattle.cb_check.specs.declared.fault.TypeFault.{TypeFault}
 use Rattle.cb_check.specs.declared.fault.TypeFault.TheVariants as types
+use Rattle.cb_check.specs.Fault.{OnBroken}
+use Rattle.cb_check.specs.Stands.{Stands}
 use Rattle.cb_network.specs.Topology.{Topology}
 use Rattle.cb_line_files.specs.declared.topology.LineFault.TheVariants.{BadWords, Refused}
 use Rattle.cb_line_files.specs.declared.topology.TopologyStop.{TopologyStop}
@@ -24,7 +26,8 @@ use Rattle.cb_line_files.specs.Symptoms.{ListsNodes, Stops as StopsSymptoms}
 use Rattle.cb_outcome.specs.Roles.{Role, byte_limit}
 use Rattle.cb_report.specs.declared.fault.Fault.{Fault}
 use Rattle.cb_report.specs.declared.fault.Fault.TheVariants as faults
-use Rattle.cb_outcome.specs.Judged.{Known, nothing, parsed, network, raised, Says, Refuses}
+use Rattle.cb_report.specs.FaultSources.{fault_of_syntax, fault_of_types}
+use Rattle.cb_outcome.specs.Judged.{Known, nothing, parsed, network, raised, Says, IsModelFault, Refuses}
 use Rattle.cb_file_kinds.specs.Kinds.{file_of, SaysAfter, RefusesAfter, StopsJudging, StopsReading, IsTextOf}
 use Rattle.cb_file_kinds.specs.Faults.{fault_of_topology, fault_of_symptoms}
 
@@ -69,16 +72,21 @@ module _ (name text : List ℕ) (short : length text ≤ byte_limit Role.model) 
   refuses : (fault : Fault) → Refuses nothing (file_of Role.model name text) fault → RefusesAfter Only (file_of Role.model name text) fault
   refuses fault r known is = subst (λ (k : Known). Refuses k (file_of Role.model name text) fault) (sym is) r
 
-  pub syntax_stops : (fault : SyntaxFault) → TellsFault text fault → StopsJudging Only (file_of Role.model name text) (faults.Syntax fault)
-  syntax_stops fault (inl want) = inl (rw want refl)
-  syntax_stops fault (inr is) =
-      inr (refuses (faults.Syntax fault) (inr (inr (record { short = record { bytes = short; lines = λ none. absurd none }; has = is }))))
+  faulty : (fault : Fault) → IsModelFault text fault → StopsJudging Only (file_of Role.model name text) fault
+  faulty fault has = inr (refuses fault (inr (inr (record { short = record { bytes = short; lines = λ none. absurd none }; has = has }))))
+
+  pub syntax_stops : (why : SyntaxFault) → TellsFault text why → StopsJudging Only (file_of Role.model name text) (fault_of_syntax why)
+  syntax_stops why (inl want) = inl (rw want refl)
+  syntax_stops why (inr is) = faulty (fault_of_syntax why) (inl (record { why = why; has = is; is = refl }))
 
   pub rule_stops : (tree : Tree) (broken : BrokenRule) → SpellsModel text tree → IsTypeFault tree broken
-      → StopsJudging Only (file_of Role.model name text) (faults.Kind (types.Broken broken))
-  rule_stops tree broken spelled is =
-      inr (refuses (faults.Kind (types.Broken broken))
-      (inr (inr (record { short = record { bytes = short; lines = λ none. absurd none }; has = (tree, spelled, is) }))))
+      → StopsJudging Only (file_of Role.model name text) (faults.Kind broken)
+  rule_stops tree broken spelled is = faulty (faults.Kind broken) (inr (record { tree = tree; spells = spelled; broken = broken; breaks = is; is = refl }))
+
+  pub type_stops : (tree : Tree) (why : TypeFault) → SpellsModel text tree → OnBroken {T = Tables} (Err why) (IsTypeFault tree)
+      → StopsJudging Only (file_of Role.model name text) (fault_of_types why)
+  type_stops tree (types.Broken broken) spelled is = rule_stops tree broken spelled is
+  type_stops tree types.NoMemory spelled is = inl refl
 
 -- ---- a topology, after the model of a tree
 

@@ -4,8 +4,6 @@ use Rattle.cb_io.specs.Outside.{FilesTold, left_of, ReadsAll, ReadsFront, KeepsO
 use Rattle.cb_network.specs.Topology.{Topology}
 use Rattle.cb_cert.specs.declared.certificate.Certificate.{Certificate}
 use Rattle.cb_validity.specs.declared.verdict.Accepted.{Accepted}
-use Rattle.cb_validity.specs.declared.verdict.Rejected.{Rejected}
-use Rattle.cb_validity.specs.Checks.{IsFirstFail}
 use Rattle.cb_validity.specs.Valid.{IsValid}
 use Rattle.cb_validity.specs.Verdicts.{Shows}
 use Rattle.cb_outcome.specs.Roles.{Role}
@@ -65,12 +63,6 @@ pub record IsRefused (role : Role) (name : List ℕ) (Before : Known → Type 0)
 -- the file stops the run: memory ran out, a read failed, or it is refused
 abbrev pub StopsReading : Role → List ℕ → (Known → Type 0) → FilesTold → FilesTold → Fault → Type 0
 StopsReading role name Before old new fault = IsWant fault ⊎ (FailsToRead name old new fault ⊎ IsRefused role name Before old fault)
-
--- the fault tells the first check of the certificate that fails
-pub record IsRejection (t : Topology) (c : Certificate) (fault : Fault) : Type 0 where
-  pub why : Rejected
-  pub fails : IsFirstFail t c why
-  pub is : fault ≡ faults.CertRejected why
 
 -- the certificate is valid, and shows this
 pub record IsAccepted (t : Topology) (c : Certificate) (accepted : Accepted) : Type 0 where

@@ -4,8 +4,8 @@ ghost use Rattle.cb_cert.specs.Format.{IsCertificate};
 ghost use Rattle.cb_validity.specs.Verdicts.{Shows};
 ghost use Rattle.cb_topo.specs.Numbered.{topology_of};
 ghost use Rattle.cb_outcome.specs.Roles.{Wanted, Role, byte_limit};
-ghost use Rattle.cb_outcome.specs.Judged.{network, certified};
-ghost use Rattle.cb_file_kinds.specs.Kinds.{IsWant, IsRejection, IsAccepted, file_of, StopsJudging};
+ghost use Rattle.cb_outcome.specs.Judged.{network, certified, IsRejection};
+ghost use Rattle.cb_file_kinds.specs.Kinds.{IsWant, IsAccepted, file_of, StopsJudging};
 ghost use Rattle.cb_file_kinds.specs.Given.{IsShown, IsValidFrom};
 
 use crate::kind::FileKind;

@@ -7,7 +7,7 @@ ghost use Rattle.cb_outcome.specs.Roles.{Role};
 ghost use Rattle.cb_outcome.specs.Judged.{nothing, parsed};
 
 use crate::kind::{FileKind, MOST_BYTES};
-use cb_check::{TypeFault, check};
+use cb_check::check;
 use cb_grammar::Tree;
 use cb_model::Model;
 use cb_report::Fault;
@@ -36,7 +36,7 @@ impl FileKind for TreeFile {
     fn judge<'w>(self, alloc: Global, _name: FileName<'w>, text: &[u8]) -> Result<Tree, Fault<'w>> {
         let tree = parse(alloc, text)?;
         match broken_rule(alloc, &tree)? {
-            Some(broken) => Err(Fault::Kind(TypeFault::Broken(broken))),
+            Some(broken) => Err(Fault::Kind(broken)),
             None => Ok(tree),
         }
     }

@@ -23,7 +23,7 @@ use Rattle.cb_outcome.specs.Reading.{Told, LeavesRest}
 use Rattle.cb_outcome.specs.Costs.{CountsLines, CountsLog, lines_taken, CountsCorrelate, CountsGrow}
 use Rattle.cb_outcome.proofs.GrownOne.{made_up_one}
 use Rattle.cb_outcome.proofs.LogFronts as fronts
-use Rattle.cb_session.specs.State.{State}
+use Rattle.cb_session.specs.State.{State, network_of}
 use Rattle.cb_log_commands.specs.declared.stop.LogStop.{LogStop}
 use Rattle.cb_log_commands.specs.Counting.{CountsLine, PieceTakes, PieceCounts, HasCounted, CountsOn, CountsTaken, CountsSummed}
 use Rattle.cb_log_commands.specs.Summing.{HasSummedUp}
@@ -158,13 +158,13 @@ module _ (old mid : State) (summary summary' : Summary) (start steps steps' : �
   -- one line more
   pub steps_more : StepsSoFar old summary start steps before → mid.mode ≡ old.mode
       → ((opening : Topology) → IsRegular opening.model → HasSummedUp opening [] old summary → HasSummedUp opening (numbered before) mid summary')
-      → CountsLine mid.network (line_of (length before + 1, line)) steps steps' → StepsSoFar old summary start steps' (before ++ line ∷ [])
+      → CountsLine (network_of mid) (line_of (length before + 1, line)) steps steps' → StepsSoFar old summary start steps' (before ++ line ∷ [])
   steps_more so same takes counts = λ opening d regular mode has.
       let here = takes opening regular has in
-      let now : IsNow opening (records_of here.entries) mid.network =
-      subst (λ (m : Mode). IsNetwork opening m (records_of here.entries) mid.network) (same ∙ mode) here.stands.network in
+      let now : IsNow opening (records_of here.entries) (network_of mid) =
+      subst (λ (m : Mode). IsNetwork opening m (records_of here.entries) (network_of mid)) (same ∙ mode) here.stands.network in
       subst (λ (v : List NumberedLine). CountsLines opening v start steps') (sym (numbered_more before line))
-      (counts_more opening regular (numbered before) here.entries here.come mid.network now (line_of (length before + 1, line)) start steps steps'
+      (counts_more opening regular (numbered before) here.entries here.come (network_of mid) now (line_of (length before + 1, line)) start steps steps'
       (so opening d regular mode has) counts)
 
 -- the first lines of a text cost no more than all

@@ -12,10 +12,9 @@ use Rattle.cb_io.specs.declared.line_reader.Line.TheVariants as given
 use Rattle.cb_io.specs.LineReading.{Reading, coming, IsOneLine, GivesEnded, GivesLast, GivesLine, IsNumbered, Says}
 use Rattle.cb_io.specs.Outside.{FilesTold, left_of, ReadsFront}
 use Rattle.cb_network.specs.declared.edit.Edit.{Edit}
-use Rattle.cb_network.specs.Edits.{IsAfterAll, result_or}
 use Rattle.cb_network.specs.Regular.{IsRegular}
 use Rattle.cb_network.specs.Topology.{Topology}
-use Rattle.cb_network.proofs.Accepted.{after_all_is_one, regular_stays}
+use Rattle.cb_network.proofs.Accepted.{after_all_is_one}
 use Rattle.cb_log.specs.declared.record.Body.{Body}
 use Rattle.cb_log.specs.declared.record.Body.TheVariants.{Raise, Clear, Change, Tick}
 use Rattle.cb_log.specs.declared.record.Record.{Record}
@@ -31,7 +30,7 @@ use Rattle.cb_outcome.specs.LogJobs.{Watch}
 use Rattle.cb_outcome.specs.Reading.{LeavesRest}
 use Rattle.cb_outcome.specs.Costs.{CountsLines, lines_taken}
 use Rattle.cb_outcome.proofs.LogFronts.{front_lines, front_ended, first_come}
-use Rattle.cb_session.specs.State.{State}
+use Rattle.cb_session.specs.State.{State, network_of}
 use Rattle.cb_log_commands.specs.Counting.{CountsLine, CountsGiven, IsCountedAt}
 use Rattle.cb_log_commands.specs.Telling.{joined, numbered, ReadsLog}
 use Rattle.cb_file_kinds.proofs.Chain.{take_front}
@@ -67,11 +66,6 @@ last_comes (x ∷ xs) line [] come = absurd come
 last_comes (x ∷ xs) line (e ∷ es) (first, come) =
     let (before, entry, is, here, last) = last_comes xs line es come in (e ∷ before, entry, ap (λ (v : List LogEntry). e ∷ v) is, (first, here), last)
 
--- edits keep a model regular
-regular_later : (t : Topology) (edits : List Edit) (u : Topology) → IsRegular t.model → IsAfterAll t edits u → IsRegular u.model
-regular_later t [] u regular same = subst (λ (v : Topology). IsRegular v.model) same regular
-regular_later t (edit ∷ edits) u regular (result, is, rest) = regular_later (result_or t result) edits u (regular_stays t edit result regular is) rest
-
 module _ (t : Topology) where
   -- a line more costs what its edit costs, made of the topology that those before it leave
   pub counts_more : IsRegular t.model → (before : List NumberedLine) (entries : List LogEntry) → ComeTo before entries → (u : Topology) → IsNow t (records_of entries) u
@@ -85,7 +79,7 @@ module _ (t : Topology) where
       let here : parts.between ≡ u = after_all_is_one t (edits_of (records_of some)) parts.between u regular parts.after
       (subst (λ (es : List LogEntry). IsNow t (records_of es) u) (sym same) now) in
       let first = counts parts.first (some, some_come, parts.first_is) in
-      let last = counts_line (regular_later t (edits_of (records_of entries)) u regular now) entry comes parts.later (subst (λ (v : Topology). IsCostInTurn v (edits_of (records_of (entry ∷ []))) parts.later) here parts.later_is) in
+      let last = counts_line entry comes parts.later (subst (λ (v : Topology). IsCostInTurn v (edits_of (records_of (entry ∷ []))) parts.later) here parts.later_is) in
       let sum = parts.cost_is in
       omega (arith, first, last, sum)
 
@@ -156,8 +150,8 @@ module _ (watch : Watch) (log : List ℕ) (old : Reading) (bytes : List ℕ) (se
   so_far : CountsLines watch.from (numbered ls) start steps
   so_far = subst (λ (v : List NumberedLine). CountsLines watch.from v start steps) (ap log_lines given_are ∙ joined_lines ls at.is_at.one_each) at.counts
 
-  now : IsNow watch.from (records_of at.is_at.entries) session.network
-  now = subst (λ (m : Mode). IsNetwork watch.from m (records_of at.is_at.entries) session.network) (at.is_at.mode ∙ at.mode) at.is_at.stands.network
+  now : IsNow watch.from (records_of at.is_at.entries) (network_of session)
+  now = subst (λ (m : Mode). IsNetwork watch.from m (records_of at.is_at.entries) (network_of session)) (at.is_at.mode ∙ at.mode) at.is_at.stands.network
 
   -- none was given, and some more bytes may have been taken
   pub nothing_given : (files after : FilesTold) → coming old files ≡ Some bytes → ReadsFront files after old.name
@@ -179,15 +173,15 @@ module _ (watch : Watch) (log : List ℕ) (old : Reading) (bytes : List ℕ) (se
         let here : left_of after old.name ≡ Some l = subst (λ (n : List ℕ). left_of after n ≡ Some l) name is in
         are ∙ ap (λ (v : List ℕ). new.kept ++ v) (same_some l taken.1 (sym here ∙ taken.3))
 
-    module _ (line : List ℕ) (counts : CountsLine session.network (line_of (old.number + 1, line)) steps steps') (gives : GivesLine old new after bytes line) where
+    module _ (line : List ℕ) (counts : CountsLine (network_of session) (line_of (old.number + 1, line)) steps steps') (gives : GivesLine old new after bytes line) where
       abbrev more : List (List ℕ)
       more = ls ++ line ∷ []
 
       further : CountsLines watch.from (numbered more) start steps'
       further =
-          let here = subst (λ (n : ℕ). CountsLine session.network (line_of (n + 1, line)) steps steps') at.is_at.number_is counts in
+          let here = subst (λ (n : ℕ). CountsLine (network_of session) (line_of (n + 1, line)) steps steps') at.is_at.number_is counts in
           subst (λ (v : List NumberedLine). CountsLines watch.from v start steps') (sym (numbered_more ls line))
-          (counts_more watch.from at.regular (numbered ls) at.is_at.entries at.is_at.come session.network now (line_of (length ls + 1, line)) start steps steps' so_far here)
+          (counts_more watch.from at.regular (numbered ls) at.is_at.entries at.is_at.come (network_of session) now (line_of (length ls + 1, line)) start steps steps' so_far here)
 
       all_more : IsOneLine line → All IsOneLine more
       all_more one = All-append IsOneLine ls (line ∷ []) at.is_at.one_each (one_alone line one)
@@ -233,36 +227,36 @@ module _ (watch : Watch) (log : List ℕ) (old : Reading) (bytes : List ℕ) (se
 
     -- the text of a line as its number and its bytes
     module _ (reads_log : ReadsLog old) where
-      pub piece_counts : (line : Given) → IsNumbered new line → CountsGiven session.network line new.text steps steps' → Says old new after (Ok line) bytes
+      pub piece_counts : (line : Given) → IsNumbered new line → CountsGiven (network_of session) line new.text steps steps' → Says old new after (Ok line) bytes
           → new.ended ≡ false → CountsLines watch.from (log_lines (take new.given log)) start steps'
       piece_counts (given.Text number) is counts says going =
           let limit = reads_log.line_most in
           let short = says.short in
           let here : line_of (old.number + 1, new.text) ≡ lines.text number new.text =
           short_line (old.number + 1) new.text (omega (arith, limit, short)) ∙ ap (λ (n : ℕ). lines.text n new.text) (sym says.line.number ∙ sym is) in
-          line_goes new.text (subst (λ (l : NumberedLine). CountsLine session.network l steps steps') (sym here) counts) says.line going
+          line_goes new.text (subst (λ (l : NumberedLine). CountsLine (network_of session) l steps steps') (sym here) counts) says.line going
       piece_counts (given.Long number) is counts says going =
           let limit = reads_log.line_most in
           let past = says.long in
           let here : line_of (old.number + 1, says.line) ≡ lines.long number =
           long_line (old.number + 1) says.line (omega (arith, limit, past)) ∙ ap (λ (n : ℕ). lines.long n) (sym says.gives.number ∙ sym is) in
-          line_goes says.line (subst (λ (l : NumberedLine). CountsLine session.network l steps steps') (sym here) counts) says.gives going
+          line_goes says.line (subst (λ (l : NumberedLine). CountsLine (network_of session) l steps steps') (sym here) counts) says.gives going
       piece_counts given.End is counts says going = let ended : true ≡ false = sym says.ended ∙ going in absurd (cc)
 
-      pub piece_takes : (line : Given) → IsNumbered new line → CountsGiven session.network line new.text steps steps' → Says old new after (Ok line) bytes
+      pub piece_takes : (line : Given) → IsNumbered new line → CountsGiven (network_of session) line new.text steps steps' → Says old new after (Ok line) bytes
           → (taken : LeavesRest log (left_of after old.name)) → CountsLines watch.from (lines_taken taken.0 taken.1) start steps'
       piece_takes (given.Text number) is counts says taken =
           let limit = reads_log.line_most in
           let short = says.short in
           let here : line_of (old.number + 1, new.text) ≡ lines.text number new.text =
           short_line (old.number + 1) new.text (omega (arith, limit, short)) ∙ ap (λ (n : ℕ). lines.text n new.text) (sym says.line.number ∙ sym is) in
-          line_taken new.text (subst (λ (l : NumberedLine). CountsLine session.network l steps steps') (sym here) counts) says.line taken
+          line_taken new.text (subst (λ (l : NumberedLine). CountsLine (network_of session) l steps steps') (sym here) counts) says.line taken
       piece_takes (given.Long number) is counts says taken =
           let limit = reads_log.line_most in
           let past = says.long in
           let here : line_of (old.number + 1, says.line) ≡ lines.long number =
           long_line (old.number + 1) says.line (omega (arith, limit, past)) ∙ ap (λ (n : ℕ). lines.long n) (sym says.gives.number ∙ sym is) in
-          line_taken says.line (subst (λ (l : NumberedLine). CountsLine session.network l steps steps') (sym here) counts) says.gives taken
+          line_taken says.line (subst (λ (l : NumberedLine). CountsLine (network_of session) l steps steps') (sym here) counts) says.gives taken
       piece_takes given.End is counts says taken =
           let none : taken.1 ≡ [] = no_more new.kept taken.1 (left_is [] says.comes taken) in
           let log_is : log ≡ joined ls ++ ([] ++ taken.1) = at.is_at.log_is ∙ ap (λ (v : List ℕ). joined ls ++ v) (says.none ∙ sym none) in

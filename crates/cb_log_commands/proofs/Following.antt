@@ -308,11 +308,12 @@ module _ (watch : Watch) (now : FilesTold) (out : SinkTold) (reader : Reading) (
         ),
         WritesFront-second out out_now out' has.told text has.written front,
       )
-      part log has true last = (
-        has.told ++ text,
-        inr (record { short = last.within; tells = last.tells }),
-        WritesFront-second out out_now out' has.told text has.written front,
-      )
+      part log has true last =
+          let (left, is, are) = left_there reader'.kept (left_of files' reader'.name) [] last.comes in (
+            has.told ++ text,
+            inr (is ∙ ap (λ (l : List ℕ). Some l) (no_more reader'.kept left are), record { short = last.within; tells = last.tells }),
+            WritesFront-second out out_now out' has.told text has.written front,
+          )
 
       -- no more is due than was told, where these bytes of the next line are after the point
       module _ (log : List ℕ) (has : HasTold watch log reader files session out out_now) (some : IsSome out.taken) (upto : ℕ) (due written : List ℕ)

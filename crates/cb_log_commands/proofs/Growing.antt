@@ -7,8 +7,11 @@ use Rattle.cb_grammar.specs.declared.tree.Tree.{Tree}
 use Rattle.cb_syntax.specs.Spells.{SpellsModel}
 use Rattle.cb_syntax.specs.Laws.{TellsFault}
 use Rattle.cb_syntax.specs.declared.fault.SyntaxFault.{SyntaxFault}
-use Rattle.cb_rules.specs.Fault.{KeepsAll}
+use Rattle.cb_rules.specs.Fault.{KeepsAll, IsFault as IsTypeFault}
 use Rattle.cb_check.specs.Stands.{Stands}
+use Rattle.cb_check.specs.Fault.{OnBroken}
+use Rattle.cb_check.specs.declared.fault.TypeFault.{TypeFault}
+use Rattle.cb_check.specs.declared.fault.TypeFault.TheVariants as types
 use Rattle.cb_network.specs.Topology.{Topology}
 use Rattle.cb_line_files.specs.declared.topology.LineFault.TheVariants.{BadWords, Refused}
 use Rattle.cb_network.specs.declared.edit.EditRefusal.{EditRefusal}
@@ -20,6 +23,7 @@ use Rattle.cb_outcome.specs.Command.{file_words}
 use Rattle.cb_outcome.specs.Commands.Grow.{grow}
 use Rattle.cb_report.specs.declared.fault.Fault.{Fault}
 use Rattle.cb_report.specs.declared.fault.Fault.TheVariants as faults
+use Rattle.cb_report.specs.FaultSources.{fault_of_syntax, fault_of_types}
 use Rattle.cb_outcome.specs.Judged.{nothing, parsed, Means, IsModelFault}
 use Rattle.cb_outcome.specs.Grown.{MakesUp, HasMadeUpFault}
 use Rattle.cb_file_kinds.specs.declared.output.Output.{Output}
@@ -30,10 +34,22 @@ use Rattle.cb_file_kinds.proofs.Chain.{of_all, reads_none}
 
 -- ---- the model
 
-pub tree_stops : (sites : ℕ) (text : List ℕ) (fault : SyntaxFault) → text ≡ model_text → TellsFault text fault
-    → IsWant (faults.Syntax fault) ⊎ HasMadeUpFault sites (faults.Syntax fault)
-tree_stops sites text fault e (inl want) = inl (rw want refl)
-tree_stops sites text fault e (inr is) = inr (inl (subst (λ (t : List ℕ). IsModelFault t (faults.Syntax fault)) e is))
+pub tree_stops : (sites : ℕ) (text : List ℕ) (why : SyntaxFault) → text ≡ model_text → TellsFault text why
+    → IsWant (fault_of_syntax why) ⊎ HasMadeUpFault sites (fault_of_syntax why)
+tree_stops sites text why e (inl want) = inl (rw want refl)
+tree_stops sites text why e (inr is) =
+    inr (inl (subst (λ (t : List ℕ). IsModelFault t (fault_of_syntax why)) e (inl (record { why = why; has = is; is = refl }))))
+
+pub tables_stop : (sites : ℕ) (text : List ℕ) (tree : Tree) (why : TypeFault) → text ≡ model_text → SpellsModel text tree
+    → OnBroken {T = Tables} (Err why) (IsTypeFault tree) → IsWant (fault_of_types why) ⊎ HasMadeUpFault sites (fault_of_types why)
+tables_stop sites text tree (types.Broken broken) e spelled is = inr (inl (inr (record {
+  tree = tree;
+  spells = subst (λ (t : List ℕ). SpellsModel t tree) e spelled;
+  broken = broken;
+  breaks = is;
+  is = refl;
+})))
+tables_stop sites text tree types.NoMemory e spelled is = inl refl
 
 module _ (sites : ℕ) (text second : List ℕ) (e : text ≡ model_text) (f : second ≡ topology_text sites) (tree : Tree) (tables : Tables)
     (spelled : SpellsModel text tree) (keeps : KeepsAll tree) (stands : Stands tree tables) where

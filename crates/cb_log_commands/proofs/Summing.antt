@@ -28,7 +28,7 @@ use Rattle.cb_alarm.specs.Lines.{NumberedLine, line_of, log_lines, ComesTo, IsBl
 use Rattle.cb_alarm.specs.Lines as lines
 use Rattle.cb_report.specs.declared.summary.Summary.{Summary}
 use Rattle.cb_report.specs.SummaryText.{CountsAlone, CountsEvents, CountsOneMore, one_record_more}
-use Rattle.cb_session.specs.State.{State, StandsForEntries}
+use Rattle.cb_session.specs.State.{State, network_of, StandsForEntries}
 use Rattle.cb_outcome.specs.Grown.{CountsNetwork, SumsUpLog}
 use Rattle.cb_log_commands.specs.Summing.{skips, HasSummedUp, IsAskedFor, KeepsCounts}
 use Rattle.cb_log_commands.specs.Telling.{numbered}
@@ -179,7 +179,7 @@ pub all_summed : (opening : Topology) (log : List ℕ) (session : State) (summar
     → HasSummedUp opening (log_lines log) session summary → (ends : List Event)
     → ((entries : List LogEntry) → StandsForEntries session opening entries → EndGives opening session.mode session.windows.length (records_of entries) ends)
     → ((earlier : List Event) → CountsEvents earlier summary → CountsEvents (earlier ++ ends) mid) → mid.records ≡ summary.records
-    → KeepsCounts mid summary' → CountsNetwork session.network summary'
+    → KeepsCounts mid summary' → CountsNetwork (network_of session) summary'
     → SumsUpLog opening session.mode session.windows.length log summary'
 all_summed opening log session summary mid summary' has ends end_gives counts same keeps sizes = record {
   events = has.events ++ ends;
@@ -194,7 +194,7 @@ all_summed opening log session summary mid summary' has ends end_gives counts sa
   };
   records = keeps.records ∙ (same ∙ has.records);
   counted = keeps.counted (has.events ++ ends) (counts has.events has.counted);
-  last = session.network;
+  last = network_of session;
   last_is = has.stands.network;
   sizes = sizes;
 }

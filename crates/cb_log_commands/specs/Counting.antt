@@ -21,10 +21,9 @@ use Rattle.cb_log_commands.specs.Telling.{IsAt}
 
 -- ---- a line
 
--- over a regular model, no more steps are counted than the edit costs that the line comes to
+-- no more steps are counted than the edit costs that the line comes to
 abbrev pub CountsLine : Topology → NumberedLine → ℕ → ℕ → Type 0
-CountsLine network line old new = IsRegular network.model → (entry : LogEntry) → ComesTo line entry → (cost : ℕ) → IsEntryCost network entry cost
-    → new ≤ old + cost
+CountsLine network line old new = (entry : LogEntry) → ComesTo line entry → (cost : ℕ) → IsEntryCost network entry cost → new ≤ old + cost
 
 -- of the line that a reader gave, whose bytes are these where it isn't too long; none where it gave none
 abbrev pub CountsGiven : Topology → Given → List ℕ → ℕ → ℕ → Type 0

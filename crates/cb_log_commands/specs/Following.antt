@@ -61,10 +61,11 @@ pub record IsToldSoFar (watch : Watch) (log : List ℕ) (left : Option (List ℕ
   pub is_due : IsDueUpto watch log upto due
   pub written : WritesAll out out' due
 
--- a prefix of what is due at some point near what was taken, or at the log's end, was written
+-- a prefix of what is due at some point near what was taken, or at the end of a log that was read to it, was written
 abbrev pub IsToldInPart : Watch → List ℕ → Option (List ℕ) → SinkTold → SinkTold → Type 0
 IsToldInPart watch log left out out' = (due : List ℕ)
-    × (((upto : ℕ) × IsNearTaken log left upto × IsDueUpto watch log upto due) ⊎ IsDueOfAll watch log due) × WritesFront out out' due
+    × (((upto : ℕ) × IsNearTaken log left upto × IsDueUpto watch log upto due) ⊎ ((left ≡ Some []) × IsDueOfAll watch log due))
+    × WritesFront out out' due
 
 -- where more is due at some point of the log than was written, not many more bytes than those were taken
 abbrev pub IsNotFar : Watch → List ℕ → Option (List ℕ) → SinkTold → SinkTold → Type 0

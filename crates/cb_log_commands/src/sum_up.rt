@@ -6,7 +6,7 @@ ghost use Rattle.cb_network.specs.Regular.{IsRegular};
 ghost use Rattle.cb_network.specs.Topology.{Topology as TopologyOf};
 ghost use Rattle.cb_report.specs.SummaryText.{CountsAlone, CountsEvents};
 ghost use Rattle.cb_outcome.specs.Grown.{CountsNetwork, SumsUpLog};
-ghost use Rattle.cb_session.specs.State.{StandsForEntries, line_of, IsFitting};
+ghost use Rattle.cb_session.specs.State.{StandsForEntries, line_of, network_of, IsFitting};
 ghost use Rattle.cb_topo.specs.Numbered.{topology_of};
 ghost use Rattle.cb_log_commands.specs.Counting.{CountsLine, CountsSummed};
 ghost use Rattle.cb_log_commands.specs.Summing.{skips, HasSummedUp, IsAskedFor, KeepsCounts};
@@ -80,7 +80,7 @@ fn take_line<L: Ledger>(
     ensures length { session.new.windows.length ≡ session.old.windows.length }
     ensures takes { OnOk result ((opening : TopologyOf) (before : Items NumberedLine) → IsRegular opening.model → HasSummedUp opening before session.old summary.old
         → HasSummedUp opening (before ++ line_of_numbered (number, bytes.now) ∷ []) session.new summary.new) }
-    ensures counts { CountsLine session.old.network (line_of_numbered (number, bytes.now)) steps.old steps.new }
+    ensures counts { CountsLine (network_of session.old) (line_of_numbered (number, bytes.now)) steps.old steps.new }
 {
     let events = session.step(alloc, log_line(number, bytes), steps)?;
     if is_record(bytes, &events) {

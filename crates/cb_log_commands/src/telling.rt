@@ -3,7 +3,7 @@ ghost use Rattle.std.specs.Prelude.{◌≡◌, ◌≤◌, ◌++◌, ℕ, List, l
 ghost use Rattle.cb_alarm.specs.Lines.{log_line_limit};
 ghost use Rattle.cb_log_commands.specs.Counting.{CountsGiven, CountsLine};
 ghost use Rattle.cb_log_commands.specs.Telling.{TellsGiven, TellsLine, TellsEnd};
-ghost use Rattle.cb_session.specs.State.{IsFitting, line_of};
+ghost use Rattle.cb_session.specs.State.{IsFitting, line_of, network_of};
 
 use cb_io::Line;
 use cb_report::events_text;
@@ -24,7 +24,7 @@ pub(crate) fn text_of_line<L: Ledger>(
     ensures mode { session.new.mode ≡ session.old.mode }
     ensures length { session.new.windows.length ≡ session.old.windows.length }
     ensures tells { IfOk result (λ text. TellsGiven session.old session.new line bytes.now text.items) }
-    ensures counts { CountsGiven session.old.network line bytes.now steps.old steps.new }
+    ensures counts { CountsGiven (network_of session.old) line bytes.now steps.old steps.new }
 {
     match line {
         Line::Text { number } => text_of_step(
@@ -49,7 +49,7 @@ fn text_of_step<L: Ledger>(
     ensures mode { session.new.mode ≡ session.old.mode }
     ensures length { session.new.windows.length ≡ session.old.windows.length }
     ensures tells { IfOk result (λ text. TellsLine session.old session.new (line_of line.entry) text.items) }
-    ensures counts { CountsLine session.old.network (line_of line.entry) steps.old steps.new }
+    ensures counts { CountsLine (network_of session.old) (line_of line.entry) steps.old steps.new }
 {
     let events = session.step(alloc, line, steps)?;
     events_text(alloc, &events)

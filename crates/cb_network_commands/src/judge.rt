@@ -62,8 +62,8 @@ pub(crate) fn lines_of_matrix<L: Ledger>(
     MatrixLines::of(alloc, columns, groups, least)
 }
 
-// The matrix of the topology. The memory of the rows that it is taken from is given back.
-fn matrix_of<L: Ledger>(
+/// The matrix of the topology. The memory of the rows that it is taken from is given back.
+pub(crate) fn matrix_of<L: Ledger>(
     alloc: Global,
     topology: Topology,
     steps: &mut Steps<L>,

@@ -3,7 +3,9 @@
 
 pub mod burst;
 pub mod codebook;
+mod fitting;
 mod judge;
 pub mod matrix;
 pub mod model;
+pub mod pairs;
 pub mod verify;

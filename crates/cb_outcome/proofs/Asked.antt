@@ -2,7 +2,7 @@
 use Rattle.std.proofs.Common.{refl}
 use Rattle.std.specs.Prelude.{Option, None, Some}
 use Rattle.cb_request.specs.declared.request.Request.{Request}
-use Rattle.cb_request.specs.declared.request.Request.TheVariants.{Burst, Model, Matrix, Codebook, Verify, Decode, Correlate, Grow}
+use Rattle.cb_request.specs.declared.request.Request.TheVariants.{Burst, Model, Matrix, Codebook, Verify, Decode, Correlate, Grow, Pairs}
 use Rattle.cb_outcome.specs.Asked.{command_of, command_for}
 use Rattle.cb_outcome.proofs.Lawful.{IsLawful}
 use Rattle.cb_outcome.proofs.Commands.Burst as burst
@@ -13,6 +13,7 @@ use Rattle.cb_outcome.proofs.Commands.Verify as verify
 use Rattle.cb_outcome.proofs.Commands.Decode as decode
 use Rattle.cb_outcome.proofs.Commands.Correlate as correlate
 use Rattle.cb_outcome.proofs.Commands.Grow as grow
+use Rattle.cb_outcome.proofs.Commands.Pairs as pairs
 
 pub request_lawful : (request : Request) → IsLawful (command_of request)
 request_lawful (Burst one two three) = burst.lawful one two three
@@ -23,6 +24,7 @@ request_lawful (Verify one two three) = verify.lawful one two three
 request_lawful (Decode one two three log window) = decode.lawful one two three log window
 request_lawful (Correlate one two log distance window) = correlate.lawful one two log distance window
 request_lawful (Grow sites start) = grow.lawful sites start
+request_lawful (Pairs one two three) = pairs.lawful one two three
 
 pub lawful : (asked : Option Request) → IsLawful (command_for asked)
 lawful None = (refl, refl)

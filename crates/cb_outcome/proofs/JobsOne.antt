@@ -40,8 +40,12 @@ use Rattle.cb_report.specs.declared.fault.Fault.TheVariants as faults
 use Rattle.cb_report.specs.CertificateTexts.{accepted_text}
 use Rattle.cb_report.specs.Lines.{burst_text}
 use Rattle.cb_report.specs.MatrixText.{matrix_text}
-use Rattle.cb_outcome.specs.Outcome.{Outcome, done, done_with}
-use Rattle.cb_outcome.specs.Jobs.{BurstGives, MatrixGives, WritesCanonical, RefusesMany, WritesBook, WritesThin, CodebookGives, VerifyGives}
+use Rattle.cb_report.specs.declared.fits.FoundFits.{FoundFits}
+use Rattle.cb_report.specs.FitsText.{fits_text}
+use Rattle.cb_outcome.specs.Fits.{IsFoundFor}
+use Rattle.cb_outcome.specs.Outcome.{Outcome, done, done_with, refused}
+use Rattle.cb_outcome.specs.Jobs.{BurstGives, MatrixGives, WritesCanonical, RefusesMany, WritesBook, WritesThin, CodebookGives, VerifyGives, ListsFits, RefusesGroups, PairsGives}
+use Rattle.cb_outcome.proofs.FitsOne.{found_is_one}
 
 pub burst_one : (t : Topology) (nodes : List NodeName) (whole : ℕ) (a b : Outcome) → BurstGives t nodes whole a → BurstGives t nodes whole b → a ≡ b
 burst_one t nodes whole a b (f, found, e) (g, found', h) =
@@ -209,3 +213,34 @@ shows_is_one t (ThinClaim wanted distance nodes first second) (accepted.Thin w f
 pub verify_one : (t : Topology) (c : Certificate) (whole : ℕ) (a b : Outcome) → VerifyGives t c whole a → VerifyGives t c whole b → a ≡ b
 verify_one t c whole a b (x, shows, e) (y, shows', h) =
     e ∙ (ap (λ (v : Accepted). done (accepted_text v) whole) (shows_is_one t c x y shows shows') ∙ sym h)
+
+-- ---- what fits
+
+fits_one : (t : Topology) (nodes : List NodeName) (whole : ℕ) (a b : Outcome) → ListsFits t nodes whole a → ListsFits t nodes whole b → a ≡ b
+fits_one t nodes whole a b p q =
+    let same = matrix_is_one t p.columns q.columns p.groups q.groups p.matrix q.matrix in
+    let over : IsFoundFor p.columns p.groups nodes q.found =
+    subst (λ (cs : List NodeName). IsFoundFor cs p.groups nodes q.found) (sym same.0)
+    (subst (λ (gs : List Group). IsFoundFor q.columns gs nodes q.found) (sym same.1) q.is_found)
+    in
+    p.gives ∙ (ap (λ (found : FoundFits). done (fits_text found) whole) (found_is_one p.columns p.groups nodes p.found q.found p.is_found over) ∙ sym q.gives)
+
+refused_groups_one : (t : Topology) (whole : ℕ) (a b : Outcome) → RefusesGroups t whole a → RefusesGroups t whole b → a ≡ b
+refused_groups_one t whole a b p q =
+    let same = matrix_is_one t p.columns q.columns p.groups q.groups p.matrix q.matrix in
+    p.gives ∙ (ap (λ (gs : List Group). refused (faults.Groups (length gs)) whole) same.1 ∙ sym q.gives)
+
+-- the groups are few or many
+few_groups_are_not_many : (t : Topology) (nodes : List NodeName) (whole : ℕ) (a b : Outcome) → ListsFits t nodes whole a → RefusesGroups t whole b → ⊥
+few_groups_are_not_many t nodes whole a b p q =
+    let same = matrix_is_one t p.columns q.columns p.groups q.groups p.matrix q.matrix in
+    let long = ap (λ (gs : List Group). length gs) same.1 in
+    let few = p.is_found.few in
+    let many = q.many in
+    omega (arith, long, few, many)
+
+pub pairs_one : (t : Topology) (nodes : List NodeName) (whole : ℕ) (a b : Outcome) → PairsGives t nodes whole a → PairsGives t nodes whole b → a ≡ b
+pairs_one t nodes whole a b (inl p) (inl q) = fits_one t nodes whole a b p q
+pairs_one t nodes whole a b (inl p) (inr q) = absurd (few_groups_are_not_many t nodes whole a b p q)
+pairs_one t nodes whole a b (inr p) (inl q) = absurd (few_groups_are_not_many t nodes whole b a q p)
+pairs_one t nodes whole a b (inr p) (inr q) = refused_groups_one t whole a b p q

@@ -1,5 +1,6 @@
 pub mod FirstLines
 pub mod Once
+pub mod FitsOne
 pub mod JobsOne
 pub mod LogFronts
 pub mod LogsOne

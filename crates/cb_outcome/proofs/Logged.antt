@@ -5,12 +5,11 @@ use Rattle.cb_io.specs.Outside.{SinkTold, WritesAll}
 use Rattle.cb_network.specs.Regular.{IsRegular}
 use Rattle.cb_log.specs.declared.event.Event.{Event}
 use Rattle.cb_log.specs.Entries.{records_of}
-use Rattle.cb_log.specs.Sources.{SourceAlone}
 use Rattle.cb_log.specs.Whole.{OneForEach}
 use Rattle.cb_log.proofs.Alone.{named_alone}
 use Rattle.cb_log.proofs.OneForEach.{one_for_each}
-use Rattle.cb_log.proofs.QuietExists.{quieter}
 use Rattle.cb_log.proofs.ThinEvents.{thins_are_close}
+use Rattle.cb_alarm.proofs.QuietLines.{log_alone}
 use Rattle.cb_outcome.specs.LogJobs.{Watch, WholeTells}
 use Rattle.cb_outcome.specs.Prints.{PrintsEvents}
 use Rattle.cb_outcome.proofs.Apart.{AllApart}
@@ -31,6 +30,5 @@ prints_events watch log due out out' regular apart (events, gives, due_is) writt
   thin = λ event has thin.
       thins_are_close watch.from watch.mode watch.window gives.entries gives.body gives.ends gives.body_is gives.ends_are event
       (subst (λ (es : List Event). Contains es event) gives.events_are has) thin;
-  alone = λ source. subst (λ (es : List Event). SourceAlone watch.from watch.mode watch.window source gives.entries es) (sym gives.events_are)
-      (quieter watch.from watch.mode watch.window source gives.entries gives.body gives.ends regular gives.body_is gives.ends_are);
+  alone = λ source. log_alone source watch.from watch.mode watch.window log events regular gives;
 }

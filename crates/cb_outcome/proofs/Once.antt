@@ -11,7 +11,6 @@ use Rattle.cb_rules.specs.declared.rule.BrokenRule.{BrokenRule}
 use Rattle.cb_rules.specs.Fault.{IsFault as IsTypeFault}
 use Rattle.cb_rules.proofs.Order.{one_fault_is}
 use Rattle.cb_check.specs.Stands.{Stands}
-use Rattle.cb_check.specs.declared.fault.TypeFault.TheVariants.{Broken}
 use Rattle.cb_check.proofs.One.{one_model}
 use Rattle.cb_check.proofs.Typed.{stands_is_typed}
 use Rattle.cb_network.specs.Regular.{IsRegular}
@@ -32,6 +31,7 @@ use Rattle.cb_validity.proofs.Passing.{valid_is_not_rejected}
 use Rattle.cb_outcome.specs.Roles.{Wanted, Role}
 use Rattle.cb_report.specs.declared.fault.Fault.{Fault}
 use Rattle.cb_report.specs.declared.fault.Fault.TheVariants as faults
+use Rattle.cb_report.specs.FaultSources.{fault_of_syntax, fault_of_text, fault_of_rejected}
 use Rattle.cb_outcome.specs.Texts.{IsTreeText, IsTopologyText, IsValidText, IsWantedKind}
 use Rattle.cb_outcome.specs.Judged.{File, Known, nothing, parsed, network, raised, certified, Means, Says, IsModelFault, IsWrongLine, IsTopologyFault, IsSymptomFault, IsCertificateFault, IsFaultFor, HasFault, Refuses, PassFrom}
 use Rattle.cb_outcome.proofs.FirstLines.{long_is_one, long_or_short, bad_is_one, bad_or_listed, nodes_are_one, topology_is_one, made_of, wrong_is_one, wrong_or_makes}
@@ -47,42 +47,22 @@ same_tree text one other s s' = let e = one_answer text (Ok one) (Ok other) s s'
 no_tree : (text : List ℕ) (tree : Tree) (fault : SyntaxFault) → SpellsModel text tree → IsAnswer text (Err fault) → ⊥
 no_tree text tree fault s f = let e = one_answer text (Ok tree) (Err fault) s f in cc
 
--- a fault of tokens
-record OfTokens (text : List ℕ) (fault : Fault) : Type 0 where
-  syntax : SyntaxFault
-  is : fault ≡ faults.Syntax syntax
-  answer : IsAnswer text (Err syntax)
-
--- a broken rule
-record OfRules (text : List ℕ) (fault : Fault) : Type 0 where
-  broken : BrokenRule
-  is : fault ≡ faults.Kind (Broken broken)
-  tree : Tree
-  spelled : SpellsModel text tree
-  breaks : IsTypeFault tree broken
-
-kind_of : (text : List ℕ) (fault : Fault) → IsModelFault text fault → OfTokens text fault ⊎ OfRules text fault
-kind_of text (faults.Syntax syntax) f = inl (record { syntax = syntax; is = refl; answer = f })
-kind_of text (faults.Kind (Broken broken)) (tree, spelled, breaks) =
-    inr (record { broken = broken; is = refl; tree = tree; spelled = spelled; breaks = breaks })
-kind_of text fault f = absurd f
-
-same_kind : (text : List ℕ) (one other : Fault) → OfTokens text one ⊎ OfRules text one → OfTokens text other ⊎ OfRules text other → one ≡ other
-same_kind text one other (inl a) (inl b) =
-    let e = one_answer text (Err a.syntax) (Err b.syntax) a.answer b.answer in
-    let same : a.syntax ≡ b.syntax = cc in
-    a.is ∙ (ap (λ (s : SyntaxFault). faults.Syntax s) same ∙ sym b.is)
-same_kind text one other (inl a) (inr b) = absurd (no_tree text b.tree a.syntax b.spelled a.answer)
-same_kind text one other (inr a) (inl b) = absurd (no_tree text a.tree b.syntax a.spelled b.answer)
-same_kind text one other (inr a) (inr b) =
-    let trees = same_tree text a.tree b.tree a.spelled b.spelled in
+one_model_fault : (text : List ℕ) (one other : Fault) → IsModelFault text one → IsModelFault text other → one ≡ other
+one_model_fault text one other (inl a) (inl b) =
+    let e = one_answer text (Err a.why) (Err b.why) a.has b.has in
+    let same : a.why ≡ b.why = cc in
+    a.is ∙ (ap fault_of_syntax same ∙ sym b.is)
+one_model_fault text one other (inl a) (inr b) = absurd (no_tree text b.tree a.why b.spells a.has)
+one_model_fault text one other (inr a) (inl b) = absurd (no_tree text a.tree b.why a.spells b.has)
+one_model_fault text one other (inr a) (inr b) =
+    let trees = same_tree text a.tree b.tree a.spells b.spells in
     let breaks : IsTypeFault b.tree a.broken = subst (λ (t : Tree). IsTypeFault t a.broken) trees a.breaks in
-    a.is ∙ (ap (λ (r : BrokenRule). faults.Kind (Broken r)) (one_fault_is b.tree a.broken b.broken breaks b.breaks) ∙ sym b.is)
+    a.is ∙ (ap (λ (r : BrokenRule). faults.Kind r) (one_fault_is b.tree a.broken b.broken breaks b.breaks) ∙ sym b.is)
 
-kept_or_broken : (text : List ℕ) (fault : Fault) (tree : Tree) → OfTokens text fault ⊎ OfRules text fault → IsTreeText text tree → ⊥
-kept_or_broken text fault tree (inl a) t = no_tree text tree a.syntax t.spelled a.answer
+kept_or_broken : (text : List ℕ) (fault : Fault) (tree : Tree) → IsModelFault text fault → IsTreeText text tree → ⊥
+kept_or_broken text fault tree (inl a) t = no_tree text tree a.why t.spelled a.has
 kept_or_broken text fault tree (inr a) t =
-    let trees = same_tree text a.tree tree a.spelled t.spelled in
+    let trees = same_tree text a.tree tree a.spells t.spelled in
     let breaks : IsTypeFault tree a.broken = subst (λ (x : Tree). IsTypeFault x a.broken) trees a.breaks in
     t.keeps a.broken.rule a.broken.line breaks.broken
 
@@ -159,50 +139,35 @@ same_certificate text c d s s' = let e = reading_is_one text (Ok c) (Ok d) s s' 
 no_certificate : (text : List ℕ) (c : Certificate) (fault : CertText) → SpellsCertificate text c → IsReading text (Err fault) → ⊥
 no_certificate text c fault s f = let e = reading_is_one text (Ok c) (Err fault) s f in cc
 
--- what is wrong with a certificate
-data IsWrongClaim (t : Topology) (text : List ℕ) (fault : Fault) : Type 0 where
-  unread : (why : CertText) → fault ≡ faults.CertBad why → IsReading text (Err why) → IsWrongClaim t text fault
-  untrue : (why : Rejected) → fault ≡ faults.CertRejected why → (c : Certificate) → SpellsCertificate text c → IsFirstFail t c why → IsWrongClaim t text fault
-
--- the same, or that it isn't of the wanted kind
-data IsUnwanted (wanted : Wanted) (t : Topology) (text : List ℕ) (fault : Fault) : Type 0 where
-  claim : IsWrongClaim t text fault → IsUnwanted wanted t text fault
-  unlike : fault ≡ faults.NotBook → (c : Certificate) → IsValidText t text c → (¬ IsWantedKind wanted c) → IsUnwanted wanted t text fault
-
 module _ (t : Topology) (text : List ℕ) where
-  unwanted : (wanted : Wanted) (fault : Fault) → IsFaultFor wanted t text fault → IsUnwanted wanted t text fault
-  unwanted wanted faults.NotBook (c, valid, none) = unlike refl c valid none
-  unwanted wanted (faults.CertBad why) f = claim (unread why refl f)
-  unwanted wanted (faults.CertRejected why) (c, spells, fails) = claim (untrue why refl c spells fails)
-  unwanted wanted fault f = absurd f
-
-  one_claim : (f g : Fault) → IsWrongClaim t text f → IsWrongClaim t text g → f ≡ g
-  one_claim f g (unread why e a) (unread why' h b) =
-      let one = reading_is_one text (Err why) (Err why') a b in
-      let same : why ≡ why' = cc in
-      e ∙ (ap (λ (x : CertText). faults.CertBad x) same ∙ sym h)
-  one_claim f g (unread why e a) (untrue why' h c spells fails) = absurd (no_certificate text c why spells a)
-  one_claim f g (untrue why e c spells fails) (unread why' h b) = absurd (no_certificate text c why' spells b)
-  one_claim f g (untrue why e c spells fails) (untrue why' h d spells' fails') =
+  one_claim : (f g : Fault) → IsCertificateFault t text f → IsCertificateFault t text g → f ≡ g
+  one_claim f g (inl a) (inl b) =
+      let one = reading_is_one text (Err a.why) (Err b.why) a.has b.has in
+      let same : a.why ≡ b.why = cc in
+      a.is ∙ (ap fault_of_text same ∙ sym b.is)
+  one_claim f g (inl a) (inr (c, spells, b)) = absurd (no_certificate text c a.why spells a.has)
+  one_claim f g (inr (c, spells, a)) (inl b) = absurd (no_certificate text c b.why spells b.has)
+  one_claim f g (inr (c, spells, a)) (inr (d, spells', b)) =
       let same = same_certificate text d c spells' spells in
-      let one = first_fail_is_one t c why why' fails (subst (λ (x : Certificate). IsFirstFail t x why') same fails') in
-      e ∙ (ap (λ (x : Rejected). faults.CertRejected x) one ∙ sym h)
+      let one = first_fail_is_one t c a.why b.why a.fails (subst (λ (x : Certificate). IsFirstFail t x b.why) same b.fails) in
+      a.is ∙ (ap fault_of_rejected one ∙ sym b.is)
 
-  claim_or_valid : (f : Fault) (c : Certificate) → IsWrongClaim t text f → IsValidText t text c → ⊥
-  claim_or_valid f c (unread why e a) valid = no_certificate text c why valid.spelled a
-  claim_or_valid f c (untrue why e d spells fails) valid =
-      valid_is_not_rejected t c why valid.valid (subst (λ (x : Certificate). IsFirstFail t x why) (same_certificate text d c spells valid.spelled) fails)
+  claim_or_valid : (f : Fault) (c : Certificate) → IsCertificateFault t text f → IsValidText t text c → ⊥
+  claim_or_valid f c (inl a) valid = no_certificate text c a.why valid.spelled a.has
+  claim_or_valid f c (inr (d, spells, a)) valid =
+      valid_is_not_rejected t c a.why valid.valid
+      (subst (λ (x : Certificate). IsFirstFail t x a.why) (same_certificate text d c spells valid.spelled) a.fails)
 
-  one_unwanted : (wanted : Wanted) (f g : Fault) → IsUnwanted wanted t text f → IsUnwanted wanted t text g → f ≡ g
-  one_unwanted wanted f g (claim a) (claim b) = one_claim f g a b
-  one_unwanted wanted f g (claim a) (unlike h c valid none) = absurd (claim_or_valid f c a valid)
-  one_unwanted wanted f g (unlike e c valid none) (claim b) = absurd (claim_or_valid g c b valid)
-  one_unwanted wanted f g (unlike e c valid none) (unlike h d valid' none') = e ∙ sym h
+  one_for : (wanted : Wanted) (f g : Fault) → IsFaultFor wanted t text f → IsFaultFor wanted t text g → f ≡ g
+  one_for wanted f g (inl a) (inl b) = one_claim f g a b
+  one_for wanted f g (inl a) (inr b) = absurd (claim_or_valid f b.certificate a b.valid)
+  one_for wanted f g (inr a) (inl b) = absurd (claim_or_valid g a.certificate b a.valid)
+  one_for wanted f g (inr a) (inr b) = a.is ∙ sym b.is
 
-  unwanted_or_valid : (wanted : Wanted) (f : Fault) (c : Certificate) → IsUnwanted wanted t text f → IsValidText t text c → IsWantedKind wanted c → ⊥
-  unwanted_or_valid wanted f c (claim a) valid kind = claim_or_valid f c a valid
-  unwanted_or_valid wanted f c (unlike e d valid' none) valid kind =
-      none (subst (IsWantedKind wanted) (same_certificate text c d valid.spelled valid'.spelled) kind)
+  for_or_valid : (wanted : Wanted) (f : Fault) (c : Certificate) → IsFaultFor wanted t text f → IsValidText t text c → IsWantedKind wanted c → ⊥
+  for_or_valid wanted f c (inl a) valid kind = claim_or_valid f c a valid
+  for_or_valid wanted f c (inr a) valid kind =
+      a.other (subst (IsWantedKind wanted) (same_certificate text c a.certificate valid.spelled a.valid.spelled) kind)
 
 -- ---- a file
 
@@ -225,20 +190,18 @@ means_one (Role.certificate wanted) (network t) text sound a b (c, is, kind, e) 
 means_one role known text sound a b p q = absurd p
 
 pub fault_one : (role : Role) (known : Known) (text : List ℕ) → IsSound known → (f g : Fault) → HasFault role known text f → HasFault role known text g → f ≡ g
-fault_one Role.model nothing text sound f g a b = same_kind text f g (kind_of text f a) (kind_of text g b)
+fault_one Role.model nothing text sound f g a b = one_model_fault text f g a b
 fault_one Role.topology (parsed tree) text (from, says) f g a b =
     one_wrong_line from tree says text f g (line_of from tree says text f a) (line_of from tree says text g b)
 fault_one Role.symptoms (network t) text sound f g a b = one_bad_line text f g a b
-fault_one (Role.certificate wanted) (network t) text sound f g a b =
-    one_unwanted t text wanted f g (unwanted t text wanted f a) (unwanted t text wanted g b)
+fault_one (Role.certificate wanted) (network t) text sound f g a b = one_for t text wanted f g a b
 fault_one role known text sound f g a b = absurd a
 
 pub means_or_fault : (role : Role) (known : Known) (text : List ℕ) → IsSound known → (a : Known) (f : Fault) → Means role known text a → HasFault role known text f → ⊥
-means_or_fault Role.model nothing text sound a f (t, is, e) h = kept_or_broken text f t (kind_of text f h) is
+means_or_fault Role.model nothing text sound a f (t, is, e) h = kept_or_broken text f t h is
 means_or_fault Role.topology (parsed tree) text (from, says) a f (t, is, e) h = wrong_or_topology from tree says text f t (line_of from tree says text f h) is
 means_or_fault Role.symptoms (network t) text sound a f (xs, is, e) h = bad_or_nodes text f xs h is
-means_or_fault (Role.certificate wanted) (network t) text sound a f (c, is, kind, e) h =
-    unwanted_or_valid t text wanted f c (unwanted t text wanted f h) is kind
+means_or_fault (Role.certificate wanted) (network t) text sound a f (c, is, kind, e) h = for_or_valid t text wanted f c h is kind
 means_or_fault role known text sound a f p h = p
 
 pub means_sound : (role : Role) (known : Known) (text : List ℕ) (next : Known) → IsSound known → Means role known text next → IsSound next

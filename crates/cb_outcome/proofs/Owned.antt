@@ -1,11 +1,14 @@
 -- The fault of a text is determined by the words and the files alone, and names no file.
-use Rattle.std.proofs.Common.{◌≡◌, ℕ, List, [], refl, sym, ap, subst}
-use Rattle.cb_check.specs.declared.fault.TypeFault.TheVariants as types
+use Rattle.std.proofs.Common.{◌≡◌, ◌⊎◌, ℕ, List, [], refl, sym, ap, subst, inl, inr}
 use Rattle.cb_network.specs.Topology.{Topology}
+use Rattle.cb_syntax.specs.declared.fault.SyntaxFault.{SyntaxFault}
 use Rattle.cb_syntax.specs.declared.fault.SyntaxFault.TheVariants as syntax
+use Rattle.cb_syntax.specs.Spells.{IsFault as IsSyntaxFault}
 use Rattle.cb_cert.specs.declared.certificate.Certificate.{Certificate}
 use Rattle.cb_cert.specs.declared.certificate.Certificate.TheVariants.{Book, Thin}
+use Rattle.cb_cert.specs.declared.fault.CertText.{CertText}
 use Rattle.cb_cert.specs.declared.fault.CertText.TheVariants as texts
+use Rattle.cb_cert.specs.Fronts.{IsFault as IsFormFault}
 use Rattle.cb_validity.specs.declared.verdict.Rejected.{Rejected}
 use Rattle.cb_validity.specs.declared.verdict.Rejected.TheVariants as rejected
 use Rattle.cb_validity.specs.Checks.{Check, node_check, column_check, root_check, parent_check, edge_check, new_check, closed_check, no_more_problems, no_more_spans, claim_check, ReportsCheck, IsFirstFail}
@@ -14,7 +17,8 @@ use Rattle.cb_report.specs.declared.fault.Fault.TheVariants as faults
 use Rattle.cb_report.specs.declared.status.Status.{Status}
 use Rattle.cb_report.specs.declared.status.Status.TheVariants as statuses
 use Rattle.cb_report.specs.Faults.{status_of}
-use Rattle.cb_outcome.specs.Roles.{Role}
+use Rattle.cb_report.specs.FaultSources.{fault_of_syntax, fault_of_text, fault_of_rejected}
+use Rattle.cb_outcome.specs.Roles.{Wanted, Role}
 use Rattle.cb_outcome.specs.Outcome.{Outcome, refused}
 use Rattle.cb_outcome.specs.Judged.{Known, nothing, parsed, network, HasFault}
 use Rattle.cb_outcome.proofs.Lawful.{NamesNoFile, IsOwnStatus, IsOwnFault, IsQuietAt}
@@ -33,20 +37,6 @@ tells_no_want t c (no_more_spans problems spans) e = cc
 tells_no_want t (Book distance nodes columns spans) claim_check none = none
 tells_no_want t (Thin wanted distance nodes first second) claim_check none = none
 
-rejected_status : (t : Topology) (c : Certificate) (why : Rejected) → IsFirstFail t c why → status_of (faults.CertRejected why) ≡ statuses.Certificate
-rejected_status t c rejected.NoMemory (checks, are, fails) = absurd (tells_no_want t c fails.check fails.tells)
-rejected_status t c (rejected.BadNode place) fails = refl
-rejected_status t c (rejected.BadColumn place) fails = refl
-rejected_status t c (rejected.NoSpan problem) fails = refl
-rejected_status t c (rejected.ExtraSpan place) fails = refl
-rejected_status t c (rejected.BadRoot entry) fails = refl
-rejected_status t c (rejected.BadParent entry) fails = refl
-rejected_status t c (rejected.NoEdge entry) fails = refl
-rejected_status t c (rejected.Repeated entry) fails = refl
-rejected_status t c (rejected.NotClosed entry successor) fails = refl
-rejected_status t c (rejected.TooClose first second distance) fails = refl
-rejected_status t c (rejected.NotThin distance) fails = refl
-
 -- the status of a fault of a text, by its role
 abbrev pub IsStatusFor : Role → Status → Type 0
 IsStatusFor Role.model status = status ≡ statuses.Model
@@ -58,30 +48,52 @@ pub record IsTextFault (role : Role) (fault : Fault) : Type 0 where
   pub nameless : NamesNoFile fault
   pub status : IsStatusFor role (status_of fault)
 
+of_tokens : (text : List ℕ) (why : SyntaxFault) → IsSyntaxFault text why → IsTextFault Role.model (fault_of_syntax why)
+of_tokens text (syntax.BadByte line) has = record { nameless = tt; status = refl }
+of_tokens text (syntax.Unexpected line column) has = record { nameless = tt; status = refl }
+of_tokens text (syntax.LongName line) has = record { nameless = tt; status = refl }
+of_tokens text syntax.Unfinished has = record { nameless = tt; status = refl }
+of_tokens text syntax.NoMemory has = absurd has
+
+of_form : (wanted : Wanted) (text : List ℕ) (why : CertText) → IsFormFault text why → IsTextFault (Role.certificate wanted) (fault_of_text why)
+of_form wanted text texts.BadHeader has = record { nameless = tt; status = refl }
+of_form wanted text (texts.BadLine line) has = record { nameless = tt; status = refl }
+of_form wanted text texts.Truncated has = record { nameless = tt; status = refl }
+of_form wanted text (texts.Extra line) has = record { nameless = tt; status = refl }
+of_form wanted text (texts.TooManyEntries line) has = record { nameless = tt; status = refl }
+of_form wanted text texts.NoMemory has = absurd has
+
+of_check : (wanted : Wanted) (t : Topology) (c : Certificate) (why : Rejected) → IsFirstFail t c why → IsTextFault (Role.certificate wanted) (fault_of_rejected why)
+of_check wanted t c (rejected.BadNode place) fails = record { nameless = tt; status = refl }
+of_check wanted t c (rejected.BadColumn place) fails = record { nameless = tt; status = refl }
+of_check wanted t c (rejected.NoSpan problem) fails = record { nameless = tt; status = refl }
+of_check wanted t c (rejected.ExtraSpan place) fails = record { nameless = tt; status = refl }
+of_check wanted t c (rejected.BadRoot entry) fails = record { nameless = tt; status = refl }
+of_check wanted t c (rejected.BadParent entry) fails = record { nameless = tt; status = refl }
+of_check wanted t c (rejected.NoEdge entry) fails = record { nameless = tt; status = refl }
+of_check wanted t c (rejected.Repeated entry) fails = record { nameless = tt; status = refl }
+of_check wanted t c (rejected.NotClosed entry successor) fails = record { nameless = tt; status = refl }
+of_check wanted t c (rejected.TooClose first second distance) fails = record { nameless = tt; status = refl }
+of_check wanted t c (rejected.NotThin distance) fails = record { nameless = tt; status = refl }
+of_check wanted t c rejected.NoMemory (checks, are, fails) = absurd (tells_no_want t c fails.check fails.tells)
+
+same_fault : (role : Role) (fault other : Fault) → fault ≡ other → IsTextFault role other → IsTextFault role fault
+same_fault role fault other e is = subst (IsTextFault role) (sym e) is
+
 pub text_fault : (role : Role) (known : Known) (text : List ℕ) (fault : Fault) → HasFault role known text fault → IsTextFault role fault
-text_fault Role.model nothing text (faults.Syntax syntax.NoMemory) h = absurd h
-text_fault Role.model nothing text (faults.Syntax (syntax.BadByte line)) h = record { nameless = tt; status = refl }
-text_fault Role.model nothing text (faults.Syntax (syntax.Unexpected line column)) h = record { nameless = tt; status = refl }
-text_fault Role.model nothing text (faults.Syntax (syntax.LongName line)) h = record { nameless = tt; status = refl }
-text_fault Role.model nothing text (faults.Syntax syntax.Unfinished) h = record { nameless = tt; status = refl }
-text_fault Role.model nothing text (faults.Kind types.NoMemory) h = absurd h
-text_fault Role.model nothing text (faults.Kind (types.Broken broken)) h = record { nameless = tt; status = refl }
-text_fault Role.model nothing text fault h = absurd h
+text_fault Role.model nothing text fault (inl a) = same_fault Role.model fault (fault_of_syntax a.why) a.is (of_tokens text a.why a.has)
+text_fault Role.model nothing text fault (inr a) = same_fault Role.model fault (faults.Kind a.broken) a.is (record { nameless = tt; status = refl })
 text_fault Role.topology (parsed tree) text (faults.Edit line why) h = record { nameless = tt; status = refl }
 text_fault Role.topology (parsed tree) text (faults.EditWords line) h = record { nameless = tt; status = refl }
 text_fault Role.topology (parsed tree) text fault h = absurd h
 text_fault Role.symptoms (network t) text (faults.SymptomLine line) h = record { nameless = tt; status = refl }
 text_fault Role.symptoms (network t) text fault h = absurd h
-text_fault (Role.certificate wanted) (network t) text (faults.CertBad texts.NoMemory) h = absurd h
-text_fault (Role.certificate wanted) (network t) text (faults.CertBad texts.BadHeader) h = record { nameless = tt; status = refl }
-text_fault (Role.certificate wanted) (network t) text (faults.CertBad (texts.BadLine line)) h = record { nameless = tt; status = refl }
-text_fault (Role.certificate wanted) (network t) text (faults.CertBad texts.Truncated) h = record { nameless = tt; status = refl }
-text_fault (Role.certificate wanted) (network t) text (faults.CertBad (texts.Extra line)) h = record { nameless = tt; status = refl }
-text_fault (Role.certificate wanted) (network t) text (faults.CertBad (texts.TooManyEntries line)) h = record { nameless = tt; status = refl }
-text_fault (Role.certificate wanted) (network t) text (faults.CertRejected why) (c, spells, fails) =
-    record { nameless = tt; status = rejected_status t c why fails }
-text_fault (Role.certificate wanted) (network t) text faults.NotBook h = record { nameless = tt; status = refl }
-text_fault (Role.certificate wanted) (network t) text fault h = absurd h
+text_fault (Role.certificate wanted) (network t) text fault (inl (inl a)) =
+    same_fault (Role.certificate wanted) fault (fault_of_text a.why) a.is (of_form wanted text a.why a.has)
+text_fault (Role.certificate wanted) (network t) text fault (inl (inr (c, spells, a))) =
+    same_fault (Role.certificate wanted) fault (fault_of_rejected a.why) a.is (of_check wanted t c a.why a.fails)
+text_fault (Role.certificate wanted) (network t) text fault (inr a) =
+    same_fault (Role.certificate wanted) fault faults.NotBook a.is (record { nameless = tt; status = refl })
 text_fault role known text fault h = absurd h
 
 own_status : (role : Role) (status : Status) → IsStatusFor role status → IsOwnStatus status

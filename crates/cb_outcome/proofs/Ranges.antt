@@ -4,7 +4,7 @@ use Rattle.std.specs.Prelude.{Option, None, if◌then◌else◌, codes}
 use Rattle.std.specs.Str.{bytes_eq}
 use Rattle.std.specs.Option.{option_map, option_and_then}
 use Rattle.cb_io.specs.Pairs.{look_up}
-use Rattle.cb_request.specs.Commands.{burst_of, model_of, matrix_of, codebook_of, verify_of, decode_of, correlate_of, grow_of, commands, request_of}
+use Rattle.cb_request.specs.Commands.{burst_of, model_of, matrix_of, codebook_of, verify_of, decode_of, correlate_of, grow_of, pairs_of, commands, request_of}
 use Rattle.cb_request.specs.Numbers.{number_in, distance_in, window_in, sites_in, start_in}
 use Rattle.cb_request.specs.declared.request.Request.{Request}
 use Rattle.cb_request.specs.declared.request.Request.TheVariants as requests
@@ -100,6 +100,13 @@ grow_keeps (one ∷ two ∷ []) request e =
     (λ n is. number_within 1 256 one n (omega arith) is) (start_in two) (λ n is. tt) request e
 grow_keeps (one ∷ two ∷ more ∷ rest) request e = cc
 
+pairs_keeps : Keeps pairs_of
+pairs_keeps [] request e = cc
+pairs_keeps (one ∷ []) request e = cc
+pairs_keeps (one ∷ two ∷ []) request e = cc
+pairs_keeps (one ∷ two ∷ three ∷ []) request e = let same : requests.Pairs one two three ≡ request = cc in subst IsInRange same tt
+pairs_keeps (one ∷ two ∷ three ∷ more ∷ rest) request e = cc
+
 -- a command of a table whose commands all keep their ranges keeps them
 abbrev KeepsAll : List (List ℕ × (List (List ℕ) → Option Request)) → Type 0
 KeepsAll [] = Unit {0}
@@ -117,7 +124,8 @@ found_keeps (entry ∷ table) keeps command words request e =
 request_in_range : (words : List (List ℕ)) (request : Request) → request_of words ≡ Some request → IsInRange request
 request_in_range [] request e = cc
 request_in_range (command ∷ words) request e =
-    found_keeps commands (burst_keeps, (model_keeps, (matrix_keeps, (codebook_keeps, (verify_keeps, (decode_keeps, (correlate_keeps, (grow_keeps, tt))))))))
+    found_keeps commands
+    (burst_keeps, (model_keeps, (matrix_keeps, (codebook_keeps, (verify_keeps, (decode_keeps, (correlate_keeps, (grow_keeps, (pairs_keeps, tt)))))))))
     command words request e
 
 pub asked_is_in_range : AskedIsInRange

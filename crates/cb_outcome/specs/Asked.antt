@@ -3,7 +3,7 @@ use Rattle.std.specs.Prelude.{ℕ, List, Option, None, Some, String}
 use Rattle.std.specs.declared.alloc.Global.{Global}
 use Rattle.cb_request.specs.Commands.{asked}
 use Rattle.cb_request.specs.declared.request.Request.{Request}
-use Rattle.cb_request.specs.declared.request.Request.TheVariants.{Burst, Model, Matrix, Codebook, Verify, Decode, Correlate, Grow}
+use Rattle.cb_request.specs.declared.request.Request.TheVariants.{Burst, Model, Matrix, Codebook, Verify, Decode, Correlate, Grow, Pairs}
 use Rattle.cb_outcome.specs.Command.{Command}
 use Rattle.cb_outcome.specs.Commands.Burst.{burst}
 use Rattle.cb_outcome.specs.Commands.Model.{model}
@@ -13,6 +13,7 @@ use Rattle.cb_outcome.specs.Commands.Verify.{verify}
 use Rattle.cb_outcome.specs.Commands.Decode.{decode}
 use Rattle.cb_outcome.specs.Commands.Correlate.{correlate}
 use Rattle.cb_outcome.specs.Commands.Grow.{grow}
+use Rattle.cb_outcome.specs.Commands.Pairs.{pairs}
 use Rattle.cb_outcome.specs.Commands.Usage.{usage}
 
 -- the command of a request
@@ -25,6 +26,7 @@ command_of (Verify one two three) = verify one two three
 command_of (Decode one two three log window) = decode one two three log window
 command_of (Correlate one two log distance window) = correlate one two log distance window
 command_of (Grow sites start) = grow sites start
+command_of (Pairs one two three) = pairs one two three
 
 -- of what words ask for, if they ask for something
 abbrev pub command_for : Option Request → Command

@@ -131,16 +131,17 @@ abbrev pub IsPastStart : Point → Type 0
 IsPastStart Point.start = ⊥
 IsPastStart point = Unit {0}
 
--- the log is read at most so far after a line whose events aren't written yet
+-- the log is read at most this far after a line whose events aren't written yet
 abbrev pub ahead_limit : ℕ
 ahead_limit = 65536
 
--- the log was read at most so far past the point, where no judged file has its name
+-- the log was read at most that far past the point, or to its end if that is the point, where no judged file has its name
 abbrev pub IsNearPoint : Command → Point → Seen → Left → Type 0
 IsNearPoint c Point.start s left = Unit {0}
 IsNearPoint c (Point.upto upto) s left = (name : List ℕ) (taken : ℕ) → (reads_of c).logs ≡ name ∷ []
     → (¬ Contains (map (λ file. file.1) c.files) name) → HasTaken name taken s left → taken ≤ upto + ahead_limit
-IsNearPoint c Point.end s left = Unit {0}
+IsNearPoint c Point.end s left = (name : List ℕ) (taken : ℕ) → (reads_of c).logs ≡ name ∷ []
+    → (¬ Contains (map (λ file. file.1) c.files) name) → HasTaken name taken s left → taken ≡ length (contents left [] name)
 
 -- what was written is a prefix of what was due at a point past the start, and the log wasn't read far past that point
 abbrev pub WritesPastStart : Command → Seen → Left → Type 0

@@ -20,6 +20,7 @@ FilesMayEnd reads statuses.Limit = names_of reads ≢ []
 FilesMayEnd reads statuses.ReadFault = names_of reads ≢ []
 FilesMayEnd reads statuses.WriteFault = Unit {0}
 FilesMayEnd reads statuses.Memory = Unit {0}
+FilesMayEnd reads statuses.Groups = ⊥
 
 -- by its task: with the status of a fault that it may end with
 abbrev pub TaskMayEnd : Task → Status → Type 0

@@ -1,5 +1,5 @@
 -- What jobs give, after files that have been judged.
-use Rattle.std.specs.Prelude.{◌≡◌, ◌⊎◌, ℕ, List, length, Option}
+use Rattle.std.specs.Prelude.{◌≡◌, ◌⊎◌, ℕ, ◌<◌, List, length, Option}
 use Rattle.cb_model.specs.declared.node.GroupName.{GroupName}
 use Rattle.cb_model.specs.declared.node.GroupName.TheVariants.{Least}
 use Rattle.cb_model.specs.declared.node.NodeName.{NodeName}
@@ -19,10 +19,14 @@ use Rattle.cb_validity.specs.Canonical.{IsCanonicalBook, IsCanonicalThin}
 use Rattle.cb_validity.specs.Codebooks.{AreBookColumns, AreFirstClose, least_of}
 use Rattle.cb_validity.specs.Totals.{HasFewEntries, HasManyEntries}
 use Rattle.cb_validity.specs.Verdicts.{Shows}
+use Rattle.cb_pairs.specs.Fits.{group_limit}
+use Rattle.cb_report.specs.declared.fits.FoundFits.{FoundFits}
 use Rattle.cb_report.specs.declared.fault.Fault.TheVariants as faults
 use Rattle.cb_report.specs.CertificateTexts.{accepted_text}
+use Rattle.cb_report.specs.FitsText.{fits_text}
 use Rattle.cb_report.specs.Lines.{burst_text}
 use Rattle.cb_report.specs.MatrixText.{matrix_text}
+use Rattle.cb_outcome.specs.Fits.{IsFoundFor}
 use Rattle.cb_outcome.specs.Outcome.{Outcome, done, done_with, refused}
 
 -- `burst`: what is found for the nodes
@@ -75,3 +79,24 @@ CodebookGives t distance whole outcome = WritesBook t distance whole outcome ⊎
 -- `verify`: what the certificate shows
 abbrev pub VerifyGives : Topology → Certificate → ℕ → Outcome → Type 0
 VerifyGives t c whole outcome = (accepted : Accepted) × Shows t c accepted × (outcome ≡ done (accepted_text accepted) whole)
+
+-- what fits the nodes is printed
+pub record ListsFits (t : Topology) (nodes : List NodeName) (whole : ℕ) (outcome : Outcome) : Type 0 where
+  pub columns : List NodeName
+  pub groups : List Group
+  pub matrix : IsMatrix t columns groups
+  pub found : FoundFits
+  pub is_found : IsFoundFor columns groups nodes found
+  pub gives : outcome ≡ done (fits_text found) whole
+
+-- there are too many groups, and nothing is printed
+pub record RefusesGroups (t : Topology) (whole : ℕ) (outcome : Outcome) : Type 0 where
+  pub columns : List NodeName
+  pub groups : List Group
+  pub matrix : IsMatrix t columns groups
+  pub many : group_limit < length groups
+  pub gives : outcome ≡ refused (faults.Groups (length groups)) whole
+
+-- `pairs`: which group, or which two at once, fit the nodes
+abbrev pub PairsGives : Topology → List NodeName → ℕ → Outcome → Type 0
+PairsGives t nodes whole outcome = ListsFits t nodes whole outcome ⊎ RefusesGroups t whole outcome

@@ -7,6 +7,7 @@ pub mod Seen
 pub mod Reading
 pub mod LogJobs
 pub mod Grown
+pub mod Fits
 pub mod Jobs
 pub mod Prints
 pub mod Costs

@@ -1,5 +1,5 @@
 -- What outputs say of causes.
-use Rattle.std.specs.Prelude.{◌≡◌, ◌↔◌, ℕ, ◌<◌, ◌≤◌, ◌++◌, List, [], ◌∷◌, length, Option, Some, IsTrue}
+use Rattle.std.specs.Prelude.{◌≡◌, ◌↔◌, ℕ, ◌<◌, ◌≤◌, ◌++◌, List, [], ◌∷◌, length, Bool, Option, Some, IsTrue}
 use Rattle.std.specs.List.{Contains}
 use Rattle.std.specs.List.Sorted.{IsStrictlyIncreasing}
 use Rattle.cb_io.specs.Outside.{SinkTold, WritesAll}
@@ -13,21 +13,28 @@ use Rattle.cb_coding.specs.Groups.{codes_of}
 use Rattle.cb_coding.specs.Pairs.{Good}
 use Rattle.cb_finding.specs.declared.finding.Finding.{Finding}
 use Rattle.cb_finding.specs.Finding.{IsBurst, named_groups, word_of}
+use Rattle.cb_finding.specs.Matrix.{IsMatrix}
 use Rattle.cb_network.specs.Topology.{Topology}
+use Rattle.cb_pairs.specs.declared.guess.Guess.{Guess}
+use Rattle.cb_pairs.specs.Fits.{from_guess}
+use Rattle.cb_pairs.specs.Guesses.{IsGuess, guess_code}
 use Rattle.cb_cert.specs.declared.certificate.Certificate.{Certificate}
 use Rattle.cb_validity.specs.Canonical.{IsCanonicalThin}
 use Rattle.cb_validity.specs.Codebooks.{AreFirstClose, least_of}
 use Rattle.cb_log.specs.declared.closed.Closed.{Closed}
 use Rattle.cb_log.specs.declared.event.Event.{Event}
 use Rattle.cb_log.specs.Entries.{records_of}
-use Rattle.cb_log.specs.Sources.{SourceAlone}
 use Rattle.cb_log.specs.Whole.{Explains, OneForEach, is_thin, TellsThin}
-use Rattle.cb_alarm.specs.Lines.{LogGives}
+use Rattle.cb_alarm.specs.Lines.{LogGives, log_lines}
+use Rattle.cb_alarm.specs.Quiet.{LinesAlone}
+use Rattle.cb_report.specs.FitsText.{fits_text}
 use Rattle.cb_report.specs.Lines.{burst_text}
+use Rattle.cb_report.specs.declared.fits.FoundFits.{FoundFits}
 use Rattle.cb_report.specs.declared.fault.Fault.TheVariants as faults
 use Rattle.cb_report.specs.EventTexts.{events_text}
 use Rattle.cb_outcome.specs.Roles.{Wanted, Role}
 use Rattle.cb_outcome.specs.Texts.{IsValidText}
+use Rattle.cb_outcome.specs.Fits.{IsFoundFor}
 use Rattle.cb_outcome.specs.Judged.{IsShortFor}
 use Rattle.cb_outcome.specs.LogJobs.{Watch}
 use Rattle.cb_outcome.specs.Seen.{Seen, SaysFault}
@@ -49,6 +56,11 @@ pub record ListsTheNearest (groups : List Group) (far : ℕ → ℕ) (finding : 
 abbrev pub far_from : List ℕ → List NodeName → List Group → List NodeName → ℕ → ℕ
 far_from book columns groups nodes i = from_word book (codes_of groups) (word_of columns nodes) i
 
+-- a guess with the code of another
+pub record HasCodeOf (codes : List (List Bool)) (g h : Guess) : Type 0 where
+  pub is : IsGuess codes h
+  pub same : guess_code codes h ≡ guess_code codes g
+
 -- `burst` printed exactly the groups nearest to the nodes, by codes from what causes what
 pub record PrintsFinding (t : Topology) (nodes : List NodeName) (out out' : SinkTold) : Type 0 where
   pub finding : Finding
@@ -56,9 +68,21 @@ pub record PrintsFinding (t : Topology) (nodes : List NodeName) (out out' : Sink
   pub printed : WritesAll out out' (burst_text finding)
   pub lists : ListsTheNearest burst.groups (far_from (all_columns (length burst.columns)) burst.columns burst.groups nodes) finding
 
+-- What fits the nodes was printed: exactly the guesses nearest to them, by codes from what causes what. Where they differ from the code of a guess
+-- at no more columns than the radius, exactly the guesses with that code are listed, and it is sure.
+pub record PrintsFits (t : Topology) (nodes : List NodeName) (out out' : SinkTold) : Type 0 where
+  pub columns : List NodeName
+  pub groups : List Group
+  pub matrix : IsMatrix t columns groups
+  pub found : FoundFits
+  pub is_found : IsFoundFor columns groups nodes found
+  pub printed : WritesAll out out' (fits_text found)
+  pub within : (g : Guess) → IsGuess (codes_of groups) g → from_guess (length columns) (codes_of groups) (word_of columns nodes) g ≤ found.radius
+      → IsTrue found.sure × ((h : Guess) → Contains is_found.fits.guesses h ↔ HasCodeOf (codes_of groups) g h)
+
 -- The events of a log were printed: there is one diagnosis for each window, in the order in which the windows close, and each lists exactly
 -- the groups nearest to the window's nodes; each thin event names two groups that are closer than wanted, with their distance; and of each
--- source the diagnoses are those of the log that it alone would have made.
+-- source the diagnoses are those of the lines that it alone would have made.
 pub record PrintsEvents (watch : Watch) (log : List ℕ) (out out' : SinkTold) : Type 0 where
   pub events : List Event
   pub gives : LogGives watch.from watch.mode watch.window log events
@@ -68,7 +92,7 @@ pub record PrintsEvents (watch : Watch) (log : List ℕ) (out out' : SinkTold) :
       → ListsTheNearest e.basis.groups (far_from e.basis.book.columns e.basis.columns e.basis.groups c.nodes) e.is.finding
   pub thin : (event : Event) → Contains events event → IsTrue (is_thin event)
       → TellsThin watch.from watch.mode watch.window (records_of gives.entries) event
-  pub alone : (source : List ℕ) → SourceAlone watch.from watch.mode watch.window source gives.entries events
+  pub alone : (source : List ℕ) → LinesAlone watch.from watch.mode watch.window source (log_lines log) events
 
 -- what was printed is a text that a certificate file may have, and it spells a certificate that is valid for the topology
 pub record PrintsValid (t : Topology) (out out' : SinkTold) : Type 0 where

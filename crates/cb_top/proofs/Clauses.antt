@@ -452,7 +452,7 @@ module _ (c : Command) (law : IsLawful c) (s : Seen) where
         due = if_some s.files.left _ _ (λ left said. (
           Point.end,
           tt,
-          tt,
+          λ name taken is alone has. absurd (some_name name [] (sym is ∙ makes.alone)),
           (bytes, (outcome_of c bytes why, outcome_is c s bytes why makes left said, refl), end.front),
         )) makes.said;
         ahead = of_all s.files.left _ (λ left name is. absurd (some_name name [] (sym is ∙ makes.alone)));

@@ -148,7 +148,8 @@ module _ (c : Command) (law : IsLawful c) (doing : IsDoing c.task) (s : Seen) (e
   -- this is due at a point near what was taken, or at the end
   abbrev PartOf : Left → List ℕ → Type 0
   PartOf left due = ((upto : ℕ) × IsNearTaken (log_from left (reads_of c) follows.name) (left_of s.files_after follows.name) upto
-      × IsDueUpto follows.watch (log_from left (reads_of c) follows.name) upto due) ⊎ IsDueOfAll follows.watch (log_from left (reads_of c) follows.name) due
+      × IsDueUpto follows.watch (log_from left (reads_of c) follows.name) upto due)
+      ⊎ ((left_of s.files_after follows.name ≡ Some []) × IsDueOfAll follows.watch (log_from left (reads_of c) follows.name) due)
 
   module _ (left : Left) (passed : PassFrom nothing (files_from left (reads_of c)) follows.known) where
     due_upto : (taken : ℕ) (due : List ℕ) → IsDueUpto follows.watch (log_from left (reads_of c) follows.name) taken due → IsDue c left (Point.upto taken) due
@@ -179,7 +180,7 @@ module _ (c : Command) (law : IsLawful c) (doing : IsDoing c.task) (s : Seen) (e
     -- a point at which this was due
     point_of : (due : List ℕ) → PartOf left due → (point : Point) × IsDue c left point due
     point_of due (inl (upto, near, is)) = (Point.upto upto, due_upto upto due is)
-    point_of due (inr is) = (Point.end, (done due (suc (length c.files)), whole_outcome due is, refl))
+    point_of due (inr (none, is)) = (Point.end, (done due (suc (length c.files)), whole_outcome due is, refl))
 
   front_all : (due : List ℕ) → WritesAll s.out s.out_after due → WritesFront s.out s.out_after due
   front_all due w = (length due, omega arith, subst (λ (l : List ℕ). WritesAll s.out s.out_after l) (sym (take_whole due)) w)
@@ -421,12 +422,30 @@ module _ (c : Command) (law : IsLawful c) (doing : IsDoing c.task) (s : Seen) (e
       near_here left both upto taken near (subst (λ (n : List ℕ). ¬ Contains (names c.files) n) name alone)
       (subst (λ (n : List ℕ). HasTaken n taken s left) name has)
 
+  end_here : (left : Left) → Begun left → left_of s.files_after follows.name ≡ Some [] → (taken : ℕ) → HasTaken follows.name taken s left
+      → taken ≡ length (contents left [] follows.name)
+  end_here left both none taken has =
+      let all_of = contents left [] follows.name in
+      let bytes = same_some all_of (take taken all_of ++ has.rest) (sym (both.1 follows.name) ∙ has.before) in
+      let rest : has.rest ≡ [] = same_some has.rest [] (sym has.after ∙ none) in
+      let size = length-take-le taken all_of has.within in
+      let whole = ap length bytes in
+      let parts = length-append (take taken all_of) has.rest in
+      let no_rest = ap length rest in
+      omega (arith, size, whole, parts, no_rest)
+
+  end_point : (left : Left) → Begun left → left_of s.files_after follows.name ≡ Some [] → IsNearPoint c Point.end s left
+  end_point left both none = λ other taken log alone has.
+      let name : other ≡ follows.name = one_log other follows.name (sym follows.log ∙ log) in
+      subst (λ (n : List ℕ). taken ≡ length (contents left [] n)) (sym name)
+      (end_here left both none taken (subst (λ (n : List ℕ). HasTaken n taken s left) name has))
+
   -- a prefix of this was written, which was due at a point past the start
   part_due : (left : Left) → Begun left → (due : List ℕ) → PartOf left due → WritesFront s.out s.out_after due → WritesPastStart c s left
   part_due left both due (inl (upto, near, is)) front =
       (Point.upto upto, tt, near_point left both upto near, (due, due_upto left both.0 upto due is, front))
-  part_due left both due (inr is) front =
-      (Point.end, tt, tt, (due, (done due (suc (length c.files)), whole_outcome left both.0 due is, refl), front))
+  part_due left both due (inr (none, is)) front =
+      (Point.end, tt, end_point left both none, (due, (done due (suc (length c.files)), whole_outcome left both.0 due is, refl), front))
 
   -- what is due by the clause is due by the watch
   due_here : (left : Left) → PassFrom nothing (files_from left (reads_of c)) follows.known → (upto : ℕ) (due : List ℕ) → IsDue c left (Point.upto upto) due

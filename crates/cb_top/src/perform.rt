@@ -14,6 +14,7 @@ use cb_network_commands::burst::burst;
 use cb_network_commands::codebook::codebook;
 use cb_network_commands::matrix::matrix;
 use cb_network_commands::model::model;
+use cb_network_commands::pairs::pairs;
 use cb_network_commands::verify::verify;
 use cb_report::Fault;
 use cb_request::Request;
@@ -85,6 +86,11 @@ pub(crate) fn perform<'w, F: Files, O: Sink, L: Ledger>(
             };
             decode(alloc, files, out, names, window, steps)
         }
+        Request::Pairs {
+            model,
+            topology,
+            symptoms,
+        } => deliver(pairs(alloc, files, model, topology, symptoms, steps), out),
         Request::Grow { sites, start } => deliver(grow(alloc, sites, start, steps), out),
     }
 }

@@ -1,5 +1,6 @@
 use Rattle.std.proofs.Common.{◌∙◌, Bool, List, ℕ, ap, subst}
 use Rattle.cb_io.specs.LineReading.{coming}
+use Rattle.cb_session.specs.State.{network_of}
 use Rattle.cb_log_commands.specs.Counting.{CountsGiven}
 use Rattle.cb_log_commands.specs.Telling.{TellsGiven}
 use Rattle.cb_file_kinds.proofs.Chain.{if_some}
@@ -42,7 +43,7 @@ returns-in_err-text-clause-takes g c =
     let old = c.args.reader.now in
     let new = c.next_line.new.self in
     let after = g.F.Files.tells c.next_line.new.files in
-    let network = c.args.session.now.network in
+    let network = network_of c.args.session.now in
     let steps = c.args.steps.now in
     let steps' = c.text_of_line.new.steps in
     let counts = subst (λ (bytes : List ℕ). CountsGiven network c.in_ok-line.line bytes steps steps') c.text.ensures c.text_of_line.ensures.counts in
@@ -55,7 +56,7 @@ returns-in_err-text_of_end-clause-takes g c =
     let old = c.args.reader.now in
     let new = c.next_line.new.self in
     let after = g.F.Files.tells c.next_line.new.files in
-    let network = c.args.session.now.network in
+    let network = network_of c.args.session.now in
     let steps = c.args.steps.now in
     let steps' = c.text_of_line.new.steps in
     let counts = subst (λ (bytes : List ℕ). CountsGiven network c.in_ok-line.line bytes steps steps') c.text.ensures c.text_of_line.ensures.counts in
@@ -68,7 +69,7 @@ returns-clause-takes g c =
     let old = c.args.reader.now in
     let new = c.next_line.new.self in
     let after = g.F.Files.tells c.next_line.new.files in
-    let network = c.args.session.now.network in
+    let network = network_of c.args.session.now in
     let steps = c.args.steps.now in
     let steps' = c.text_of_line.new.steps in
     let counts = subst (λ (bytes : List ℕ). CountsGiven network c.in_ok-line.line bytes steps steps') c.text.ensures c.text_of_line.ensures.counts in
@@ -81,7 +82,7 @@ returns-clause-counts g c =
     let old = c.args.reader.now in
     let new = c.next_line.new.self in
     let after = g.F.Files.tells c.next_line.new.files in
-    let network = c.args.session.now.network in
+    let network = network_of c.args.session.now in
     let steps = c.args.steps.now in
     let steps' = c.text_of_line.new.steps in
     let counts = subst (λ (bytes : List ℕ). CountsGiven network c.in_ok-line.line bytes steps steps') c.text.ensures c.text_of_line.ensures.counts in

@@ -4,13 +4,19 @@ use Rattle.cb_line_files.specs.declared.topology.LineFault.{LineFault}
 use Rattle.cb_line_files.specs.Topologies.{IsFirstWrong, Stops}
 use Rattle.cb_outcome.proofs.FirstLines.{long_or_short}
 use Rattle.cb_file_kinds.proofs.Chain.{err_is}
-use Rattle.cb_log_commands.proofs.Growing.{tree_stops, network_made, words_stop, edit_stops}
+use Rattle.cb_log_commands.proofs.Growing.{tree_stops, tables_stop, network_made, words_stop, edit_stops}
 use Rattle.cb_log_commands.proofs.grow.made_up.Goals as goal
 
 pub returns-in_err-tree-clause-fault : goal.returns-in_err-tree-clause-fault
 returns-in_err-tree-clause-fault c =
     rw (err_is _ _ c.from_residual-in_err-tree.ensures.1)
     (tree_stops c.args.sites c.deref.result.now c.in_err-tree.field-0.0 (c.deref.ensures.value ∙ c.in_ok-model.ensures.text) c.in_err-tree.ensures.answer)
+
+pub returns-in_err-tables-clause-fault : goal.returns-in_err-tables-clause-fault
+returns-in_err-tables-clause-fault c =
+    rw (err_is _ _ c.from_residual-in_err-tables.ensures.1)
+    (tables_stop c.args.sites c.deref.result.now c.in_ok-tree.tree c.in_err-tables.field-0.0 (c.deref.ensures.value ∙ c.in_ok-model.ensures.text)
+    c.in_ok-tree.ensures.answer c.in_err-tables.ensures.fault)
 
 pub returns-in-Ok-clause-network : goal.returns-in-Ok-clause-network
 returns-in-Ok-clause-network c =

@@ -1,6 +1,7 @@
 use Rattle.std.proofs.Common.{◌∙◌, subst, inl, inr}
 use Rattle.cb_alarm.specs.Lines.{NumberedLine, ComesTo}
 use Rattle.cb_gen.proofs.Going.{on_ok_more}
+use Rattle.cb_session.specs.State.{network_of}
 use Rattle.cb_log_commands.proofs.LineCosts.{every_line_cost}
 use Rattle.cb_log_commands.specs.Counting.{CountsLine}
 use Rattle.cb_log_commands.proofs.Summing.{CountsRecord, one_more_summed, record_keeps, record_one, record_none}
@@ -30,15 +31,15 @@ returns-clause-takes g c =
 
 pub returns-in_err-events-clause-counts : goal.returns-in_err-events-clause-counts
 returns-in_err-events-clause-counts g c =
-    subst (λ (l : NumberedLine). CountsLine c.args.session.now.network l c.args.steps.now c.step.new.steps) c.log_line.ensures.line
-    (every_line_cost c.step.result _ c.args.session.now.mode c.args.session.now.network c.args.steps.now c.step.new.steps c.step.ensures.cost c.step.ensures.steps)
+    subst (λ (l : NumberedLine). CountsLine (network_of c.args.session.now) l c.args.steps.now c.step.new.steps) c.log_line.ensures.line
+    (every_line_cost c.step.result _ c.args.session.now.mode (network_of c.args.session.now) c.args.steps.now c.step.new.steps c.step.ensures.cost c.step.ensures.steps c.step.ensures.regular)
 
 pub returns-in_err-count_record-clause-counts : goal.returns-in_err-count_record-clause-counts
 returns-in_err-count_record-clause-counts g c =
-    subst (λ (l : NumberedLine). CountsLine c.args.session.now.network l c.args.steps.now c.step.new.steps) c.log_line.ensures.line
-    (every_line_cost c.step.result _ c.args.session.now.mode c.args.session.now.network c.args.steps.now c.step.new.steps c.step.ensures.cost c.step.ensures.steps)
+    subst (λ (l : NumberedLine). CountsLine (network_of c.args.session.now) l c.args.steps.now c.step.new.steps) c.log_line.ensures.line
+    (every_line_cost c.step.result _ c.args.session.now.mode (network_of c.args.session.now) c.args.steps.now c.step.new.steps c.step.ensures.cost c.step.ensures.steps c.step.ensures.regular)
 
 pub returns-clause-counts : goal.returns-clause-counts
 returns-clause-counts g c =
-    subst (λ (l : NumberedLine). CountsLine c.args.session.now.network l c.args.steps.now c.step.new.steps) c.log_line.ensures.line
-    (every_line_cost c.step.result _ c.args.session.now.mode c.args.session.now.network c.args.steps.now c.step.new.steps c.step.ensures.cost c.step.ensures.steps)
+    subst (λ (l : NumberedLine). CountsLine (network_of c.args.session.now) l c.args.steps.now c.step.new.steps) c.log_line.ensures.line
+    (every_line_cost c.step.result _ c.args.session.now.mode (network_of c.args.session.now) c.args.steps.now c.step.new.steps c.step.ensures.cost c.step.ensures.steps c.step.ensures.regular)

@@ -1,3 +1,4 @@
+use Rattle.cb_session.specs.State.{network_of}
 use Rattle.cb_log_commands.proofs.LineCosts.{every_line_cost}
 use Rattle.cb_file_kinds.proofs.Chain.{if_ok_more}
 use Rattle.cb_log_commands.proofs.telling.text_of_step.Goals as goal
@@ -18,8 +19,8 @@ returns-clause-tells g c =
 
 pub returns-in_err-events-clause-counts : goal.returns-in_err-events-clause-counts
 returns-in_err-events-clause-counts g c =
-    every_line_cost c.step.result _ c.args.session.now.mode c.args.session.now.network c.args.steps.now c.step.new.steps c.step.ensures.cost c.step.ensures.steps
+    every_line_cost c.step.result _ c.args.session.now.mode (network_of c.args.session.now) c.args.steps.now c.step.new.steps c.step.ensures.cost c.step.ensures.steps c.step.ensures.regular
 
 pub returns-clause-counts : goal.returns-clause-counts
 returns-clause-counts g c =
-    every_line_cost c.step.result _ c.args.session.now.mode c.args.session.now.network c.args.steps.now c.step.new.steps c.step.ensures.cost c.step.ensures.steps
+    every_line_cost c.step.result _ c.args.session.now.mode (network_of c.args.session.now) c.args.steps.now c.step.new.steps c.step.ensures.cost c.step.ensures.steps c.step.ensures.regular

@@ -1,0 +1,47 @@
+-- What `pairs` gives, over the columns and groups of a matrix.
+use Rattle.std.specs.Prelude.{◌≡◌, ℕ, ◌<◌, ◌≤◌, List, [], length, Option, None, Some}
+use Rattle.cb_model.specs.declared.node.NodeName.{NodeName}
+use Rattle.cb_model.specs.Order.{Rises}
+use Rattle.cb_model.specs.NodeOrder.{node_cmp}
+use Rattle.cb_coding.specs.declared.group.Group.{Group}
+use Rattle.cb_coding.specs.Groups.{codes_of}
+use Rattle.cb_codes.specs.Codes.{Coded}
+use Rattle.cb_decode.specs.Names.{HasName}
+use Rattle.cb_pairs.specs.Fits.{group_limit}
+use Rattle.cb_report.specs.declared.fault.Fault.{Fault}
+use Rattle.cb_report.specs.declared.fault.Fault.TheVariants as faults
+use Rattle.cb_report.specs.declared.fits.FoundFits.{FoundFits}
+use Rattle.cb_report.specs.FitsText.{fits_text}
+use Rattle.cb_report.specs.Text.{bytes_of_text}
+use Rattle.cb_file_kinds.specs.declared.output.Output.{Output}
+use Rattle.cb_outcome.specs.Fits.{IsFoundFor}
+use Rattle.cb_outcome.specs.Outcome.{Outcome}
+
+-- each group is called by something
+abbrev pub HaveNames : List Group → Type 0
+HaveNames groups = (i : ℕ) → i < length groups → HasName groups i
+
+-- the pairs are those of the groups' codes
+pub record AreFitted (columns : List NodeName) (groups : List Group) (pairs : Coded) : Type 0 where
+  pub rise : Rises node_cmp columns
+  pub names : HaveNames groups
+  pub few : length groups ≤ group_limit
+  pub width : pairs.width ≡ length columns
+  pub rows : pairs.rows ≡ codes_of groups
+
+-- exactly the fits are printed, and nothing is wrong
+pub record IsFittedOutput (columns : List NodeName) (groups : List Group) (nodes : List NodeName) (bytes : List ℕ) (fault : Option Fault) : Type 0 where
+  pub found : FoundFits
+  pub is_found : IsFoundFor columns groups nodes found
+  pub text : bytes ≡ fits_text found
+  pub well : fault ≡ None
+
+-- there are too many groups, and nothing is printed
+pub record IsGroupsRefusal (count : ℕ) (bytes : List ℕ) (fault : Option Fault) : Type 0 where
+  pub many : group_limit < count
+  pub none : bytes ≡ []
+  pub is : fault ≡ Some (faults.Groups count)
+
+-- the outcome of an output, once the files were read
+abbrev pub outcome_of : Output → ℕ → Outcome
+outcome_of output whole = record { out = bytes_of_text output.text; fault = output.fault; whole = whole }

@@ -1,0 +1,146 @@
+//! From a topology and raised nodes to the groups that fit them.
+ghost use Rattle.std.specs.Prelude.{◌≡◌, ◌≤◌, ◌<◌, ◌+◌, ℕ, length, IfOk};
+ghost use Rattle.std.specs.List.{All, AllZip};
+ghost use Rattle.cb_model.specs.Order.{Rises};
+ghost use Rattle.cb_model.specs.NodeOrder.{node_cmp};
+ghost use Rattle.cb_change.specs.Costs.{IsOpenCost};
+ghost use Rattle.cb_decode.specs.Names.{HasName};
+ghost use Rattle.cb_outcome.specs.Fits.{IsFoundFor, IsSecondCalled, NamesGuess};
+ghost use Rattle.cb_outcome.specs.Jobs.{PairsGives};
+ghost use Rattle.cb_pairs.specs.Fits.{IsRefused};
+ghost use Rattle.cb_pairs.specs.Guesses.{IsOfGroups, IsSecondBelow};
+ghost use Rattle.cb_report.specs.Text.{bytes_of_text};
+ghost use Rattle.cb_topo.specs.Numbered.{topology_of};
+ghost use Rattle.cb_network_commands.specs.Fitted.{AreFitted, HaveNames, IsFittedOutput, IsGroupsRefusal, outcome_of};
+
+use crate::judge::matrix_of;
+use cb_codes::Groups;
+use cb_decode::{called, unknown_among, word_of};
+use cb_file_kinds::Output;
+use cb_matrix::Matrix;
+use cb_model::{GroupName, List, NodeName};
+use cb_pairs::{Guess, PairFault, Pairs, radius};
+use cb_report::{Fault, FitLine, FoundFits, Text, fits_text};
+use cb_steps::Steps;
+use cb_topo::Topology;
+use std::alloc::{AllocError, Global};
+use std::sync::ledger::Ledger;
+
+/// What `pairs` gives for the raised nodes: the fits, or that there are too many groups.
+pub(crate) fn fitting<'w, L: Ledger>(
+    alloc: Global,
+    topology: Topology,
+    raised: &List<NodeName>,
+    steps: &mut Steps<L>,
+) -> Result<Output<'w>, AllocError>
+    requires { Rises node_cmp raised.now }
+    ensures gives { IfOk result (λ output. (whole : ℕ) → PairsGives (topology_of topology) raised.now whole (outcome_of output whole)) }
+    ensures cost { (cost : ℕ) → IsOpenCost (topology_of topology) cost → steps.new ≤ steps.old + cost }
+{
+    let matrix = matrix_of(alloc, topology, steps)?;
+    match Pairs::of(alloc, matrix.codes()) {
+        Ok(pairs) => listed(alloc, &matrix, &pairs, raised),
+        Err(fault) => refused(alloc, fault),
+    }
+}
+
+// The lines of the fits.
+fn listed<'w>(
+    alloc: Global,
+    matrix: &Matrix,
+    pairs: &Pairs<'_>,
+    raised: &List<NodeName>,
+) -> Result<Output<'w>, AllocError>
+    requires raised { Rises node_cmp raised.now }
+    requires fitted { AreFitted matrix.now.columns matrix.now.groups pairs.now }
+    ensures { IfOk result (λ output. IsFittedOutput matrix.now.columns matrix.now.groups raised.now (bytes_of_text output.text) output.fault) }
+{
+    let found = found_fits(alloc, matrix, pairs, raised)?;
+    Ok(Output {
+        text: Text::Bytes(fits_text(alloc, &found)?),
+        fault: None,
+    })
+}
+
+// Why there are no pairs.
+fn refused<'w>(alloc: Global, fault: PairFault) -> Result<Output<'w>, AllocError>
+    ensures { (count : ℕ) → IsRefused count fault → IfOk result (λ output. IsGroupsRefusal count (bytes_of_text output.text) output.fault) }
+{
+    match fault {
+        PairFault::TooManyGroups { groups } => Ok(Output {
+            text: Text::Bytes(Vec::new(alloc)),
+            fault: Some(Fault::Groups { groups }),
+        }),
+        PairFault::NoMemory => Err(AllocError),
+    }
+}
+
+// The fits of the raised nodes, by what their groups are called.
+fn found_fits(
+    alloc: Global,
+    matrix: &Matrix,
+    pairs: &Pairs<'_>,
+    raised: &List<NodeName>,
+) -> Result<FoundFits, AllocError>
+    requires raised { Rises node_cmp raised.now }
+    requires fitted { AreFitted matrix.now.columns matrix.now.groups pairs.now }
+    ensures { IfOk result (IsFoundFor matrix.now.columns matrix.now.groups raised.now) }
+{
+    let columns = matrix.columns();
+    let word = word_of(alloc, columns, raised)?;
+    let unknown = unknown_among(columns, raised, &word);
+    let fits = pairs.fits(alloc, &word)?;
+    let lines = lines_of(alloc, matrix.coded_groups(), &fits.guesses)?;
+    Ok(FoundFits {
+        raised: raised.len() as u64,
+        unknown,
+        distance: fits.distance,
+        radius: radius(pairs.separation()),
+        sure: fits.sure,
+        fits: lines,
+    })
+}
+
+// Each guess by what its groups are called.
+fn lines_of(
+    alloc: Global,
+    groups: &Groups,
+    guesses: &List<Guess>,
+) -> Result<List<FitLine>, AllocError>
+    requires names { HaveNames groups.now.groups }
+    requires within { All (IsOfGroups (length groups.now.groups)) guesses.now }
+    ensures { IfOk result (AllZip (NamesGuess groups.now.groups) guesses.now) }
+{
+    let mut lines = List::new(alloc);
+    for at in 0..guesses.len() {
+        lines.push(line_of(alloc, groups, *guesses.at(at))?)?;
+    }
+    Ok(lines)
+}
+
+// A guess by what its groups are called.
+fn line_of(alloc: Global, groups: &Groups, guess: Guess) -> Result<FitLine, AllocError>
+    requires names { HaveNames groups.now.groups }
+    requires within { IsOfGroups (length groups.now.groups) guess }
+    ensures { IfOk result (NamesGuess groups.now.groups guess) }
+{
+    let first = called(alloc, groups, guess.first)?;
+    let second = called_second(alloc, groups, guess.second)?;
+    Ok(FitLine { first, second })
+}
+
+// What a second group is called, if there is one.
+fn called_second(
+    alloc: Global,
+    groups: &Groups,
+    second: Option<u32>,
+) -> Result<Option<GroupName>, AllocError>
+    requires names { HaveNames groups.now.groups }
+    requires within { IsSecondBelow (length groups.now.groups) second }
+    ensures { IfOk result (IsSecondCalled groups.now.groups second) }
+{
+    match second {
+        Some(place) => Ok(Some(called(alloc, groups, place)?)),
+        None => Ok(None),
+    }
+}
