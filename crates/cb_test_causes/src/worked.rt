@@ -158,8 +158,8 @@ fn has_good_name(edit: &Edit) -> bool
     }
 }
 
-// Whether the edit of a line is made.
-fn is_made(alloc: Global, graph: &mut Graph, line: &[u8]) -> Result<bool, AllocError> {
+/// Whether the edit of a line is made.
+pub(crate) fn is_made(alloc: Global, graph: &mut Graph, line: &[u8]) -> Result<bool, AllocError> {
     let Some(edit) = edit_of(alloc, line)? else {
         return Ok(false);
     };

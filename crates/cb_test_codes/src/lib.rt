@@ -12,4 +12,6 @@ mod decode;
 #[cfg(test)]
 mod group;
 #[cfg(test)]
+mod pairs;
+#[cfg(test)]
 mod reduce;

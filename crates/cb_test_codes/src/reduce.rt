@@ -123,7 +123,7 @@ fn next(state: &mut u64) -> u64 {
 }
 
 // Codes with a column in `of` on average, after a zero code where `quiet`.
-fn drawn(
+pub(crate) fn drawn(
     alloc: Global,
     state: &mut u64,
     count: usize,
@@ -143,7 +143,12 @@ fn drawn(
 }
 
 // A code with a column in `of` on average, or without any.
-fn drawn_code(alloc: Global, state: &mut u64, width: usize, of: u64) -> Result<Row, AllocError> {
+pub(crate) fn drawn_code(
+    alloc: Global,
+    state: &mut u64,
+    width: usize,
+    of: u64,
+) -> Result<Row, AllocError> {
     let mut code = Row::zeroed(alloc, width)?;
     for column in 0..code.len() {
         if 0 < of && column < code.len() && next(state) % of == 0 {

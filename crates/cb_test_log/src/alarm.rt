@@ -1,5 +1,5 @@
 //! Lines of a log, with their records or the reasons why they have none.
-use cb_alarm::{Body, Record, Skip, SkipKind, read_record};
+use cb_alarm::{Body, Record, Scratch, Skip, SkipKind, plain_record, read_record};
 use cb_network::Edit;
 use std::alloc::{AllocError, Global};
 use std::process::Abort;
@@ -174,11 +174,44 @@ fn check(
     Ok(())
 }
 
+// By its tokens alone, a line has the same record, or no answer. Says whether it has one.
+fn check_plain(
+    rt: &impl Abort,
+    alloc: Global,
+    scratch: &mut Scratch,
+    line: &[u8],
+    wanted: Result<Said, SkipKind>,
+) -> Result<bool, AllocError> {
+    match plain_record(alloc, scratch, line)? {
+        Some(record) => {
+            assert_eq!(rt; Ok(said(&record)), wanted, "{line:?}");
+            Ok(true)
+        }
+        None => Ok(false),
+    }
+}
+
 #[test]
 fn reads_lines(rt: HostRuntime) -> Result<(), Fail> {
     for (line, wanted) in TABLE {
         check(&rt, rt.alloc(), line, wanted)?;
     }
+    Ok(())
+}
+
+// Of the lines of the table that have a record, all but two are read by their tokens: those with an array or an object in them.
+const PLAIN: u32 = 9;
+
+#[test]
+fn reads_plain_lines(rt: HostRuntime) -> Result<(), Fail> {
+    let mut scratch = Scratch::new(rt.alloc());
+    let mut plain: u32 = 0;
+    for (line, wanted) in TABLE {
+        if check_plain(&rt, rt.alloc(), &mut scratch, line, wanted)? {
+            plain = u32::saturating_add(plain, 1);
+        }
+    }
+    assert_eq!(&rt; plain, PLAIN);
     Ok(())
 }
 
@@ -298,6 +331,16 @@ fn reads_long_lines(rt: HostRuntime) -> Result<(), Fail> {
     for (before, behind, piece, doublings, wanted) in LONG {
         let line = long_line(rt.alloc(), before, behind, piece, doublings)?;
         check(&rt, rt.alloc(), line.as_slice(), wanted)?;
+    }
+    Ok(())
+}
+
+#[test]
+fn reads_long_plain_lines(rt: HostRuntime) -> Result<(), Fail> {
+    let mut scratch = Scratch::new(rt.alloc());
+    for (before, behind, piece, doublings, wanted) in LONG {
+        let line = long_line(rt.alloc(), before, behind, piece, doublings)?;
+        check_plain(&rt, rt.alloc(), &mut scratch, line.as_slice(), wanted)?;
     }
     Ok(())
 }

@@ -12,6 +12,8 @@ mod logs;
 #[cfg(test)]
 mod made_up;
 #[cfg(test)]
+mod pairs;
+#[cfg(test)]
 mod report;
 #[cfg(test)]
 mod top;
