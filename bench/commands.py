@@ -8,6 +8,7 @@ time is taken; a table is printed, in the form of docs/speed.md. Where valgrind 
 millions, which no other work on the machine moves; of logs with many edits a shorter one is counted. Nothing here is a test: read ratios out of one run.
 """
 import pathlib
+import random
 import re
 import shutil
 import subprocess
@@ -33,6 +34,21 @@ SITES = """class Site {
 class Source extends Site {
   problem Power;
   rule all: Power => feeds+.Dark;
+}
+"""
+
+# Problems of which each two are taken at once: how many, over how many symptoms, and of a thousand symptoms how many each one causes. At 1 they cause as
+# many that no other causes.
+PAIRED = ((127, 8065, 500), (127, 8065, 100), (127, 8065, 5), (127, 8065, 1))
+
+CAUSES = """class Cause {
+  problem Down;
+  relation shows to Sign many inverse of;
+  rule r: Down => shows.Up;
+}
+class Sign {
+  symptom Up;
+  relation of to Cause many inverse shows;
 }
 """
 
@@ -92,6 +108,17 @@ def answered(words, folder, kind, sites):
     line(words, ["matrix", "m", "t"], f"{kind} {sites:,}", folder)
 
 
+def paired(words, folder, causes, signs, share):
+    rng = random.Random(causes * signs + share)
+    shown = [[k for k in range(signs) if (k % causes == c if share == 1 else rng.randrange(1000) < share)] for c in range(causes)]
+    made = [f"create c{c} Cause\n" for c in range(causes)] + [f"create s{k} Sign\n" for k in range(signs)]
+    made += [f"link c{c} shows s{k}\n" for c, signs_of in enumerate(shown) for k in signs_of]
+    (folder / "m").write_text(CAUSES)
+    (folder / "t").write_text("".join(made))
+    (folder / "s").write_text("".join(f"Up@s{k}\n" for k in sorted({*shown[3], *shown[5]})))
+    line(words, ["pairs", "m", "t", "s"], f"{causes} problems, {share} of 1,000 of {signs:,} symptoms", folder)
+
+
 def repeated(words, folder, kind, sites):
     links = sites if kind == "cycle" else sites - 1
     made = ["create s0 Source\n", *(f"create s{k} Site\n" for k in range(1, sites))]
@@ -133,7 +160,7 @@ def main():
         return
     models = (("1,024 classes", full_model()), ("16 MiB of classes", long_model(False)))
     print("| Command | Network | Seconds | Other | Ratio | MiB | Other | Ratio | Million instructions | Other | Ratio |\n|---|---|---|---|---|---|---|---|---|---|---|")
-    for measured, inputs in ((answered, ANSWERED), (repeated, RUNS), (certified, CERTIFIED), (followed, LOGS), (grown, GROWN), (checked, models)):
+    for measured, inputs in ((answered, ANSWERED), (paired, PAIRED), (repeated, RUNS), (certified, CERTIFIED), (followed, LOGS), (grown, GROWN), (checked, models)):
         for asked in inputs:
             with tempfile.TemporaryDirectory() as name:
                 measured(words, pathlib.Path(name), *asked)

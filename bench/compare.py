@@ -298,6 +298,7 @@ def words_of(rng):
                 [],
                 ["model"],
                 ["burst", "m", "t"],
+                ["pairs", "m", "t"],
                 ["matrix", "m"],
                 ["nothing", "m"],
                 ["codebook", "m", "t", "0"],
@@ -320,6 +321,8 @@ def words_of(rng):
             ["correlate", "m", "t", "l", str(rng.choice((1, 2))), str(rng.choice((3, 10)))],
             ["burst", "m", "t", "s"],
             ["burst", "m", "t", "s"],
+            ["pairs", "m", "t", "s"],
+            ["pairs", "m", "t", "s"],
         )
     )
 

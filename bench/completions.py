@@ -23,7 +23,7 @@ import termios
 import time
 
 ROOT = pathlib.Path(__file__).resolve().parent.parent
-COMMANDS = "burst codebook correlate decode grow matrix model verify".split()
+COMMANDS = "burst codebook correlate decode grow matrix model pairs verify".split()
 FILES = ["a:b.model", "folder", "ring.model", "ring.topology", "two words.log"]
 RING = ["ring.model", "ring.topology"]
 CASES = (
@@ -40,6 +40,8 @@ CASES = (
     ("jeknaule model ring.model ", []),
     ("jeknaule matrix ring.model ring.t", ["ring.topology"]),
     ("jeknaule matrix - ", FILES),
+    ("jeknaule pairs ring.model ring.topology ", [*FILES, "-"]),
+    ("jeknaule pairs ring.model ring.topology - ", []),
     ("jeknaule matrix ring.model ring.topology ", []),
     ("jeknaule codebook ring.model ", [*FILES, "-"]),
     ("jeknaule codebook ring.model ring.topology ", []),

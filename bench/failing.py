@@ -42,6 +42,7 @@ COMMANDS = [
     ["matrix", "nothing.model", "nothing.topology"],
     ["burst"],
     ["matrix", "link.model", "link.topology"],
+    ["pairs", "row.model", "row.topology", "row.symptoms"],
     ["codebook", "link.model", "link.topology", "1"],
     ["codebook", "link.model", "link.topology", "2"],
     ["verify", "link.model", "link.topology", "link.certificate"],

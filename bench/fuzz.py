@@ -39,6 +39,7 @@ COMMANDS = (
     ("model", "m"),
     ("burst", "m", "t", "s"),
     ("matrix", "m", "t"),
+    ("pairs", "m", "t", "s"),
     ("codebook", "m", "t", "DISTANCE"),
     ("verify", "m", "t", "c"),
     ("correlate", "m", "t", "l", "DISTANCE", "WINDOW"),

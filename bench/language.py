@@ -106,7 +106,7 @@ SKIPPED = (
     ('{"at":1,"edit":"remove uplink"}', "bad-edit"), ("x" * 65537, "long"),
     (" \t\r", None), ('{"at":1,"tick":true,"other":[1]}', None), ('{"at":"x","at":1,"tick":true}', None),
 )
-WORDS = (["burst", "m", "t"], ["codebook", "m", "t", "0"], ["codebook", "m", "t", "03"], ["codebook", "m", "t", "10000"],
+WORDS = (["burst", "m", "t"], ["pairs", "m", "t"], ["codebook", "m", "t", "0"], ["codebook", "m", "t", "03"], ["codebook", "m", "t", "10000"],
          ["codebook", "missing", "t", "0"], ["correlate", "m", "t", "empty", "1", str(10**12 + 1)], ["grow", "257", "1"],
          ["grow", "1", str(2**64)], ["--help"], [])
 
@@ -183,6 +183,12 @@ def try_texts(trial):
     trial.gives(["burst", "m", "t", "-"], "NoSignal@port-a\nNoSignal@port-b",
                 ["burst raised 2 unknown 0 distance 1 radius 0 unsure groups 3",
                  "  group Fail@port-a", "  group Fail@port-b", "  group Cut@uplink"])
+    trial.gives(["pairs", "m", "t", "-"], "NoSignal@port-a\nNoSignal@port-b",
+                ["pairs raised 2 unknown 0 distance 0 radius 0 sure fits 1", "  fit Fail@port-a and Fail@port-b"])
+    trial.gives(["pairs", "m", "t", "-"], "Loss@uplink\nFail@uplink",
+                ["pairs raised 2 unknown 1 distance 1 radius 0 unsure fits 1", "  fit quiet"])
+    ports = "".join(f"create p{k} Port\nlink uplink ends p{k}\n" for k in range(126))
+    trial.fails(["pairs", "m", "-", "empty"], TOPOLOGY + ports, 13, "groups 130")
     trial.gives(["matrix", "m", "t"], "",
                 ["columns 3", "  column NoSignal@port-a", "  column NoSignal@port-b", "  column Loss@uplink", "groups 4",
                  "  group 000 quiet", "  group 100 Fail@port-a", "  group 010 Fail@port-b", "  group 111 Cut@uplink", "distance 1"])

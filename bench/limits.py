@@ -92,6 +92,9 @@ def cases():
     yield "1,050,625 entries", codebook, {"m": NODE, "t": circle(1025)}, 7, "error 7 limit entries"
     yield "certificate with 1,048,576 entries", verify, {**alive, "c": book(16, 65_536)}, 5, "error 5 certificate no-edge entry 2"
     yield "certificate with 17 spans of 65,536", verify, {**alive, "c": book(17, 65_536)}, 5, f"error 5 certificate too-many-entries line {7 + 16 * 65_537 + 1}"
+    for groups, due, line in ((128, 0, "  fit P@n0"), (129, 13, "error 13 groups 129")):
+        files = {"m": ALIVE, "t": created(groups - 1, "Alive"), "s": "S@n0\n"}
+        yield f"pairs of {groups} groups", ["pairs", "m", "t", "s"], files, due, line
     for what, words in (("distance of 10,000", ["codebook", "m", "t", "10000"]), ("window of 10^12 + 1", ["correlate", "m", "t", "s", "1", str(10**12 + 1)])):
         yield what, words, alive, 2, "error 2 usage"
     for what, words in (("257 sites", ["grow", "257", "0"]), ("start of 2^64", ["grow", "1", str(2**64)])):

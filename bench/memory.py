@@ -34,6 +34,7 @@ COMMANDS = [
     ["model", "m"],
     ["burst", "m", "t", "s"],
     ["matrix", "m", "t"],
+    ["pairs", "m", "t", "s"],
     ["codebook", "m", "t", "1"],
     ["codebook", "m", "t", "2"],
     ["verify", "m", "t", "c"],

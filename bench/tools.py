@@ -50,7 +50,7 @@ SPOILT = {
     "traps": ("1.1.5.4')", "1.1.5.[14]')"),
     "uncaused": ("if (!(c in caused))", "if (c in caused)"),
     "unlinked": ("linked[$4, inverse($2, $3)]", ""),
-    "webhook.jq": ("and ($was | not)", ""),
+    "webhook.jq": ("and $was[$alert.label] != $alert.since", ""),
     "window-alarms": (".at < $opened + $length", ".at <= $opened + $length"),
 }
 

@@ -82,6 +82,7 @@ def main():
     words.add_argument("--checked", action="store_true")
     words.add_argument("out", type=pathlib.Path)
     given = words.parse_args()
+    given.out.resolve().parent.mkdir(parents=True, exist_ok=True)
     kit = pathlib.Path(os.path.realpath(shutil.which("rt"))).parent.parent
     clang = kit / "toolchain" / "bin" / "clang"
     with tempfile.TemporaryDirectory() as name:

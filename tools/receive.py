@@ -1,11 +1,16 @@
 #!/usr/bin/env python3
-"""receive.py PORT: what is posted to 127.0.0.1:PORT, a body a line, on standard output. For Alertmanager's `webhook_configs`."""
+"""receive.py PORT: what is posted to 127.0.0.1:PORT, a body a line, on standard output. For Alertmanager's `webhook_configs`.
+
+Posts are read one after the other; whoever connects and sends nothing is cut off after ten seconds.
+"""
 import http.server
 import json
 import sys
 
 
 class Hook(http.server.BaseHTTPRequestHandler):
+    timeout = 10
+
     def do_POST(self):
         try:
             line = json.dumps(json.loads(self.rfile.read(int(self.headers.get("Content-Length", 0)))))

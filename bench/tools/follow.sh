@@ -4,7 +4,7 @@ python3 - "$PORT" <<'END'
 import json, sys, time, urllib.request
 names = ["Unhealthy", "ConnectTimeout", "DiskFilling"]
 labels = [{"alertname": name, "instance": "tg/node-2"} for name in names]
-alerts = [{"status": "firing", "labels": label, "startsAt": f"2023-11-28T03:12:0{k}.5Z"} for k, label in enumerate(labels)]
+alerts = [{"status": "firing", "labels": label, "startsAt": f"2123-11-28T03:12:0{k}.5Z"} for k, label in enumerate(labels)]
 for count in (1, 3, 3):
     for _ in range(100):
         try:
@@ -15,4 +15,5 @@ for count in (1, 3, 3):
 END
 kill $!
 wait $!
-cat $W/answers
+# A time in the future counts as now.
+sed 's/since 1[0-9]*$/since now/' $W/answers

@@ -18,4 +18,5 @@ post '{"status": "firing",
 post 'no json'
 post '{"status":"resolved","alerts":[{"labels":{"alertname":"A"}}]}'
 kill $!
+wait $! 2> /dev/null
 cat posted
