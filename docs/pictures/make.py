@@ -114,7 +114,7 @@ def log():
     arrows.append(arrow((x, last), (24, last), (24, tops[0] + 26), (x, tops[0] + 26)))
     beside = x + width + 24
     notes = [
-        rectangle(beside, tops[2], 262, 276, "#ffffff", dash="5 4"),
+        rectangle(beside, tops[2], 262, 290, "#ffffff", dash="5 4"),
         *(text(beside + 131, tops[2] + 30 + 22 * i, words, 13, PALE) for i, words in enumerate((
             "cb_session: one call of step.",
             "",
