@@ -10,7 +10,7 @@ use Rattle.cb_model.specs.declared.tables.ClassRow.{ClassRow}
 use Rattle.cb_model.specs.Classes.{IsA, NamesClass, NamesEvent, NamesRelation}
 use Rattle.cb_model.specs.WellTyped.{WellTyped, Member, Declares}
 use Rattle.cb_instances.specs.Net.{name_in_row}
-use Rattle.cb_instances.proofs.Muting.{event_told}
+use Rattle.cb_instances.proofs.Muting.{event_reported}
 use Rattle.cb_model.proofs.Climb.{ancestor_add, class_is}
 
 module _ (t : Tables) (typed : WellTyped t) where
@@ -27,7 +27,7 @@ module _ (t : Tables) (typed : WellTyped t) where
   ]
 
   pub one_event : (c : ClassId) (name : List ℕ) (e f : EventId) → NamesEvent t c name e → NamesEvent t c name f → e ≡ f
-  one_event c name e f (a, at_a) (b, at_b) = event_told t typed c e f a b (ap name_in_row a.is ∙ (at_a ∙ (sym at_b ∙ ap name_in_row (sym b.is))))
+  one_event c name e f (a, at_a) (b, at_b) = event_reported t typed c e f a b (ap name_in_row a.is ∙ (at_a ∙ (sym at_b ∙ ap name_in_row (sym b.is))))
 
   pub one_relation : (c : ClassId) (name : List ℕ) (r s : RelId) → NamesRelation t c name r → NamesRelation t c name s → r ≡ s
   one_relation c name r s (a, at_a) (b, at_b) =

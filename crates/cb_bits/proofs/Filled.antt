@@ -4,9 +4,9 @@ use Rattle.std.proofs.lemmas.Bool.{cases_lt}
 use Rattle.std.proofs.lemmas.List.{take_all, take_more, take_more_set, get_or-replicate, get_or_past, length-replicate, length-set, get_or-set_other}
 
 -- the first i of n values are these, and the others are still false
-pub record IsFilled (n i : ℕ) (row front : List Bool) : Type 0 where
+pub record IsFilled (n i : ℕ) (row prefix : List Bool) : Type 0 where
   pub long : length row ≡ n
-  pub begins : take i row ≡ front
+  pub begins : take i row ≡ prefix
   pub rest : (k : ℕ) → i ≤ k → slice_index_or row k false ≡ false
 
 pub none_filled : (n : ℕ) (row : List Bool) → row ≡ replicate n false → IsFilled n 0 row []
@@ -19,9 +19,9 @@ none_filled n row is = record {
   ];
 }
 
-module _ (n i : ℕ) (lt : i < n) (row front : List Bool) (filled : IsFilled n i row front) where
+module _ (n i : ℕ) (lt : i < n) (row prefix : List Bool) (filled : IsFilled n i row prefix) where
   -- the next value is true
-  pub one_set : IsFilled n (i + 1) (slice_set row i true) (front ++ true ∷ [])
+  pub one_set : IsFilled n (i + 1) (slice_set row i true) (prefix ++ true ∷ [])
   one_set =
       let long = filled.long in
       let set = length-set row i true in
@@ -32,7 +32,7 @@ module _ (n i : ℕ) (lt : i < n) (row front : List Bool) (filled : IsFilled n i
       }
 
   -- the next value stays false
-  pub one_left : IsFilled n (i + 1) row (front ++ false ∷ [])
+  pub one_left : IsFilled n (i + 1) row (prefix ++ false ∷ [])
   one_left =
       let long = filled.long in
       record {
@@ -41,5 +41,5 @@ module _ (n i : ℕ) (lt : i < n) (row front : List Bool) (filled : IsFilled n i
         rest = λ k le. filled.rest k (omega arith);
       }
 
-pub all_filled : (n i : ℕ) (row front : List Bool) → n ≤ i → IsFilled n i row front → row ≡ front
-all_filled n i row front le filled = let long = filled.long in sym (take_all i row (omega arith)) ∙ filled.begins
+pub all_filled : (n i : ℕ) (row prefix : List Bool) → n ≤ i → IsFilled n i row prefix → row ≡ prefix
+all_filled n i row prefix le filled = let long = filled.long in sym (take_all i row (omega arith)) ∙ filled.begins

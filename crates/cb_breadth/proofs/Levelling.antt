@@ -12,7 +12,7 @@ use Rattle.cb_successors.specs.Rows.{Has}
 use Rattle.cb_successors.proofs.Marks.{has_set, set_cases, nothing}
 use Rattle.cb_breadth.specs.declared.visit.LevelVisit.{LevelVisit}
 use Rattle.cb_breadth.specs.Levels.{IsLevelTree, HasEdgeBelow, IsNear, StandsBefore, level_visit, IsFirstFrom, IsNext, IsTier, levelled}
-use Rattle.cb_breadth.proofs.Lists.{only_item, has_or_lacks, never_both, has_below, kept_front}
+use Rattle.cb_breadth.proofs.Lists.{only_item, has_or_lacks, never_both, has_below, kept_prefix}
 
 -- some visit is of the node
 pub record IsSeen (visits : List LevelVisit) (node : ℕ) : Type 0 where
@@ -109,10 +109,10 @@ module _ (edge : ℕ → ℕ → Type 0) (root room from top : ℕ) (visits : Li
     mapped_at (x ∷ xs) zero node at = ap (λ y. Some (levelled (top + 1) parents y)) (same_Some x node at)
     mapped_at (x ∷ xs) (suc k) node at = mapped_at xs k node at
 
-    behind : (xs ys : List LevelVisit) (i : ℕ) (v : LevelVisit) → slice_get (xs ++ ys) i ≡ Some v → (slice_get xs i ≡ Some v) ⊎ ((length xs ≤ i) × (slice_get ys (i - length xs) ≡ Some v))
-    behind [] ys i v at = inr (omega arith, let e : i - 0 ≡ i = omega arith in subst (λ k. slice_get ys k ≡ Some v) (sym e) at)
-    behind (x ∷ xs) ys zero v at = inl at
-    behind (x ∷ xs) ys (suc i) v at = elim (behind xs ys i v at) [
+    beyond : (xs ys : List LevelVisit) (i : ℕ) (v : LevelVisit) → slice_get (xs ++ ys) i ≡ Some v → (slice_get xs i ≡ Some v) ⊎ ((length xs ≤ i) × (slice_get ys (i - length xs) ≡ Some v))
+    beyond [] ys i v at = inr (omega arith, let e : i - 0 ≡ i = omega arith in subst (λ k. slice_get ys k ≡ Some v) (sym e) at)
+    beyond (x ∷ xs) ys zero v at = inl at
+    beyond (x ∷ xs) ys (suc i) v at = elim (beyond xs ys i v at) [
       | inl here ↦ inl here
       | inr there ↦
           let e : i - length xs ≡ suc i - length (x ∷ xs) = let l = there.0 in omega arith in
@@ -125,13 +125,13 @@ module _ (edge : ℕ → ℕ → Type 0) (root room from top : ℕ) (visits : Li
         subst (λ j. slice_get (x ∷ (xs ++ ys)) j ≡ Some v) (sym e) (past xs ys k v at)
 
     split : (i : ℕ) (v : LevelVisit) → slice_get after i ≡ Some v → (slice_get visits i ≡ Some v) ⊎ IsAdded i v
-    split i v at = elim (behind visits (map (levelled (top + 1) parents) tier) i v (ap (λ vs. slice_get vs i) (sym after_is) ∙ at)) [
+    split i v at = elim (beyond visits (map (levelled (top + 1) parents) tier) i v (ap (λ vs. slice_get vs i) (sym after_is) ∙ at)) [
       | inl old ↦ inl old
       | inr new ↦ let m = from_mapped tier (i - length visits) v new.1 in inr (new.0, m.0, m.1, m.2)
     ]
 
     kept : (i : ℕ) (v : LevelVisit) → slice_get visits i ≡ Some v → slice_get after i ≡ Some v
-    kept i v at = ap (λ vs. slice_get vs i) after_is ∙ kept_front visits (map (levelled (top + 1) parents) tier) i v at
+    kept i v at = ap (λ vs. slice_get vs i) after_is ∙ kept_prefix visits (map (levelled (top + 1) parents) tier) i v at
 
     -- what is new is next
     is_next : (i : ℕ) (v : LevelVisit) → IsAdded i v → IsNext edge visits from (length visits) found v.node

@@ -287,22 +287,22 @@ more_slots [] k i slot = (λ has. let e = slice_get-replicate k i None (Some slo
 more_slots (x ∷ slots) k zero slot = (λ has. has, λ has. has)
 more_slots (x ∷ slots) k (suc i) slot = more_slots slots k i slot
 
-zeros_behind : (row : List ℕ) (n j : ℕ) → slice_index_or (row ++ zeros n) j 0 ≡ slice_index_or row j 0
-zeros_behind row n j = elim (cases_lt j (length row)) [
+zeros_after : (row : List ℕ) (n j : ℕ) → slice_index_or (row ++ zeros n) j 0 ≡ slice_index_or row j 0
+zeros_after row n j = elim (cases_lt j (length row)) [
   | inl lt ↦ get_or_append_left row (zeros n) 0 j lt
   | inr le ↦ get_or-append_right row (zeros n) (length row) j 0 refl le ∙ zero_read n (j - length row) ∙ sym (get_or_past row j 0 le)
 ]
 
 -- neither do zeros after a row
-bit_behind : (row : List ℕ) (n k : ℕ) → bit_of (row ++ zeros n) k ≡ bit_of row k
-bit_behind row n k = ap (λ (word : ℕ). bit_at word (k % 64) == 1) (zeros_behind row n (k / 64))
+bit_after : (row : List ℕ) (n k : ℕ) → bit_of (row ++ zeros n) k ≡ bit_of row k
+bit_after row n k = ap (λ (word : ℕ). bit_at word (k % 64) == 1) (zeros_after row n (k / 64))
 
 moved_pool : (width more : ℕ) (p : Pool) (pool : Option Pool) → IsPoolFor width more p pool → (slot : Slot) (row : List ℕ) → HasRow p slot row
     → (words : List ℕ) × HasRow (pool_or p pool) slot words × ((k : ℕ) → bit_of words k ≡ bit_of row k)
 moved_pool width more p None is slot row has = (row, has, λ k. refl)
 moved_pool width more p (Some wider) (wide, rows, spare) slot row has =
     let words = row_of p slot ++ zeros (wider.width - p.width) in
-    (words, (rows slot words).1 (has.0, refl), λ k. bit_behind (row_of p slot) (wider.width - p.width) k ∙ ap (λ (r : List ℕ). bit_of r k) (sym has.1))
+    (words, (rows slot words).1 (has.0, refl), λ k. bit_after (row_of p slot) (wider.width - p.width) k ∙ ap (λ (r : List ℕ). bit_of r k) (sym has.1))
 
 moved_taken : (width more : ℕ) (p : Pool) (pool : Option Pool) → IsPoolFor width more p pool → (slot : Slot) → IsTaken (pool_or p pool) slot → IsTaken p slot
 moved_taken width more p None is slot taken = taken

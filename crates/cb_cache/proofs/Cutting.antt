@@ -114,11 +114,11 @@ module _ (old : Numbered) (edit : Edit) (new : Numbered) (touched : List Bool) (
       let row = follows.right.rows i slot has in
       let reached : IsReachedRow old i (row_of p slot) = subst (IsReachedRow old i) row.1.1 row.2 in (
         λ (k, mark, bit).
-            let node = (follows.told k).0 mark in
+            let node = (follows.reported k).0 mark in
             (node.0, node.2, (lead_to_caused old edited.whole i k name node.0 named node.1).0 ((reached k).0 bit)),
         λ (node, is, causes).
             let at = edited.whole.named node (caused_is_node t name causes.0 node causes.1 (edited.whole.live (number i) name named)) in
-            (at.0.0, (follows.told at.0.0).1 (node, at.1, is), (reached at.0.0).1 ((lead_to_caused old edited.whole i at.0.0 name node named at.1).1 causes)),
+            (at.0.0, (follows.reported at.0.0).1 (node, at.1, is), (reached at.0.0).1 ((lead_to_caused old edited.whole i at.0.0 name node named at.1).1 causes)),
       )
 
   module _ (takes_away : TakesAway edit) where

@@ -26,7 +26,7 @@ TakesAway edit = ⊥
 pub record FollowsEdit (old : Numbered) (edit : Edit) (new : Numbered) (touched : List Bool) (slots : List (Option Slot)) (p : Pool) : Type 0 where
   pub edited : IsEdited old edit new
   pub right : AreRight old slots p
-  pub told : (k : ℕ) → Has touched k ↔ IsTouchedNumber old (topology_of new) k
+  pub reported : (k : ℕ) → Has touched k ↔ IsTouchedNumber old (topology_of new) k
 
 -- the number is still that of a node, and the slot's row has no touched one
 abbrev pub IsClean : Numbered → List Bool → Pool → ℕ → Slot → Type 0

@@ -84,7 +84,7 @@ fn make_room(alloc: Global, room: usize, count: usize) -> Result<Store, AllocErr
     })
 }
 
-// So many positions without a slot.
+// `room` positions without a slot.
 fn no_slots(alloc: Global, room: usize) -> Result<Vec<Option<Slot>>, AllocError>
     ensures { IfOk result (λ slots. slots.items ≡ replicate room None) }
 {

@@ -14,11 +14,11 @@ use Rattle.cb_cert.specs.declared.line.CertificateLine.{CertificateLine}
 use Rattle.cb_cert.specs.declared.line.CertificateLine.TheVariants as line
 use Rattle.cb_cert.specs.Ahead.{TextPlace, at_header, at_kind, at_wanted, at_distance, at_thin_distance, at_nodes, at_node, at_columns, at_column, at_spans, at_span, at_side, at_entry, at_end, MayStand, MayCome, opened, nodes_after, all_places}
 use Rattle.cb_cert.specs.Format.{Fits, nodes_of}
-use Rattle.cb_cert.specs.Fronts.{Begins}
+use Rattle.cb_cert.specs.Prefixes.{Begins}
 use Rattle.cb_cert.specs.Lines.{certificate_lines, span_lines, node_lines, column_lines, all_span_lines, side_lines}
 use Rattle.cb_cert.proofs.Uniques.{three_parts}
 
--- the lines at the front of these that fit the certificate may come
+-- the first of these lines that fit the certificate may come
 abbrev Goes : Certificate → ℕ → List TextPlace → List CertificateLine → Type 0
 Goes c n ahead whole = (ls more : List CertificateLine) → whole ≡ ls ++ more → All (Fits c) ls → MayCome n ahead ls
 
@@ -124,5 +124,5 @@ goes_whole (certificate.Thin w d nodes first second) =
     (goes_cons c 0 at_thin_distance (at_nodes ∷ ahead) (line.Distance d) rest (λ fits. fits) moved)))
 
 -- what a certificate begins with may come
-pub fronts_may_come : (ls : List CertificateLine) → Begins ls → MayCome 0 all_places ls
-fronts_may_come ls front = goes_whole front.of ls front.more front.are front.fit
+pub prefixes_may_come : (ls : List CertificateLine) → Begins ls → MayCome 0 all_places ls
+prefixes_may_come ls prefix = goes_whole prefix.of ls prefix.more prefix.are prefix.fit

@@ -11,10 +11,10 @@ use Rattle.cb_cert.specs.declared.line.CertificateLine.{CertificateLine}
 use Rattle.cb_cert.specs.declared.line.CertificateLine.TheVariants as line
 use Rattle.cb_cert.specs.Ahead.{TextPlace, at_kind, at_wanted, at_distance, at_thin_distance, at_nodes, at_node, at_columns, at_column, at_spans, at_span, at_side, at_entry, at_end, MayStand, MayCome, opened, nodes_after, all_places}
 use Rattle.cb_cert.specs.Format.{Fits, IsNode, IsEntry, IsWanted, nodes_of, node_limit, column_limit}
-use Rattle.cb_cert.specs.Fronts.{Begins}
+use Rattle.cb_cert.specs.Prefixes.{Begins}
 use Rattle.cb_cert.specs.Lines.{certificate_lines, span_lines, node_lines, column_lines, all_span_lines, side_lines}
 use Rattle.cb_cert.proofs.Uniques.{three_parts}
-use Rattle.cb_cert.proofs.Readings.{front_part}
+use Rattle.cb_cert.proofs.Readings.{prefix_part}
 
 -- what fits after the number of nodes, in a certificate with n nodes
 abbrev Later : ℕ → CertificateLine → Type 0
@@ -55,7 +55,7 @@ refill : (n : ℕ) (T U : List CertificateLine → Type 0) (ls : List Certificat
 refill n T U ls change r = record { whole = r.whole; is = change r.whole r.is; more = r.more; are = r.are; fit = r.fit }
 
 -- one line, and a whole after it
-record Behind {X : Type 0} (f : X → CertificateLine) (T : X → List CertificateLine → Type 0) (whole : List CertificateLine) : Type 0 where
+record After {X : Type 0} (f : X → CertificateLine) (T : X → List CertificateLine → Type 0) (whole : List CertificateLine) : Type 0 where
   of : X
   rest : List CertificateLine
   is : T of rest
@@ -81,7 +81,7 @@ record Made {X : Type 0} (n : ℕ) (place : TextPlace) (f : X → CertificateLin
   fits : (x : X) → MayStand n place (f x) → Later n (f x)
 
 can_one : {X : Type 0} (n : ℕ) (place : TextPlace) (f : X → CertificateLine) (places : X → List TextPlace) (ahead : List TextPlace) (T : X → List CertificateLine → Type 0) (some : X)
-    → Made n place f places → ((x : X) → Can n (places x ++ ahead) (T x)) → Can n (place ∷ ahead) (Behind f T)
+    → Made n place f places → ((x : X) → Can n (places x ++ ahead) (T x)) → Can n (place ∷ ahead) (After f T)
 can_one n place f places ahead T some made later [] p =
     let r = later some [] tt in
     record { whole = f some ∷ r.whole; is = record { of = some; rest = r.whole; is = r.is; whole_is = refl }; more = f some ∷ r.whole; are = refl; fit = All-nil (Later n) }
@@ -108,7 +108,7 @@ can_items : {X : Type 0} (n : ℕ) (place : TextPlace) (f : X → CertificateLin
 can_items n place f ahead T some zero made later ls p =
     refill n T (Items f zero T) ls (λ whole is. record { of = []; rest = whole; many = refl; is = is; whole_is = refl }) (later ls p)
 can_items n place f ahead T some (suc k) made later ls p =
-    refill n (Behind f (λ x. Items f k T)) (Items f (suc k) T) ls
+    refill n (After f (λ x. Items f k T)) (Items f (suc k) T) ls
     (λ whole b. let i = b.is in let first = b.whole_is in let rest = i.whole_is in let many = i.many in
     record { of = b.of ∷ i.of; rest = i.rest; many = ap suc many; is = i.is; whole_is = cc })
     (can_one n place f (λ x. []) (replicate k place ++ ahead) (λ x. Items f k T) some made
@@ -191,7 +191,7 @@ Last whole = whole ≡ line.End ∷ []
 
 can_last : (n : ℕ) → Can n (at_end ∷ []) Last
 can_last n ls p =
-    refill n (Behind (λ (x : Unit {0}). line.End) (λ x whole. whole ≡ [])) Last ls (λ whole b. let none = b.is in let is = b.whole_is in cc)
+    refill n (After (λ (x : Unit {0}). line.End) (λ x whole. whole ≡ [])) Last ls (λ whole b. let none = b.is in let is = b.whole_is in cc)
     (can_one n at_end (λ (x : Unit {0}). line.End) (λ x. []) [] (λ x whole. whole ≡ []) tt (made_end n) (λ x. can_end n) ls p)
 
 module _ (n : ℕ) (ahead : List TextPlace) (T : List CertificateLine → Type 0) (later : Can n ahead T) where
@@ -200,7 +200,7 @@ module _ (n : ℕ) (ahead : List TextPlace) (T : List CertificateLine → Type 0
 
   can_span : Can n (at_span ∷ ahead) (Parts span_lines T)
   can_span ls p =
-      refill n (Behind line.Span (λ k. Items line.Entry k T)) (Parts span_lines T) ls
+      refill n (After line.Span (λ k. Items line.Entry k T)) (Parts span_lines T) ls
       (λ whole b. let i = b.is in let first = b.whole_is in let rest = i.whole_is in let many = i.many in
       record { of = record { entries = i.of }; rest = i.rest; is = i.is; whole_is = cc })
       (can_one n at_span line.Span (λ k. replicate k at_entry) ahead (λ k. Items line.Entry k T) 1 (made_span n) can_entries ls p)
@@ -233,7 +233,7 @@ module _ (n : ℕ) (ahead : List TextPlace) (T : List CertificateLine → Type 0
 
   can_columns : Can n (at_columns ∷ ahead) (Parts column_lines T)
   can_columns ls p =
-      refill n (Behind line.Columns (λ k. Items line.Column k T)) (Parts column_lines T) ls
+      refill n (After line.Columns (λ k. Items line.Column k T)) (Parts column_lines T) ls
       (λ whole b. let i = b.is in let first = b.whole_is in let rest = i.whole_is in let many = i.many in
       record { of = i.of; rest = i.rest; is = i.is; whole_is = cc })
       (can_one n at_columns line.Columns (λ k. replicate k at_column) ahead (λ k. Items line.Column k T) 0 (made_columns n)
@@ -251,7 +251,7 @@ can_many_spans n ahead T later (suc k) ls p =
 
 can_all_spans : (n : ℕ) (ahead : List TextPlace) (T : List CertificateLine → Type 0) → Can n ahead T → Can n (at_spans ∷ ahead) (Parts all_span_lines T)
 can_all_spans n ahead T later ls p =
-    refill n (Behind line.Spans (λ k. Spans k T)) (Parts all_span_lines T) ls
+    refill n (After line.Spans (λ k. Spans k T)) (Parts all_span_lines T) ls
     (λ whole b. let i = b.is in let first = b.whole_is in let rest = i.whole_is in let many = i.many in
     record { of = i.of; rest = i.rest; is = i.is; whole_is = cc })
     (can_one n at_spans line.Spans (λ k. replicate k at_span) ahead (λ k. Spans k T) 0 (made_spans n) (can_many_spans n ahead T later) ls p)
@@ -330,43 +330,43 @@ one_wanted = ((omega arith), (omega arith))
 book_nodes : (d : ℕ) → IsWanted d → (ls : List CertificateLine) → MayCome 0 (at_nodes ∷ at_columns ∷ at_spans ∷ at_end ∷ []) ls
     → Begins (line.Header ∷ line.Book ∷ line.Distance d ∷ ls)
 book_nodes d wanted [] p =
-    front_part (line.Header ∷ line.Book ∷ line.Distance d ∷ []) (line.Nodes 0 ∷ []) (book_goes_on d 0 wanted (omega arith) [] tt)
+    prefix_part (line.Header ∷ line.Book ∷ line.Distance d ∷ []) (line.Nodes 0 ∷ []) (book_goes_on d 0 wanted (omega arith) [] tt)
 book_nodes d wanted (line.Nodes m ∷ ls) p = book_goes_on d m wanted p.0 ls p.1
 book_nodes d wanted (l ∷ ls) p = absurd p.0
 
 book_distance : (ls : List CertificateLine) → MayCome 0 (at_distance ∷ at_nodes ∷ at_columns ∷ at_spans ∷ at_end ∷ []) ls → Begins (line.Header ∷ line.Book ∷ ls)
-book_distance [] p = front_part (line.Header ∷ line.Book ∷ []) (line.Distance 1 ∷ []) (book_nodes 1 one_wanted [] tt)
+book_distance [] p = prefix_part (line.Header ∷ line.Book ∷ []) (line.Distance 1 ∷ []) (book_nodes 1 one_wanted [] tt)
 book_distance (line.Distance d ∷ ls) p = book_nodes d p.0 ls p.1
 book_distance (l ∷ ls) p = absurd p.0
 
 thin_nodes : (w d : ℕ) → IsWanted w → d ≤ column_limit → (ls : List CertificateLine) → MayCome 0 (at_nodes ∷ at_side ∷ at_span ∷ at_end ∷ []) ls
     → Begins (line.Header ∷ line.Thin ∷ line.Wanted w ∷ line.Distance d ∷ ls)
 thin_nodes w d wanted far [] p =
-    front_part (line.Header ∷ line.Thin ∷ line.Wanted w ∷ line.Distance d ∷ []) (line.Nodes 0 ∷ []) (thin_goes_on w d 0 wanted far (omega arith) [] tt)
+    prefix_part (line.Header ∷ line.Thin ∷ line.Wanted w ∷ line.Distance d ∷ []) (line.Nodes 0 ∷ []) (thin_goes_on w d 0 wanted far (omega arith) [] tt)
 thin_nodes w d wanted far (line.Nodes m ∷ ls) p = thin_goes_on w d m wanted far p.0 ls p.1
 thin_nodes w d wanted far (l ∷ ls) p = absurd p.0
 
 thin_distance : (w : ℕ) → IsWanted w → (ls : List CertificateLine) → MayCome 0 (at_thin_distance ∷ at_nodes ∷ at_side ∷ at_span ∷ at_end ∷ []) ls
     → Begins (line.Header ∷ line.Thin ∷ line.Wanted w ∷ ls)
 thin_distance w wanted [] p =
-    front_part (line.Header ∷ line.Thin ∷ line.Wanted w ∷ []) (line.Distance 0 ∷ []) (thin_nodes w 0 wanted (omega arith) [] tt)
+    prefix_part (line.Header ∷ line.Thin ∷ line.Wanted w ∷ []) (line.Distance 0 ∷ []) (thin_nodes w 0 wanted (omega arith) [] tt)
 thin_distance w wanted (line.Distance d ∷ ls) p = thin_nodes w d wanted p.0 ls p.1
 thin_distance w wanted (l ∷ ls) p = absurd p.0
 
 thin_wanted : (ls : List CertificateLine) → MayCome 0 (at_wanted ∷ at_thin_distance ∷ at_nodes ∷ at_side ∷ at_span ∷ at_end ∷ []) ls
     → Begins (line.Header ∷ line.Thin ∷ ls)
-thin_wanted [] p = front_part (line.Header ∷ line.Thin ∷ []) (line.Wanted 1 ∷ []) (thin_distance 1 one_wanted [] tt)
+thin_wanted [] p = prefix_part (line.Header ∷ line.Thin ∷ []) (line.Wanted 1 ∷ []) (thin_distance 1 one_wanted [] tt)
 thin_wanted (line.Wanted w ∷ ls) p = thin_distance w p.0 ls p.1
 thin_wanted (l ∷ ls) p = absurd p.0
 
 kind_goes_on : (ls : List CertificateLine) → MayCome 0 (at_kind ∷ at_end ∷ []) ls → Begins (line.Header ∷ ls)
-kind_goes_on [] p = front_part (line.Header ∷ []) (line.Book ∷ []) (book_distance [] tt)
+kind_goes_on [] p = prefix_part (line.Header ∷ []) (line.Book ∷ []) (book_distance [] tt)
 kind_goes_on (line.Book ∷ ls) p = book_distance ls p.1
 kind_goes_on (line.Thin ∷ ls) p = thin_wanted ls p.1
 kind_goes_on (l ∷ ls) p = absurd p.0
 
 -- what may come is what some certificate begins with
 pub may_come_begins : (ls : List CertificateLine) → MayCome 0 all_places ls → Begins ls
-may_come_begins [] p = front_part [] (line.Header ∷ []) (kind_goes_on [] tt)
+may_come_begins [] p = prefix_part [] (line.Header ∷ []) (kind_goes_on [] tt)
 may_come_begins (line.Header ∷ ls) p = kind_goes_on ls p.1
 may_come_begins (l ∷ ls) p = absurd p.0

@@ -1,4 +1,4 @@
--- Words in front.
+-- Words at the start.
 use Rattle.std.proofs.Common.{◌≡◌, ◌≢◌, ℕ, ◌<◌, ◌≤◌, ◌^◌, ◌+◌, ◌-◌, List, ◌∷◌, ◌++◌, length, take, drop, get_or, suc, codes, nat_eq, Some, None, refl, sym, ap, subst, ◌∙◌, arith}
 use Rattle.std.specs.Fmt.{decimal}
 use Rattle.std.proofs.lemmas.Bool.{eqb-true, eq-eqb, false_from_ne_true}
@@ -39,8 +39,8 @@ cut_at_space bytes at first =
     let rest : drop at bytes ≡ 32 ∷ drop (at + 1) bytes = drop_more bytes at 0 low ∙ ap (λ b. b ∷ drop (at + 1) bytes) (eqb-true (get_or bytes at 0) 32 first.1) in
     sym (take-append-drop at bytes) ∙ ap (λ (l : List ℕ). take at bytes ++ l) rest
 
-pub front_lacks_space : (bytes : List ℕ) (at : ℕ) → IsFirstByte (is_byte 32) bytes (Some at) → Lacks 32 (take at bytes)
-front_lacks_space bytes at first k d inside =
+pub prefix_lacks_space : (bytes : List ℕ) (at : ℕ) → IsFirstByte (is_byte 32) bytes (Some at) → Lacks 32 (take at bytes)
+prefix_lacks_space bytes at first k d inside =
     let low : at < length bytes = first.0.high in
     let below : k < at = omega (arith, inside, length-take at bytes) in
     let here : get_or (take at bytes) k d ≡ get_or bytes k 0 = get_or-take at bytes k d below ∙ get_or_default bytes k d 0 (omega arith) in
@@ -54,7 +54,7 @@ pair_parts bytes at e first short is =
     let joined : take at bytes ++ 32 ∷ drop (at + 1) bytes ≡ decimal e.node ++ 32 ∷ decimal e.parent =
     sym (cut_at_space bytes at first) ∙ (is ∙ append_assoc (decimal e.node) (codes " ") (decimal e.parent))
     in
-    cut_once 32 (take at bytes) (drop (at + 1) bytes) (decimal e.node) (decimal e.parent) (front_lacks_space bytes at first)
+    cut_once 32 (take at bytes) (drop (at + 1) bytes) (decimal e.node) (decimal e.parent) (prefix_lacks_space bytes at first)
     (digits_lack_space e.node (omega arith)) joined
 
 pub no_space : (bytes : List ℕ) → IsFirstByte (is_byte 32) bytes None → IsNoPair bytes
@@ -85,8 +85,8 @@ no_entry bytes rest is none e short same =
     let joined = append_cancel_left (codes "entry ") rest (decimal e.node ++ 32 ∷ decimal e.parent) (sym is ∙ (same ∙ back)) in
     none e short (joined ∙ sym (append_assoc (decimal e.node) (codes " ") (decimal e.parent)))
 
-pub entry_behind : (bytes rest : List ℕ) (e : Entry) → bytes ≡ codes "entry " ++ rest → rest ≡ numbers_text e → bytes ≡ line_text (line.Entry e)
-entry_behind bytes rest e is numbers =
+pub entry_beyond : (bytes rest : List ℕ) (e : Entry) → bytes ≡ codes "entry " ++ rest → rest ≡ numbers_text e → bytes ≡ line_text (line.Entry e)
+entry_beyond bytes rest e is numbers =
     let back = append_assoc (codes "entry " ++ decimal e.node) (codes " ") (decimal e.parent) ∙ append_assoc (codes "entry ") (decimal e.node) (32 ∷ decimal e.parent) in
     is ∙ (ap (λ (r : List ℕ). codes "entry " ++ r) (numbers ∙ append_assoc (decimal e.node) (codes " ") (decimal e.parent)) ∙ sym back)
 

@@ -13,18 +13,18 @@ use Rattle.cb_cert.specs.declared.line.CertificateLine.TheVariants as line
 use Rattle.cb_cert.specs.declared.reader.Reader.{Reader}
 use Rattle.cb_cert.specs.Ahead.{at_kind, at_end, MayStand}
 use Rattle.cb_cert.specs.Format.{Fits, IsCertificate, SpellsCertificate, entries_in}
-use Rattle.cb_cert.specs.Fronts.{IsFault}
+use Rattle.cb_cert.specs.Prefixes.{IsFault}
 use Rattle.cb_cert.specs.Lines.{certificate_lines, claim_lines, line_text}
 use Rattle.cb_cert.specs.Steps.{HasRead, Moves}
-use Rattle.cb_cert.proofs.Allowed.{fronts_may_come}
+use Rattle.cb_cert.proofs.Allowed.{prefixes_may_come}
 use Rattle.cb_cert.proofs.Completed.{may_come_begins}
 use Rattle.cb_cert.proofs.Moved.{missed}
-use Rattle.cb_cert.proofs.Readings.{nothing_is_front, no_header, whole_is_front}
+use Rattle.cb_cert.proofs.Readings.{nothing_is_prefix, no_header, whole_is_prefix}
 use Rattle.cb_cert.proofs.Uniques.{goes_on}
 
 -- a text without lines
 pub empty : (text : List ℕ) → lines_of text ≡ [] → IsFault text fault.Truncated
-empty text none = record { before = []; lines = none; front = nothing_is_front; open_ended = no_header [] refl }
+empty text none = record { before = []; lines = none; prefix = nothing_is_prefix; open_ended = no_header [] refl }
 
 -- the header was read
 pub begun : (text : List ℕ) (reader : Reader) → lines_of text ≡ line_text line.Header ∷ reader.lines → reader.number ≡ 1 → reader.entries ≡ 0
@@ -38,7 +38,7 @@ begun text reader lines number entries small = record {
   begun = λ none. cc;
   unended = All-cons (λ l. l ≢ line.End) line.Header [] (λ e. cc) (All-nil (λ l. l ≢ line.End));
   goes_on = λ ls may. may_come_begins (line.Header ∷ ls) (tt, may);
-  no_other = λ ls begins. (fronts_may_come (line.Header ∷ ls) begins).1;
+  no_other = λ ls begins. (prefixes_may_come (line.Header ∷ ls) begins).1;
 }
 
 -- a fault that isn't out of memory
@@ -104,7 +104,7 @@ module _ (text : List ℕ) (c : Certificate) (n : ℕ) (old : Reader) (read : Ha
           met = record {
             after = after;
             lines = lines (next ∷ after) e;
-            front = whole_is_front (certificate_lines c) (c, whole, refl);
+            prefix = whole_is_prefix (certificate_lines c) (c, whole, refl);
             number_is = omega (arith, all, some, many, read.small, read.number_is, moves.number_is, number);
           };
           whole = (c, whole, refl);

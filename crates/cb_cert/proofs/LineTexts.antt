@@ -18,16 +18,16 @@ use Rattle.cb_cert.specs.declared.line.CertificateLine.TheVariants as line
 use Rattle.cb_cert.specs.Lines.{line_text}
 use Rattle.cb_cert.specs.Format.{Fits, IsDistance, nodes_of, node_limit}
 
--- the front is what stands before the first of these bytes
-pub cut_once : (cut : ℕ) (front back other_front other_back : List ℕ) → Lacks cut front → Lacks cut other_front
-    → front ++ cut ∷ back ≡ other_front ++ cut ∷ other_back → (front ≡ other_front) × (back ≡ other_back)
-cut_once cut front back other_front other_back lacks other_lacks same =
-    let here = slice_split_at (λ b. nat_eq b cut) front cut back lacks (search rules) in
-    let there = slice_split_at (λ b. nat_eq b cut) other_front cut other_back other_lacks (search rules) in
+-- the prefix is what stands before the first of these bytes
+pub cut_once : (cut : ℕ) (prefix back other_prefix other_back : List ℕ) → Lacks cut prefix → Lacks cut other_prefix
+    → prefix ++ cut ∷ back ≡ other_prefix ++ cut ∷ other_back → (prefix ≡ other_prefix) × (back ≡ other_back)
+cut_once cut prefix back other_prefix other_back lacks other_lacks same =
+    let here = slice_split_at (λ b. nat_eq b cut) prefix cut back lacks (search rules) in
+    let there = slice_split_at (λ b. nat_eq b cut) other_prefix cut other_back other_lacks (search rules) in
     let both = sym here ∙ (ap (slice_split (λ b. nat_eq b cut)) same ∙ there) in
-    let fronts : front ≡ other_front = cc in
-    let tails = append_cancel_left front (cut ∷ back) (cut ∷ other_back) (same ∙ ap (λ (f : List ℕ). f ++ cut ∷ other_back) (sym fronts)) in
-    (fronts, cc)
+    let prefixes : prefix ≡ other_prefix = cc in
+    let tails = append_cancel_left prefix (cut ∷ back) (cut ∷ other_back) (same ∙ ap (λ (f : List ℕ). f ++ cut ∷ other_back) (sym prefixes)) in
+    (prefixes, cc)
 
 -- the digits of a number are no space
 pub digits_lack_space : (n : ℕ) → n < 2 ^ 64 → Lacks 32 (decimal n)

@@ -12,7 +12,7 @@ use Rattle.cb_cert.specs.declared.line.CertificateLine.TheVariants as line
 use Rattle.cb_cert.specs.declared.reader.Reader.{Reader}
 use Rattle.cb_cert.specs.Ahead.{TextPlace, MayStand, opened, nodes_after}
 use Rattle.cb_cert.specs.Format.{entries_in, entry_limit}
-use Rattle.cb_cert.specs.Fronts.{Begins, IsFront, IsWhole, IsFault}
+use Rattle.cb_cert.specs.Prefixes.{Begins, IsPrefix, IsWhole, IsFault}
 use Rattle.cb_cert.specs.Lines.{claim_lines, line_text}
 use Rattle.cb_cert.specs.Steps.{HasRead, Moves, Misses}
 use Rattle.cb_cert.proofs.Readings.{all_last}
@@ -53,8 +53,8 @@ taken text old new before n place ahead l read next stands going =
     }
 
 -- what was read is as it should be
-pub front : (text : List ℕ) (reader : Reader) (before : List CertificateLine) (n : ℕ) (ahead : List TextPlace) → HasRead text reader before n ahead → IsFront before
-front text reader before n ahead read = record {
+pub prefix : (text : List ℕ) (reader : Reader) (before : List CertificateLine) (n : ℕ) (ahead : List TextPlace) → HasRead text reader before n ahead → IsPrefix before
+prefix text reader before n ahead read = record {
   begins = subst Begins (append-nil before) (read.goes_on [] tt);
   few = omega (arith, read.few, read.entries_are);
 }
@@ -64,8 +64,8 @@ pub going : (text : List ℕ) (reader : Reader) (before : List CertificateLine) 
 going text reader before n ahead read whole =
     let c = whole.0 in
     let over = subst (All (λ k. k ≢ line.End)) (whole.2) read.unended in
-    let behind = All-tail (λ k. k ≢ line.End) line.Header (claim_lines c ++ line.End ∷ []) over in
-    all_last (λ k. k ≢ line.End) (claim_lines c) line.End behind refl
+    let beyond = All-tail (λ k. k ≢ line.End) line.Header (claim_lines c ++ line.End ∷ []) over in
+    all_last (λ k. k ≢ line.End) (claim_lines c) line.End beyond refl
 
 -- why the next line isn't read is why the text is no certificate
 pub missed : (text : List ℕ) (reader : Reader) (before : List CertificateLine) (n : ℕ) (place : TextPlace) (ahead : List TextPlace) (Wrong : List ℕ → Type 0)
@@ -79,7 +79,7 @@ missed text reader before n place ahead Wrong read never (fault.BadLine k) miss 
   met = record {
     after = miss.after;
     lines = read.lines_are ∙ ap (λ (ts : List (List ℕ)). map line_text before ++ ts) miss.lines_are;
-    front = front text reader before n (place ∷ ahead) read;
+    prefix = prefix text reader before n (place ∷ ahead) read;
     number_is = next_number text reader before n (place ∷ ahead) miss.met miss.after k read miss.lines_are miss.number_is;
   };
   later = read.begun;
@@ -89,7 +89,7 @@ missed text reader before n place ahead Wrong read never (fault.BadLine k) miss 
 missed text reader before n place ahead Wrong read never fault.Truncated miss = inr (record {
   before = before;
   lines = read.lines_are ∙ (ap (λ (ts : List (List ℕ)). map line_text before ++ ts) miss ∙ append-nil (map line_text before));
-  front = front text reader before n (place ∷ ahead) read;
+  prefix = prefix text reader before n (place ∷ ahead) read;
   open_ended = going text reader before n (place ∷ ahead) read;
 })
 missed text reader before n place ahead Wrong read never (fault.Extra k) miss = absurd miss

@@ -10,10 +10,10 @@ use Rattle.cb_cert.specs.declared.line.CertificateLine.TheVariants as line
 use Rattle.cb_cert.specs.declared.reader.Reader.{Reader}
 use Rattle.cb_cert.specs.Ahead.{TextPlace, at_kind, at_span, at_side, at_entry, MayStand, opened, nodes_after}
 use Rattle.cb_cert.specs.Format.{entries_in}
-use Rattle.cb_cert.specs.Fronts.{IsFault}
+use Rattle.cb_cert.specs.Prefixes.{IsFault}
 use Rattle.cb_cert.specs.Lines.{line_text}
 use Rattle.cb_cert.specs.Steps.{HasRead, Moves, IsLength, CountsSpan}
-use Rattle.cb_cert.proofs.Moved.{next_number, taken, front, missed}
+use Rattle.cb_cert.proofs.Moved.{next_number, taken, prefix, missed}
 
 -- the text ends before a line that is wanted
 pub no_line : (text : List ℕ) (reader : Reader) (before : List CertificateLine) (n : ℕ) (place : TextPlace) (ahead : List TextPlace) → HasRead text reader before n (place ∷ ahead)
@@ -75,7 +75,7 @@ module _ (text : List ℕ) (old mid new : Reader) (met : List ℕ) (before : Lis
         met = record {
           after = mid.lines;
           lines = read.lines_are ∙ ap (λ (ts : List (List ℕ)). map line_text before ++ ts) first;
-          front = front text old before n (place ∷ ahead) read;
+          prefix = prefix text old before n (place ∷ ahead) read;
           number_is = next_number text old before n (place ∷ ahead) met mid.lines k read moves.lines_are (p.0 ∙ moves.number_is);
         };
         begins = read.goes_on (line.Span m ∷ []) (may m (q.1).length_is, tt);

@@ -14,41 +14,41 @@ use Rattle.cb_cert.specs.declared.line.CertificateLine.{CertificateLine}
 use Rattle.cb_cert.specs.declared.line.CertificateLine.TheVariants as line
 use Rattle.cb_cert.specs.Lines.{certificate_lines, line_text, text_of}
 use Rattle.cb_cert.specs.Format.{Fits, IsCertificate, entries_in, entry_limit}
-use Rattle.cb_cert.specs.Fronts.{Begins, IsFront, IsWhole, IsReading}
+use Rattle.cb_cert.specs.Prefixes.{Begins, IsPrefix, IsWhole, IsReading}
 use Rattle.cb_cert.proofs.LineTexts.{IsSmall, fitting_is_small, line_text_one}
 use Rattle.cb_cert.proofs.TextLines.{few_nodes, text_spells}
 use Rattle.cb_cert.proofs.Uniques.{goes_on, lines_are_of_one}
 
 -- parts of what holds of all
 
-all_front : {X : Type 0} (P : X → Type 0) (xs ys : List X) → All P (xs ++ ys) → All P xs
-all_front P [] ys all = All-nil P
-all_front P (x ∷ xs) ys all = All-cons P x xs (All-head P x (xs ++ ys) all) (all_front P xs ys (All-tail P x (xs ++ ys) all))
+all_prefix : {X : Type 0} (P : X → Type 0) (xs ys : List X) → All P (xs ++ ys) → All P xs
+all_prefix P [] ys all = All-nil P
+all_prefix P (x ∷ xs) ys all = All-cons P x xs (All-head P x (xs ++ ys) all) (all_prefix P xs ys (All-tail P x (xs ++ ys) all))
 
 pub all_last : {X : Type 0} (P : X → Type 0) (xs : List X) (x : X) → All P (xs ++ x ∷ []) → P x
 all_last P [] x all = All-head P x [] all
 all_last P (y ∷ xs) x all = all_last P xs x (All-tail P y (xs ++ x ∷ []) all)
 
 -- what is a beginning up to some line is one up to any line before
-pub front_part : (xs ys : List CertificateLine) → Begins (xs ++ ys) → Begins xs
-front_part xs ys begins = record {
+pub prefix_part : (xs ys : List CertificateLine) → Begins (xs ++ ys) → Begins xs
+prefix_part xs ys begins = record {
   of = begins.of;
   few = begins.few;
   more = ys ++ begins.more;
   are = begins.are ∙ append_assoc xs ys begins.more;
-  fit = all_front (Fits begins.of) xs ys begins.fit;
+  fit = all_prefix (Fits begins.of) xs ys begins.fit;
 }
 
 -- a prefix of a prefix is one
-front_of_front : (xs ys : List CertificateLine) → IsFront (xs ++ ys) → IsFront xs
-front_of_front xs ys is = record {
-  begins = front_part xs ys is.begins;
+prefix_of_prefix : (xs ys : List CertificateLine) → IsPrefix (xs ++ ys) → IsPrefix xs
+prefix_of_prefix xs ys is = record {
+  begins = prefix_part xs ys is.begins;
   few = let e = sum_by-append entries_in xs ys in let most = is.few in omega arith;
 }
 
 -- the lines of a certificate of the format are a prefix
-pub whole_is_front : (lines : List CertificateLine) → IsWhole lines → IsFront lines
-whole_is_front lines (c, is, e) = record {
+pub whole_is_prefix : (lines : List CertificateLine) → IsWhole lines → IsPrefix lines
+whole_is_prefix lines (c, is, e) = record {
   begins = record { of = c; few = few_nodes c is; more = []; are = sym e ∙ sym (append-nil lines); fit = subst (All (Fits c)) (sym e) is.fit };
   few = subst (λ ls. sum_by entries_in ls ≤ entry_limit) (sym e) is.few;
 }
@@ -66,18 +66,18 @@ whole_ends lines (c, is, e) l begins =
 begins_is_small : (lines : List CertificateLine) → Begins lines → All IsSmall lines
 begins_is_small lines begins = All-weaker (Fits begins.of) IsSmall (fitting_is_small begins.of begins.few) lines begins.fit
 
-front_is_small : (lines : List CertificateLine) → IsFront lines → All IsSmall lines
-front_is_small lines is = begins_is_small lines is.begins
+prefix_is_small : (lines : List CertificateLine) → IsPrefix lines → All IsSmall lines
+prefix_is_small lines is = begins_is_small lines is.begins
 
 -- a prefix begins with the header
-front_head : (l : CertificateLine) (ls : List CertificateLine) → Begins (l ∷ ls) → l ≡ line.Header
-front_head l ls begins = let e = begins.are in cc
+prefix_head : (l : CertificateLine) (ls : List CertificateLine) → Begins (l ∷ ls) → l ≡ line.Header
+prefix_head l ls begins = let e = begins.are in cc
 
 -- a reading: the lines that are as they should be, what follows them, and that nothing that should be follows
 record Reads (text : List ℕ) (before : List CertificateLine) (rest : List (List ℕ)) : Type 0 where
   lines : lines_of text ≡ map line_text before ++ rest
-  front : IsFront before
-  stuck : (l : CertificateLine) (more : List (List ℕ)) → IsFront (before ++ l ∷ []) → rest ≡ line_text l ∷ more → ⊥
+  prefix : IsPrefix before
+  stuck : (l : CertificateLine) (more : List (List ℕ)) → IsPrefix (before ++ l ∷ []) → rest ≡ line_text l ∷ more → ⊥
 
 -- of two readings neither is longer
 no_longer : (text : List ℕ) (xs : List CertificateLine) (l : CertificateLine) (ls : List CertificateLine) (us vs : List (List ℕ)) → Reads text xs us → Reads text (xs ++ l ∷ ls) vs → ⊥
@@ -86,8 +86,8 @@ no_longer text xs l ls us vs a b =
     sym a.lines ∙ (b.lines ∙ (ap (λ ts. ts ++ vs) (map-append line_text xs (l ∷ ls)) ∙ append_assoc (map line_text xs) (map line_text (l ∷ ls)) vs))
     in
     let rest = append_cancel_left (map line_text xs) us (line_text l ∷ (map line_text ls ++ vs)) joined in
-    let longer : IsFront ((xs ++ l ∷ []) ++ ls) = subst IsFront (sym (append_assoc xs (l ∷ []) ls)) b.front in
-    a.stuck l (map line_text ls ++ vs) (front_of_front (xs ++ l ∷ []) ls longer) rest
+    let longer : IsPrefix ((xs ++ l ∷ []) ++ ls) = subst IsPrefix (sym (append_assoc xs (l ∷ []) ls)) b.prefix in
+    a.stuck l (map line_text ls ++ vs) (prefix_of_prefix (xs ++ l ∷ []) ls longer) rest
 
 -- two lists of lines with texts that agree: they are one, or one is longer
 compare : (xs ys : List CertificateLine) (us vs : List (List ℕ)) → All IsSmall xs → All IsSmall ys → map line_text xs ++ us ≡ map line_text ys ++ vs
@@ -108,7 +108,7 @@ compare (x ∷ xs) (y ∷ ys) us vs small_x small_y e =
 -- readings end at the same lines
 same_lines : (text : List ℕ) (xs ys : List CertificateLine) (us vs : List (List ℕ)) → Reads text xs us → Reads text ys vs → (xs ≡ ys) × (us ≡ vs)
 same_lines text xs ys us vs a b =
-    elim (compare xs ys us vs (front_is_small xs a.front) (front_is_small ys b.front) (sym a.lines ∙ b.lines)) [
+    elim (compare xs ys us vs (prefix_is_small xs a.prefix) (prefix_is_small ys b.prefix) (sym a.lines ∙ b.lines)) [
       | inl one ↦ one
       | inr (inl longer) ↦ absurd (no_longer text xs longer.0 longer.1 us vs a (subst (λ zs. Reads text zs vs) longer.2 b))
       | inr (inr longer) ↦ absurd (no_longer text ys longer.0 longer.1 vs us b (subst (λ zs. Reads text zs us) longer.2 a))
@@ -138,8 +138,8 @@ record IsEnded (text : List ℕ) (a : Result Certificate CertText) : Type 0 wher
   ended : Ended a before rest
 
 -- nothing is a prefix
-pub nothing_is_front : IsFront []
-nothing_is_front = record {
+pub nothing_is_prefix : IsPrefix []
+nothing_is_prefix = record {
   begins = record { of = certificate.Book 1 [] [] []; few = omega arith; more = certificate_lines (certificate.Book 1 [] [] []); are = refl; fit = All-nil (Fits (certificate.Book 1 [] [] [])) };
   few = omega arith;
 }
@@ -150,7 +150,7 @@ ended_of text (Ok c) p = record {
   rest = [];
   reads = record {
     lines = p.lines ∙ sym (append-nil (map line_text (certificate_lines c)));
-    front = whole_is_front (certificate_lines c) (c, p.is, refl);
+    prefix = whole_is_prefix (certificate_lines c) (c, p.is, refl);
     stuck = λ l more f e. cc;
   };
   ended = (refl, p.is, refl);
@@ -160,9 +160,9 @@ ended_of text (Err fault.BadHeader) p = record {
   rest = p.first ∷ p.after;
   reads = record {
     lines = p.lines;
-    front = nothing_is_front;
+    prefix = nothing_is_prefix;
     stuck = λ l more f e.
-        let header = front_head l [] f.begins in
+        let header = prefix_head l [] f.begins in
         let first : p.first ≡ line_text l = cc in
         p.other (first ∙ ap line_text header);
   };
@@ -173,7 +173,7 @@ ended_of text (Err (fault.BadLine n)) p = record {
   rest = p.line ∷ p.met.after;
   reads = record {
     lines = p.met.lines;
-    front = p.met.front;
+    prefix = p.met.prefix;
     stuck = λ l more f e. let is : p.line ≡ line_text l = cc in p.none l is f.begins;
   };
   ended = (p.line, p.met.after, refl, p.met.number_is, p.later, p.open_ended, p.none);
@@ -181,13 +181,13 @@ ended_of text (Err (fault.BadLine n)) p = record {
 ended_of text (Err fault.Truncated) p = record {
   before = p.before;
   rest = [];
-  reads = record { lines = p.lines ∙ sym (append-nil (map line_text p.before)); front = p.front; stuck = λ l more f e. cc };
+  reads = record { lines = p.lines ∙ sym (append-nil (map line_text p.before)); prefix = p.prefix; stuck = λ l more f e. cc };
   ended = (refl, p.open_ended);
 }
 ended_of text (Err (fault.Extra n)) p = record {
   before = p.before;
   rest = p.line ∷ p.met.after;
-  reads = record { lines = p.met.lines; front = p.met.front; stuck = λ l more f e. whole_ends p.before p.whole l f.begins };
+  reads = record { lines = p.met.lines; prefix = p.met.prefix; stuck = λ l more f e. whole_ends p.before p.whole l f.begins };
   ended = (p.line, p.met.after, refl, p.met.number_is, p.whole);
 }
 ended_of text (Err (fault.TooManyEntries n)) p = record {
@@ -195,11 +195,11 @@ ended_of text (Err (fault.TooManyEntries n)) p = record {
   rest = line_text (line.Span p.entries) ∷ p.met.after;
   reads = record {
     lines = p.met.lines;
-    front = p.met.front;
+    prefix = p.met.prefix;
     stuck = λ l more f e.
         let texts : line_text (line.Span p.entries) ≡ line_text l = cc in
         let small = all_last IsSmall p.before (line.Span p.entries) (begins_is_small _ p.begins) in
-        let small_l = all_last IsSmall p.before l (front_is_small _ f) in
+        let small_l = all_last IsSmall p.before l (prefix_is_small _ f) in
         let same = line_text_one (line.Span p.entries) l small small_l texts in
         let few : sum_by entries_in (p.before ++ line.Span p.entries ∷ []) ≤ entry_limit =
         subst (λ m. sum_by entries_in (p.before ++ m ∷ []) ≤ entry_limit) (sym same) f.few
@@ -216,7 +216,7 @@ no_header before none (c, is, e) = cc
 
 no_span : (before : List CertificateLine) (k : ℕ) → before ≡ [] → Begins (before ++ line.Span k ∷ []) → ⊥
 no_span before k none begins =
-    let header = front_head (line.Span k) [] (subst (λ ls. Begins (ls ++ line.Span k ∷ [])) none begins) in
+    let header = prefix_head (line.Span k) [] (subst (λ ls. Begins (ls ++ line.Span k ∷ [])) none begins) in
     cc
 
 ended_one : (a b : Result Certificate CertText) (before : List CertificateLine) (rest : List (List ℕ)) → Ended a before rest → Ended b before rest → a ≡ b

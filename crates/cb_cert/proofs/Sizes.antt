@@ -58,9 +58,9 @@ distance_is_small (certificate.Thin wanted distance nodes first second) d is = o
 four_parts : (a b c d : List ℕ) → length (a ++ b ++ c ++ d) ≡ length a + length b + length c + length d
 four_parts a b c d =
     let whole = length-append (a ++ b ++ c) d in
-    let front = length-append (a ++ b) c in
+    let prefix = length-append (a ++ b) c in
     let first = length-append a b in
-    omega (arith, whole, front, first)
+    omega (arith, whole, prefix, first)
 
 node_line : (n : NodeName) → IsNode n → length (codes "node " ++ n.event ++ codes "@" ++ n.instance) ≤ 132
 node_line n is =
@@ -109,9 +109,9 @@ module _ (c : Certificate) (few : length (nodes_of c) ≤ node_limit) where
 -- ---- the whole text
 
 -- what holds of all of two lists holds of each
-all_front : {X : Type 0} (P : X → Type 0) (xs ys : List X) → All P (xs ++ ys) → All P xs
-all_front P [] ys all = All-nil P
-all_front P (x ∷ xs) ys all = All-cons P x xs (All-head P x (xs ++ ys) all) (all_front P xs ys (All-tail P x (xs ++ ys) all))
+all_prefix : {X : Type 0} (P : X → Type 0) (xs ys : List X) → All P (xs ++ ys) → All P xs
+all_prefix P [] ys all = All-nil P
+all_prefix P (x ∷ xs) ys all = All-cons P x xs (All-head P x (xs ++ ys) all) (all_prefix P xs ys (All-tail P x (xs ++ ys) all))
 
 all_back : {X : Type 0} (P : X → Type 0) (xs ys : List X) → All P (xs ++ ys) → All P ys
 all_back P [] ys all = all
@@ -134,7 +134,7 @@ bytes_append [] ys = let none = bytes_none in omega arith
 bytes_append (x ∷ xs) ys =
     let rest = bytes_append xs ys in
     let whole = bytes_cons x (xs ++ ys) in
-    let front = bytes_cons x xs in
+    let prefix = bytes_cons x xs in
     omega arith
 
 -- nothing on these lines counts entries
@@ -181,17 +181,17 @@ module _ (c : Certificate) (few : length (nodes_of c) ≤ node_limit) where
       let here = ended_line c few first (All-head (Fits c) first (map line.Entry span.entries) fit) in
       let rest = small_lines line.Entry (λ e. refl) span.entries (All-tail (Fits c) first (map line.Entry span.entries) fit) in
       let whole = bytes_cons first (map line.Entry span.entries) in
-      let told = one_span_entries span in
+      let reported = one_span_entries span in
       omega arith
 
   spans_bytes : (spans : List Span) → All (Fits c) (flat_map span_lines spans)
       → bytes_of (flat_map span_lines spans) ≤ 23 * length spans + 23 * sum_by entries_in (flat_map span_lines spans)
   spans_bytes [] fit = let none = bytes_none in omega arith
   spans_bytes (span ∷ spans) fit =
-      let here = span_bytes span (all_front (Fits c) (span_lines span) (flat_map span_lines spans) fit) in
+      let here = span_bytes span (all_prefix (Fits c) (span_lines span) (flat_map span_lines spans) fit) in
       let rest = spans_bytes spans (all_back (Fits c) (span_lines span) (flat_map span_lines spans) fit) in
       let whole = bytes_append (span_lines span) (flat_map span_lines spans) in
-      let told = sum_by-append entries_in (span_lines span) (flat_map span_lines spans) in
+      let reported = sum_by-append entries_in (span_lines span) (flat_map span_lines spans) in
       omega arith
 
   side_bytes : (first : Side) → All (Fits c) (side_lines first) → bytes_of (side_lines first) ≤ 23 + 23 * sum_by entries_in (side_lines first)
@@ -215,13 +215,13 @@ book_bytes far nodes numbers spans is =
     let sl = all_span_lines spans in
     let body = nl ++ (cl ++ sl) in
     let claim = line.Book ∷ line.Distance far ∷ body in
-    let claim_fits = all_front P claim (line.End ∷ []) (All-tail P line.Header (claim ++ line.End ∷ []) is.fit) in
-    let behind = All-tail P line.Book (line.Distance far ∷ body) claim_fits in
-    let body_fits = All-tail P (line.Distance far) body behind in
-    let nodes_fit = all_front P nl (cl ++ sl) body_fits in
+    let claim_fits = all_prefix P claim (line.End ∷ []) (All-tail P line.Header (claim ++ line.End ∷ []) is.fit) in
+    let beyond = All-tail P line.Book (line.Distance far ∷ body) claim_fits in
+    let body_fits = All-tail P (line.Distance far) body beyond in
+    let nodes_fit = all_prefix P nl (cl ++ sl) body_fits in
     let few_nodes = All-head P (line.Nodes (length nodes)) (map line.Node nodes) nodes_fit in
     let later = all_back P nl (cl ++ sl) body_fits in
-    let columns_fit = all_front P cl sl later in
+    let columns_fit = all_prefix P cl sl later in
     let few_columns = All-head P (line.Columns (length numbers)) (map line.Column numbers) columns_fit in
     let spans_fit = all_back P cl sl later in
     let few_spans = All-head P (line.Spans (length spans)) (flat_map span_lines spans) spans_fit in
@@ -249,7 +249,7 @@ book_bytes far nodes numbers spans is =
     -- how many at most
     let m1 = ended_line c few_nodes line.Header tt in
     let m2 = ended_line c few_nodes line.Book tt in
-    let m3 = ended_line c few_nodes (line.Distance far) (All-head P (line.Distance far) body behind) in
+    let m3 = ended_line c few_nodes (line.Distance far) (All-head P (line.Distance far) body beyond) in
     let m4 = ended_line c few_nodes (line.Nodes (length nodes)) few_nodes in
     let m5 = ended_line c few_nodes (line.Columns (length numbers)) few_columns in
     let m6 = ended_line c few_nodes (line.Spans (length spans)) few_spans in
@@ -270,11 +270,11 @@ thin_bytes wanted far nodes first second is =
     let sl = span_lines second in
     let body = nl ++ (fl ++ sl) in
     let claim = line.Thin ∷ line.Wanted wanted ∷ line.Distance far ∷ body in
-    let claim_fits = all_front P claim (line.End ∷ []) (All-tail P line.Header (claim ++ line.End ∷ []) is.fit) in
-    let behind = All-tail P line.Thin (line.Wanted wanted ∷ line.Distance far ∷ body) claim_fits in
-    let far_fits = All-tail P (line.Wanted wanted) (line.Distance far ∷ body) behind in
+    let claim_fits = all_prefix P claim (line.End ∷ []) (All-tail P line.Header (claim ++ line.End ∷ []) is.fit) in
+    let beyond = All-tail P line.Thin (line.Wanted wanted ∷ line.Distance far ∷ body) claim_fits in
+    let far_fits = All-tail P (line.Wanted wanted) (line.Distance far ∷ body) beyond in
     let body_fits = All-tail P (line.Distance far) body far_fits in
-    let nodes_fit = all_front P nl (fl ++ sl) body_fits in
+    let nodes_fit = all_prefix P nl (fl ++ sl) body_fits in
     let few_nodes = All-head P (line.Nodes (length nodes)) (map line.Node nodes) nodes_fit in
     let later = all_back P nl (fl ++ sl) body_fits in
     let few = is.few in
@@ -300,12 +300,12 @@ thin_bytes wanted far nodes first second is =
     -- how many at most
     let m1 = ended_line c few_nodes line.Header tt in
     let m2 = ended_line c few_nodes line.Thin tt in
-    let m3 = ended_line c few_nodes (line.Wanted wanted) (All-head P (line.Wanted wanted) (line.Distance far ∷ body) behind) in
+    let m3 = ended_line c few_nodes (line.Wanted wanted) (All-head P (line.Wanted wanted) (line.Distance far ∷ body) beyond) in
     let m4 = ended_line c few_nodes (line.Distance far) (All-head P (line.Distance far) body far_fits) in
     let m5 = ended_line c few_nodes (line.Nodes (length nodes)) few_nodes in
     let m7 = ended_line c few_nodes line.End tt in
     let m8 = node_bytes c few_nodes nodes (All-tail P (line.Nodes (length nodes)) (map line.Node nodes) nodes_fit) in
-    let m9 = side_bytes c few_nodes first (all_front P fl sl later) in
+    let m9 = side_bytes c few_nodes first (all_prefix P fl sl later) in
     let m10 = span_bytes c few_nodes second (all_back P fl sl later) in
     omega arith
 
@@ -316,18 +316,18 @@ few_nodes_of (certificate.Book far nodes numbers spans) is =
     let rest = column_lines numbers ++ all_span_lines spans in
     let body = node_lines nodes ++ rest in
     let claim = line.Book ∷ line.Distance far ∷ body in
-    let claim_fits = all_front (Fits c) claim (line.End ∷ []) (All-tail (Fits c) line.Header (claim ++ line.End ∷ []) is.fit) in
+    let claim_fits = all_prefix (Fits c) claim (line.End ∷ []) (All-tail (Fits c) line.Header (claim ++ line.End ∷ []) is.fit) in
     let body_fits = All-tail (Fits c) (line.Distance far) body (All-tail (Fits c) line.Book (line.Distance far ∷ body) claim_fits) in
-    All-head (Fits c) (line.Nodes (length nodes)) (map line.Node nodes) (all_front (Fits c) (node_lines nodes) rest body_fits)
+    All-head (Fits c) (line.Nodes (length nodes)) (map line.Node nodes) (all_prefix (Fits c) (node_lines nodes) rest body_fits)
 few_nodes_of (certificate.Thin wanted far nodes first second) is =
     let c = certificate.Thin wanted far nodes first second in
     let rest = side_lines first ++ span_lines second in
     let body = node_lines nodes ++ rest in
     let claim = line.Thin ∷ line.Wanted wanted ∷ line.Distance far ∷ body in
-    let claim_fits = all_front (Fits c) claim (line.End ∷ []) (All-tail (Fits c) line.Header (claim ++ line.End ∷ []) is.fit) in
-    let behind = All-tail (Fits c) line.Thin (line.Wanted wanted ∷ line.Distance far ∷ body) claim_fits in
-    let body_fits = All-tail (Fits c) (line.Distance far) body (All-tail (Fits c) (line.Wanted wanted) (line.Distance far ∷ body) behind) in
-    All-head (Fits c) (line.Nodes (length nodes)) (map line.Node nodes) (all_front (Fits c) (node_lines nodes) rest body_fits)
+    let claim_fits = all_prefix (Fits c) claim (line.End ∷ []) (All-tail (Fits c) line.Header (claim ++ line.End ∷ []) is.fit) in
+    let beyond = All-tail (Fits c) line.Thin (line.Wanted wanted ∷ line.Distance far ∷ body) claim_fits in
+    let body_fits = All-tail (Fits c) (line.Distance far) body (All-tail (Fits c) (line.Wanted wanted) (line.Distance far ∷ body) beyond) in
+    All-head (Fits c) (line.Nodes (length nodes)) (map line.Node nodes) (all_prefix (Fits c) (node_lines nodes) rest body_fits)
 
 pub text_is_short : (c : Certificate) → IsCertificate c → length (text_of c) ≤ 33554432
 unfolding bytes_of

@@ -7,7 +7,7 @@ use Rattle.cb_cert.specs.Lines.{certificate_lines, text_of}
 use Rattle.cb_cert.specs.Format.{IsCertificate, SpellsCertificate}
 use Rattle.cb_cert.specs.declared.line.CertificateLine.{CertificateLine}
 use Rattle.cb_cert.specs.Ahead.{MayCome, all_places}
-use Rattle.cb_cert.specs.Fronts.{Begins, IsReading}
+use Rattle.cb_cert.specs.Prefixes.{Begins, IsReading}
 
 -- the text of a certificate of the format spells it
 abbrev pub TextSpells : Type 0

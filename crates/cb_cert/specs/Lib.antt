@@ -1,6 +1,6 @@
 pub mod Lines
 pub mod Format
-pub mod Fronts
+pub mod Prefixes
 pub mod Laws
 pub mod LineForms
 pub mod Ahead

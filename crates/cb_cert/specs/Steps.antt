@@ -10,7 +10,7 @@ use Rattle.cb_cert.specs.declared.line.CertificateLine.TheVariants as line
 use Rattle.cb_cert.specs.declared.reader.Reader.{Reader}
 use Rattle.cb_cert.specs.Ahead.{TextPlace, at_end, MayCome}
 use Rattle.cb_cert.specs.Format.{IsBetween, SpellsCertificate, entries_in, entry_limit, node_limit}
-use Rattle.cb_cert.specs.Fronts.{Begins, IsFault}
+use Rattle.cb_cert.specs.Prefixes.{Begins, IsFault}
 use Rattle.cb_cert.specs.Lines.{claim_lines, line_text}
 
 -- of the text these lines were read, and exactly what may come where these positions are ahead goes on from them
@@ -80,8 +80,8 @@ ReadsLines n places lines nodes old new result =
     → ComesTo text new before ahead lines nodes result
 
 -- the same where the first of the lines was read before
-abbrev pub ReadsBehind : {X : Type 0} → CertificateLine → ℕ → List TextPlace → (X → List CertificateLine) → (X → ℕ) → Reader → Reader → Result X CertText → Type 0
-ReadsBehind first n places lines nodes old new result =
+abbrev pub ReadsAfter : {X : Type 0} → CertificateLine → ℕ → List TextPlace → (X → List CertificateLine) → (X → ℕ) → Reader → Reader → Result X CertText → Type 0
+ReadsAfter first n places lines nodes old new result =
     (text : List ℕ) (before : List CertificateLine) (ahead : List TextPlace) → HasRead text old (before ++ first ∷ []) n (places ++ ahead)
     → ComesTo text new before ahead lines nodes result
 

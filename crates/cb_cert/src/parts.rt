@@ -4,7 +4,7 @@ ghost use Rattle.cb_cert.specs.declared.line.CertificateLine.TheVariants as line
 ghost use Rattle.cb_cert.specs.Ahead.{at_nodes, at_columns, at_spans, at_span, at_side, at_entry};
 ghost use Rattle.cb_cert.specs.Format.{node_limit};
 ghost use Rattle.cb_cert.specs.Lines.{node_lines, column_lines, all_span_lines, span_lines, side_lines};
-ghost use Rattle.cb_cert.specs.Steps.{ReadsLines, ReadsBehind};
+ghost use Rattle.cb_cert.specs.Steps.{ReadsLines, ReadsAfter};
 
 use crate::certificate::{Side, Span};
 use crate::fault::CertText;
@@ -75,7 +75,7 @@ impl<'a> Reader<'a> {
 
     // The entries of a span whose first line tells their number.
     fn entries(&mut self, alloc: Global, nodes: u32, count: u32) -> Result<Span, CertText>
-        ensures { ReadsBehind (line.Span count) nodes (replicate count at_entry) span_lines (λ span. nodes) self.old self.new result }
+        ensures { ReadsAfter (line.Span count) nodes (replicate count at_entry) span_lines (λ span. nodes) self.old self.new result }
     {
         let mut entries = List::new(alloc);
         for _ in 0..count {

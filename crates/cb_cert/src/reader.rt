@@ -4,7 +4,7 @@ ghost use Rattle.cb_cert.specs.declared.fault.CertText.TheVariants.{BadLine, Tru
 ghost use Rattle.cb_cert.specs.declared.line.CertificateLine.TheVariants as line;
 ghost use Rattle.cb_cert.specs.Ahead.{at_kind, at_end};
 ghost use Rattle.cb_cert.specs.Format.{IsBetween, IsNode, IsEntry};
-ghost use Rattle.cb_cert.specs.Fronts.{IsFault};
+ghost use Rattle.cb_cert.specs.Prefixes.{IsFault};
 ghost use Rattle.cb_cert.specs.Lines.{line_text};
 ghost use Rattle.cb_cert.specs.Steps.{HasRead, Moves, TakesForm, CountsSpan, Finishes};
 
@@ -29,7 +29,7 @@ pub struct Reader<'a> {
 
 impl<'a> Reader<'a> {
     /// The text after its header.
-    pub fn behind_header(text: &'a [u8]) -> Result<Reader<'a>, CertText>
+    pub fn after_header(text: &'a [u8]) -> Result<Reader<'a>, CertText>
         ensures reader { IfOk result (λ reader. HasRead text.now reader (line.Header ∷ []) 0 (at_kind ∷ at_end ∷ [])) }
         ensures fault { IfErr result (IsFault text.now) }
     {

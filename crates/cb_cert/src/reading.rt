@@ -4,9 +4,9 @@ ghost use Rattle.cb_cert.specs.declared.fault.CertText.TheVariants.{NoMemory};
 ghost use Rattle.cb_cert.specs.declared.line.CertificateLine.TheVariants as line;
 ghost use Rattle.cb_cert.specs.Ahead.{at_kind, at_wanted, at_distance, at_thin_distance, at_nodes, at_columns, at_spans, at_side, at_span};
 ghost use Rattle.cb_cert.specs.Format.{SpellsCertificate, nodes_of};
-ghost use Rattle.cb_cert.specs.Fronts.{IsFault};
+ghost use Rattle.cb_cert.specs.Prefixes.{IsFault};
 ghost use Rattle.cb_cert.specs.Lines.{claim_lines};
-ghost use Rattle.cb_cert.specs.Steps.{ReadsLines, ReadsBehind};
+ghost use Rattle.cb_cert.specs.Steps.{ReadsLines, ReadsAfter};
 
 use crate::certificate::Certificate;
 use crate::fault::CertText;
@@ -21,7 +21,7 @@ pub fn read(alloc: Global, text: &[u8]) -> Result<Certificate, CertText>
     ensures certificate { IfOk result (SpellsCertificate text.now) }
     ensures fault { IfErr result (λ why. (why ≡ NoMemory) ⊎ IsFault text.now why) }
 {
-    let mut reader = Reader::behind_header(text)?;
+    let mut reader = Reader::after_header(text)?;
     let certificate = reader.claim(alloc)?;
     reader.finish()?;
     Ok(certificate)
@@ -44,7 +44,7 @@ impl<'a> Reader<'a> {
 
     // A book, whose kind was read.
     fn book(&mut self, alloc: Global) -> Result<Certificate, CertText>
-        ensures { ReadsBehind line.Book 0 (at_distance ∷ at_nodes ∷ at_columns ∷ at_spans ∷ []) claim_lines (λ c. length (nodes_of c)) self.old self.new result }
+        ensures { ReadsAfter line.Book 0 (at_distance ∷ at_nodes ∷ at_columns ∷ at_spans ∷ []) claim_lines (λ c. length (nodes_of c)) self.old self.new result }
     {
         let distance = self.number(b"distance ", 1, LONGEST_WANTED)?;
         let nodes = self.nodes(alloc)?;
@@ -61,7 +61,7 @@ impl<'a> Reader<'a> {
 
     // A thin certificate, whose kind was read.
     fn thin(&mut self, alloc: Global) -> Result<Certificate, CertText>
-        ensures { ReadsBehind line.Thin 0 (at_wanted ∷ at_thin_distance ∷ at_nodes ∷ at_side ∷ at_span ∷ []) claim_lines (λ c. length (nodes_of c)) self.old self.new result }
+        ensures { ReadsAfter line.Thin 0 (at_wanted ∷ at_thin_distance ∷ at_nodes ∷ at_side ∷ at_span ∷ []) claim_lines (λ c. length (nodes_of c)) self.old self.new result }
     {
         let wanted = self.number(b"wanted ", 1, LONGEST_WANTED)?;
         let distance = self.number(b"distance ", 0, MOST_COLUMNS)?;

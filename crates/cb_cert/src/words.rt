@@ -20,8 +20,8 @@ fn rest_after<'a>(bytes: &'a [u8], word: &[u8]) -> Option<&'a [u8]>
     if bytes.len() < n {
         return None;
     }
-    let front = &bytes[..n];
-    if front == word {
+    let prefix = &bytes[..n];
+    if prefix == word {
         Some(&bytes[n..])
     } else {
         None

@@ -32,14 +32,14 @@ abbrev code : Group → List Bool
 code g = g.code
 
 -- a prefix that ends with an item
-front : {X : Type 0} (all xs : List X) (x : X) → take (suc (length xs)) all ≡ xs ++ x ∷ [] → (take (length xs) all ≡ xs) × (slice_get all (length xs) ≡ Some x)
-front [] [] x e = absurd (cc e)
-front (a ∷ all) [] x e = (refl, cc e)
-front [] (y ∷ xs) x e = absurd (cc e)
-front (a ∷ all) (y ∷ xs) x e =
+prefix : {X : Type 0} (all xs : List X) (x : X) → take (suc (length xs)) all ≡ xs ++ x ∷ [] → (take (length xs) all ≡ xs) × (slice_get all (length xs) ≡ Some x)
+prefix [] [] x e = absurd (cc e)
+prefix (a ∷ all) [] x e = (refl, cc e)
+prefix [] (y ∷ xs) x e = absurd (cc e)
+prefix (a ∷ all) (y ∷ xs) x e =
     let head : a ≡ y = cc e in
     let tail : take (suc (length xs)) all ≡ xs ++ x ∷ [] = cc e in
-    let rest = front all xs x tail in
+    let rest = prefix all xs x tail in
     (ap (λ zs. a ∷ zs) rest.0 ∙ ap (λ z. z ∷ xs) head, rest.1)
 
 module _ (n : Numbered) (columns ids : List NodeId) where
@@ -136,12 +136,12 @@ module _ (n : Numbered) (columns ids : List NodeId) where
       let one = one_added id p is codes codes' least least' place takes added.groups added.rows added.least_are finds in
       record {
         problems = added.problems ++ p ∷ [];
-        coded = subst (λ front. AreProblemsAt n columns front (added.problems ++ p ∷ [])) (sym (take_more ids i id at))
+        coded = subst (λ prefix. AreProblemsAt n columns prefix (added.problems ++ p ∷ [])) (sym (take_more ids i id at))
             (zip_push (IsProblemAt n columns) (take i ids) added.problems id p added.coded is);
         groups = one.new;
         grouped = λ all are same.
             let next : suc (length added.problems) ≡ i + 1 = omega arith in
-            let parts = front all added.problems p (ap (λ k. take k all) next ∙ same) in
+            let parts = prefix all added.problems p (ap (λ k. take k all) next ∙ same) in
             one_more_grouped (length columns) all are i p (subst (λ k. slice_get all k ≡ Some p) size parts.1) added.groups one.new
             (added.grouped all are (subst (λ k. take k all ≡ added.problems) size parts.0)) one.adds;
         rows = one.rows';
@@ -160,7 +160,7 @@ module _ (n : Numbered) (columns ids : List NodeId) (i : ℕ) (codes : List (Lis
 
   -- all problems, each with its number
   pub all_coded_are : AreProblemsAt n columns ids added.problems
-  all_coded_are = subst (λ front. AreProblemsAt n columns front added.problems) whole added.coded
+  all_coded_are = subst (λ prefix. AreProblemsAt n columns prefix added.problems) whole added.coded
 
   module _ (are : AreProblems (length columns) added.problems) where
     grouped_are : AreGrouped (length columns) added.problems i added.groups

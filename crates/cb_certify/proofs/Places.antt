@@ -46,7 +46,7 @@ module _ {X : Type 0} (cmp : X → X → Ordering) (total : IsTotalOrder cmp) (x
       let sides = parted in_turn in
       elim (cases_lt k i) [
         | inl before ↦ not_below (subst (λ y. cmp y x ≡ Less) is (sides.0 k x (omega arith) before))
-        | inr behind ↦ not_above (subst (λ y. cmp y x ≡ Greater) is (sides.1 k x behind lt))
+        | inr after ↦ not_above (subst (λ y. cmp y x ≡ Greater) is (sides.1 k x after lt))
       ]
 
 -- what holds of all holds of the one at a place

@@ -92,8 +92,8 @@ called_least n groups ids are place within (Some id) (later, at) =
     let none : Group = record { code = []; members = [] } in
     let group = get_or groups place none in
     let there = slice_get-get_or groups place none within in
-    let behind : place - 1 + 1 ≡ place = omega arith in
-    let (other, stands, least) = are.each (place - 1) group (subst (λ k. slice_get groups k ≡ Some group) (sym behind) there) in
+    let after : place - 1 + 1 ≡ place = omega arith in
+    let (other, stands, least) = are.each (place - 1) group (subst (λ k. slice_get groups k ≡ Some group) (sym after) there) in
     let same : other ≡ id = same_Some other id (sym stands ∙ at) in
     (least.node, subst (λ (k : NodeId). IsNodeNamed n k least.node) same least.named, (later, group, there, least.first))
 

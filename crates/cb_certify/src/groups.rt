@@ -14,7 +14,7 @@ use cb_bits::Row;
 use cb_breadth::{Order, Visit};
 use cb_codes::{Codes, EachOnce};
 use cb_coding::Pair;
-use cb_matrix::{Columns, indexed};
+use cb_matrix::{Columns, column_index};
 use cb_model::List;
 use cb_nodes::NodeId;
 use cb_span::{Trees, columns_in};
@@ -32,7 +32,7 @@ pub(crate) fn all_columns(
 {
     let room = topology.node_room();
     let nodes = columns_in(alloc, topology, order)?;
-    let columns = indexed(alloc, nodes, room)?;
+    let columns = column_index(alloc, nodes, room)?;
     Ok(columns)
 }
 

@@ -45,7 +45,7 @@ pub(crate) fn shortfall<L: Ledger>(
         second: other,
         distance,
     } = close;
-    let first = called(alloc, graph.topology(), one)?;
+    let first = side_name(alloc, graph.topology(), one)?;
     let second = graph.topology().copy_name(alloc, other)?;
     let certificate = thin(alloc, graph, one, other, wanted, distance, steps)?;
     Ok(Codebook::TooClose {
@@ -57,7 +57,7 @@ pub(crate) fn shortfall<L: Ledger>(
 }
 
 // What the group of that least member is called.
-fn called(
+fn side_name(
     alloc: Global,
     topology: &Topology,
     least: Option<NodeId>,

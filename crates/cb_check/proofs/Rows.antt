@@ -49,8 +49,8 @@ module _ (tree : Tree) (fit : NamesFit tree) where
       subst IsName named (name_fits g.member token is (all_from NameFits (member_tokens g.member) (λ j lexeme lexeme_is.
       let among = among_flat_map member_tokens g.decl.members g.at g.member j lexeme g.member_is lexeme_is in
       let inside = slice_get-left (flat_map member_tokens g.decl.members) (lexemes.Close ∷ []) among.0 lexeme among.1 in
-      let behind = slice_get-right (parent_tokens g.decl.parent) (lexemes.Open ∷ (flat_map member_tokens g.decl.members ++ lexemes.Close ∷ [])) (suc among.0) in
-      class_fits g.class g.decl g.decl_is (suc (suc (length (parent_tokens g.decl.parent) + suc among.0))) lexeme (behind ∙ inside))))
+      let after = slice_get-right (parent_tokens g.decl.parent) (lexemes.Open ∷ (flat_map member_tokens g.decl.members ++ lexemes.Close ∷ [])) (suc among.0) in
+      class_fits g.class g.decl g.decl_is (suc (suc (length (parent_tokens g.decl.parent) + suc among.0))) lexeme (after ∙ inside))))
 
   module _ (t : Tables) (stands : Stands tree t) where
     pub have_names : HasNames t

@@ -46,23 +46,23 @@ module _ (t : Topology) (c : Certificate) (xs ys zs us vs : List Check) where
   abbrev joined : List Check
   joined = xs ++ (ys ++ (zs ++ (us ++ vs)))
 
-  pub stop_first : (told : Rejected) → Judges t c xs (Err told) → Judges t c joined (Err told)
-  stop_first told failed = failed_stop t c xs (ys ++ (zs ++ (us ++ vs))) told failed
+  pub stop_first : (reported : Rejected) → Judges t c xs (Err reported) → Judges t c joined (Err reported)
+  stop_first reported failed = failed_stop t c xs (ys ++ (zs ++ (us ++ vs))) reported failed
 
-  pub stop_second : (told : Rejected) → All (Passes t c) xs → Judges t c ys (Err told) → Judges t c joined (Err told)
-  stop_second told first failed =
-      passed_go_on t c xs (ys ++ (zs ++ (us ++ vs))) (Err told) first (failed_stop t c ys (zs ++ (us ++ vs)) told failed)
+  pub stop_second : (reported : Rejected) → All (Passes t c) xs → Judges t c ys (Err reported) → Judges t c joined (Err reported)
+  stop_second reported first failed =
+      passed_go_on t c xs (ys ++ (zs ++ (us ++ vs))) (Err reported) first (failed_stop t c ys (zs ++ (us ++ vs)) reported failed)
 
-  pub stop_third : (told : Rejected) → All (Passes t c) xs → All (Passes t c) ys → Judges t c zs (Err told) → Judges t c joined (Err told)
-  stop_third told first second failed =
-      passed_go_on t c xs (ys ++ (zs ++ (us ++ vs))) (Err told) first
-      (passed_go_on t c ys (zs ++ (us ++ vs)) (Err told) second (failed_stop t c zs (us ++ vs) told failed))
+  pub stop_third : (reported : Rejected) → All (Passes t c) xs → All (Passes t c) ys → Judges t c zs (Err reported) → Judges t c joined (Err reported)
+  stop_third reported first second failed =
+      passed_go_on t c xs (ys ++ (zs ++ (us ++ vs))) (Err reported) first
+      (passed_go_on t c ys (zs ++ (us ++ vs)) (Err reported) second (failed_stop t c zs (us ++ vs) reported failed))
 
-  pub stop_fourth : (told : Rejected) → All (Passes t c) xs → All (Passes t c) ys → All (Passes t c) zs → Judges t c us (Err told) → Judges t c joined (Err told)
-  stop_fourth told first second third failed =
-      passed_go_on t c xs (ys ++ (zs ++ (us ++ vs))) (Err told) first
-      (passed_go_on t c ys (zs ++ (us ++ vs)) (Err told) second
-      (passed_go_on t c zs (us ++ vs) (Err told) third (failed_stop t c us vs told failed)))
+  pub stop_fourth : (reported : Rejected) → All (Passes t c) xs → All (Passes t c) ys → All (Passes t c) zs → Judges t c us (Err reported) → Judges t c joined (Err reported)
+  stop_fourth reported first second third failed =
+      passed_go_on t c xs (ys ++ (zs ++ (us ++ vs))) (Err reported) first
+      (passed_go_on t c ys (zs ++ (us ++ vs)) (Err reported) second
+      (passed_go_on t c zs (us ++ vs) (Err reported) third (failed_stop t c us vs reported failed)))
 
   pub all_stages : (result : Result (Unit {0}) Rejected) → All (Passes t c) xs → All (Passes t c) ys → All (Passes t c) zs → All (Passes t c) us
       → Judges t c vs result → Judges t c joined result
@@ -97,8 +97,8 @@ module _ (t : Topology) (d : ℕ) (nodes : List NodeName) (numbers : List ℕ) (
 
   pub claim_fails : (pair : _) → IsFirstClose spots (codes_of groups) d pair → (why : Rejected) → IsTooClose groups pair why
       → Judges t c (claim_check ∷ []) (Err why)
-  claim_fails pair close why told =
-      let close_are : AreTooClose t nodes numbers spans d told.first told.second pair.distance = record {
+  claim_fails pair close why reported =
+      let close_are : AreTooClose t nodes numbers spans d reported.first reported.second pair.distance = record {
         columns = names;
         groups = groups;
         places = spots;
@@ -106,12 +106,12 @@ module _ (t : Topology) (d : ℕ) (nodes : List NodeName) (numbers : List ℕ) (
         places_are = spots_are;
         pair = pair;
         is_first = close;
-        first_is = told.first_is;
-        second_is = told.second_is;
+        first_is = reported.first_is;
+        second_is = reported.second_is;
         far_is = refl;
       } in
-      subst (λ w. Judges t c (claim_check ∷ []) (Err w)) (sym told.is)
-      (fails_here t c claim_check [] (TooClose told.first told.second pair.distance) (λ holds. far_apart holds) close_are)
+      subst (λ w. Judges t c (claim_check ∷ []) (Err w)) (sym reported.is)
+      (fails_here t c claim_check [] (TooClose reported.first reported.second pair.distance) (λ holds. far_apart holds) close_are)
     where
       far_apart : AreApart t nodes numbers spans d → ⊥
       far_apart holds =
@@ -158,19 +158,19 @@ module _ (t : Topology) (d : ℕ) (nodes : List NodeName) (numbers : List ℕ) (
   Pass checks = All (Passes t (Book d nodes numbers spans)) checks
 
   abbrev pub Fail : List Check → Rejected → Type 0
-  Fail checks told = Judges t (Book d nodes numbers spans) checks (Err told)
+  Fail checks reported = Judges t (Book d nodes numbers spans) checks (Err reported)
 
-  pub in_nodes : (told : Rejected) → Fail of_nodes told → IsJudged (Err told)
-  in_nodes told failed = stop_first t (Book d nodes numbers spans) of_nodes of_columns of_spans of_count (claim_check ∷ []) told failed
+  pub in_nodes : (reported : Rejected) → Fail of_nodes reported → IsJudged (Err reported)
+  in_nodes reported failed = stop_first t (Book d nodes numbers spans) of_nodes of_columns of_spans of_count (claim_check ∷ []) reported failed
 
-  pub in_columns : (told : Rejected) → Pass of_nodes → Fail of_columns told → IsJudged (Err told)
-  in_columns told a failed = stop_second t (Book d nodes numbers spans) of_nodes of_columns of_spans of_count (claim_check ∷ []) told a failed
+  pub in_columns : (reported : Rejected) → Pass of_nodes → Fail of_columns reported → IsJudged (Err reported)
+  in_columns reported a failed = stop_second t (Book d nodes numbers spans) of_nodes of_columns of_spans of_count (claim_check ∷ []) reported a failed
 
-  pub in_spans : (told : Rejected) → Pass of_nodes → Pass of_columns → Fail of_spans told → IsJudged (Err told)
-  in_spans told a b failed = stop_third t (Book d nodes numbers spans) of_nodes of_columns of_spans of_count (claim_check ∷ []) told a b failed
+  pub in_spans : (reported : Rejected) → Pass of_nodes → Pass of_columns → Fail of_spans reported → IsJudged (Err reported)
+  in_spans reported a b failed = stop_third t (Book d nodes numbers spans) of_nodes of_columns of_spans of_count (claim_check ∷ []) reported a b failed
 
-  pub in_count : (told : Rejected) → Pass of_nodes → Pass of_columns → Pass of_spans → Fail of_count told → IsJudged (Err told)
-  in_count told a b e failed = stop_fourth t (Book d nodes numbers spans) of_nodes of_columns of_spans of_count (claim_check ∷ []) told a b e failed
+  pub in_count : (reported : Rejected) → Pass of_nodes → Pass of_columns → Pass of_spans → Fail of_count reported → IsJudged (Err reported)
+  in_count reported a b e failed = stop_fourth t (Book d nodes numbers spans) of_nodes of_columns of_spans of_count (claim_check ∷ []) reported a b e failed
 
   pub in_claim : (result : Result (Unit {0}) Rejected) → Pass of_nodes → Pass of_columns → Pass of_spans → Pass of_count
       → Judges t (Book d nodes numbers spans) (claim_check ∷ []) result → IsJudged result
@@ -198,7 +198,7 @@ module _ (n : Numbered) (ids : List NodeId) (d : ℕ) (nodes : List NodeName) (n
       (spots_of good.places good.places_are) good.good
   claim_judged (Err why) bad =
       claim_fails (topology_of n) d nodes numbers spans are.column_names bad.groups bad.places (made_of bad.groups bad.groups_are)
-      (spots_of bad.places bad.places_are) bad.pair bad.close why bad.told
+      (spots_of bad.places bad.places_are) bad.pair bad.close why bad.reported
 
   pub claim_shown : (judged : Result Accepted Rejected) → JudgesBook sides.columns ids numbers coded d judged
       → IfOk judged (ShowsBookOver n nodes numbers spans d)

@@ -35,9 +35,9 @@ range_at a n i k at =
 
 module _ (t : Topology) (c : Certificate) where
   -- the first of these checks fails
-  pub fails_here : (check : Check) (after : List Check) (told : Rejected) → ¬ Passes t c check → ReportsCheck t c check told
-      → FailsFirst t c (check ∷ after) told
-  fails_here check after told fails tells = record {
+  pub fails_here : (check : Check) (after : List Check) (reported : Rejected) → ¬ Passes t c check → ReportsCheck t c check reported
+      → FailsFirst t c (check ∷ after) reported
+  fails_here check after reported fails tells = record {
     before = [];
     check = check;
     after = after;
@@ -64,35 +64,35 @@ module _ (t : Topology) (c : Certificate) where
 
   -- the checks of one item fail, those of the items before it are passed
   pub flat_fails : {X : Type 0} (f : X → List Check) (xs : List X) (i : ℕ) (x : X) → slice_get xs i ≡ Some x
-      → ((j : ℕ) (y : X) → j < i → slice_get xs j ≡ Some y → All (Passes t c) (f y)) → (told : Rejected) → Judges t c (f x) (Err told)
-      → Judges t c (flat_map f xs) (Err told)
-  flat_fails f [] i x at before told failed = absurd (cc)
-  flat_fails f (z ∷ xs) zero x at before told failed =
-      failed_stop t c (f z) (flat_map f xs) told (subst (λ y. Judges t c (f y) (Err told)) (sym (same_Some z x at)) failed)
-  flat_fails f (z ∷ xs) (suc i) x at before told failed =
-      passed_go_on t c (f z) (flat_map f xs) (Err told) (before 0 z (omega arith) refl)
-      (flat_fails f xs i x at (λ j y low there. before (suc j) y (omega arith) there) told failed)
+      → ((j : ℕ) (y : X) → j < i → slice_get xs j ≡ Some y → All (Passes t c) (f y)) → (reported : Rejected) → Judges t c (f x) (Err reported)
+      → Judges t c (flat_map f xs) (Err reported)
+  flat_fails f [] i x at before reported failed = absurd (cc)
+  flat_fails f (z ∷ xs) zero x at before reported failed =
+      failed_stop t c (f z) (flat_map f xs) reported (subst (λ y. Judges t c (f y) (Err reported)) (sym (same_Some z x at)) failed)
+  flat_fails f (z ∷ xs) (suc i) x at before reported failed =
+      passed_go_on t c (f z) (flat_map f xs) (Err reported) (before 0 z (omega arith) refl)
+      (flat_fails f xs i x at (λ j y low there. before (suc j) y (omega arith) there) reported failed)
 
   pub flat_passes : {X : Type 0} (f : X → List Check) (xs : List X) → ((i : ℕ) (x : X) → slice_get xs i ≡ Some x → All (Passes t c) (f x))
       → All (Passes t c) (flat_map f xs)
   flat_passes f xs each = all_joined (Passes t c) f xs (all_from (λ x. All (Passes t c) (f x)) xs each)
 
   map_fails : {X : Type 0} (f : X → Check) (xs : List X) (i : ℕ) (x : X) → slice_get xs i ≡ Some x
-      → ((j : ℕ) (y : X) → j < i → slice_get xs j ≡ Some y → Passes t c (f y)) → (told : Rejected) → Judges t c (f x ∷ []) (Err told)
-      → Judges t c (map f xs) (Err told)
-  map_fails f [] i x at before told failed = absurd (cc)
-  map_fails f (z ∷ xs) zero x at before told failed =
-      failed_stop t c (f z ∷ []) (map f xs) told (subst (λ y. Judges t c (f y ∷ []) (Err told)) (sym (same_Some z x at)) failed)
-  map_fails f (z ∷ xs) (suc i) x at before told failed =
-      passed_go_on t c (f z ∷ []) (map f xs) (Err told) (pass_one (f z) (before 0 z (omega arith) refl))
-      (map_fails f xs i x at (λ j y low there. before (suc j) y (omega arith) there) told failed)
+      → ((j : ℕ) (y : X) → j < i → slice_get xs j ≡ Some y → Passes t c (f y)) → (reported : Rejected) → Judges t c (f x ∷ []) (Err reported)
+      → Judges t c (map f xs) (Err reported)
+  map_fails f [] i x at before reported failed = absurd (cc)
+  map_fails f (z ∷ xs) zero x at before reported failed =
+      failed_stop t c (f z ∷ []) (map f xs) reported (subst (λ y. Judges t c (f y ∷ []) (Err reported)) (sym (same_Some z x at)) failed)
+  map_fails f (z ∷ xs) (suc i) x at before reported failed =
+      passed_go_on t c (f z ∷ []) (map f xs) (Err reported) (pass_one (f z) (before 0 z (omega arith) refl))
+      (map_fails f xs i x at (λ j y low there. before (suc j) y (omega arith) there) reported failed)
 
   -- the check of one place fails, those of the places before it are passed
-  pub place_fails : {X : Type 0} (f : ℕ → Check) (xs : List X) (k : ℕ) → k < length xs → ((j : ℕ) → j < k → Passes t c (f j)) → (told : Rejected)
-      → Judges t c (f k ∷ []) (Err told) → Judges t c (map f (places xs)) (Err told)
-  place_fails f xs k low before told failed =
+  pub place_fails : {X : Type 0} (f : ℕ → Check) (xs : List X) (k : ℕ) → k < length xs → ((j : ℕ) → j < k → Passes t c (f j)) → (reported : Rejected)
+      → Judges t c (f k ∷ []) (Err reported) → Judges t c (map f (places xs)) (Err reported)
+  place_fails f xs k low before reported failed =
       map_fails f (places xs) k k (range_there 0 (length xs) k low ∙ ap Some zero_more)
-      (λ j y less at. let is = range_at 0 (length xs) j y at in let e : j ≡ y = (let f = is.1 in omega arith) in subst (λ i. Passes t c (f i)) e (before j less)) told failed
+      (λ j y less at. let is = range_at 0 (length xs) j y at in let e : j ≡ y = (let f = is.1 in omega arith) in subst (λ i. Passes t c (f i)) e (before j less)) reported failed
     where
       zero_more : 0 + k ≡ k
       zero_more = omega arith
@@ -102,16 +102,16 @@ module _ (t : Topology) (c : Certificate) where
   place_passes f xs each = places_of_checks (Passes t c) f xs each
 
   -- the checks of one number fail, those of the numbers before it are passed
-  pub range_fails : (f : ℕ → List Check) (a n k : ℕ) → a ≤ k → k < a + n → ((j : ℕ) → a ≤ j → j < k → All (Passes t c) (f j)) → (told : Rejected)
-      → Judges t c (f k) (Err told) → Judges t c (flat_map f (range_with_len a n)) (Err told)
-  range_fails f a n k least low before told failed =
+  pub range_fails : (f : ℕ → List Check) (a n k : ℕ) → a ≤ k → k < a + n → ((j : ℕ) → a ≤ j → j < k → All (Passes t c) (f j)) → (reported : Rejected)
+      → Judges t c (f k) (Err reported) → Judges t c (flat_map f (range_with_len a n)) (Err reported)
+  range_fails f a n k least low before reported failed =
       let e : a + (k - a) ≡ k = omega arith in
       flat_fails f (range_with_len a n) (k - a) k (range_there a n (k - a) (omega arith) ∙ ap Some e)
       (λ j y less at.
       let is = range_at a n j y at in
       let here = is.1 in
       before y (omega arith) (omega arith))
-      told failed
+      reported failed
 
   pub range_passes : (f : ℕ → List Check) (a n : ℕ) → ((k : ℕ) → a ≤ k → k < a + n → All (Passes t c) (f k))
       → All (Passes t c) (flat_map f (range_with_len a n))

@@ -48,11 +48,11 @@ pub of_quiet : {X : Type 0} (n : Numbered) (ids : List NodeId) (result : Result 
 of_quiet n ids (Ok x) why = λ c known. All-nil (Passes (topology_of n) c)
 of_quiet n ids (Err e) why = λ c known. subst (λ w. Judges (topology_of n) c [] (Err w)) (sym why) tt
 
-pub first_stops : (n : Numbered) (ids : List NodeId) (first : Side) (second : Span) (told : Rejected) → JudgesSide n ids first (Err told)
-    → JudgesSides n ids first second (Err told)
-first_stops n ids first second told judged = λ c known.
-    subst (λ checks. Judges (topology_of n) c checks (Err told)) (sym (both_sides first second))
-    (failed_stop (topology_of n) c (flat_map span_checks (asked_side first)) (span_checks (asked (entries_of (side_spans first)) None second) ++ []) told
+pub first_stops : (n : Numbered) (ids : List NodeId) (first : Side) (second : Span) (reported : Rejected) → JudgesSide n ids first (Err reported)
+    → JudgesSides n ids first second (Err reported)
+first_stops n ids first second reported judged = λ c known.
+    subst (λ checks. Judges (topology_of n) c checks (Err reported)) (sym (both_sides first second))
+    (failed_stop (topology_of n) c (flat_map span_checks (asked_side first)) (span_checks (asked (entries_of (side_spans first)) None second) ++ []) reported
     (judged c known))
 
 pub both_judged : (n : Numbered) (ids : List NodeId) (first : Side) (second : Span) (before : ℕ) (result : Result (Unit {0}) Rejected)

@@ -101,13 +101,13 @@ module _ (n : Numbered) (ids problems : List NodeId) (spans : List Span) (place 
         subst (λ x. All (Passes (topology_of n) c) (span_checks x)) same (judged c (Some h.0) known h.2)
   ]
 
-  pub spans_fail : (told : Rejected) → SpansPass n ids problems spans place → JudgesSpan n ids (Some root) before span span_checks (Err told)
+  pub spans_fail : (reported : Rejected) → SpansPass n ids problems spans place → JudgesSpan n ids (Some root) before span span_checks (Err reported)
       → (c : Certificate) (names : List NodeName) → IsKnown n ids c → AreNamed n problems names
-      → Judges (topology_of n) c (flat_map span_checks (asked_of 0 names spans)) (Err told)
-  spans_fail told old judged = λ c names known named.
+      → Judges (topology_of n) c (flat_map span_checks (asked_of 0 names spans)) (Err reported)
+  spans_fail reported old judged = λ c names known named.
       let h = here names named in
       flat_fails (topology_of n) c span_checks (asked_of 0 names spans) place (asked before (Some h.0) span) h.1
-      (λ j a low at. old c names known named j a low at) told (judged c (Some h.0) known h.2)
+      (λ j a low at. old c names known named j a low at) reported (judged c (Some h.0) known h.2)
 
 pub spans_pass : (n : Numbered) (ids problems : List NodeId) (spans : List Span) (to : ℕ) → SpansPass n ids problems spans to → min (length problems) (length spans) ≤ to
     → (c : Certificate) (names : List NodeName) → IsKnown n ids c → AreNamed n problems names

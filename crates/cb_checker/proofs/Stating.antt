@@ -83,9 +83,9 @@ pass_more ids before span reasons to pass here = λ n c root known j least low l
 ]
 
 -- the first of them whose edge isn't there is the first that fails
-pub unled_told : (ids : List NodeId) (before : ℕ) (span : Span) (reasons : List Reason) (to upto : ℕ) → AreStated ids span to reasons
+pub unled_reported : (ids : List NodeId) (before : ℕ) (span : Span) (reasons : List Reason) (to upto : ℕ) → AreStated ids span to reasons
     → PassIfLed ids before span reasons upto → to ≤ upto + 1 → to ≤ length span.entries → JudgesIfUnled ids before span reasons
-unled_told ids before span reasons to upto are pass within most = λ n place first c root known.
+unled_reported ids before span reasons to upto are pass within most = λ n place first c root known.
     let reason = first.reason in
     let is = (are reason first.is).1 in
     let low = (are reason first.is).0 in

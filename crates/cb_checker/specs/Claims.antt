@@ -44,7 +44,7 @@ pub record IsBadBook (columns ids : List NodeId) (numbers : List ℕ) (problems 
   pub groups_are : AreGroups (length columns) problems groups
   pub places_are : ArePlacesOf columns ids numbers places
   pub close : IsFirstClose places (codes_of groups) d pair
-  pub told : IsTooClose groups pair why
+  pub reported : IsTooClose groups pair why
 
 abbrev pub JudgesBook : List NodeId → List NodeId → List ℕ → List Problem → ℕ → Result Accepted Rejected → Type 0
 JudgesBook columns ids numbers problems d (Ok shown) = IsGoodBook columns ids numbers problems d shown

@@ -91,13 +91,13 @@ fn read_side<L: Ledger>(
     ensures marked { OnOk result (AreMarked graph.old marks.new) }
 {
     match side {
-        Side::Quiet => quiet(alloc, columns.len()),
+        Side::Quiet => quiet_code(alloc, columns.len()),
         Side::Root(span) => read_span(alloc, graph, ids, columns, span, 0, marks, steps),
     }
 }
 
 // The code of the quiet group.
-fn quiet(alloc: Global, width: usize) -> Result<Row, Rejected>
+fn quiet_code(alloc: Global, width: usize) -> Result<Row, Rejected>
     ensures code { IfOk result (λ code. code ≡ zeros width) }
     ensures why { IfErr result (λ why. why ≡ NoMemory) }
 {

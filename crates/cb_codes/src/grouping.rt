@@ -23,7 +23,7 @@ pub struct Grouping {
 
 impl Grouping {
     /// Quiet alone, without problems.
-    pub fn quiet(alloc: Global, width: usize) -> Result<Grouping, AllocError>
+    pub fn of_quiet(alloc: Global, width: usize) -> Result<Grouping, AllocError>
         ensures sound { IfOk result (FitsTogether width) }
         ensures quiet { IfOk result (λ made. groups_in made ≡ group (no_symptom width) [] ∷ []) }
         ensures none { IfOk result (Holds []) }

@@ -2,7 +2,7 @@ pub mod Numbers
 pub mod Ones
 pub mod Counting
 pub mod Words
-pub mod Fronts
+pub mod Cursors
 pub mod Weights
 pub mod Nth
 pub mod Merging

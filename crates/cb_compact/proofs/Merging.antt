@@ -51,14 +51,14 @@ module _ (row : List Bool) (from at x : ℕ) (passed : AreBefore (ones_of row) f
   ]
 
   pub no_later : at < length (ones_of row) → from ≤ x
-  no_later lt = let here = head.there lt in let low = passed.behind at (omega arith) lt in omega arith
+  no_later lt = let here = head.there lt in let low = passed.after at (omega arith) lt in omega arith
 
   -- past a lower position as many come before
   pub stays_at : (place : ℕ) → from ≤ place → place < x → AreBefore (ones_of row) (place + 1) at
   stays_at place low high = record {
     within = passed.within;
     before = λ k lt. let early = passed.before k lt in omega arith;
-    behind = λ k late lt.
+    after = λ k late lt.
         let here = head.there (omega arith) in
         elim (cases_eq at k) [
           | inl e ↦ let same = ap (λ i. slice_index_or (ones_of row) i 0) e in omega arith
@@ -77,7 +77,7 @@ module _ (row : List Bool) (from at x : ℕ) (passed : AreBefore (ones_of row) f
           | inl e ↦ let same = ap (λ i. slice_index_or (ones_of row) i 0) e in omega arith
           | inr other ↦ let before = passed.before k (omega arith) in omega arith
         ];
-        behind = λ k late within. let later = ones_rise row at k 0 (omega arith) within in omega arith;
+        after = λ k late within. let later = ones_rise row at k 0 (omega arith) within in omega arith;
       }
 
 -- past a position at which the two don't differ further

@@ -114,7 +114,7 @@ module _ (places : List ℕ) (row : List Bool) (are : places ≡ ones_of row) wh
 
     pub next_is : at < length places → IsNextOne row from (slice_index_or places at 0)
     next_is lt = record {
-      on = before.behind at (omega arith) lt;
+      on = before.after at (omega arith) lt;
       is = is_one at lt;
       first = λ j low high. none_until j low (λ inside. high);
     }
@@ -127,7 +127,7 @@ module _ (places : List ℕ) (row : List Bool) (are : places ≡ ones_of row) wh
     is_there lt same = ap (λ k. slice_index_or row k false) (sym same) ∙ is_one at lt
 
     pub is_nowhere : (at < length places → ¬ (slice_index_or places at 0 ≡ from)) → slice_index_or row from false ≡ false
-    is_nowhere other = none_until from (omega arith) (λ lt. let le = before.behind at (omega arith) lt in let no = other lt in omega arith)
+    is_nowhere other = none_until from (omega arith) (λ lt. let le = before.after at (omega arith) lt in let no = other lt in omega arith)
 
 -- what is kept of a row has its values
 pub kept_values : (row : List Bool) (kept : Kept) → Keeps row kept → values_of kept (length row) ≡ row

@@ -37,7 +37,7 @@ AreRising places = AllPairs (λ place later. place < later) places
 pub record AreBefore (places : List ℕ) (from at : ℕ) : Type 0 where
   pub within : at ≤ length places
   pub before : (k : ℕ) → k < at → slice_index_or places k 0 < from
-  pub behind : (k : ℕ) → at ≤ k → k < length places → from ≤ slice_index_or places k 0
+  pub after : (k : ℕ) → at ≤ k → k < length places → from ≤ slice_index_or places k 0
 
 -- whether two rows differ at a position
 abbrev pub differs : List Bool → List Bool → ℕ → Bool

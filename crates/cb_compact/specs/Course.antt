@@ -4,7 +4,7 @@ use Rattle.cb_compact.specs.declared.differing.Course.{Course}
 use Rattle.cb_compact.specs.declared.differing.Course.TheVariants.{Words, Lists, Ones}
 use Rattle.cb_compact.specs.declared.merged.Merged.{Merged}
 use Rattle.cb_compact.specs.Compact.{ones_of, AreBefore}
-use Rattle.cb_compact.specs.Fronts.{IsFrontAt}
+use Rattle.cb_compact.specs.Cursors.{IsCursorAt}
 
 -- two lists have the positions of the ones of two rows, and were gone through up to a position
 pub record IsMergedAt (v w : List Bool) (from : ℕ) (lists : Merged) : Type 0 where
@@ -17,4 +17,4 @@ pub record IsMergedAt (v w : List Bool) (from : ℕ) (lists : Merged) : Type 0 w
 abbrev pub IsOnCourse : List Bool → List Bool → ℕ → Course → Type 0
 IsOnCourse left right from (Words one other) = (one.now ≡ left) × (other.now ≡ right)
 IsOnCourse left right from (Lists lists) = IsMergedAt left right from lists
-IsOnCourse left right from (Ones one other) = IsFrontAt left from one.before one.next × IsFrontAt right from other.before other.next
+IsOnCourse left right from (Ones one other) = IsCursorAt left from one.before one.next × IsCursorAt right from other.before other.next

@@ -1,4 +1,4 @@
 pub mod Compact
 pub mod Course
-pub mod Fronts
+pub mod Cursors
 pub mod Nth

@@ -6,7 +6,7 @@ ghost use Rattle.cb_compact.specs.Compact.{ones_of, with_ones, AreRising, AreBef
 use crate::apart::nth_apart;
 use crate::beside::{shared, shared_under};
 use crate::counted::{below, count_below, count_under, count_under_below, nth_place, words_under};
-use crate::places::{has_place, next_place, place_behind, places_of};
+use crate::places::{has_place, next_place, place_after, places_of};
 use cb_bits::Row;
 use std::alloc::{AllocError, Global};
 use std::marker::Model;
@@ -107,13 +107,13 @@ impl CompactRow {
     }
 
     /// As `next_one(from)`; `before` ones precede `from`, so stored positions are indexed directly.
-    pub(crate) fn one_behind(&self, before: usize, from: usize) -> Option<usize>
+    pub(crate) fn one_after(&self, before: usize, from: usize) -> Option<usize>
         requires { AreBefore (ones_of self.now) from before }
         ensures next { IfSome result (IsNextOne self.now from) }
         ensures none { IfNone result (HasNoneFrom self.now from) }
     {
         match &self.kept {
-            Kept::Places(places) => place_behind(places, before, from),
+            Kept::Places(places) => place_after(places, before, from),
             Kept::Whole(row) => row.next_one(from),
         }
     }

@@ -1,12 +1,12 @@
 //! The positions at which two rows differ, one after the other.
 ghost use Rattle.std.specs.Prelude.{◌≡◌, ◌+◌, length, IfSome, IfNone};
 ghost use Rattle.cb_compact.specs.Compact.{IsNextDiffering, DifferNowhereFrom};
-ghost use Rattle.cb_compact.specs.Fronts.{IsFrontAt};
+ghost use Rattle.cb_compact.specs.Cursors.{IsCursorAt};
 ghost use Rattle.cb_compact.specs.Course.{IsOnCourse};
 
 use crate::apart::next_apart;
 use crate::compact::CompactRow;
-use crate::front::Front;
+use crate::cursor::Cursor;
 use crate::merged::{Merged, merged_of};
 use cb_bits::Row;
 
@@ -15,7 +15,7 @@ use cb_bits::Row;
 enum Course<'a> {
     Words(&'a Row, &'a Row),
     Lists(Merged<'a>),
-    Ones(Front, Front),
+    Ones(Cursor, Cursor),
 }
 
 /// Two rows that are gone through together, from a position on.
@@ -77,7 +77,7 @@ fn course_of<'a>(left: &'a CompactRow, right: &'a CompactRow) -> Course<'a>
     }
     match merged_of(left, right) {
         Some(lists) => Course::Lists(lists),
-        None => Course::Ones(Front::of(left), Front::of(right)),
+        None => Course::Ones(Cursor::of(left), Cursor::of(right)),
     }
 }
 
@@ -99,15 +99,15 @@ fn next_by_words(one: &Row, other: &Row, from: &mut usize) -> Option<usize>
 fn next_by_ones(
     left: &CompactRow,
     right: &CompactRow,
-    one: &mut Front,
-    other: &mut Front,
+    one: &mut Cursor,
+    other: &mut Cursor,
     from: &mut usize,
 ) -> Option<usize>
     requires same { length left.now ≡ length right.now }
-    requires one { IsFrontAt left.now from.old one.old.before one.old.next }
-    requires other { IsFrontAt right.now from.old other.old.before other.old.next }
-    ensures one { IsFrontAt left.now from.new one.new.before one.new.next }
-    ensures other { IsFrontAt right.now from.new other.new.before other.new.next }
+    requires one { IsCursorAt left.now from.old one.old.before one.old.next }
+    requires other { IsCursorAt right.now from.old other.old.before other.old.next }
+    ensures one { IsCursorAt left.now from.new one.new.before one.new.next }
+    ensures other { IsCursorAt right.now from.new other.new.before other.new.next }
     ensures next { IfSome result (IsNextDiffering left.now right.now from.old) }
     ensures from { IfSome result (λ place. from.new ≡ place + 1) }
     ensures none { IfNone result (DifferNowhereFrom left.now right.now from.old) }

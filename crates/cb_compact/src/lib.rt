@@ -5,8 +5,8 @@ mod apart;
 mod beside;
 mod compact;
 mod counted;
+mod cursor;
 mod differing;
-mod front;
 mod merged;
 mod places;
 

@@ -35,11 +35,11 @@ pub(crate) fn next_place(places: &[u32], from: usize) -> Option<usize>
     ensures next { IfSome result (λ place. (row : List Bool) → places.now ≡ ones_of row → IsNextOne row from place) }
     ensures none { IfNone result ((row : List Bool) → places.now ≡ ones_of row → HasNoneFrom row from) }
 {
-    place_behind(places, first_from(places, from), from)
+    place_after(places, first_from(places, from), from)
 }
 
 /// As `next_place`; `before` of them come before that position, and are skipped.
-pub(crate) fn place_behind(places: &[u32], before: usize, from: usize) -> Option<usize>
+pub(crate) fn place_after(places: &[u32], before: usize, from: usize) -> Option<usize>
     ensures next { IfSome result (λ place. (row : List Bool) → places.now ≡ ones_of row → AreBefore (ones_of row) from before → IsNextOne row from place) }
     ensures none { IfNone result ((row : List Bool) → places.now ≡ ones_of row → AreBefore (ones_of row) from before → HasNoneFrom row from) }
 {

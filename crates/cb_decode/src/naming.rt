@@ -8,7 +8,7 @@ use cb_model::GroupName;
 use std::alloc::{AllocError, Global};
 
 /// What the group at this position is called.
-pub fn called(alloc: Global, groups: &Groups, place: u32) -> Result<GroupName, AllocError>
+pub fn group_name(alloc: Global, groups: &Groups, place: u32) -> Result<GroupName, AllocError>
     requires { HasName groups.now.groups place }
     ensures { IfOk result (IsCalled groups.now.groups place) }
 {

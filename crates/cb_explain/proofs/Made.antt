@@ -177,7 +177,7 @@ module _ (t : Topology) (edge : ℕ → ℕ → Type 0) (At : ℕ → NodeName �
                     let e = ap (λ (y : LevelVisit). y.node) one in
                     omega arith
                 | inr (inl before) ↦ omega (arith, earlier.0)
-                | inr (inr behind) ↦ elim (tree.order (v.parent - 1) far.0 from u behind has.from_is far.2) [
+                | inr (inr after) ↦ elim (tree.order (v.parent - 1) far.0 from u after has.from_is far.2) [
                   | inl less_level ↦ omega arith
                   | inr both ↦ let e = both.1 in omega arith
                 ]

@@ -6,7 +6,7 @@ use Rattle.cb_cert.specs.declared.certificate.Certificate.{Certificate}
 use Rattle.cb_cert.specs.declared.fault.CertText.{CertText}
 use Rattle.cb_cert.specs.declared.fault.CertText.TheVariants as texts
 use Rattle.cb_cert.specs.Format.{SpellsCertificate}
-use Rattle.cb_cert.specs.Fronts.{IsFault as IsTextFault}
+use Rattle.cb_cert.specs.Prefixes.{IsFault as IsTextFault}
 use Rattle.cb_validity.specs.declared.verdict.Rejected.{Rejected}
 use Rattle.cb_validity.specs.declared.verdict.Rejected.TheVariants as rejected
 use Rattle.cb_validity.specs.Valid.{IsValid}

@@ -4,18 +4,18 @@ use Rattle.std.specs.Prelude.{Option, None, Some, IfSome, IfErr, IfOk, map, unwr
 use Rattle.std.specs.Io.KnownBytes.{Consumes}
 use Rattle.std.specs.Result.{IsErrAnd}
 use Rattle.std.proofs.lemmas.List.{length-map}
-use Rattle.cb_io.specs.Outside.{FilesTold, contents, left_of, ReadsAll, ReadsEach, ReadsFront, KeepsOthers}
-use Rattle.cb_io.proofs.Told.{NoCountFalls-trans, ReadFailed-after, ReadsEach-nil, ReadsEach-next, ReadsEach-gives, ReadsEach-others}
+use Rattle.cb_io.specs.Outside.{FilesReport, contents, left_of, ReadsAll, ReadsEach, ReadsPrefix, KeepsOthers}
+use Rattle.cb_io.proofs.Reported.{NoCountFalls-trans, ReadFailed-after, ReadsEach-nil, ReadsEach-next, ReadsEach-gives, ReadsEach-others}
 use Rattle.cb_outcome.specs.Roles.{Role}
 use Rattle.cb_report.specs.declared.fault.Fault.{Fault}
 use Rattle.cb_outcome.specs.Judged.{Known, nothing, Says, PassFrom}
 use Rattle.cb_outcome.specs.Contents.{Left, Reads, names_of, with_texts}
 use Rattle.cb_outcome.specs.Command.{Command, reads_of, JobGives}
-use Rattle.cb_outcome.specs.Reading.{Told, LeavesRest, ReadsTo}
+use Rattle.cb_outcome.specs.Reading.{WhereReported, LeavesRest, ReadsTo}
 use Rattle.cb_file_kinds.specs.Kinds.{file_of, IsWant, ReadsOnly, StopsReading}
 use Rattle.cb_file_kinds.specs.Ending.{names, Passed, Makes, WantsMemory, StopsAt}
 
--- ---- facts where they are told
+-- ---- facts where they are reported
 
 pub if_some : {X : Type 0} (o : Option X) (P Q : X → Type 0) → ((x : X) → P x → Q x) → IfSome o P → IfSome o Q
 if_some None P Q f h = tt
@@ -52,35 +52,35 @@ append_nil : {X : Type 0} (xs : List X) → xs ++ [] ≡ xs
 append_nil [] = refl
 append_nil {X} (x ∷ xs) = ap (λ (ys : List X). x ∷ ys) (append_nil xs)
 
-pub take_front : {X : Type 0} (front rest : List X) → take (length front) (front ++ rest) ≡ front
-take_front [] rest = refl
-take_front {X} (x ∷ xs) rest = ap (λ (ys : List X). x ∷ ys) (take_front xs rest)
+pub take_prefix : {X : Type 0} (prefix rest : List X) → take (length prefix) (prefix ++ rest) ≡ prefix
+take_prefix [] rest = refl
+take_prefix {X} (x ∷ xs) rest = ap (λ (ys : List X). x ∷ ys) (take_prefix xs rest)
 
 pub take_whole : {X : Type 0} (xs : List X) → take (length xs) xs ≡ xs
 take_whole [] = refl
 take_whole {X} (x ∷ xs) = ap (λ (ys : List X). x ∷ ys) (take_whole xs)
 
-pub at_front : {X : Type 0} (front rest : List X) (x : X) → slice_get (front ++ x ∷ rest) (length front) ≡ Some x
-at_front [] rest x = refl
-at_front (y ∷ ys) rest x = at_front ys rest x
+pub at_prefix : {X : Type 0} (prefix rest : List X) (x : X) → slice_get (prefix ++ x ∷ rest) (length prefix) ≡ Some x
+at_prefix [] rest x = refl
+at_prefix (y ∷ ys) rest x = at_prefix ys rest x
 
 past_end : {X : Type 0} (xs : List X) (x : X) → slice_get xs (length xs) ≡ Some x → ⊥
 past_end [] x e = cc
 past_end (y ∷ ys) x e = past_end ys x e
 
-front_within : {X : Type 0} (front rest : List X) → length front ≤ length (front ++ rest)
-front_within [] rest = omega arith
-front_within (x ∷ xs) rest = let h = front_within xs rest in omega (arith, h)
+prefix_within : {X : Type 0} (prefix rest : List X) → length prefix ≤ length (prefix ++ rest)
+prefix_within [] rest = omega arith
+prefix_within (x ∷ xs) rest = let h = prefix_within xs rest in omega (arith, h)
 
 -- ---- how far files were read
 
-pub leaves_rest : (a b : Option (List ℕ)) (bytes front : List ℕ) → a ≡ Some bytes → Consumes a b front → LeavesRest bytes b
-leaves_rest None b bytes front e came = cc
-leaves_rest (Some xs) None bytes front e came = absurd came
-leaves_rest (Some xs) (Some ys) bytes front e came =
+pub leaves_rest : (a b : Option (List ℕ)) (bytes prefix : List ℕ) → a ≡ Some bytes → Consumes a b prefix → LeavesRest bytes b
+leaves_rest None b bytes prefix e came = cc
+leaves_rest (Some xs) None bytes prefix e came = absurd came
+leaves_rest (Some xs) (Some ys) bytes prefix e came =
     let f : Option (List ℕ) → List ℕ = λ o. unwrap_or o [] in
     let same : xs ≡ bytes = ap f e in
-    (front, ys, sym same ∙ came, refl)
+    (prefix, ys, sym same ∙ came, refl)
 
 left_whole : (bytes : List ℕ) (b : Option (List ℕ)) → b ≡ Some bytes → LeavesRest bytes b
 left_whole bytes b e = ([], bytes, refl, e)
@@ -88,7 +88,7 @@ left_whole bytes b e = ([], bytes, refl, e)
 same_some : {X : Type 0} (x y : X) → Some x ≡ Some y → x ≡ y
 same_some x y e = cc
 
-module _ (old new : FilesTold) where
+module _ (old new : FilesReport) where
   -- these names were read whole, and no other
   pub reads_all : (all : List (List ℕ)) → ReadsEach old new all → ReadsTo (length all) all old new
   reads_all all each = record {
@@ -106,28 +106,28 @@ module _ (old new : FilesTold) where
   }
     where
       each : ReadsEach old new []
-      each = subst (λ (told : FilesTold). ReadsEach old told []) (sym same) (ReadsEach-nil old)
+      each = subst (λ (reported : FilesReport). ReadsEach old reported []) (sym same) (ReadsEach-nil old)
 
-module _ (old now new : FilesTold) (front rest : List (List ℕ)) (name : List ℕ) (all : List (List ℕ)) (all_is : all ≡ front ++ name ∷ rest) where
+module _ (old now new : FilesReport) (prefix rest : List (List ℕ)) (name : List ℕ) (all : List (List ℕ)) (all_is : all ≡ prefix ++ name ∷ rest) where
   -- these names were read whole, then a prefix of the next one, and no other
-  pub reads_front : ReadsEach old now front → KeepsOthers now new name → ReadsFront now new name → ReadsTo (length front) all old new
-  reads_front each others (bytes, came) = record {
-    within = rw all_is (front_within front (name ∷ rest));
+  pub reads_prefix : ReadsEach old now prefix → KeepsOthers now new name → ReadsPrefix now new name → ReadsTo (length prefix) all old new
+  reads_prefix each others (bytes, came) = record {
+    within = rw all_is (prefix_within prefix (name ∷ rest));
     next = λ other is.
-        let same : name ≡ other = same_some name other (sym (at_front front rest name) ∙ subst (λ (ns : List (List ℕ)). slice_get ns (length front) ≡ Some other) all_is is) in
+        let same : name ≡ other = same_some name other (sym (at_prefix prefix rest name) ∙ subst (λ (ns : List (List ℕ)). slice_get ns (length prefix) ≡ Some other) all_is is) in
         if_some old.left _ _ (λ left known. subst (λ (ns : List (List ℕ)). LeavesRest (contents left ns other) (left_of new other)) (sym taken)
-        (subst (λ (n : List ℕ). LeavesRest (contents left front n) (left_of new n)) same
-        (leaves_rest (left_of now name) (left_of new name) (contents left front name) bytes (known name) came))) each;
+        (subst (λ (n : List ℕ). LeavesRest (contents left prefix n) (left_of new n)) same
+        (leaves_rest (left_of now name) (left_of new name) (contents left prefix name) bytes (known name) came))) each;
     others = λ other not.
         if_some old.left _ _ (λ left known. subst (λ (ns : List (List ℕ)). left_of new other ≡ Some (contents left ns other)) (sym taken) (known other
-        (λ same. not (subst (λ (n : List ℕ). slice_get all (length front) ≡ Some n) (sym same) here)))) (ReadsEach-others old now new front name each others);
+        (λ same. not (subst (λ (n : List ℕ). slice_get all (length prefix) ≡ Some n) (sym same) here)))) (ReadsEach-others old now new prefix name each others);
   }
     where
-      taken : take (length front) all ≡ front
-      taken = ap (take (length front)) all_is ∙ take_front front (name ∷ rest)
+      taken : take (length prefix) all ≡ prefix
+      taken = ap (take (length prefix)) all_is ∙ take_prefix prefix (name ∷ rest)
 
-      here : slice_get all (length front) ≡ Some name
-      here = ap (λ (ns : List (List ℕ)). slice_get ns (length front)) all_is ∙ at_front front rest name
+      here : slice_get all (length prefix) ≡ Some name
+      here = ap (λ (ns : List (List ℕ)). slice_get ns (length prefix)) all_is ∙ at_prefix prefix rest name
 
 -- ---- what files say
 
@@ -146,16 +146,16 @@ all_say_next left before (file ∷ files) role name known mid next (first, said,
           (subst (λ (ns : List (List ℕ)). Says mid (file_of role name (contents left ns name)) next) moved says),
     )
 
-pub passed_none : (old : FilesTold) → Passed [] nothing old old
+pub passed_none : (old : FilesReport) → Passed [] nothing old old
 passed_none old = record { said = of_all old.left _ (λ left. refl); read = ReadsEach-nil old; counts = λ name. omega arith }
 
 -- a text that is what is left of a name is its contents after these
-text_there : (old now : FilesTold) (before : List (List ℕ)) (name text : List ℕ) → ReadsEach old now before → IfSome (left_of now name) (λ left. text ≡ left)
-    → Told old (λ left. text ≡ contents left before name)
-text_there old now before name text each told =
-    if_some old.left _ _ (λ left known. let is = known name in let h = rw is at told in h) each
+text_there : (old now : FilesReport) (before : List (List ℕ)) (name text : List ℕ) → ReadsEach old now before → IfSome (left_of now name) (λ left. text ≡ left)
+    → WhereReported old (λ left. text ≡ contents left before name)
+text_there old now before name text each reported =
+    if_some old.left _ _ (λ left known. let is = known name in let h = rw is at reported in h) each
 
-module _ (earlier : List (Role × List ℕ)) (role : Role) (name : List ℕ) (known : Known) (old now new : FilesTold) (passed : Passed earlier known old now) (only : ReadsOnly name now new) where
+module _ (earlier : List (Role × List ℕ)) (role : Role) (name : List ℕ) (known : Known) (old now new : FilesReport) (passed : Passed earlier known old now) (only : ReadsOnly name now new) where
   -- the next file was read and has passed too
   pub passed_next : (text : List ℕ) (next : Known) → ReadsAll now new name text → Says known (file_of role name text) next
       → Passed (earlier ++ (role, name) ∷ []) next old new
@@ -177,7 +177,7 @@ module _ (earlier : List (Role × List ℕ)) (role : Role) (name : List ℕ) (kn
     read_there : ReadsTo (length earlier) (names_of reads) old new
     read_there =
         subst (λ (n : ℕ). ReadsTo n (names_of reads) old new) (length-map earlier (λ (file : Role × List ℕ). file.1))
-        (reads_front old now new (names earlier) (names later ++ reads.logs) name (names_of reads) names_are passed.read only.others only.front)
+        (reads_prefix old now new (names earlier) (names later ++ reads.logs) name (names_of reads) names_are passed.read only.others only.prefix)
 
     -- or stops the run
     pub stops_there : (Before : Known → Type 0) (fault : Fault) → Before known → StopsReading role name Before now new fault
@@ -206,7 +206,7 @@ module _ (earlier : List (Role × List ℕ)) (role : Role) (name : List ℕ) (kn
 
 -- ---- the job after all files
 
-module _ (c : Command) (files : List (Role × List ℕ)) (known : Known) (old new : FilesTold) (passed : Passed files known old new)
+module _ (c : Command) (files : List (Role × List ℕ)) (known : Known) (old new : FilesReport) (passed : Passed files known old new)
     (files_are : c.files ≡ files) (no_log : (reads_of c).logs ≡ []) where
   names_are_all : names files ≡ names_of (reads_of c)
   names_are_all =
@@ -219,7 +219,7 @@ module _ (c : Command) (files : List (Role × List ℕ)) (known : Known) (old ne
       → Makes c old new bytes fault
   makes bytes fault gives = record {
     known = known;
-    said = subst (λ (fs : List (Role × List ℕ)). Told old (λ left. PassFrom nothing (with_texts left [] fs) known)) (sym files_are) passed.said;
+    said = subst (λ (fs : List (Role × List ℕ)). WhereReported old (λ left. PassFrom nothing (with_texts left [] fs) known)) (sym files_are) passed.said;
     gives = gives;
     read = subst (ReadsEach old new) names_are_all passed.read;
     alone = no_log;

@@ -2,7 +2,7 @@
 use Rattle.std.proofs.Common.{◌≡◌, ◌≤◌, ◌<◌, ℕ, List, length, refl, sym, subst, inl, inr, arith, length-append}
 use Rattle.std.specs.Prelude.{Option, None, Some, IfSome, Err}
 use Rattle.std.specs.Io.KnownBytes.{Consumes}
-use Rattle.cb_io.specs.Outside.{FilesTold, left_of, TakesAll, ReadsAll, ReadsMoreThan}
+use Rattle.cb_io.specs.Outside.{FilesReport, left_of, TakesAll, ReadsAll, ReadsMoreThan}
 use Rattle.cb_model.specs.declared.node.NodeName.{NodeName}
 use Rattle.cb_model.specs.declared.tables.Tables.{Tables}
 use Rattle.cb_grammar.specs.declared.tree.Tree.{Tree}
@@ -33,7 +33,7 @@ use Rattle.cb_file_kinds.specs.Faults.{fault_of_topology, fault_of_symptoms}
 
 -- ---- a text that was read
 
-pub text_of_read : (old new : FilesTold) (name text : List ℕ) → ReadsAll old new name text → IsTextOf old name text
+pub text_of_read : (old new : FilesReport) (name text : List ℕ) → ReadsAll old new name text → IsTextOf old name text
 text_of_read old new name text read = by_case (left_of old name) (left_of new name) read
   where
     by_case : (a b : Option (List ℕ)) → TakesAll a b text → IfSome a (λ left. text ≡ left)
@@ -41,13 +41,13 @@ text_of_read old new name text read = by_case (left_of old name) (left_of new na
     by_case (Some left) b t = t.0
 
 -- more bytes came than are allowed
-pub too_much : (old new : FilesTold) (name : List ℕ) (most : ℕ) → ReadsMoreThan old new name most → (text : List ℕ) × IsTextOf old name text × (most < length text)
-too_much old new name most (front, long, came) = by_case (left_of old name) (left_of new name) came
+pub too_much : (old new : FilesReport) (name : List ℕ) (most : ℕ) → ReadsMoreThan old new name most → (text : List ℕ) × IsTextOf old name text × (most < length text)
+too_much old new name most (prefix, long, came) = by_case (left_of old name) (left_of new name) came
   where
-    by_case : (a b : Option (List ℕ)) → Consumes a b front → (text : List ℕ) × IfSome a (λ left. text ≡ left) × (most < length text)
-    by_case None b c = (front, tt, long)
+    by_case : (a b : Option (List ℕ)) → Consumes a b prefix → (text : List ℕ) × IfSome a (λ left. text ≡ left) × (most < length text)
+    by_case None b c = (prefix, tt, long)
     by_case (Some xs) None c = absurd c
-    by_case (Some xs) (Some ys) c = (xs, refl, rw c (omega (arith, long, length-append front ys)))
+    by_case (Some xs) (Some ys) c = (xs, refl, rw c (omega (arith, long, length-append prefix ys)))
 
 -- ---- a model
 
@@ -139,7 +139,7 @@ module _ (name text : List ℕ) (short : length text ≤ byte_limit Role.symptom
   symptoms_stop symptoms.NoMemory first = inl refl
 
 -- what judging a text that was read shows of the file
-pub stops_reading : (role : Role) (name : List ℕ) (Before : Known → Type 0) (old new : FilesTold) (text : List ℕ) (fault : Fault) → ReadsAll old new name text
+pub stops_reading : (role : Role) (name : List ℕ) (Before : Known → Type 0) (old new : FilesReport) (text : List ℕ) (fault : Fault) → ReadsAll old new name text
     → StopsJudging Before (file_of role name text) fault → StopsReading role name Before old new fault
 stops_reading role name Before old new text fault read (inl want) = inl want
 stops_reading role name Before old new text fault read (inr refuses) =

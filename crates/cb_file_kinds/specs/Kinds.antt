@@ -1,6 +1,6 @@
 -- What reading and judging one file leaves. `old` is reported before it, `new` after it.
 use Rattle.std.specs.Prelude.{◌≡◌, ◌⊎◌, ℕ, List, IfSome}
-use Rattle.cb_io.specs.Outside.{FilesTold, left_of, ReadsAll, ReadsFront, KeepsOthers, NoCountFalls, ReadFailed}
+use Rattle.cb_io.specs.Outside.{FilesReport, left_of, ReadsAll, ReadsPrefix, KeepsOthers, NoCountFalls, ReadFailed}
 use Rattle.cb_network.specs.Topology.{Topology}
 use Rattle.cb_cert.specs.declared.certificate.Certificate.{Certificate}
 use Rattle.cb_validity.specs.declared.verdict.Accepted.{Accepted}
@@ -34,34 +34,34 @@ abbrev pub StopsJudging : (Known → Type 0) → File → Fault → Type 0
 StopsJudging Before file fault = IsWant fault ⊎ RefusesAfter Before file fault
 
 -- a prefix of what was left of the name was read, of every other name there is left what there was, and no count of faults fell
-pub record ReadsOnly (name : List ℕ) (old new : FilesTold) : Type 0 where
-  pub front : ReadsFront old new name
+pub record ReadsOnly (name : List ℕ) (old new : FilesReport) : Type 0 where
+  pub prefix : ReadsPrefix old new name
   pub others : KeepsOthers old new name
   pub counts : NoCountFalls old new
 
 -- all that was left of the name was read, and it says something
-pub record ReadsSaying (role : Role) (name : List ℕ) (Before After : Known → Type 0) (old new : FilesTold) : Type 0 where
+pub record ReadsSaying (role : Role) (name : List ℕ) (Before After : Known → Type 0) (old new : FilesReport) : Type 0 where
   pub text : List ℕ
   pub read : ReadsAll old new name text
   pub says : SaysAfter Before After (file_of role name text)
 
 -- the text is what was left of the name, where that is reported
-abbrev pub IsTextOf : FilesTold → List ℕ → List ℕ → Type 0
+abbrev pub IsTextOf : FilesReport → List ℕ → List ℕ → Type 0
 IsTextOf old name text = IfSome (left_of old name) (λ left. text ≡ left)
 
 -- a read of the name failed, and the fault tells that
-pub record FailsToRead (name : List ℕ) (old new : FilesTold) (fault : Fault) : Type 0 where
+pub record FailsToRead (name : List ℕ) (old new : FilesReport) (fault : Fault) : Type 0 where
   pub is : fault ≡ faults.ReadFault name
   pub failed : ReadFailed old new name
 
 -- the text of the name is refused for this
-pub record IsRefused (role : Role) (name : List ℕ) (Before : Known → Type 0) (old : FilesTold) (fault : Fault) : Type 0 where
+pub record IsRefused (role : Role) (name : List ℕ) (Before : Known → Type 0) (old : FilesReport) (fault : Fault) : Type 0 where
   pub text : List ℕ
   pub text_is : IsTextOf old name text
   pub refuses : RefusesAfter Before (file_of role name text) fault
 
 -- the file stops the run: memory ran out, a read failed, or it is refused
-abbrev pub StopsReading : Role → List ℕ → (Known → Type 0) → FilesTold → FilesTold → Fault → Type 0
+abbrev pub StopsReading : Role → List ℕ → (Known → Type 0) → FilesReport → FilesReport → Fault → Type 0
 StopsReading role name Before old new fault = IsWant fault ⊎ (FailsToRead name old new fault ⊎ IsRefused role name Before old fault)
 
 -- the certificate is valid, and shows this

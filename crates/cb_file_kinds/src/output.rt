@@ -5,7 +5,7 @@ ghost use Rattle.cb_file_kinds.specs.Ending.{Delivers, wrong};
 use cb_io::Sink;
 use cb_report::{Fault, Text};
 
-/// The text for the output, and what is wrong all the same, if something is.
+/// The text for the output, and the fault that comes beside it, if there is one.
 #[derive(Drop)]
 pub struct Output<'w> {
     pub text: Text,
@@ -25,7 +25,7 @@ pub fn deliver<'w, O: Sink>(
     }
 }
 
-// Writes the text, and then tells what is wrong all the same.
+// Writes the text, and then reports the fault that comes beside it.
 fn write<'w, O: Sink>(output: Output<'w>, out: &mut O) -> Result<(), Fault<'w>>
     ensures { Delivers (Ok output.entry) (wrong result) (O.tells out.old) (O.tells out.new) }
 {

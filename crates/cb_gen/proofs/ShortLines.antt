@@ -21,8 +21,8 @@ parts_cons (b ∷ bs) = elim (cases_Bool (nat_eq b 10)) [
 ]
 
 -- a line that ends at a LF, and the lines after it
-lines_of-front : (line rest : List ℕ) → Lacks 10 line → lines_of (line ++ 10 ∷ rest) ≡ line ∷ lines_of rest
-lines_of-front line rest lacks =
+lines_of-prefix : (line rest : List ℕ) → Lacks 10 line → lines_of (line ++ 10 ∷ rest) ≡ line ∷ lines_of rest
+lines_of-prefix line rest lacks =
     let later = parts_cons rest in
     let both = slice_split_at (λ b. nat_eq b 10) line 10 rest lacks refl in
     ap lines_of_parts (both ∙ ap (λ (ps : List (List ℕ)). line ∷ ps) later.2) ∙ ap (λ (ps : List (List ℕ)). line ∷ lines_of_parts ps) (sym later.2)
@@ -96,7 +96,7 @@ keeps_four a b c d first second third fourth =
 keeps_line : (most : ℕ) (line : List ℕ) → IsPart most line → most ≤ 4096 → KeepsShort (line ++ codes "\n")
 keeps_line most line is low rest short =
     let first : lines_of (line ++ codes "\n" ++ rest) ≡ line ∷ lines_of rest =
-    ap lines_of (append_assoc line (codes "\n") rest) ∙ lines_of-front line rest is.lacks in
+    ap lines_of (append_assoc line (codes "\n") rest) ∙ lines_of-prefix line rest is.lacks in
     subst (All IsShort) (sym first) (All-cons IsShort line (lines_of rest) (omega (arith, is.few, low)) short)
 
 -- ---- the lines of the topology
@@ -104,8 +104,8 @@ keeps_line most line is low rest short =
 create_keeps : (letter : List ℕ) (site : ℕ) (class : List ℕ) → site < 2 ^ 64 → IsPart 8 letter → IsPart 8 class → KeepsShort (create_line letter site class)
 create_keeps letter site class small short_letter short_class =
     let name = both 8 20 letter (decimal site) short_letter (digits site small) in
-    let front = both 7 28 (codes "create ") (letter ++ decimal site) (word (codes "create ") refl) name in
-    let spaced = both 35 1 (codes "create " ++ (letter ++ decimal site)) (codes " ") front (word (codes " ") refl) in
+    let prefix = both 7 28 (codes "create ") (letter ++ decimal site) (word (codes "create ") refl) name in
+    let spaced = both 35 1 (codes "create " ++ (letter ++ decimal site)) (codes " ") prefix (word (codes " ") refl) in
     keeps_line 44 (codes "create " ++ (letter ++ decimal site) ++ codes " " ++ class)
     (both 36 8 (codes "create " ++ (letter ++ decimal site) ++ codes " ") class spaced short_class) (omega arith)
 
@@ -113,10 +113,10 @@ link_keeps : (letter : List ℕ) (site : ℕ) (to : List ℕ) (other : ℕ) → 
     → KeepsShort (link_line letter site to other)
 link_keeps letter site to other small other_small short_letter short_to =
     let from = both 8 20 letter (decimal site) short_letter (digits site small) in
-    let behind = both 8 20 to (decimal other) short_to (digits other other_small) in
-    let front = both 5 28 (codes "link ") (letter ++ decimal site) (word (codes "link ") refl) from in
+    let after = both 8 20 to (decimal other) short_to (digits other other_small) in
+    let prefix = both 5 28 (codes "link ") (letter ++ decimal site) (word (codes "link ") refl) from in
     keeps_line 61 (codes "link " ++ (letter ++ decimal site) ++ (to ++ decimal other))
-    (both 33 28 (codes "link " ++ (letter ++ decimal site)) (to ++ decimal other) front behind) (omega arith)
+    (both 33 28 (codes "link " ++ (letter ++ decimal site)) (to ++ decimal other) prefix after) (omega arith)
 
 -- a word of at most eight bytes
 short_word : (bytes : List ℕ) → has_none bytes ≡ true → length bytes ≤ 8 → IsPart 8 bytes

@@ -22,7 +22,7 @@ use Rattle.cb_grammar.specs.declared.machine.Part.{Part}
 use Rattle.cb_grammar.specs.declared.machine.Part.TheVariants as parts
 use Rattle.cb_grammar.specs.declared.machine.State.{State}
 use Rattle.cb_grammar.specs.Bare.{bare, bare_name, bare_step, bare_parent, bare_member, bare_class, bare_tree}
-use Rattle.cb_grammar.proofs.Front.{classes_of, tree_of}
+use Rattle.cb_grammar.proofs.Prefix.{classes_of, tree_of}
 use Rattle.cb_grammar.specs.Grammar.{tree_tokens, IsTreeOf, PathsFit}
 use Rattle.cb_grammar.specs.Table.{begun, next_event, next_relation, next_rule, next, next_head, next_inside, next_part, next_state, after_grown, with_part, longer}
 use Rattle.cb_grammar.specs.Read.{so_far, HasShortPaths}

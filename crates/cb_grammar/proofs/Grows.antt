@@ -29,12 +29,12 @@ use Rattle.cb_grammar.specs.Table.{begun, next_event, next_relation, next_rule, 
 use Rattle.cb_grammar.specs.Read.{in_event, in_relation, in_rule, in_place, in_part, so_far, RuleSound, PlaceSound, PartSound, HasShortPaths}
 
 -- the tokens of what a member became
-abbrev pub Told : Grown → List Lexeme → Type 0
-Told (More p) ks = in_place p ≡ ks
-Told (Whole m) ks = member_tokens m ≡ ks
-Told Wrong ks = Unit {0}
+abbrev pub Reported : Grown → List Lexeme → Type 0
+Reported (More p) ks = in_place p ≡ ks
+Reported (Whole m) ks = member_tokens m ≡ ks
+Reported Wrong ks = Unit {0}
 
-grows_event : (p : EventPlace) (k : Lexeme) → Told (next_event p k) (in_event p ++ k ∷ [])
+grows_event : (p : EventPlace) (k : Lexeme) → Reported (next_event p k) (in_event p ++ k ∷ [])
 grows_event events.Problem lexemes.Symptom = refl
 grows_event events.Problem (lexemes.Name t) = refl
 grows_event events.ProblemSymptom (lexemes.Name t) = refl
@@ -46,7 +46,7 @@ grows_event (events.Named n false true) lexemes.Semicolon = refl
 grows_event (events.Named n false false) lexemes.Semicolon = refl
 grows_event p k = tt
 
-grows_relation : (p : RelationPlace) (k : Lexeme) → Told (next_relation p k) (in_relation p ++ k ∷ [])
+grows_relation : (p : RelationPlace) (k : Lexeme) → Reported (next_relation p k) (in_relation p ++ k ∷ [])
 grows_relation relations.Word (lexemes.Name t) = refl
 grows_relation (relations.Named n) lexemes.To = refl
 grows_relation (relations.To n) (lexemes.Name t) = refl
@@ -69,18 +69,18 @@ pub flat_longer : (path : List PlaceToken) (e : Token) (plus : Bool) → flat_ma
 flat_longer path e true = flat_map-append step_tokens path (record { name = e; plus = true } ∷ [])
 flat_longer path e false = flat_map-append step_tokens path (record { name = e; plus = false } ∷ [])
 
-grows_dot : (n c : Token) (path : List PlaceToken) (e : Token) (b : Bool) → Told (if b then longer n c path e false else Wrong) (in_rule (rules.Effect n c path e) ++ lexemes.Dot ∷ [])
+grows_dot : (n c : Token) (path : List PlaceToken) (e : Token) (b : Bool) → Reported (if b then longer n c path e false else Wrong) (in_rule (rules.Effect n c path e) ++ lexemes.Dot ∷ [])
 grows_dot n c path e true = ap (rule_head n c) (flat_longer path e false ∙ sym (append_assoc (flat_map step_tokens path) (lexemes.Name e ∷ []) (lexemes.Dot ∷ [])))
 grows_dot n c path e false = tt
 
-grows_plus : (n c : Token) (path : List PlaceToken) (e : Token) (b : Bool) → Told (if b then More (places.Rule (rules.Plus n c path e)) else Wrong) (in_rule (rules.Effect n c path e) ++ lexemes.Plus ∷ [])
+grows_plus : (n c : Token) (path : List PlaceToken) (e : Token) (b : Bool) → Reported (if b then More (places.Rule (rules.Plus n c path e)) else Wrong) (in_rule (rules.Effect n c path e) ++ lexemes.Plus ∷ [])
 grows_plus n c path e true = ap (rule_head n c) (sym (append_assoc (flat_map step_tokens path) (lexemes.Name e ∷ []) (lexemes.Plus ∷ [])))
 grows_plus n c path e false = tt
 
 pub ends_path : (n c : Token) (path : List PlaceToken) (e : Token) → member_tokens (members.Rule n c path e) ≡ in_rule (rules.Effect n c path e) ++ lexemes.Semicolon ∷ []
 ends_path n c path e = ap (rule_head n c) (sym (append_assoc (flat_map step_tokens path) (lexemes.Name e ∷ []) (lexemes.Semicolon ∷ [])))
 
-grows_rule : (p : RulePlace) (k : Lexeme) → Told (next_rule p k) (in_rule p ++ k ∷ [])
+grows_rule : (p : RulePlace) (k : Lexeme) → Reported (next_rule p k) (in_rule p ++ k ∷ [])
 grows_rule rules.Word (lexemes.Name t) = refl
 grows_rule (rules.Named n) lexemes.Colon = refl
 grows_rule (rules.Colon n) (lexemes.Name t) = refl
@@ -94,7 +94,7 @@ grows_rule (rules.Plus n c path e) lexemes.Dot =
 grows_rule (rules.Dot n c path) (lexemes.Name t) = refl
 grows_rule p k = tt
 
-grows_begun : (k : Lexeme) → Told (begun k) (k ∷ [])
+grows_begun : (k : Lexeme) → Reported (begun k) (k ∷ [])
 grows_begun lexemes.Problem = refl
 grows_begun lexemes.Symptom = refl
 grows_begun lexemes.Event = refl
@@ -104,7 +104,7 @@ grows_begun lexemes.Block = refl
 grows_begun lexemes.Hide = refl
 grows_begun k = tt
 
-grows_place : (p : MemberSoFar) (k : Lexeme) → Told (next p k) (in_place p ++ k ∷ [])
+grows_place : (p : MemberSoFar) (k : Lexeme) → Reported (next p k) (in_place p ++ k ∷ [])
 grows_place places.Start k = grows_begun k
 grows_place (places.Event p) k = grows_event p k
 grows_place (places.Relation p) k = grows_relation p k
@@ -119,7 +119,7 @@ grows_place p k = tt
 abbrev pub Grows : Option State → List Lexeme → Type 0
 Grows o ks = IfSome o (λ s. so_far s ≡ ks)
 
-grows_after : (cs : List ClassDecl) (c : ClassDecl) (ks : List Lexeme) (k : Lexeme) (g : Grown) → Told g (ks ++ k ∷ []) →
+grows_after : (cs : List ClassDecl) (c : ClassDecl) (ks : List Lexeme) (k : Lexeme) (g : Grown) → Reported g (ks ++ k ∷ []) →
     Grows (after_grown cs c g) ((flat_map class_tokens cs ++ (lexemes.Class ∷ lexemes.Name c.name ∷ (parent_tokens c.parent ++ lexemes.Open ∷ (flat_map member_tokens c.members ++ ks)))) ++ k ∷ [])
 grows_after cs c ks k (More p) t = rw t (grind (arith, common_steps))
 grows_after cs c ks k (Whole m) t = grind (arith, common_steps, t, flat_map-append)

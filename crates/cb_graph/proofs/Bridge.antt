@@ -21,7 +21,7 @@ use Rattle.cb_network.specs.Nodes.{IsEventAt}
 use Rattle.cb_network.specs.Causes.{Edge}
 use Rattle.cb_instances.specs.declared.id.InstanceId.{InstanceId}
 use Rattle.cb_instances.specs.Net.{IsNamed, name_at, name_or, name_in_row, event_name}
-use Rattle.cb_instances.proofs.Muting.{event_told}
+use Rattle.cb_instances.proofs.Muting.{event_reported}
 use Rattle.cb_nodes.specs.declared.id.NodeId.{NodeId}
 use Rattle.cb_nodes.specs.declared.node.Node.{Node}
 use Rattle.cb_nodes.specs.Table.{IsNode, node_of}
@@ -81,7 +81,7 @@ class_within t typed c e has = class_of_heir t c has.row.class has.from_c of_row
 -- a class has one event of a name
 pub one_event : (t : Tables) → WellTyped t → (c : ClassId) (name : List ℕ) (e f : EventId) → NamesEvent t c name e → NamesEvent t c name f → e ≡ f
 one_event t typed c name e f a b =
-    event_told t typed c e f a.0 b.0 (ap name_in_row a.0.is ∙ (a.1 ∙ (sym b.1 ∙ sym (ap name_in_row b.0.is))))
+    event_reported t typed c e f a.0 b.0 (ap name_in_row a.0.is ∙ (a.1 ∙ (sym b.1 ∙ sym (ap name_in_row b.0.is))))
 
 -- what a rule brings about is added
 pub effects_gained : (n : Numbered) (i : InstanceId) (cause : EventId) (rule : Rule) → rule.cause ≡ cause → (path : List Place) → path ≡ rule.path → (here : List Bool) → IsWhereLeads n.net i path here
@@ -111,8 +111,8 @@ module _ (n : Numbered) (whole : IsWhole n) where
   one_at id x y a b = let e : Some x ≡ Some y = sym a ∙ b in cc
 
   -- a node has one number
-  node_told : (i j : NodeId) (x : Node) → IsNode n.nodes i x → IsNode n.nodes j x → i ≡ j
-  node_told i j x a b =
+  node_reported : (i j : NodeId) (x : Node) → IsNode n.nodes i x → IsNode n.nodes j x → i ≡ j
+  node_reported i j x a b =
       let named = whole.node_named i x a in
       let same : named.1.node ≡ x = one_at i named.1.node x named.1.is a in
       whole.one i j named.0 named.1 (record {
@@ -128,7 +128,7 @@ module _ (n : Numbered) (whole : IsWhole n) where
   number_gained row id i e is lt k =
       let s = set_gains row id.0 lt k in (
         λ h. elim (s.0 h) [ inl g ↦ inl g | inr same ↦ inr (subst (λ m. IsNode n.nodes (number m) (node_of i e)) same is) ],
-        λ g. s.1 (elim g [ inl h ↦ inl h | inr there ↦ inr (ap (λ (z : NodeId). z.0) (node_told id (number k) (node_of i e) is there)) ]),
+        λ g. s.1 (elim g [ inl h ↦ inl h | inr there ↦ inr (ap (λ (z : NodeId). z.0) (node_reported id (number k) (node_of i e) is there)) ]),
       )
 
   -- a list with the number of the event at the instance after it
@@ -141,7 +141,7 @@ module _ (n : Numbered) (whole : IsWhole n) where
     ],
     λ g. elim g [
       | inl h ↦ Contains-append_left list (id.0 ∷ []) k h
-      | inr there ↦ subst (Contains (list ++ id.0 ∷ [])) (ap (λ (z : NodeId). z.0) (node_told id (number k) (node_of i e) is there)) (Contains-push list id.0)
+      | inr there ↦ subst (Contains (list ++ id.0 ∷ [])) (ap (λ (z : NodeId). z.0) (node_reported id (number k) (node_of i e) is there)) (Contains-push list id.0)
     ],
   )
 

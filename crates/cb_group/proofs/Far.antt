@@ -116,7 +116,7 @@ module _ (codes : Coded) (d : ℕ) where
   first_is first pair are is =
       let same = is.first_is in
       record {
-        is_pair = (let b = is.close.behind in omega arith, is.close.within);
+        is_pair = (let b = is.close.after in omega arith, is.close.within);
         distance = subst (λ i. pair.distance ≡ far codes i pair.second) (sym same) is.distance_is;
         close = let c = is.close.close in let e = is.distance_is in omega arith;
         first = λ i j other before. elim before [

@@ -3,4 +3,4 @@ pub mod Found
 pub mod Grouped
 pub mod Far
 pub mod Setting
-pub mod Behind
+pub mod After

@@ -11,7 +11,7 @@ far codes i j = apart (all_columns codes.width) codes.rows i j
 
 -- the code at the second position stands after the first, and is less than d from it
 pub record IsClose (codes : Coded) (first d second : ℕ) : Type 0 where
-  pub behind : first < second
+  pub after : first < second
   pub within : second < length codes.rows
   pub close : far codes first second < d
 
@@ -24,7 +24,7 @@ abbrev pub IsCloseOrEnd : Coded → ℕ → ℕ → ℕ → Type 0
 IsCloseOrEnd codes first d place = IsClose codes first d place ⊎ (place ≡ length codes.rows)
 
 -- the first close code, or the end of all
-pub record IsFirstBehind (codes : Coded) (first d place : ℕ) : Type 0 where
+pub record IsFirstAfter (codes : Coded) (first d place : ℕ) : Type 0 where
   pub is : IsCloseOrEnd codes first d place
   pub before : AreAllFar codes first d place
 

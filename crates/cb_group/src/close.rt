@@ -8,7 +8,7 @@ ghost use Rattle.cb_coding.specs.Distance.{all_columns};
 ghost use Rattle.cb_coding.specs.Groups.{codes_of};
 ghost use Rattle.cb_coding.specs.Pairs.{Good, IsFirstClose};
 ghost use Rattle.cb_codes.specs.Holders.{holders_of};
-ghost use Rattle.cb_group.specs.Close.{far, IsFirstCloseIfAny, IsCloseWith, AreAllFar, IsFirstBehind, IsCloseOrEnd};
+ghost use Rattle.cb_group.specs.Close.{far, IsFirstCloseIfAny, IsCloseWith, AreAllFar, IsFirstAfter, IsCloseOrEnd};
 
 use crate::chosen::chosen;
 use cb_codes::Codes;
@@ -37,7 +37,7 @@ fn first_pair(codes: &Codes, distance: u32) -> Option<Pair>
     ensures none { IfNone result (Good codes.now.rows (all_columns codes.now.width) distance) }
 {
     for first in 0..codes.len() {
-        let second = first_behind(codes, first, distance);
+        let second = first_after(codes, first, distance);
         if let Some(pair) = pair_of(codes, first, second, distance) {
             return Some(pair);
         }
@@ -49,7 +49,7 @@ fn first_pair(codes: &Codes, distance: u32) -> Option<Pair>
 fn pair_of(codes: &Codes, first: usize, second: usize, distance: u32) -> Option<Pair>
     requires few { length codes.now.rows < 2 ^ 32 }
     requires first { first < length codes.now.rows }
-    requires second { IsFirstBehind codes.now first distance second }
+    requires second { IsFirstAfter codes.now first distance second }
     ensures found { IfSome result (IsCloseWith codes.now first distance) }
     ensures none { IfNone result (AreAllFar codes.now first distance (length codes.now.rows)) }
 {
@@ -68,9 +68,9 @@ fn pair_of(codes: &Codes, first: usize, second: usize, distance: u32) -> Option<
 
 // The position of the first code after this one that is less than the distance from it, or the end. A code that has none of the columns that
 // were looked at is as far from this one as they are many.
-fn first_behind(codes: &Codes, first: usize, distance: u32) -> usize
+fn first_after(codes: &Codes, first: usize, distance: u32) -> usize
     requires { first < length codes.now.rows }
-    ensures { IsFirstBehind codes.now first distance result }
+    ensures { IsFirstAfter codes.now first distance result }
 {
     let code = codes.row(first);
     // A length fits its type, and so does the position after a column. All codes have one width.
@@ -81,7 +81,7 @@ fn first_behind(codes: &Codes, first: usize, distance: u32) -> usize
     let mut from = 0;
     while looked < distance {
         let Some(column) = code.next_one(from) else {
-            return close_behind(codes, first, distance);
+            return close_after(codes, first, distance);
         };
         if let Some(places) = few_holders(codes, column, distance) {
             end = close_among(codes, first, distance, places, end);
@@ -147,9 +147,9 @@ fn nearer_end(codes: &Codes, first: usize, distance: u32, second: usize, end: us
 }
 
 // The first code after this one that is less than the distance from it, or the end.
-fn close_behind(codes: &Codes, first: usize, distance: u32) -> usize
+fn close_after(codes: &Codes, first: usize, distance: u32) -> usize
     requires { first < length codes.now.rows }
-    ensures { IsFirstBehind codes.now first distance result }
+    ensures { IsFirstAfter codes.now first distance result }
 {
     let end = codes.len();
     for second in first + 1..end {

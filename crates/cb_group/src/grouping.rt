@@ -21,7 +21,7 @@ pub fn groups(
     ensures groups { IfOk result (AreGroups width problems.now) }
     ensures few { IfOk result (λ groups. length groups ≤ length problems.now + 1) }
 {
-    let mut grouping = Grouping::quiet(alloc, width)?;
+    let mut grouping = Grouping::of_quiet(alloc, width)?;
     for problem in problems.as_slice() {
         grouping.add(alloc, problem)?;
     }
@@ -37,7 +37,7 @@ struct Grouping {
 
 impl Grouping {
     // Quiet alone, without problems.
-    fn quiet(alloc: Global, width: usize) -> Result<Grouping, AllocError>
+    fn of_quiet(alloc: Global, width: usize) -> Result<Grouping, AllocError>
         ensures words { IfOk result (λ made. AreWordsOf made.groups.items made.words.keys) }
         ensures quiet { IfOk result (λ made. made.groups.items ≡ group_with (no_symptom width) [] ∷ []) }
     {

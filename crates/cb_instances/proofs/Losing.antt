@@ -28,7 +28,7 @@ once_head x xs once (k, lt, e) = once 0 (suc k) x (omega arith) (omega arith) (s
 pub loses_nothing : {X : Type 0} (x : X) → Loses x [] []
 loses_nothing x = record { others = λ y ne. (λ has. has, λ has. has); gone = λ once. nothing_in_empty x; once = λ once. once }
 
--- items that are told apart by a test
+-- items that are distinguished by a test
 module _ {X : Type 0} (same : X → X → Bool) (decides : (a b : X) → Decides (same a b) (a ≡ b)) where
   flips : (a b : X) → same a b ≡ same b a
   flips a b = elim (cases_Bool (same a b)) [

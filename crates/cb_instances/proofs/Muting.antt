@@ -32,7 +32,7 @@ use Rattle.cb_instances.specs.Shown.{topology_of, seen, name_in, Shows, HoldsMut
 use Rattle.cb_instances.specs.Slots.{Slots, At, NamedAt, ListsInstance, head_of}
 use Rattle.cb_instances.specs.Sound.{IsNetOf, IsTidy, FitsMutes}
 use Rattle.cb_instances.proofs.Creating.{shown_of}
-use Rattle.cb_instances.proofs.Placing.{told, at_seen, same_id, decide_id}
+use Rattle.cb_instances.proofs.Placing.{reported, at_seen, same_id, decide_id}
 use Rattle.cb_instances.proofs.Rewiring.{once_more}
 use Rattle.cb_instances.proofs.Showing.{one_at, shown_once, slot_within}
 
@@ -43,8 +43,8 @@ further t c a (suc k) n zero e is = absurd (omega arith)
 further t c a (suc k) n (suc m) e is = ap (parent_of_some t) (further t c a k n m (omega arith) is)
 
 -- a class has one event of a name
-pub event_told : (t : Tables) → WellTyped t → (c : ClassId) (e f : EventId) → HasEvent t c e → HasEvent t c f → event_name t e ≡ event_name t f → e ≡ f
-event_told t typed c e f a b named =
+pub event_reported : (t : Tables) → WellTyped t → (c : ClassId) (e f : EventId) → HasEvent t c e → HasEvent t c f → event_name t e ≡ event_name t f → e ≡ f
+event_reported t typed c e f a b named =
     let row_a : event_name t e ≡ a.row.name = ap name_in_row a.is in
     let row_b : event_name t f ≡ b.row.name = ap name_in_row b.is in
     let name : b.row.name ≡ a.row.name = sym row_b ∙ (sym named ∙ row_a) in
@@ -235,7 +235,7 @@ module _ (tables : Tables) (old new : Slots) (entries : Entries) (room : ℕ) (i
   elsewhere : (e : EventId) (n : NodeName) (h : HoldsMute tables old n) → h.at ≢ id → n ≢ node e
   elsewhere e n h ne is =
       let name : h.instance.name ≡ x.name = h.named ∙ ap (λ (k : NodeName). k.instance) is in
-      ne (told old entries sound.indexed h.at id x.name (h.instance, h.is, name) (x, at, refl))
+      ne (reported old entries sound.indexed h.at id x.name (h.instance, h.is, name) (x, at, refl))
 
   capacity : vec_capacity m ≡ vec_capacity x.muted
   capacity = (w.this x at).2
@@ -250,7 +250,7 @@ module _ (tables : Tables) (old new : Slots) (entries : Entries) (room : ℕ) (i
     λ is. elim (mute_was (node e) (((shown_of tables old entries room sound).mutes (node e)).0 is)) [
       | inl found ↦
           let of_class = (sound.mutes id x at).of_class found.0 found.1 in
-          let same = event_told tables sound.typed x.class found.0 e of_class has (ap (λ (k : NodeName). k.event) found.2) in
+          let same = event_reported tables sound.typed x.class found.0 e of_class has (ap (λ (k : NodeName). k.event) found.2) in
           subst (Contains x.muted.items) same found.1
       | inr other ↦ absurd (elsewhere_old e other.0 other.1)
     ],
@@ -259,7 +259,7 @@ module _ (tables : Tables) (old new : Slots) (entries : Entries) (room : ℕ) (i
       elsewhere_old : (e : EventId) (h : HoldsMute tables new (node e)) → h.at ≢ id → ⊥
       elsewhere_old e h ne =
           let name = named_was h.at x.name (h.instance, h.is, h.named) in
-          ne (told old entries sound.indexed h.at id x.name name (x, at, refl))
+          ne (reported old entries sound.indexed h.at id x.name name (x, at, refl))
 
 -- one event more
 module _ (tables : Tables) (old new : Slots) (entries : Entries) (room : ℕ) (id : InstanceId) (x : Instance) (at : At old id x) (e : EventId)
@@ -343,7 +343,7 @@ module _ (tables : Tables) (old new : Slots) (entries : Entries) (room : ℕ) (i
               let other : found.0 ≢ e = λ same. loses.gone fits.once (subst (Contains (w.this x at).0.items) same found.1) in
               let in_x = (loses.others found.0 other).0 found.1 in
               let differs : n ≢ node_of (event_name tables e) x.name = λ same.
-              other (event_told tables sound.typed x.class found.0 e (fits.of_class found.0 in_x) has (ap (λ (k : NodeName). k.event) (found.2 ∙ same))) in
+              other (event_reported tables sound.typed x.class found.0 e (fits.of_class found.0 in_x) has (ap (λ (k : NodeName). k.event) (found.2 ∙ same))) in
               (differs, shows.1 (here_before tables old new entries room id x at (Loses e) w sound found.0 n in_x found.2))
           | inr other ↦ (elsewhere tables old new entries room id x at (Loses e) w sound e n other.0 other.1, shows.1 other.0)
         ]),
@@ -371,7 +371,7 @@ module _ (tables : Tables) (slots : Slots) (entries : Entries) (room next : ℕ)
       let h : HasEventAt (seen tables slots room next) id e = subst (λ (k : Net). HasEventAt k id e) (sym is) has in
       let name : name_at (seen tables slots room next) id ≡ x.name = ap name_or (at_seen slots id x.name (x, at, refl)) in
       let held = ((shown_of tables slots entries room sound).instances (name_at (seen tables slots room next) id) h.0).0 h.1 in
-      let i = told slots entries sound.indexed held.at id x.name (held.instance, held.is, held.named ∙ name) (x, at, refl) in
+      let i = reported slots entries sound.indexed held.at id x.name (held.instance, held.is, held.named ∙ name) (x, at, refl) in
       let same = one_at slots id held.instance x (subst (λ k. At slots k held.instance) i held.is) at in
       subst (λ c. HasEvent tables c e) (sym held.of_class ∙ ap (λ (z : Instance). z.class) same) h.2
 

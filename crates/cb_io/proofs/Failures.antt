@@ -5,17 +5,17 @@ use Rattle.std.specs.Result.{result_unwrap_or}
 use Rattle.cb_io.specs.declared.outside.FileStop.{FileStop}
 use Rattle.cb_io.specs.Pairs.{look_up}
 use Rattle.cb_io.specs.Outside.{ReadsBytes}
-use Rattle.cb_io.specs.Memory.{FileState, FilesState, IsNextFailing, file_of, files_told}
-use Rattle.cb_io.specs.Never.{never_told}
-use Rattle.cb_io.proofs.Memory.{bytes-told}
+use Rattle.cb_io.specs.Memory.{FileState, FilesState, IsNextFailing, file_of, files_report}
+use Rattle.cb_io.specs.Never.{never_reported}
+use Rattle.cb_io.proofs.Memory.{bytes-report}
 
 -- where a read fails of a name without bytes, no byte came and none is left
-pub end_for_failure : (old new : FilesState) (name buf : List ℕ) (r : Result ℕ FileStop) → ReadsBytes (files_told old) (files_told new) name r buf
-    → (IsErr r → look_up old.files name ≡ None) → ReadsBytes {E = FileStop} (never_told old) (never_told new) name (Ok (result_unwrap_or r 0)) buf
+pub end_for_failure : (old new : FilesState) (name buf : List ℕ) (r : Result ℕ FileStop) → ReadsBytes (files_report old) (files_report new) name r buf
+    → (IsErr r → look_up old.files name ≡ None) → ReadsBytes {E = FileStop} (never_reported old) (never_reported new) name (Ok (result_unwrap_or r 0)) buf
 end_for_failure old new name buf (Ok n) read absent = read
 end_for_failure old new name buf (Err stop) kept absent =
     let none : (file_of old name).left ≡ [] = rw (absent refl) refl in
-    let empty = bytes-told old name ∙ none in
+    let empty = bytes-report old name ∙ none in
     (sym kept, λ zero room. kept ∙ empty)
 
 -- where no call is to fail, a read fails of a name that wasn't added

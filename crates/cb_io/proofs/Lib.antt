@@ -1,5 +1,5 @@
 pub mod Pairs
-pub mod Told
+pub mod Reported
 pub mod Memory
 pub mod Host
 pub mod Failures

@@ -10,22 +10,22 @@ use Rattle.cb_io.specs.declared.line_reader.Line.TheVariants.{Text, Long, End}
 use Rattle.cb_io.specs.declared.whole.ReadStop.{ReadStop}
 use Rattle.cb_io.specs.declared.whole.ReadStop.TheVariants.{ReadFault, TooMuch, NoMemory}
 use Rattle.cb_io.specs.Hand.{Held}
-use Rattle.cb_io.specs.LineGiving.{IsGivenLine, behind_line}
+use Rattle.cb_io.specs.LineGiving.{IsGivenLine, beyond_line}
 use Rattle.cb_io.specs.LineReading.{Reading, coming, IsOneLine, GivesEnded, GivesLast, GivesLine, Says, Advances}
-use Rattle.cb_io.specs.LineSearch.{HasCome, Finds, GivesUp, EndsBy, lf_count, behind_of, size_of}
-use Rattle.cb_io.specs.Outside.{FilesTold, left_of, ReadsFront}
+use Rattle.cb_io.specs.LineSearch.{HasCome, Finds, GivesUp, EndsBy, lf_count, length_with_lf, size_of}
+use Rattle.cb_io.specs.Outside.{FilesReport, left_of, ReadsPrefix}
 
 -- ---- what is left of the file
 
-if_coming : (kept : List ℕ) (told : Option (List ℕ)) (P : List ℕ → Type 0) → ((left : List ℕ) → told ≡ Some left → P (kept ++ left)) →
-    IfSome (option_map (λ left. kept ++ left) told) P
+if_coming : (kept : List ℕ) (report : Option (List ℕ)) (P : List ℕ → Type 0) → ((left : List ℕ) → report ≡ Some left → P (kept ++ left)) →
+    IfSome (option_map (λ left. kept ++ left) report) P
 if_coming kept None P next = tt
 if_coming kept (Some left) P next = next left refl
 
 -- the bytes that are left after those that were read
-record Leaves (told : Option (List ℕ)) (came left : List ℕ) : Type 0 where
+record Leaves (report : Option (List ℕ)) (came left : List ℕ) : Type 0 where
   rest : List ℕ
-  told_is : told ≡ Some rest
+  reported_is : report ≡ Some rest
   are : left ≡ came ++ rest
 
 leaves : (a b : Option (List ℕ)) (came left : List ℕ) → Consumes a b came → a ≡ Some left → Leaves b came left
@@ -33,22 +33,22 @@ leaves None b came left read e = cc
 leaves (Some xs) None came left read e = absurd read
 leaves (Some xs) (Some ys) came left read e =
     let same : xs ≡ left = cc e in
-    record { rest = ys; told_is = refl; are = sym same ∙ read }
+    record { rest = ys; reported_is = refl; are = sym same ∙ read }
 
-module _ {old_kept : List ℕ} {before after : FilesTold} {name all : List ℕ} (come : HasCome old_kept before after name all) (left : List ℕ)
-    (told : left_of before name ≡ Some left) where
-  behind : Leaves (left_of after name) come.came left
-  behind = leaves (left_of before name) (left_of after name) come.came left come.read told
+module _ {old_kept : List ℕ} {before after : FilesReport} {name all : List ℕ} (come : HasCome old_kept before after name all) (left : List ℕ)
+    (report : left_of before name ≡ Some left) where
+  beyond : Leaves (left_of after name) come.came left
+  beyond = leaves (left_of before name) (left_of after name) come.came left come.read report
 
   -- the bytes that were to come are those that came and those that are left
-  bytes_are : old_kept ++ left ≡ all ++ behind.rest
+  bytes_are : old_kept ++ left ≡ all ++ beyond.rest
   bytes_are =
-      ap (λ (l : List ℕ). old_kept ++ l) behind.are
-      ∙ (sym (append_assoc old_kept come.came behind.rest) ∙ ap (λ (l : List ℕ). l ++ behind.rest) come.are)
+      ap (λ (l : List ℕ). old_kept ++ l) beyond.are
+      ∙ (sym (append_assoc old_kept come.came beyond.rest) ∙ ap (λ (l : List ℕ). l ++ beyond.rest) come.are)
 
 -- in every case a prefix came, and no more
-pub come_front : {start : List ℕ} {before after : FilesTold} {name all : List ℕ} → HasCome start before after name all → ReadsFront before after name
-come_front come = (come.came, come.read)
+pub come_prefix : {start : List ℕ} {before after : FilesReport} {name all : List ℕ} → HasCome start before after name all → ReadsPrefix before after name
+come_prefix come = (come.came, come.read)
 
 -- ---- a line
 
@@ -65,7 +65,7 @@ looking old hand = record old { text = hand.text; kept = hand.kept; refused = tr
 abbrev Gives : Reading → Reading → List ℕ → List ℕ → List ℕ → Type 0
 Gives old new bytes line rest = GivesEnded old new bytes line rest ⊎ GivesLast old new bytes line rest
 
-module _ (kept thrown : List ℕ) (after : FilesTold) (name : List ℕ) (n : ℕ) (one : IsOneLine (thrown ++ take n kept)) (file bytes : List ℕ)
+module _ (kept thrown : List ℕ) (after : FilesReport) (name : List ℕ) (n : ℕ) (one : IsOneLine (thrown ++ take n kept)) (file bytes : List ℕ)
     (left : left_of after name ≡ Some file) (are : bytes ≡ thrown ++ kept ++ file) (old new : Reading) where
   abbrev line : List ℕ
   line = thrown ++ take n kept
@@ -81,10 +81,10 @@ module _ (kept thrown : List ℕ) (after : FilesTold) (name : List ℕ) (n : ℕ
   gives : (is_last : Bool) → EndsBy kept after name n is_last → n + lf_count is_last ≤ length kept → 0 < length thrown + (n + lf_count is_last) →
       new.given ≡ old.given + (length thrown + (n + lf_count is_last)) → new.ended ≡ is_last → Gives old new bytes line (drop (n + lf_count is_last) kept ++ file)
   gives false way few some given ended =
-      let behind : kept ++ file ≡ take n kept ++ 10 ∷ (drop (n + 1) kept ++ file) =
+      let beyond : kept ++ file ≡ take n kept ++ 10 ∷ (drop (n + 1) kept ++ file) =
       ap (λ (l : List ℕ). l ++ file) way ∙ append_assoc (take n kept) (10 ∷ drop (n + 1) kept) file in
       let whole : bytes ≡ line ++ 10 ∷ (drop (n + 1) kept ++ file) =
-      are ∙ (append_assoc thrown kept file ∙ (ap (λ (l : List ℕ). thrown ++ l) behind ∙ sym (append_assoc thrown (take n kept) (10 ∷ (drop (n + 1) kept ++ file))))) in
+      are ∙ (append_assoc thrown kept file ∙ (ap (λ (l : List ℕ). thrown ++ l) beyond ∙ sym (append_assoc thrown (take n kept) (10 ∷ (drop (n + 1) kept ++ file))))) in
       inl (record {
         begin = record { one = one; are = whole };
         given = omega (arith, given, line_length (omega (arith, few)));
@@ -118,30 +118,30 @@ module _ (kept thrown : List ℕ) (after : FilesTold) (name : List ℕ) (n : ℕ
   no_bytes no_thrown no_kept no_file =
       are ∙ (ap (λ (l : List ℕ). l ++ kept ++ file) no_thrown ∙ (ap (λ (l : List ℕ). l ++ file) no_kept ∙ no_file))
 
-module _ (old : Reading) (hand : Held) (before after : FilesTold) (end : LineEnd)
+module _ (old : Reading) (hand : Held) (before after : FilesReport) (end : LineEnd)
     (found : Finds old.kept before after old.name old.line_most (old.total_most - old.given) hand end) (room : old.given ≤ old.total_most) where
-  module _ (left : List ℕ) (told : left_of before old.name ≡ Some left) where
+  module _ (left : List ℕ) (report : left_of before old.name ≡ Some left) where
     abbrev file : List ℕ
-    file = (behind found.come left told).rest
+    file = (beyond found.come left report).rest
 
     -- what comes after the line
-    comes : (number text : ℕ) → coming (behind_line (looking old hand) end number text) after ≡ Some (drop (behind_of end) hand.kept ++ file)
-    comes number text = ap (option_map (λ (l : List ℕ). drop (behind_of end) hand.kept ++ l)) (behind found.come left told).told_is
+    comes : (number text : ℕ) → coming (beyond_line (looking old hand) end number text) after ≡ Some (drop (length_with_lf end) hand.kept ++ file)
+    comes number text = ap (option_map (λ (l : List ℕ). drop (length_with_lf end) hand.kept ++ l)) (beyond found.come left report).reported_is
 
     gives_line : (text : ℕ) → 0 < size_of end →
-        GivesLine old (behind_line (looking old hand) end (old.number + 1) text) after (old.kept ++ left) (found.thrown ++ take end.length hand.kept)
+        GivesLine old (beyond_line (looking old hand) end (old.number + 1) text) after (old.kept ++ left) (found.thrown ++ take end.length hand.kept)
     gives_line text some =
-        let new : Reading = behind_line (looking old hand) end (old.number + 1) text in
+        let new : Reading = beyond_line (looking old hand) end (old.number + 1) text in
         record {
-          rest = drop (behind_of end) hand.kept ++ file;
-          way = gives hand.kept found.thrown after old.name end.length found.one file (old.kept ++ left) (behind found.come left told).told_is
-              (bytes_are found.come left told) old new end.is_last found.way found.in_hand (omega (arith, some, found.lost_is)) (omega (arith, found.lost_is)) refl;
+          rest = drop (length_with_lf end) hand.kept ++ file;
+          way = gives hand.kept found.thrown after old.name end.length found.one file (old.kept ++ left) (beyond found.come left report).reported_is
+              (bytes_are found.come left report) old new end.is_last found.way found.in_hand (omega (arith, some, found.lost_is)) (omega (arith, found.lost_is)) refl;
           comes = comes (old.number + 1) text;
           number = refl;
           within = omega (arith, found.within, room);
         }
 
-    says_at : (new : Reading) (told_line : Line) → IsGivenLine (looking old hand) end new told_line → Says old new after (Ok told_line) (old.kept ++ left)
+    says_at : (new : Reading) (reported_line : Line) → IsGivenLine (looking old hand) end new reported_line → Says old new after (Ok reported_line) (old.kept ++ left)
     says_at new (Text number) tells =
         let none : found.thrown ≡ [] = nil_from_length found.thrown (omega (arith, found.lost_is, found.long, tells.1)) in
         rw tells.3 (record {
@@ -156,14 +156,14 @@ module _ (old : Reading) (hand : Held) (before after : FilesTold) (end : LineEnd
     })
     says_at new End tells =
         let zero = tells.0 in
-        let told_is = (behind found.come left told).told_is in
-        let are = bytes_are found.come left told in
-        let none = none_left hand.kept found.thrown after old.name end.length found.one file (old.kept ++ left) told_is are old new end.is_last found.way
+        let reported_is = (beyond found.come left report).reported_is in
+        let are = bytes_are found.come left report in
+        let none = none_left hand.kept found.thrown after old.name end.length found.one file (old.kept ++ left) reported_is are old new end.is_last found.way
         (omega (arith, zero, found.lost_is)) in
-        let nothing : drop (behind_of end) hand.kept ++ file ≡ [] =
-        ap (λ (l : List ℕ). drop (behind_of end) l ++ file) none.2 ∙ (ap (λ (l : List ℕ). l ++ file) (drop_all (behind_of end) [] (omega arith)) ∙ none.3) in
+        let nothing : drop (length_with_lf end) hand.kept ++ file ≡ [] =
+        ap (λ (l : List ℕ). drop (length_with_lf end) l ++ file) none.2 ∙ (ap (λ (l : List ℕ). l ++ file) (drop_all (length_with_lf end) [] (omega arith)) ∙ none.3) in
         rw tells.1 (record {
-          none = no_bytes hand.kept found.thrown after old.name end.length found.one file (old.kept ++ left) told_is are old new none.1 none.2 none.3;
+          none = no_bytes hand.kept found.thrown after old.name end.length found.one file (old.kept ++ left) reported_is are old new none.1 none.2 none.3;
           comes = comes old.number 0 ∙ ap (λ (l : List ℕ). Some l) nothing;
           number = refl;
           given = omega (arith, zero);
@@ -172,45 +172,45 @@ module _ (old : Reading) (hand : Held) (before after : FilesTold) (end : LineEnd
         })
 
   -- what the answer says, where the files tell the bytes
-  pub says_line : (new : Reading) (told_line : Line) → IsGivenLine (looking old hand) end new told_line → IfSome (coming old before) (Says old new after (Ok told_line))
-  says_line new told_line tells = if_coming old.kept (left_of before old.name) (Says old new after (Ok told_line)) (λ left told. says_at left told new told_line tells)
+  pub says_line : (new : Reading) (reported_line : Line) → IsGivenLine (looking old hand) end new reported_line → IfSome (coming old before) (Says old new after (Ok reported_line))
+  says_line new reported_line tells = if_coming old.kept (left_of before old.name) (Says old new after (Ok reported_line)) (λ left report. says_at left report new reported_line tells)
 
   -- how far the answer goes on, whatever the files tell
-  pub advances_line : (new : Reading) (told_line : Line) → IsGivenLine (looking old hand) end new told_line → Advances old new told_line
+  pub advances_line : (new : Reading) (reported_line : Line) → IsGivenLine (looking old hand) end new reported_line → Advances old new reported_line
   advances_line new (Text number) tells = rw tells.3 (refl, omega (arith, tells.0), omega (arith, found.within, room))
   advances_line new (Long number) tells = rw tells.3 (refl, omega (arith, tells.0), omega (arith, found.within, room))
   advances_line new End tells = rw tells.1 (last_none end.is_last end.lost end.length tells.0, refl, omega (arith, tells.0))
 
 -- ---- no line
 
-module _ (old new : Reading) (before after : FilesTold) (room : old.given ≤ old.total_most) where
+module _ (old new : Reading) (before after : FilesReport) (room : old.given ≤ old.total_most) where
   stops_at : (stop : ReadStop) → GivesUp old.kept before after old.name (old.total_most - old.given) stop → (left : List ℕ) → left_of before old.name ≡ Some left →
       Says old new after (Err stop) (old.kept ++ left)
-  stops_at TooMuch up left told =
+  stops_at TooMuch up left report =
       let over = up.why in
-      let file = (behind up.come left told).rest in
-      let are = bytes_are up.come left told in
+      let file = (beyond up.come left report).rest in
+      let are = bytes_are up.come left report in
       record {
-        before = over.front;
-        behind = over.behind ++ file;
-        are = are ∙ (ap (λ (l : List ℕ). l ++ file) over.are ∙ append_assoc over.front over.behind file);
+        before = over.prefix;
+        beyond = over.beyond ++ file;
+        are = are ∙ (ap (λ (l : List ℕ). l ++ file) over.are ∙ append_assoc over.prefix over.beyond file);
         one = over.one;
         full = omega (arith, over.full, room);
-        more = λ none. over.more (nil_from_length over.behind (let zero = ap length none in omega (arith, zero, length-append over.behind file)));
-        front = up.all;
+        more = λ none. over.more (nil_from_length over.beyond (let zero = ap length none in omega (arith, zero, length-append over.beyond file)));
+        prefix = up.all;
         rest = file;
-        loses = record { are = are; left = (behind up.come left told).told_is };
+        loses = record { are = are; left = (beyond up.come left report).reported_is };
       }
-  stops_at ReadFault up left told = record {
-    front = up.all;
-    rest = (behind up.come left told).rest;
-    loses = record { are = bytes_are up.come left told; left = (behind up.come left told).told_is };
+  stops_at ReadFault up left report = record {
+    prefix = up.all;
+    rest = (beyond up.come left report).rest;
+    loses = record { are = bytes_are up.come left report; left = (beyond up.come left report).reported_is };
     one = up.why;
   }
-  stops_at NoMemory up left told = record {
-    front = up.all;
-    rest = (behind up.come left told).rest;
-    loses = record { are = bytes_are up.come left told; left = (behind up.come left told).told_is };
+  stops_at NoMemory up left report = record {
+    prefix = up.all;
+    rest = (beyond up.come left report).rest;
+    loses = record { are = bytes_are up.come left report; left = (beyond up.come left report).reported_is };
     one = up.why;
   }
 

@@ -18,13 +18,13 @@ use Rattle.cb_io.specs.Hand.{Held, Grows}
 use Rattle.cb_io.specs.LineReading.{IsOneLine, BeginWith}
 use Rattle.cb_io.specs.LineSearch.{HasCome, IsLostWhole, ThrowsLong, Finds, IsOver, GivesUp}
 use Rattle.cb_io.specs.Stops.{stop_of}
-use Rattle.cb_io.specs.Outside.{FilesTold, left_of, KeepsOthers, NoCountFalls}
+use Rattle.cb_io.specs.Outside.{FilesReport, left_of, KeepsOthers, NoCountFalls}
 use Rattle.cb_io.specs.Pieces.{piece_limit}
-use Rattle.cb_io.proofs.Told.{NoCountFalls-trans, KeepsOthers-trans}
+use Rattle.cb_io.proofs.Reported.{NoCountFalls-trans, KeepsOthers-trans}
 
 -- ---- what has come
 
-pub come_none : (start : List ℕ) (files : FilesTold) (name : List ℕ) → HasCome start files files name start
+pub come_none : (start : List ℕ) (files : FilesReport) (name : List ℕ) → HasCome start files files name start
 come_none start files name = record {
   came = [];
   are = append-nil start;
@@ -34,7 +34,7 @@ come_none start files name = record {
 }
 
 -- more came
-pub come_more : {start : List ℕ} {a b : FilesTold} (c : FilesTold) {name all : List ℕ} (more : List ℕ) → HasCome start a b name all →
+pub come_more : {start : List ℕ} {a b : FilesReport} (c : FilesReport) {name all : List ℕ} (more : List ℕ) → HasCome start a b name all →
     Consumes (left_of b name) (left_of c name) more → KeepsOthers b c name → NoCountFalls b c → HasCome start a c name (all ++ more)
 come_more {start} {a} {b} c {name} {all} more come read others counts = record {
   came = come.came ++ more;
@@ -45,7 +45,7 @@ come_more {start} {a} {b} c {name} {all} more come read others counts = record {
 }
 
 -- a read gave nothing
-pub come_kept : {start : List ℕ} {a b : FilesTold} (c : FilesTold) {name all : List ℕ} → HasCome start a b name all →
+pub come_kept : {start : List ℕ} {a b : FilesReport} (c : FilesReport) {name all : List ℕ} → HasCome start a b name all →
     Keeps (left_of b name) (left_of c name) → KeepsOthers b c name → NoCountFalls b c → HasCome start a c name all
 come_kept {start} {a} {b} c {name} {all} come kept others counts = record {
   came = come.came;
@@ -57,14 +57,14 @@ come_kept {start} {a} {b} c {name} {all} come kept others counts = record {
 
 -- ---- bytes without a LF
 
-pub one_front : (front back : List ℕ) → IsOneLine (front ++ back) → IsOneLine front
-one_front front back one = λ has. one (Contains-append_left front back 10 has)
+pub one_prefix : (prefix back : List ℕ) → IsOneLine (prefix ++ back) → IsOneLine prefix
+one_prefix prefix back one = λ has. one (Contains-append_left prefix back 10 has)
 
-pub one_back : (front back : List ℕ) → IsOneLine (front ++ back) → IsOneLine back
-one_back front back one = λ has. one (Contains-append_right front back 10 has)
+pub one_back : (prefix back : List ℕ) → IsOneLine (prefix ++ back) → IsOneLine back
+one_back prefix back one = λ has. one (Contains-append_right prefix back 10 has)
 
-pub one_both : (front back : List ℕ) → IsOneLine front → IsOneLine back → IsOneLine (front ++ back)
-one_both front back first second = λ has. elim (Contains-append_cases front back 10 has) [
+pub one_both : (prefix back : List ℕ) → IsOneLine prefix → IsOneLine back → IsOneLine (prefix ++ back)
+one_both prefix back first second = λ has. elim (Contains-append_cases prefix back 10 has) [
   | inl left ↦ first left
   | inr right ↦ second right
 ]
@@ -77,11 +77,11 @@ nothing_read start (inr same) whole = same
 -- more bytes than there is room for
 pub over : (line rest : List ℕ) (room : ℕ) → IsOneLine line → room ≤ length line → room < length (line ++ rest) → IsOver room (line ++ rest)
 over line rest room one within more = record {
-  front = take room (line ++ rest);
-  behind = drop room (line ++ rest);
+  prefix = take room (line ++ rest);
+  beyond = drop room (line ++ rest);
   are = sym (take-append-drop room (line ++ rest));
   one = subst IsOneLine (sym (take-append-le room line rest within))
-      (one_front (take room line) (drop room line) (subst IsOneLine (sym (take-append-drop room line)) one));
+      (one_prefix (take room line) (drop room line) (subst IsOneLine (sym (take-append-drop room line)) one));
   full = length-take-le room (line ++ rest) (omega arith);
   more = λ none. let zero = ap length none in omega (arith, zero, length-drop room (line ++ rest), more);
 }
@@ -89,7 +89,7 @@ over line rest room one within more = record {
 -- ---- the search
 
 -- so many bytes of the line were thrown away, and so many of those in hand were searched, without a LF
-pub record Sought (start : List ℕ) (before now : FilesTold) (name : List ℕ) (line_most room size : ℕ) (hand : Held) (lost searched : ℕ) : Type 0 where
+pub record Sought (start : List ℕ) (before now : FilesReport) (name : List ℕ) (line_most room size : ℕ) (hand : Held) (lost searched : ℕ) : Type 0 where
   pub thrown : List ℕ
   pub lost_is : length thrown ≡ lost
   pub come : HasCome start before now name (thrown ++ hand.kept)
@@ -102,7 +102,7 @@ pub record Sought (start : List ℕ) (before now : FilesTold) (name : List ℕ) 
 
 -- ---- a LF
 
--- where the search for a byte passed no place, the front has none
+-- where the search for a byte passed no place, the prefix has none
 absent_before : (cut n : ℕ) (bytes : List ℕ) → ((k : ℕ) → k < n → k < length bytes → ¬ (nat_eq (get_or bytes k 0) cut ≡ true)) → ¬ Contains (take n bytes) cut
 absent_before cut n bytes before (k, low, is) =
     let within : k < min n (length bytes) = omega (arith, low, length-take n bytes) in
@@ -117,23 +117,23 @@ module _ (bytes : List ℕ) (searched : ℕ) (within : searched ≤ length bytes
       let low : searched + n < length bytes = omega (arith, found.0.high, length-drop searched bytes) in
       let between : IsOneLine (take n rest) = absent_before 10 n rest (λ k below inside. found.0.before k (omega arith) (omega arith)) in
       let lf : get_or bytes (searched + n) 0 ≡ 10 = sym (get_or-drop searched bytes n 0) ∙ eqb-true (get_or rest n 0) 10 found.1 in
-      let behind : drop (searched + n) bytes ≡ 10 ∷ drop (searched + n + 1) bytes =
+      let beyond : drop (searched + n) bytes ≡ 10 ∷ drop (searched + n + 1) bytes =
       drop_more bytes (searched + n) 0 low ∙ ap (λ b. b ∷ drop (searched + n + 1) bytes) lf in
       record {
         one = subst IsOneLine (sym (take-add searched n bytes)) (one_both (take searched bytes) (take n rest) one between);
-        are = sym (take-append-drop (searched + n) bytes) ∙ ap (λ (l : List ℕ). take (searched + n) bytes ++ l) behind;
+        are = sym (take-append-drop (searched + n) bytes) ∙ ap (λ (l : List ℕ). take (searched + n) bytes ++ l) beyond;
       }
 
   -- there is none
   pub no_lf : IsFirstByte (is_byte 10) (drop searched bytes) None → IsOneLine bytes
   no_lf found =
       let rest : List ℕ = drop searched bytes in
-      let behind : IsOneLine (take (length rest) rest) = absent_before 10 (length rest) rest (λ k below inside. found k (omega arith) inside) in
-      subst IsOneLine (take-append-drop searched bytes) (one_both (take searched bytes) rest one (subst IsOneLine (take_all (length rest) rest (omega arith)) behind))
+      let beyond : IsOneLine (take (length rest) rest) = absent_before 10 (length rest) rest (λ k below inside. found k (omega arith) inside) in
+      subst IsOneLine (take-append-drop searched bytes) (one_both (take searched bytes) rest one (subst IsOneLine (take_all (length rest) rest (omega arith)) beyond))
 
 -- ---- the end of the line
 
-module _ {start : List ℕ} {before now : FilesTold} {name : List ℕ} {line_most room size : ℕ} {hand : Held} {lost : ℕ} where
+module _ {start : List ℕ} {before now : FilesReport} {name : List ℕ} {line_most room size : ℕ} {hand : Held} {lost : ℕ} where
   -- what was searched of the bytes in hand has no LF
   pub searched_one : {searched : ℕ} → Sought start before now name line_most room size hand lost searched → IsOneLine (take searched hand.kept)
   searched_one {searched} sought = one_back sought.thrown (take searched hand.kept) sought.one
@@ -148,7 +148,7 @@ module _ {start : List ℕ} {before now : FilesTold} {name : List ℕ} {line_mos
     thrown = sought.thrown;
     lost_is = sought.lost_is;
     come = sought.come;
-    one = one_both sought.thrown (take at hand.kept) (one_front sought.thrown (take searched hand.kept) sought.one) begin.one;
+    one = one_both sought.thrown (take at hand.kept) (one_prefix sought.thrown (take searched hand.kept) sought.one) begin.one;
     way = begin.are;
     in_hand = omega (arith, high);
     within = omega (arith, within);
@@ -165,7 +165,7 @@ module _ {start : List ℕ} {before now : FilesTold} {name : List ℕ} {line_mos
       let line : List ℕ = sought.thrown ++ take at hand.kept in
       let whole : line ++ drop at hand.kept ≡ sought.thrown ++ hand.kept =
       append_assoc sought.thrown (take at hand.kept) (drop at hand.kept) ∙ ap (λ (l : List ℕ). sought.thrown ++ l) (take-append-drop at hand.kept) in
-      let one = one_both sought.thrown (take at hand.kept) (one_front sought.thrown (take searched hand.kept) sought.one) begin.one in
+      let one = one_both sought.thrown (take at hand.kept) (one_prefix sought.thrown (take searched hand.kept) sought.one) begin.one in
       let length_is = length-append sought.thrown (take at hand.kept) in
       let all_is = length-append sought.thrown hand.kept in
       let full : room ≤ length line = omega (arith, over_it.1, length_is, length-take-le at hand.kept (omega arith), sought.lost_is) in
@@ -177,7 +177,7 @@ module _ {start : List ℕ} {before now : FilesTold} {name : List ℕ} {line_mos
       IsOneLine hand.kept → (stop ≡ TooMuch) × (room < lost + length hand.kept) → GivesUp start before now name room stop
   over_hand {searched} sought stop none over_it =
       let all : List ℕ = sought.thrown ++ hand.kept in
-      let one = one_both sought.thrown hand.kept (one_front sought.thrown (take searched hand.kept) sought.one) none in
+      let one = one_both sought.thrown hand.kept (one_prefix sought.thrown (take searched hand.kept) sought.one) none in
       let all_is = length-append sought.thrown hand.kept in
       let more : room < length (all ++ []) = rw append-nil (omega (arith, over_it.1, all_is, sought.lost_is)) in
       let full : room ≤ length all = omega (arith, over_it.1, all_is, sought.lost_is) in
@@ -188,7 +188,7 @@ module _ {start : List ℕ} {before now : FilesTold} {name : List ℕ} {line_mos
       IsOneLine hand.kept → ThrowsLong line_most hand new lost now_lost → now_lost + length new.kept ≤ room → new.size ≡ hand.size →
       Sought start before now name line_most room size new now_lost (length new.kept)
   thrown_long {searched} sought new now_lost none throws within same =
-      let none_there = one_front sought.thrown (take searched hand.kept) sought.one in
+      let none_there = one_prefix sought.thrown (take searched hand.kept) sought.one in
       let whole : sought.thrown ++ hand.kept ≡ sought.thrown ++ throws.thrown ++ new.kept =
       ap (λ (l : List ℕ). sought.thrown ++ l) throws.kept ∙ sym (append_assoc sought.thrown throws.thrown new.kept) in
       record {
@@ -203,22 +203,22 @@ module _ {start : List ℕ} {before now : FilesTold} {name : List ℕ} {line_mos
         size_is = same ∙ sought.size_is;
       }
 
-module _ {start : List ℕ} {before now : FilesTold} {name : List ℕ} {line_most room size : ℕ} {hand : Held} {lost : ℕ}
+module _ {start : List ℕ} {before now : FilesReport} {name : List ℕ} {line_most room size : ℕ} {hand : Held} {lost : ℕ}
     (sought : Sought start before now name line_most room size hand lost (length hand.kept)) where
   whole_one : IsOneLine (sought.thrown ++ hand.kept)
   whole_one = subst (λ (l : List ℕ). IsOneLine (sought.thrown ++ l)) (take_all (length hand.kept) hand.kept (omega arith)) sought.one
 
   -- so what was in hand at the start has no LF
   pub start_one : IsOneLine start
-  start_one = one_front start sought.come.came (subst IsOneLine (sym sought.come.are) whole_one)
+  start_one = one_prefix start sought.come.came (subst IsOneLine (sym sought.come.are) whole_one)
 
   -- a read failed
-  pub read_failed : (after : FilesTold) (stop : FileStop) → Keeps (left_of now name) (left_of after name) → KeepsOthers now after name → NoCountFalls now after →
+  pub read_failed : (after : FilesReport) (stop : FileStop) → Keeps (left_of now name) (left_of after name) → KeepsOthers now after name → NoCountFalls now after →
       GivesUp start before after name room (stop_of stop)
   read_failed after Failed kept others counts = record { all = sought.thrown ++ hand.kept; come = come_kept after sought.come kept others counts; why = whole_one }
   read_failed after NoMemory kept others counts = record { all = sought.thrown ++ hand.kept; come = come_kept after sought.come kept others counts; why = whole_one }
 
-  module _ (after : FilesTold) (new : Held) (count : ℕ) (grows : Grows hand new now after name count) (others : KeepsOthers now after name) (counts : NoCountFalls now after) where
+  module _ (after : FilesReport) (new : Held) (count : ℕ) (grows : Grows hand new now after name count) (others : KeepsOthers now after name) (counts : NoCountFalls now after) where
     come_on : HasCome start before after name (sought.thrown ++ new.kept)
     come_on =
         let whole : sought.thrown ++ hand.kept ++ grows.more ≡ sought.thrown ++ new.kept =
@@ -228,11 +228,11 @@ module _ {start : List ℕ} {before now : FilesTold} {name : List ℕ} {line_mos
     new_length : length new.kept ≡ length hand.kept + count
     new_length = ap length grows.kept ∙ (length-append hand.kept grows.more ∙ ap (λ n. length hand.kept + n) grows.count_is)
 
-    old_front : take (length hand.kept) new.kept ≡ hand.kept
-    old_front = ap (take (length hand.kept)) grows.kept ∙ take_at hand.kept grows.more (length hand.kept) refl
+    old_prefix : take (length hand.kept) new.kept ≡ hand.kept
+    old_prefix = ap (take (length hand.kept)) grows.kept ∙ take_at hand.kept grows.more (length hand.kept) refl
 
     one_on : IsOneLine (sought.thrown ++ take (length hand.kept) new.kept)
-    one_on = subst IsOneLine (ap (λ (l : List ℕ). sought.thrown ++ l) (sym old_front)) whole_one
+    one_on = subst IsOneLine (ap (λ (l : List ℕ). sought.thrown ++ l) (sym old_prefix)) whole_one
 
     -- more bytes came
     pub searched_on : new.size ≡ hand.size → Sought start before after name line_most room size new lost (length hand.kept)

@@ -12,7 +12,7 @@ use Rattle.std.proofs.lemmas.Slice.Eq.{bytes_eq-Decides}
 use Rattle.cb_io.specs.declared.outside.FileStop.{FileStop}
 use Rattle.cb_io.specs.Pairs.{look_up}
 use Rattle.cb_io.specs.Outside.{left_of, next_count, ReadsBytes, KeepsOthers, NoCountFalls, ReadFailed}
-use Rattle.cb_io.specs.Memory.{FileState, FilesState, file_of, with_file, with_bytes, after_call, after_read, after_fault_at, after_fault, files_told}
+use Rattle.cb_io.specs.Memory.{FileState, FilesState, file_of, with_file, with_bytes, after_call, after_read, after_fault_at, after_fault, files_report}
 use Rattle.cb_io.proofs.Pairs.{AtPlace, look_up-put, look_up-put_other, look_up-map, look_up-at, set-put, append-put}
 
 bytes_of : (found : Option FileState) (unknown : ℕ)
@@ -20,10 +20,10 @@ bytes_of : (found : Option FileState) (unknown : ℕ)
 bytes_of None unknown = refl
 bytes_of (Some file) unknown = refl
 
--- the bytes that are told as left of a name are those of its file
-pub bytes-told : (state : FilesState) (name : List ℕ)
+-- the bytes that are reported as left of a name are those of its file
+pub bytes-report : (state : FilesState) (name : List ℕ)
     → unwrap_or (look_up (map (λ pair. (pair.0, pair.1.left)) state.files) name) [] ≡ (file_of state name).left
-bytes-told state name =
+bytes-report state name =
     ap (λ found. unwrap_or found []) (look_up-map (λ file. file.left) state.files name) ∙ bytes_of
     (look_up state.files name) state.unknown
 
@@ -51,38 +51,38 @@ count_at state name file grown other false e =
 left-after : (state : FilesState) (name : List ℕ) (n : ℕ)
     → unwrap_or (look_up (map (λ pair. (pair.0, pair.1.left)) (after_read state name n).files) name) [] ≡ drop n (file_of state name).left
 left-after state name n =
-    bytes-told (after_read state name n) name
+    bytes-report (after_read state name n) name
     ∙ ap (λ f. f.left) (file_of-with (after_call state) name
     (record (file_of state name) { left = drop n (file_of state name).left }))
 
 -- another file of a name leaves the others
 pub KeepsOthers-with : (state : FilesState) (name : List ℕ) (file : FileState)
-    → KeepsOthers (files_told state) (files_told (with_file (after_call state) name file)) name
+    → KeepsOthers (files_report state) (files_report (with_file (after_call state) name file)) name
 KeepsOthers-with state name file = λ other ne.
-    bytes-told (with_file (after_call state) name file) other
+    bytes-report (with_file (after_call state) name file) other
     ∙ ap (λ f. f.left) (file_of-with_other (after_call state) name other file ne)
-    ∙ sym (bytes-told state other)
+    ∙ sym (bytes-report state other)
 
 -- a file that lost no fault lowers no count
 pub NoCountFalls-with : (state : FilesState) (name : List ℕ) (file : FileState)
     → (file_of state name).faults ≤ file.faults
-    → NoCountFalls (files_told state) (files_told (with_file (after_call state) name file))
+    → NoCountFalls (files_report state) (files_report (with_file (after_call state) name file))
 NoCountFalls-with state name file grown = λ other. count_at state name file grown other (bytes_eq other name) refl
 
--- the front of a file was moved
+-- the prefix of a file was moved
 pub Reads-after : (state : FilesState) (name buf : List ℕ) (n : ℕ)
     → (file_of state name).left ≡ take n buf ++ drop n (file_of state name).left
     → (n ≡ 0 → 0 < length buf → (file_of state name).left ≡ [])
-    → ReadsBytes {E = FileStop} (files_told state) (files_told (after_read state name n)) name (Ok n) buf
+    → ReadsBytes {E = FileStop} (files_report state) (files_report (after_read state name n)) name (Ok n) buf
 Reads-after state name buf n moved end = (
-  bytes-told state name ∙ moved ∙ ap (λ l. take n buf ++ l) (sym (left-after state name n)),
+  bytes-report state name ∙ moved ∙ ap (λ l. take n buf ++ l) (sym (left-after state name n)),
   λ zero room. left-after state name n ∙ ap (drop n) (end zero room) ∙ drop-nil n,
 )
 
 -- bytes that are copied from a place on, and the rest
-pub copied_front : (bytes copied tail : List ℕ) (at n : ℕ) → copied ≡ take n (drop at bytes)
+pub copied_prefix : (bytes copied tail : List ℕ) (at n : ℕ) → copied ≡ take n (drop at bytes)
     → n ≤ length (drop at bytes) → drop at bytes ≡ take n (copied ++ tail) ++ drop (at + n) bytes
-copied_front bytes copied tail at n e h =
+copied_prefix bytes copied tail at n e h =
     let len : length copied ≡ n = rw e (rw length-take (omega arith)) in
     rw (take_at copied tail n len, e, ← drop-drop n at bytes) (sym (take-append-drop n (drop at bytes)))
 
@@ -161,10 +161,10 @@ fault_left state name other (Some file) e = fault_known state name other file (b
 
 -- the bytes left of each name stay
 pub Keeps-after_fault : (state : FilesState) (name other : List ℕ)
-    → Keeps (left_of (files_told state) other) (left_of (files_told (after_fault state name)) other)
+    → Keeps (left_of (files_report state) other) (left_of (files_report (after_fault state name)) other)
 Keeps-after_fault state name other =
-    bytes-told (after_fault state name) other ∙ fault_left state name other (look_up state.files name) refl ∙ sym
-    (bytes-told state other)
+    bytes-report (after_fault state name) other ∙ fault_left state name other (look_up state.files name) refl ∙ sym
+    (bytes-report state other)
 
 fault_rose : (state : FilesState) (name : List ℕ) (found : Option FileState) → look_up state.files name ≡ found
     → (file_of (after_fault_at state name found) name).faults ≡ next_count (file_of state name).faults
@@ -179,13 +179,13 @@ pub faults-after_fault : (state : FilesState) (name : List ℕ)
 faults-after_fault state name = fault_rose state name (look_up state.files name) refl
 
 pub ReadFailed-after_fault : (state : FilesState) (name : List ℕ)
-    → ReadFailed (files_told state) (files_told (after_fault state name)) name
+    → ReadFailed (files_report state) (files_report (after_fault state name)) name
 ReadFailed-after_fault state name = omega (arith, faults-after_fault state name)
 
 -- and no other name has fewer
 pub NoCountFalls-after_fault : (state : FilesState) (name : List ℕ) (file : FileState)
     → look_up state.files name ≡ Some file → file.faults ≤ next_count file.faults
-    → NoCountFalls (files_told state) (files_told (after_fault state name))
+    → NoCountFalls (files_report state) (files_report (after_fault state name))
 NoCountFalls-after_fault state name file found grown =
     rw found (NoCountFalls-with state name (record file { faults = next_count file.faults }) (rw found grown))
 

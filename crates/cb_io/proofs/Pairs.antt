@@ -21,24 +21,24 @@ past true n rest h = cc
 past false n rest h = (refl, h)
 
 module _ {V : Type 0} where
-  put_front : (pair : List ℕ × V) (pairs : List (List ℕ × V)) (name : List ℕ) (value : V) (b : Bool)
+  put_prefix : (pair : List ℕ × V) (pairs : List (List ℕ × V)) (name : List ℕ) (value : V) (b : Bool)
       → bytes_eq pair.0 name ≡ b → look_up (put pairs name value) name ≡ Some value
       → look_up (cond b ((pair.0, value) ∷ pairs) (pair ∷ put pairs name value)) name ≡ Some value
-  put_front pair pairs name value true e rest = rw e refl
-  put_front pair pairs name value false e rest = rw e rest
+  put_prefix pair pairs name value true e rest = rw e refl
+  put_prefix pair pairs name value false e rest = rw e rest
 
   -- what was put beside a name is found there
   pub look_up-put : (pairs : List (List ℕ × V)) (name : List ℕ) (value : V)
       → look_up (put pairs name value) name ≡ Some value
   look_up-put [] name value = rw ((bytes_eq-Decides name name).1 refl) refl
   look_up-put (pair ∷ pairs) name value =
-      put_front pair pairs name value (bytes_eq pair.0 name) refl (look_up-put pairs name value)
+      put_prefix pair pairs name value (bytes_eq pair.0 name) refl (look_up-put pairs name value)
 
-  other_front : (pair : List ℕ × V) (pairs : List (List ℕ × V)) (name other : List ℕ) (value : V) (b : Bool)
+  other_prefix : (pair : List ℕ × V) (pairs : List (List ℕ × V)) (name other : List ℕ) (value : V) (b : Bool)
       → bytes_eq pair.0 name ≡ b → other ≢ name → look_up (put pairs name value) other ≡ look_up pairs other
       → look_up (cond b ((pair.0, value) ∷ pairs) (pair ∷ put pairs name value)) other ≡ cond (bytes_eq pair.0 other) (Some pair.1) (look_up pairs other)
-  other_front pair pairs name other value true e ne rest = rw (differs pair.0 name other e ne) refl
-  other_front pair pairs name other value false e ne rest =
+  other_prefix pair pairs name other value true e ne rest = rw (differs pair.0 name other e ne) refl
+  other_prefix pair pairs name other value false e ne rest =
       ap (λ l. cond (bytes_eq pair.0 other) (Some pair.1) l) rest
 
   -- and nothing else changed
@@ -47,7 +47,7 @@ module _ {V : Type 0} where
   look_up-put_other [] name other value ne =
       rw (differs name name other ((bytes_eq-Decides name name).1 refl) ne) refl
   look_up-put_other (pair ∷ pairs) name other value ne =
-      other_front pair pairs name other value (bytes_eq pair.0 name) refl ne
+      other_prefix pair pairs name other value (bytes_eq pair.0 name) refl ne
       (look_up-put_other pairs name other value ne)
 
   put_at : (pairs : List (List ℕ × V)) (name : List ℕ) (i : ℕ) (y d : List ℕ × V) → i < length pairs
@@ -105,19 +105,19 @@ module _ {V : Type 0} where
   look_up-absent pairs name h =
       absent_from pairs 0 name (sym (position_from-zero (λ pair. bytes_eq pair.0 name) pairs) ∙ h)
 
-  new_front : (pair : List ℕ × V) (pairs : List (List ℕ × V)) (name : List ℕ) (value : V) (b : Bool)
+  new_prefix : (pair : List ℕ × V) (pairs : List (List ℕ × V)) (name : List ℕ) (value : V) (b : Bool)
       → cond b (Some pair.1) (look_up pairs name) ≡ None
       → (look_up pairs name ≡ None → pairs ++ (name, value) ∷ [] ≡ put pairs name value)
       → pair ∷ (pairs ++ (name, value) ∷ []) ≡ cond b ((pair.0, value) ∷ pairs) (pair ∷ put pairs name value)
-  new_front pair pairs name value true h rest = cc
-  new_front pair pairs name value false h rest = ap (λ l. pair ∷ l) (rest h)
+  new_prefix pair pairs name value true h rest = cc
+  new_prefix pair pairs name value false h rest = ap (λ l. pair ∷ l) (rest h)
 
   -- a pair after the others puts a value beside a new name
   pub append-put : (pairs : List (List ℕ × V)) (name : List ℕ) (value : V) → look_up pairs name ≡ None
       → pairs ++ (name, value) ∷ [] ≡ put pairs name value
   append-put [] name value h = refl
   append-put (pair ∷ pairs) name value h =
-      new_front pair pairs name value (bytes_eq pair.0 name) h (append-put pairs name value)
+      new_prefix pair pairs name value (bytes_eq pair.0 name) h (append-put pairs name value)
 
   -- a new name has the first place after the others
   place_from : (pairs : List (List ℕ × V)) (name : List ℕ) (y : List ℕ × V) (n : ℕ)
@@ -136,14 +136,14 @@ module _ {V : Type 0} where
       ∙ place_from pairs name y 0 (sym (position_from-zero (λ pair. bytes_eq pair.0 name) pairs) ∙ h) e
       ∙ ap (λ k. Some k) (omega arith)
 
-map_front : {V W : Type 0} (f : V → W) (pair : List ℕ × V) (pairs : List (List ℕ × V)) (name : List ℕ) (b : Bool)
+map_prefix : {V W : Type 0} (f : V → W) (pair : List ℕ × V) (pairs : List (List ℕ × V)) (name : List ℕ) (b : Bool)
     → look_up (map (λ p. (p.0, f p.1)) pairs) name ≡ option_map f (look_up pairs name)
     → cond b (Some (f pair.1)) (look_up (map (λ p. (p.0, f p.1)) pairs) name) ≡ option_map f (cond b (Some pair.1) (look_up pairs name))
-map_front f pair pairs name true rest = refl
-map_front f pair pairs name false rest = rest
+map_prefix f pair pairs name true rest = refl
+map_prefix f pair pairs name false rest = rest
 
 -- values that are read off others
 pub look_up-map : {V W : Type 0} (f : V → W) (pairs : List (List ℕ × V)) (name : List ℕ)
     → look_up (map (λ pair. (pair.0, f pair.1)) pairs) name ≡ option_map f (look_up pairs name)
 look_up-map f [] name = refl
-look_up-map f (pair ∷ pairs) name = map_front f pair pairs name (bytes_eq pair.0 name) (look_up-map f pairs name)
+look_up-map f (pair ∷ pairs) name = map_prefix f pair pairs name (bytes_eq pair.0 name) (look_up-map f pairs name)

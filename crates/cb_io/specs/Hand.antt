@@ -2,7 +2,7 @@
 use Rattle.std.specs.Prelude.{◌≡◌, ℕ, ◌≤◌, List, ◌++◌, length, take, drop, Result}
 use Rattle.std.specs.Result.{MatchResult}
 use Rattle.std.specs.Io.KnownBytes.{Keeps, Consumes, IsAtEnd}
-use Rattle.cb_io.specs.Outside.{FilesTold, left_of}
+use Rattle.cb_io.specs.Outside.{FilesReport, left_of}
 use Rattle.cb_io.specs.Pieces.{piece_limit}
 
 -- the text of the last line, the bytes that were read after it, and the capacity in bytes
@@ -18,10 +18,10 @@ pub record IsPart (size from to : ℕ) : Type 0 where
 
 -- the first bytes of what was kept are the text, and those from a position on are kept
 abbrev pub with_text : Held → ℕ → ℕ → Held
-with_text held line behind = record held { text = take line held.kept; kept = drop behind held.kept }
+with_text held line beyond = record held { text = take line held.kept; kept = drop beyond held.kept }
 
 -- `count` bytes of the file were read, at most one piece, and stand after those that were kept; none only at the end of the file
-pub record Grows (old new : Held) (before after : FilesTold) (name : List ℕ) (count : ℕ) : Type 0 where
+pub record Grows (old new : Held) (before after : FilesReport) (name : List ℕ) (count : ℕ) : Type 0 where
   pub more : List ℕ
   pub kept : new.kept ≡ old.kept ++ more
   pub count_is : length more ≡ count
@@ -30,6 +30,6 @@ pub record Grows (old new : Held) (before after : FilesTold) (name : List ℕ) (
   pub end : count ≡ 0 → IsAtEnd (left_of after name)
 
 -- a read came to this: more bytes, or none
-abbrev pub Refills : {E : Type 0} → Held → Held → FilesTold → FilesTold → List ℕ → Result ℕ E → Type 0
+abbrev pub Refills : {E : Type 0} → Held → Held → FilesReport → FilesReport → List ℕ → Result ℕ E → Type 0
 Refills old new before after name result =
     MatchResult result (Grows old new before after name) (λ _. Keeps (left_of before name) (left_of after name))

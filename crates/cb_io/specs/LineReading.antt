@@ -6,7 +6,7 @@ use Rattle.cb_io.specs.declared.line_reader.Line.{Line}
 use Rattle.cb_io.specs.declared.line_reader.Line.TheVariants.{Text, Long, End}
 use Rattle.cb_io.specs.declared.whole.ReadStop.{ReadStop}
 use Rattle.cb_io.specs.declared.whole.ReadStop.TheVariants.{ReadFault, TooMuch, NoMemory}
-use Rattle.cb_io.specs.Outside.{FilesTold, left_of}
+use Rattle.cb_io.specs.Outside.{FilesReport, left_of}
 use Rattle.cb_io.specs.Pieces.{piece_limit}
 
 -- Where a reader stands: its file, the most bytes of a line and of the file, how many lines were given and how many bytes they have, their
@@ -35,7 +35,7 @@ pub record ReadsSame (old new : Reading) : Type 0 where
   pub total_most : new.total_most ≡ old.total_most
 
 -- the bytes that come: those that were taken and not given, and those left of the file
-abbrev pub coming : Reading → FilesTold → Option (List ℕ)
+abbrev pub coming : Reading → FilesReport → Option (List ℕ)
 coming reading files = option_map (λ left. reading.kept ++ left) (left_of files reading.name)
 
 -- no LF, which is 10, is among the bytes
@@ -67,7 +67,7 @@ pub record GivesLast (old new : Reading) (bytes line rest : List ℕ) : Type 0 w
   pub ended : new.ended ≡ true
 
 -- the next line of the bytes was given, which is within the limit of the file
-pub record GivesLine (old new : Reading) (after : FilesTold) (bytes line : List ℕ) : Type 0 where
+pub record GivesLine (old new : Reading) (after : FilesReport) (bytes line : List ℕ) : Type 0 where
   pub rest : List ℕ
   pub way : GivesEnded old new bytes line rest ⊎ GivesLast old new bytes line rest
   pub comes : coming new after ≡ Some rest
@@ -75,19 +75,19 @@ pub record GivesLine (old new : Reading) (after : FilesTold) (bytes line : List 
   pub within : new.given ≤ old.total_most
 
 -- the next line was given as a text
-pub record GivesText (old new : Reading) (after : FilesTold) (bytes : List ℕ) : Type 0 where
+pub record GivesText (old new : Reading) (after : FilesReport) (bytes : List ℕ) : Type 0 where
   pub line : GivesLine old new after bytes new.text
   pub short : length new.text ≤ old.line_most
 
 -- the next line was given, and it is too long
-pub record TellsLong (old new : Reading) (after : FilesTold) (bytes : List ℕ) : Type 0 where
+pub record TellsLong (old new : Reading) (after : FilesReport) (bytes : List ℕ) : Type 0 where
   pub line : List ℕ
   pub gives : GivesLine old new after bytes line
   pub long : old.line_most < length line
   pub text : new.text ≡ []
 
 -- no byte comes any more
-pub record IsAtEnd (old new : Reading) (after : FilesTold) (bytes : List ℕ) : Type 0 where
+pub record IsAtEnd (old new : Reading) (after : FilesReport) (bytes : List ℕ) : Type 0 where
   pub none : bytes ≡ []
   pub comes : coming new after ≡ Some []
   pub number : new.number ≡ old.number
@@ -96,31 +96,31 @@ pub record IsAtEnd (old new : Reading) (after : FilesTold) (bytes : List ℕ) : 
   pub text : new.text ≡ []
 
 -- a prefix of the bytes was taken and is lost, and these are left of the file
-pub record Loses (old : Reading) (after : FilesTold) (bytes front rest : List ℕ) : Type 0 where
-  pub are : bytes ≡ front ++ rest
+pub record Loses (old : Reading) (after : FilesReport) (bytes prefix rest : List ℕ) : Type 0 where
+  pub are : bytes ≡ prefix ++ rest
   pub left : left_of after old.name ≡ Some rest
 
 -- the line that comes has the first byte that is more than the limit of the file
-pub record RunsOver (old : Reading) (after : FilesTold) (bytes : List ℕ) : Type 0 where
+pub record RunsOver (old : Reading) (after : FilesReport) (bytes : List ℕ) : Type 0 where
   pub before : List ℕ
-  pub behind : List ℕ
-  pub are : bytes ≡ before ++ behind
+  pub beyond : List ℕ
+  pub are : bytes ≡ before ++ beyond
   pub one : IsOneLine before
   pub full : old.given + length before ≡ old.total_most
-  pub more : behind ≢ []
-  pub front : List ℕ
+  pub more : beyond ≢ []
+  pub prefix : List ℕ
   pub rest : List ℕ
-  pub loses : Loses old after bytes front rest
+  pub loses : Loses old after bytes prefix rest
 
 -- the reader stopped within the line that comes
-pub record StopsWithin (old : Reading) (after : FilesTold) (bytes : List ℕ) : Type 0 where
-  pub front : List ℕ
+pub record StopsWithin (old : Reading) (after : FilesReport) (bytes : List ℕ) : Type 0 where
+  pub prefix : List ℕ
   pub rest : List ℕ
-  pub loses : Loses old after bytes front rest
-  pub one : IsOneLine front
+  pub loses : Loses old after bytes prefix rest
+  pub one : IsOneLine prefix
 
 -- what an answer says, where these bytes were to come
-abbrev pub Says : Reading → Reading → FilesTold → Result Line ReadStop → List ℕ → Type 0
+abbrev pub Says : Reading → Reading → FilesReport → Result Line ReadStop → List ℕ → Type 0
 Says old new after (Ok (Text number)) bytes = GivesText old new after bytes
 Says old new after (Ok (Long number)) bytes = TellsLong old new after bytes
 Says old new after (Ok End) bytes = IsAtEnd old new after bytes

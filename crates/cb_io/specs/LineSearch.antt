@@ -6,11 +6,11 @@ use Rattle.cb_io.specs.declared.whole.ReadStop.{ReadStop}
 use Rattle.cb_io.specs.declared.whole.ReadStop.TheVariants.{ReadFault, TooMuch, NoMemory}
 use Rattle.cb_io.specs.Hand.{Held}
 use Rattle.cb_io.specs.LineReading.{IsOneLine}
-use Rattle.cb_io.specs.Outside.{FilesTold, left_of, KeepsOthers, NoCountFalls}
+use Rattle.cb_io.specs.Outside.{FilesReport, left_of, KeepsOthers, NoCountFalls}
 use Rattle.cb_io.specs.Pieces.{piece_limit}
 
 -- the bytes at the start and those that were read of the file since are these, and nothing else changed
-pub record HasCome (start : List ℕ) (before after : FilesTold) (name all : List ℕ) : Type 0 where
+pub record HasCome (start : List ℕ) (before after : FilesReport) (name all : List ℕ) : Type 0 where
   pub came : List ℕ
   pub are : start ++ came ≡ all
   pub read : Consumes (left_of before name) (left_of after name) came
@@ -35,38 +35,38 @@ lf_count true = 0
 lf_count false = 1
 
 -- how many of the buffered bytes are those of the line, with its LF
-abbrev pub behind_of : LineEnd → ℕ
-behind_of end = end.length + lf_count end.is_last
+abbrev pub length_with_lf : LineEnd → ℕ
+length_with_lf end = end.length + lf_count end.is_last
 
 -- how many bytes a line has in all, with its LF
 abbrev pub size_of : LineEnd → ℕ
-size_of end = end.lost + behind_of end
+size_of end = end.lost + length_with_lf end
 
 -- the buffered bytes end a line at a position: a LF is there, or the file has nothing after them
-abbrev pub EndsBy : List ℕ → FilesTold → List ℕ → ℕ → Bool → Type 0
+abbrev pub EndsBy : List ℕ → FilesReport → List ℕ → ℕ → Bool → Type 0
 EndsBy kept after name length_is true = (length_is ≡ length kept) × IsAtEnd (left_of after name)
 EndsBy kept after name length_is false = kept ≡ take length_is kept ++ 10 ∷ drop (length_is + 1) kept
 
 -- the end of the line was found, and the line fits
-pub record Finds (start : List ℕ) (before after : FilesTold) (name : List ℕ) (line_most room : ℕ) (hand : Held) (end : LineEnd) : Type 0 where
+pub record Finds (start : List ℕ) (before after : FilesReport) (name : List ℕ) (line_most room : ℕ) (hand : Held) (end : LineEnd) : Type 0 where
   pub thrown : List ℕ
   pub lost_is : length thrown ≡ end.lost
   pub come : HasCome start before after name (thrown ++ hand.kept)
   pub one : IsOneLine (thrown ++ take end.length hand.kept)
   pub way : EndsBy hand.kept after name end.length end.is_last
-  pub in_hand : behind_of end ≤ length hand.kept
+  pub in_hand : length_with_lf end ≤ length hand.kept
   pub within : size_of end ≤ room
-  pub few : length hand.kept ≤ behind_of end + piece_limit
+  pub few : length hand.kept ≤ length_with_lf end + piece_limit
   pub long : IsLostWhole line_most end.lost
 
 -- there are more than `room` bytes, and no LF among the first `room`
 pub record IsOver (room : ℕ) (all : List ℕ) : Type 0 where
-  pub front : List ℕ
-  pub behind : List ℕ
-  pub are : all ≡ front ++ behind
-  pub one : IsOneLine front
-  pub full : length front ≡ room
-  pub more : behind ≢ []
+  pub prefix : List ℕ
+  pub beyond : List ℕ
+  pub are : all ≡ prefix ++ beyond
+  pub one : IsOneLine prefix
+  pub full : length prefix ≡ room
+  pub more : beyond ≢ []
 
 -- why the end wasn't found among the bytes that came
 abbrev pub IsStop : ℕ → List ℕ → ReadStop → Type 0
@@ -75,7 +75,7 @@ IsStop room all ReadFault = IsOneLine all
 IsStop room all NoMemory = IsOneLine all
 
 -- the end of the line wasn't found
-pub record GivesUp (start : List ℕ) (before after : FilesTold) (name : List ℕ) (room : ℕ) (stop : ReadStop) : Type 0 where
+pub record GivesUp (start : List ℕ) (before after : FilesReport) (name : List ℕ) (room : ℕ) (stop : ReadStop) : Type 0 where
   pub all : List ℕ
   pub come : HasCome start before after name all
   pub why : IsStop room all stop

@@ -1,7 +1,7 @@
 -- What files and a sink in memory stand for.
 use Rattle.std.specs.Prelude.{ℕ, ◌++◌, ◌-◌, ◌^◌, List, [], ◌∷◌, Contains, drop, length, map, Option, Some, None, unwrap_or}
 use Rattle.cb_io.specs.Pairs.{look_up, put}
-use Rattle.cb_io.specs.Outside.{FilesTold, SinkTold, next_count}
+use Rattle.cb_io.specs.Outside.{FilesReport, SinkReport, next_count}
 
 -- a file: the bytes left, and how often reads of it have failed
 pub record FileState : Type 0 where
@@ -80,8 +80,8 @@ abbrev pub after_fault : FilesState → List ℕ → FilesState
 after_fault state name = after_fault_at state name (look_up state.files name)
 
 -- what files in memory tell: all that is left, and the faults of each name
-abbrev pub files_told : FilesState → FilesTold
-files_told state = record {
+abbrev pub files_report : FilesState → FilesReport
+files_report state = record {
   left = Some (map (λ pair. (pair.0, pair.1.left)) state.files);
   faults = λ name. (file_of state name).faults;
 }
@@ -103,5 +103,5 @@ abbrev pub after_refused_write : SinkState → SinkState
 after_refused_write sink = record sink { calls = next_call sink.calls; faults = next_count sink.faults }
 
 -- what a sink in memory tells: all that was taken, and the faults
-abbrev pub sink_told : SinkState → SinkTold
-sink_told sink = record { taken = Some sink.bytes; faults = sink.faults }
+abbrev pub sink_report : SinkState → SinkReport
+sink_report sink = record { taken = Some sink.bytes; faults = sink.faults }

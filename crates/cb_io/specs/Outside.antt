@@ -7,12 +7,12 @@ use Rattle.std.specs.Io.KnownBytes.{Keeps, Consumes, Appends, ReadConsumes, Writ
 use Rattle.cb_io.specs.Pairs.{look_up}
 
 -- files: the names with the bytes left of each, where that is reported, and how often reads of each name have failed
-pub record FilesTold : Type 0 where
+pub record FilesReport : Type 0 where
   pub left : Option (List (List ℕ × List ℕ))
   pub faults : List ℕ → ℕ
 
 -- a sink: the bytes taken, where that is reported, and how often writes have failed
-pub record SinkTold : Type 0 where
+pub record SinkReport : Type 0 where
   pub taken : Option (List ℕ)
   pub faults : ℕ
 
@@ -29,11 +29,11 @@ abbrev pub bytes_of : List (List ℕ × List ℕ) → List ℕ → List ℕ
 bytes_of left name = unwrap_or (look_up left name) []
 
 -- the bytes left of a name, where that is reported
-abbrev pub left_of : FilesTold → List ℕ → Option (List ℕ)
-left_of told name = option_map (λ left. bytes_of left name) told.left
+abbrev pub left_of : FilesReport → List ℕ → Option (List ℕ)
+left_of report name = option_map (λ left. bytes_of left name) report.left
 
 -- a read moved a prefix of what was left of the name to the start of buf, no byte only at the end, and none with an error
-abbrev pub ReadsBytes : {E : Type 0} → FilesTold → FilesTold → List ℕ → Result ℕ E → List ℕ → Type 0
+abbrev pub ReadsBytes : {E : Type 0} → FilesReport → FilesReport → List ℕ → Result ℕ E → List ℕ → Type 0
 ReadsBytes old new name result buf = ReadConsumes (left_of old name) (left_of new name) result buf
 
 -- all known bytes were taken
@@ -42,39 +42,39 @@ TakesAll None new all = ⊤
 TakesAll (Some left) new all = (all ≡ left) × (new ≡ Some [])
 
 -- all that was left of the name came, and nothing is left
-abbrev pub ReadsAll : FilesTold → FilesTold → List ℕ → List ℕ → Type 0
+abbrev pub ReadsAll : FilesReport → FilesReport → List ℕ → List ℕ → Type 0
 ReadsAll old new name all = TakesAll (left_of old name) (left_of new name) all
 
 -- a prefix of what was left of the name came
-abbrev pub ReadsFront : FilesTold → FilesTold → List ℕ → Type 0
-ReadsFront old new name = (front : List ℕ) × Consumes (left_of old name) (left_of new name) front
+abbrev pub ReadsPrefix : FilesReport → FilesReport → List ℕ → Type 0
+ReadsPrefix old new name = (prefix : List ℕ) × Consumes (left_of old name) (left_of new name) prefix
 
 -- a prefix of what was left of the name was read, of at most that many bytes
-abbrev pub ReadsNoMoreThan : FilesTold → FilesTold → List ℕ → ℕ → Type 0
-ReadsNoMoreThan old new name most = (front : List ℕ) × (length front ≤ most) × Consumes (left_of old name) (left_of new name) front
+abbrev pub ReadsNoMoreThan : FilesReport → FilesReport → List ℕ → ℕ → Type 0
+ReadsNoMoreThan old new name most = (prefix : List ℕ) × (length prefix ≤ most) × Consumes (left_of old name) (left_of new name) prefix
 
 -- more than that many bytes of the name were read
-abbrev pub ReadsMoreThan : FilesTold → FilesTold → List ℕ → ℕ → Type 0
-ReadsMoreThan old new name most = (front : List ℕ) × (most < length front) × Consumes (left_of old name) (left_of new name) front
+abbrev pub ReadsMoreThan : FilesReport → FilesReport → List ℕ → ℕ → Type 0
+ReadsMoreThan old new name most = (prefix : List ℕ) × (most < length prefix) × Consumes (left_of old name) (left_of new name) prefix
 
 -- of every other name there is left what there was
-abbrev pub KeepsOthers : FilesTold → FilesTold → List ℕ → Type 0
+abbrev pub KeepsOthers : FilesReport → FilesReport → List ℕ → Type 0
 KeepsOthers old new name = (other : List ℕ) → other ≢ name → Keeps (left_of old other) (left_of new other)
 
 -- no count of failed reads falls
-abbrev pub NoCountFalls : FilesTold → FilesTold → Type 0
+abbrev pub NoCountFalls : FilesReport → FilesReport → Type 0
 NoCountFalls old new = (name : List ℕ) → old.faults name ≤ new.faults name
 
 -- a read of the name failed
-abbrev pub ReadFailed : FilesTold → FilesTold → List ℕ → Type 0
+abbrev pub ReadFailed : FilesReport → FilesReport → List ℕ → Type 0
 ReadFailed old new name = Rose (old.faults name) (new.faults name)
 
 -- no name has more failed reads, and none fewer
-abbrev pub SameFaults : FilesTold → FilesTold → Type 0
+abbrev pub SameFaults : FilesReport → FilesReport → Type 0
 SameFaults old new = (name : List ℕ) → new.faults name ≡ old.faults name
 
 -- the name has one failed read more, or stands at the last count, and every other name as many as before
-abbrev pub OneMoreFault : FilesTold → FilesTold → List ℕ → Type 0
+abbrev pub OneMoreFault : FilesReport → FilesReport → List ℕ → Type 0
 OneMoreFault old new name = (new.faults name ≡ next_count (old.faults name)) × ((other : List ℕ) → other ≢ name → new.faults other ≡ old.faults other)
 
 -- what a name gives that is read after these: the bytes left of it, and none where it is one of them
@@ -82,21 +82,21 @@ abbrev pub contents : List (List ℕ × List ℕ) → List (List ℕ) → List �
 contents left earlier name = if list_any (λ other. bytes_eq other name) earlier then [] else bytes_of left name
 
 -- these names were read whole, one after the other, and of every other name there is left what there was
-abbrev pub ReadsEach : FilesTold → FilesTold → List (List ℕ) → Type 0
+abbrev pub ReadsEach : FilesReport → FilesReport → List (List ℕ) → Type 0
 ReadsEach old new names = IfSome old.left (λ left. (name : List ℕ) → left_of new name ≡ Some (contents left names name))
 
 -- a write took a prefix of these bytes, and nothing with an error
-abbrev pub Writes : {E : Type 0} → SinkTold → SinkTold → Result ℕ E → List ℕ → Type 0
+abbrev pub Writes : {E : Type 0} → SinkReport → SinkReport → Result ℕ E → List ℕ → Type 0
 Writes old new result bytes = WriteAppends old.taken new.taken result bytes
 
 -- all these bytes were taken, after those taken before
-abbrev pub WritesAll : SinkTold → SinkTold → List ℕ → Type 0
+abbrev pub WritesAll : SinkReport → SinkReport → List ℕ → Type 0
 WritesAll old new bytes = Appends old.taken new.taken bytes
 
 -- a prefix of these bytes was taken
-abbrev pub WritesFront : SinkTold → SinkTold → List ℕ → Type 0
-WritesFront old new bytes = (n : ℕ) × (n ≤ length bytes) × Appends old.taken new.taken (take n bytes)
+abbrev pub WritesPrefix : SinkReport → SinkReport → List ℕ → Type 0
+WritesPrefix old new bytes = (n : ℕ) × (n ≤ length bytes) × Appends old.taken new.taken (take n bytes)
 
 -- a write failed
-abbrev pub WriteFailed : SinkTold → SinkTold → Type 0
+abbrev pub WriteFailed : SinkReport → SinkReport → Type 0
 WriteFailed old new = Rose old.faults new.faults

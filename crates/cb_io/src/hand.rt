@@ -64,14 +64,14 @@ impl Hand {
     }
 
     // The first bytes of what was kept become the text, and those from a position on are kept.
-    pub(crate) fn give(&mut self, line: usize, behind: usize)
+    pub(crate) fn give(&mut self, line: usize, beyond: usize)
         requires text { line ≤ length self.old.kept }
-        requires kept { behind ≤ length self.old.kept }
-        ensures { self.new ≡ with_text self.old line behind }
+        requires kept { beyond ≤ length self.old.kept }
+        ensures { self.new ≡ with_text self.old line beyond }
     {
         self.text_from = self.kept_from;
         self.text_to = self.kept_from + line;
-        self.kept_from += behind;
+        self.kept_from += beyond;
     }
 
     // Reads a piece of the file after what is kept, which moves to the start. The last text is gone.
@@ -89,7 +89,7 @@ impl Hand {
         self.text_to = 0;
         self.kept_from = 0;
         self.kept_to = length;
-        let count = read_behind(files, name, &mut self.buffer, length)?;
+        let count = read_beyond(files, name, &mut self.buffer, length)?;
         self.kept_to += count;
         Ok(count)
     }
@@ -106,7 +106,7 @@ fn make_buffer(alloc: Global, most: usize) -> Result<Vec<u8>, AllocError>
 }
 
 // Reads a piece of the file into a buffer, after its first bytes.
-fn read_behind<F: Files>(
+fn read_beyond<F: Files>(
     files: &mut F,
     name: &str,
     buffer: &mut Vec<u8>,
@@ -114,7 +114,7 @@ fn read_behind<F: Files>(
 ) -> Result<usize, FileStop>
     requires { length < vec_len buffer.old }
     ensures size { vec_len buffer.new ≡ vec_len buffer.old }
-    ensures front { take length buffer.new.items ≡ take length buffer.old.items }
+    ensures prefix { take length buffer.new.items ≡ take length buffer.old.items }
     ensures few { IfOk result (λ count. count ≤ piece_limit) }
     ensures within { IfOk result (λ count. length + count ≤ vec_len buffer.new) }
     ensures bytes { ReadsBytes (F.tells files.old) (F.tells files.new) name.now result (drop length buffer.new.items) }

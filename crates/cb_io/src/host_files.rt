@@ -4,7 +4,7 @@ ghost use Rattle.std.specs.Io.{ReadsAtMost};
 ghost use Rattle.std.specs.Str.{bytes_eq};
 ghost use Rattle.cb_io.specs.Pairs.{look_up};
 ghost use Rattle.cb_io.specs.Outside.{next_count, ReadsBytes, KeepsOthers, NoCountFalls, ReadFailed, SameFaults, OneMoreFault};
-ghost use Rattle.cb_io.specs.Host.{host_told};
+ghost use Rattle.cb_io.specs.Host.{host_report};
 
 use crate::{FileStop, Files};
 use std::alloc::{AllocError, Global};
@@ -129,7 +129,7 @@ fn admit<R: rt::Files + Input>(
 ) -> Result<usize, AllocError>
     ensures place { IfOk result (λ i. position (λ o. bytes_eq o.0 name.now) opened.new.items ≡ Some i) }
     ensures faults { (other : List ℕ) →
-        (host_told opened.new.items).faults other ≡ (host_told opened.old.items).faults other }
+        (host_report opened.new.items).faults other ≡ (host_report opened.old.items).faults other }
 {
     if let Some(place) = place_of(opened, name) {
         return Ok(place);
@@ -153,20 +153,20 @@ impl<'a, R: rt::Files + Input> HostFiles<'a, R> {
 }
 
 impl<'a, R: rt::Files + Input> Files for HostFiles<'a, R> {
-    ghost tells = { host_told };
+    ghost tells = { host_report };
 
     fn read(&mut self, name: &str, buf: &mut [u8]) -> Result<usize, FileStop>
         requires { 0 < length buf.old }
         ensures bound { ReadsAtMost result buf.new }
-        ensures bytes { ReadsBytes (host_told self.old) (host_told self.new) name.now result buf.new }
-        ensures others { KeepsOthers (host_told self.old) (host_told self.new) name.now }
-        ensures counts { NoCountFalls (host_told self.old) (host_told self.new) }
-        ensures failed { IsErrOf result FileStop.Failed → ReadFailed (host_told self.old) (host_told self.new) name.now }
+        ensures bytes { ReadsBytes (host_report self.old) (host_report self.new) name.now result buf.new }
+        ensures others { KeepsOthers (host_report self.old) (host_report self.new) name.now }
+        ensures counts { NoCountFalls (host_report self.old) (host_report self.new) }
+        ensures failed { IsErrOf result FileStop.Failed → ReadFailed (host_report self.old) (host_report self.new) name.now }
 
         // Each Failed is one fault of its name, and nothing else is.
-        ensures ok { OnOk result (SameFaults (host_told self.old) (host_told self.new)) }
-        ensures err { IsErrOf result FileStop.Failed → OneMoreFault (host_told self.old) (host_told self.new) name.now }
-        ensures no_memory { IsErrOf result FileStop.NoMemory → SameFaults (host_told self.old) (host_told self.new) }
+        ensures ok { OnOk result (SameFaults (host_report self.old) (host_report self.new)) }
+        ensures err { IsErrOf result FileStop.Failed → OneMoreFault (host_report self.old) (host_report self.new) name.now }
+        ensures no_memory { IsErrOf result FileStop.NoMemory → SameFaults (host_report self.old) (host_report self.new) }
     {
         match admit(self.alloc, &mut self.opened, name) {
             Ok(place) => {

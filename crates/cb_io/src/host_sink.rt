@@ -17,9 +17,9 @@ pub struct HostSink<W: Write + Drop> {
 
 impl<W: Write + Drop> Model for HostSink<W> {
     ghost use Rattle.std.specs.Prelude.{None};
-    ghost use Rattle.cb_io.specs.Outside.{SinkTold};
+    ghost use Rattle.cb_io.specs.Outside.{SinkReport};
 
-    ghost Value = { SinkTold };
+    ghost Value = { SinkReport };
 
     ghost view = { λ s. record { taken = None; faults = s.faults } };
 }

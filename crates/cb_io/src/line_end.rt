@@ -1,7 +1,7 @@
 //! Where the next line of a file ends.
 ghost use Rattle.std.specs.Prelude.{◌≡◌, ◌+◌, ◌^◌, ◌<◌, ◌≤◌, false, length, take, drop, IfOk, IfErr, IfSome, IfNone, IsErrOf};
 ghost use Rattle.cb_io.specs.LineReading.{IsOneLine, BeginWith};
-ghost use Rattle.cb_io.specs.LineSearch.{ThrowsLong, IsLostWhole, Finds, GivesUp, behind_of, size_of};
+ghost use Rattle.cb_io.specs.LineSearch.{ThrowsLong, IsLostWhole, Finds, GivesUp, length_with_lf, size_of};
 ghost use Rattle.cb_io.specs.Outside.{ReadFailed};
 ghost use Rattle.cb_io.specs.Pieces.{piece_limit};
 
@@ -20,9 +20,9 @@ pub(crate) struct LineEnd {
 
 impl LineEnd {
     // How many of the buffered bytes are those of the line, with its LF.
-    pub(crate) fn behind(&self) -> usize
-        requires { behind_of self.now < 2 ^ 64 }
-        ensures { result ≡ behind_of self.now }
+    pub(crate) fn bytes_with_lf(&self) -> usize
+        requires { length_with_lf self.now < 2 ^ 64 }
+        ensures { result ≡ length_with_lf self.now }
     {
         if self.is_last {
             self.length
@@ -36,7 +36,7 @@ impl LineEnd {
         requires { size_of self.now < 2 ^ 64 }
         ensures { result ≡ size_of self.now }
     {
-        self.lost + self.behind() as u64
+        self.lost + self.bytes_with_lf() as u64
     }
 }
 

@@ -2,9 +2,9 @@
 ghost use Rattle.std.specs.Prelude.{◌≡◌, ◌+◌, ◌≤◌, length, true, false, IfOk, IfSome, OnErr, IsErrOf};
 ghost use Rattle.cb_io.specs.LineGiving.{IsGivenLine};
 ghost use Rattle.cb_io.specs.LineReading.{Reading, unread, coming, ReadsSame, Says, IsOneLine, IsNumbered, GoesOn, Advances};
-ghost use Rattle.cb_io.specs.LineSearch.{behind_of, size_of};
+ghost use Rattle.cb_io.specs.LineSearch.{length_with_lf, size_of};
 ghost use Rattle.cb_io.specs.Pieces.{piece_limit};
-ghost use Rattle.cb_io.specs.Outside.{ReadsFront, KeepsOthers, NoCountFalls, ReadFailed};
+ghost use Rattle.cb_io.specs.Outside.{ReadsPrefix, KeepsOthers, NoCountFalls, ReadFailed};
 
 use crate::hand::Hand;
 use crate::line_end::{LineEnd, find_end};
@@ -96,7 +96,7 @@ impl<'n> LineReader<'n> {
         ensures refused { OnErr result (self.new.refused ≡ true) }
         ensures failed { IsErrOf result ReadStop.ReadFault → ReadFailed (F.tells files.old) (F.tells files.new) self.old.name }
         // In every case:
-        ensures front { ReadsFront (F.tells files.old) (F.tells files.new) self.old.name }
+        ensures prefix { ReadsPrefix (F.tells files.old) (F.tells files.new) self.old.name }
         ensures others { KeepsOthers (F.tells files.old) (F.tells files.new) self.old.name }
         ensures counts { NoCountFalls (F.tells files.old) (F.tells files.new) }
     {
@@ -108,27 +108,27 @@ impl<'n> LineReader<'n> {
 
     // Moves after the line whose end was found, which fits.
     fn give(&mut self, end: LineEnd) -> Line
-        requires in_hand { behind_of end ≤ length self.old.kept }
+        requires in_hand { length_with_lf end ≤ length self.old.kept }
         requires within { self.old.given + size_of end ≤ self.old.total_most }
-        requires few { length self.old.kept ≤ behind_of end + piece_limit }
+        requires few { length self.old.kept ≤ length_with_lf end + piece_limit }
         ensures { IsGivenLine self.old end self.new result }
     {
         self.ended = end.is_last;
         self.refused = false;
-        let behind = end.behind();
+        let beyond = end.bytes_with_lf();
         let size = end.size();
         self.given += size;
         if size == 0 {
-            self.hand.give(0, behind);
+            self.hand.give(0, beyond);
             return Line::End;
         }
         self.number += 1;
         let number = self.number;
         if end.lost + end.length as u64 > self.line_most as u64 {
-            self.hand.give(0, behind);
+            self.hand.give(0, beyond);
             return Line::Long { number };
         }
-        self.hand.give(end.length, behind);
+        self.hand.give(end.length, beyond);
         Line::Text { number }
     }
 

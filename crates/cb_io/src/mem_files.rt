@@ -4,7 +4,7 @@ ghost use Rattle.std.specs.Io.{ReadsAtMost};
 ghost use Rattle.std.specs.Str.{bytes_eq};
 ghost use Rattle.cb_io.specs.Outside.{ReadsBytes, KeepsOthers, NoCountFalls, ReadFailed, next_count};
 ghost use Rattle.cb_io.specs.Pairs.{look_up};
-ghost use Rattle.cb_io.specs.Memory.{file_of, with_bytes, with_failing, no_files, IsNextFailing, after_read, after_fault, files_told};
+ghost use Rattle.cb_io.specs.Memory.{file_of, with_bytes, with_failing, no_files, IsNextFailing, after_read, after_fault, files_report};
 
 use crate::calls::Calls;
 use crate::{FileStop, Files};
@@ -157,15 +157,15 @@ impl MemFiles {
 }
 
 impl Files for MemFiles {
-    ghost tells = { files_told };
+    ghost tells = { files_report };
 
     fn read(&mut self, name: &str, buf: &mut [u8]) -> Result<usize, FileStop>
         requires { 0 < length buf.old }
         ensures bound { ReadsAtMost result buf.new }
-        ensures bytes { ReadsBytes (files_told self.old) (files_told self.new) name.now result buf.new }
-        ensures others { KeepsOthers (files_told self.old) (files_told self.new) name.now }
-        ensures counts { NoCountFalls (files_told self.old) (files_told self.new) }
-        ensures failed { IsErrOf result FileStop.Failed → ReadFailed (files_told self.old) (files_told self.new) name.now }
+        ensures bytes { ReadsBytes (files_report self.old) (files_report self.new) name.now result buf.new }
+        ensures others { KeepsOthers (files_report self.old) (files_report self.new) name.now }
+        ensures counts { NoCountFalls (files_report self.old) (files_report self.new) }
+        ensures failed { IsErrOf result FileStop.Failed → ReadFailed (files_report self.old) (files_report self.new) name.now }
 
         // Which calls fail, how many bytes the others give, and that nothing else changes.
         ensures fails { IsErr result ↔ (IsNextFailing self.old.calls ⊎ IsNone (look_up self.old.files name.now)) }

@@ -2,7 +2,7 @@
 ghost use Rattle.std.specs.Prelude.{◌≡◌, ◌+◌, ◌-◌, ◌^◌, ◌<◌, ◌≤◌, ◌⊎◌, ◌↔◌, [], ◌∷◌, ◌++◌, length, take, min, IfOk, OnOk, OnErr, IsErr};
 ghost use Rattle.std.specs.Io.{WritesAtMost};
 ghost use Rattle.cb_io.specs.Outside.{Writes, WriteFailed};
-ghost use Rattle.cb_io.specs.Memory.{IsNextFailing, with_failing, new_sink, room_left, after_write, after_refused_write, sink_told};
+ghost use Rattle.cb_io.specs.Memory.{IsNextFailing, with_failing, new_sink, room_left, after_write, after_refused_write, sink_report};
 
 use crate::calls::Calls;
 use crate::{Failed, Sink};
@@ -71,15 +71,15 @@ impl MemSink {
 }
 
 impl Sink for MemSink {
-    ghost tells = { sink_told };
+    ghost tells = { sink_report };
 
     fn write(&mut self, bytes: &[u8]) -> Result<usize, Failed>
         requires { 0 < length bytes.now }
         ensures some { IfOk result (λ n. 0 < n) }
         ensures bound { WritesAtMost result bytes.now }
-        ensures bytes { Writes (sink_told self.old) (sink_told self.new) result bytes.now }
+        ensures bytes { Writes (sink_report self.old) (sink_report self.new) result bytes.now }
         ensures counts { self.old.faults ≤ self.new.faults }
-        ensures failed { OnErr result (WriteFailed (sink_told self.old) (sink_told self.new)) }
+        ensures failed { OnErr result (WriteFailed (sink_report self.old) (sink_report self.new)) }
 
         // Which calls fail, how many bytes the others take, and that nothing else changes.
         ensures fails { IsErr result ↔ (IsNextFailing self.old.calls ⊎ (room_left self.old ≡ 0)) }

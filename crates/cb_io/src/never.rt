@@ -3,7 +3,7 @@ ghost use Rattle.std.specs.Prelude.{◌≡◌, ◌<◌, ◌≤◌, length, IfOk,
 ghost use Rattle.std.specs.Io.{ReadsAtMost, WritesAtMost};
 ghost use Rattle.cb_io.specs.Outside.{ReadsBytes, KeepsOthers, NoCountFalls, ReadFailed, Writes, WriteFailed};
 ghost use Rattle.cb_io.specs.Memory.{no_files, with_bytes};
-ghost use Rattle.cb_io.specs.Never.{never_told, sink_never_told};
+ghost use Rattle.cb_io.specs.Never.{never_reported, sink_never_reported};
 
 use crate::mem_files::MemFiles;
 use crate::{Failed, FileStop, Files, Sink};
@@ -47,16 +47,16 @@ impl NeverFiles {
 }
 
 impl Files for NeverFiles {
-    ghost tells = { never_told };
+    ghost tells = { never_reported };
 
     fn read(&mut self, name: &str, buf: &mut [u8]) -> Result<usize, FileStop>
         requires { 0 < length buf.old }
         ensures never_fails { IsOk result }
         ensures bound { ReadsAtMost result buf.new }
-        ensures bytes { ReadsBytes (never_told self.old) (never_told self.new) name.now result buf.new }
-        ensures others { KeepsOthers (never_told self.old) (never_told self.new) name.now }
-        ensures counts { NoCountFalls (never_told self.old) (never_told self.new) }
-        ensures failed { IsErrOf result FileStop.Failed → ReadFailed (never_told self.old) (never_told self.new) name.now }
+        ensures bytes { ReadsBytes (never_reported self.old) (never_reported self.new) name.now result buf.new }
+        ensures others { KeepsOthers (never_reported self.old) (never_reported self.new) name.now }
+        ensures counts { NoCountFalls (never_reported self.old) (never_reported self.new) }
+        ensures failed { IsErrOf result FileStop.Failed → ReadFailed (never_reported self.old) (never_reported self.new) name.now }
     {
         // No read is to fail, so one that does is of a name that wasn't added.
         Ok(self.files.read(name, buf).unwrap_or(0))
@@ -75,16 +75,16 @@ impl NeverSink {
 }
 
 impl Sink for NeverSink {
-    ghost tells = { λ _. sink_never_told };
+    ghost tells = { λ _. sink_never_reported };
 
     fn write(&mut self, bytes: &[u8]) -> Result<usize, Failed>
         requires { 0 < length bytes.now }
         ensures never_fails { IsOk result }
         ensures some { IfOk result (λ n. 0 < n) }
         ensures bound { WritesAtMost result bytes.now }
-        ensures bytes { Writes sink_never_told sink_never_told result bytes.now }
-        ensures counts { sink_never_told.faults ≤ sink_never_told.faults }
-        ensures failed { OnErr result (WriteFailed sink_never_told sink_never_told) }
+        ensures bytes { Writes sink_never_reported sink_never_reported result bytes.now }
+        ensures counts { sink_never_reported.faults ≤ sink_never_reported.faults }
+        ensures failed { OnErr result (WriteFailed sink_never_reported sink_never_reported) }
     {
         Ok(bytes.len())
     }

@@ -1,7 +1,7 @@
 //! Files and sinks, by what they tell of themselves before and after a call.
 ghost use Rattle.std.specs.Prelude.{◌≡◌, ◌<◌, ◌≤◌, length, IfOk, OnErr, IsErrOf};
 ghost use Rattle.std.specs.Io.{ReadsAtMost, WritesAtMost};
-ghost use Rattle.cb_io.specs.Outside.{FilesTold, SinkTold, ReadsBytes, KeepsOthers, NoCountFalls, ReadFailed, Writes, WriteFailed};
+ghost use Rattle.cb_io.specs.Outside.{FilesReport, SinkReport, ReadsBytes, KeepsOthers, NoCountFalls, ReadFailed, Writes, WriteFailed};
 
 /// Why a read gave nothing.
 #[derive(Clone, Copy, Debug, PartialEq, Eq)]
@@ -19,7 +19,7 @@ pub struct Failed;
 /// Named files, each of which is read once from start to end: a name that is used again goes on where it was left.
 pub trait Files {
     /// What contracts know of the files: the bytes left of each name, where that is reported, and the faults of each name.
-    ghost tells: { Self → FilesTold };
+    ghost tells: { Self → FilesReport };
 
     /// Moves the next bytes of a file to the start of `buf`, and says how many; 0 is the file's end. With an error
     /// `buf` may hold any bytes.
@@ -35,7 +35,7 @@ pub trait Files {
 /// What bytes are written to.
 pub trait Sink {
     /// What contracts know of the sink: the bytes taken so far, where that is reported, and its faults.
-    ghost tells: { Self → SinkTold };
+    ghost tells: { Self → SinkReport };
 
     /// Takes a prefix of `bytes`, at least one byte, and says how many. A sink that can take none fails.
     fn write(&mut self, bytes: &[u8]) -> Result<usize, Failed>

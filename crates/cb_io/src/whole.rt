@@ -1,6 +1,6 @@
 //! Whole files and whole texts, over any files and any sink.
 ghost use Rattle.std.specs.Prelude.{◌≡◌, ◌<◌, ◌≤◌, ◌⊎◌, IfOk, OnOk, OnErr, IsErrOf, vec_len};
-ghost use Rattle.cb_io.specs.Outside.{ReadsAll, ReadsFront, ReadsMoreThan, ReadsNoMoreThan, KeepsOthers, NoCountFalls, ReadFailed, WritesAll, WritesFront, WriteFailed};
+ghost use Rattle.cb_io.specs.Outside.{ReadsAll, ReadsPrefix, ReadsMoreThan, ReadsNoMoreThan, KeepsOthers, NoCountFalls, ReadFailed, WritesAll, WritesPrefix, WriteFailed};
 
 use crate::{Failed, FileStop, Files, Sink};
 use std::alloc::{AllocError, Global};
@@ -51,7 +51,7 @@ impl From<AllocError> for ReadStop {
 /// Writes all the bytes, or a prefix of them before a fault.
 pub fn write_all<S: Sink>(sink: &mut S, bytes: &[u8]) -> Result<(), Failed>
     ensures all { OnOk result (WritesAll (S.tells sink.old) (S.tells sink.new) bytes.now) }
-    ensures front { WritesFront (S.tells sink.old) (S.tells sink.new) bytes.now }
+    ensures prefix { WritesPrefix (S.tells sink.old) (S.tells sink.new) bytes.now }
     ensures counts { (S.tells sink.old).faults ≤ (S.tells sink.new).faults }
     ensures failed { OnErr result (WriteFailed (S.tells sink.old) (S.tells sink.new)) }
 {
@@ -86,7 +86,7 @@ pub fn read_whole<F: Files>(
         ReadFailed (F.tells files.old) (F.tells files.new) name.now }
 
     // In every case:
-    ensures front { ReadsFront (F.tells files.old) (F.tells files.new) name.now }
+    ensures prefix { ReadsPrefix (F.tells files.old) (F.tells files.new) name.now }
     ensures others { KeepsOthers (F.tells files.old) (F.tells files.new) name.now }
     ensures counts { NoCountFalls (F.tells files.old) (F.tells files.new) }
 {

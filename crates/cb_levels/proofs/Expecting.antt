@@ -18,7 +18,7 @@ use Rattle.cb_levels.specs.declared.reader.LevelReader.{LevelReader}
 use Rattle.cb_levels.specs.Text.{entry_part, level_lines, level_line_text}
 use Rattle.cb_levels.specs.Format.{IsLevelCount, IsLevelEntry, IsLevels, SpellsLevels}
 use Rattle.cb_levels.specs.Faults.{AreFirstLines, AreAllLines, IsLevelFault}
-use Rattle.cb_levels.specs.Steps.{node_front, entry_front, HasReadLines, ReadsLine, MissesLine, StopsFor, AreLevelsRead}
+use Rattle.cb_levels.specs.Steps.{node_prefix, entry_prefix, HasReadLines, ReadsLine, MissesLine, StopsFor, AreLevelsRead}
 use Rattle.cb_levels.proofs.Prefixes.{fewer, begins_header, begins_nodes, begins_entries, only_nodes, only_node, only_entries, only_entry, only_end, not_all, header_goes, nodes_go, entries_go}
 
 -- an error that is passed on is the one that came
@@ -105,38 +105,38 @@ count_of_nodes = record {
   only = λ l f. let x = only_nodes l f in (x.0, x.1, ap level_line_text x.2);
 }
 
-pub next_node : (n : ℕ) (xs : List NodeName) → IsLevelCount n → length xs < n → All IsNode xs → Expects (node_front n xs) (λ x. level_line_text (line.Node x)) IsNode
+pub next_node : (n : ℕ) (xs : List NodeName) → IsLevelCount n → length xs < n → All IsNode xs → Expects (node_prefix n xs) (λ x. level_line_text (line.Node x)) IsNode
 next_node n xs counted low good = record {
   some = λ e. cc;
   first = begins_nodes n xs counted (omega arith) good;
-  open_ended = not_all (node_front n xs) (nodes_go n xs);
+  open_ended = not_all (node_prefix n xs) (nodes_go n xs);
   only = λ l f. let x = only_node n xs l low f in (x.0, x.1, ap level_line_text x.2);
 }
 
 pub count_of_entries : (nodes : List NodeName) → IsLevelCount (length nodes) → All IsNode nodes
-    → Expects (node_front (length nodes) nodes) (λ n. codes "entries " ++ decimal n) IsLevelCount
+    → Expects (node_prefix (length nodes) nodes) (λ n. codes "entries " ++ decimal n) IsLevelCount
 count_of_entries nodes counted good = record {
   some = λ e. cc;
   first = begins_nodes (length nodes) nodes counted (omega arith) good;
-  open_ended = not_all (node_front (length nodes) nodes) (nodes_go (length nodes) nodes);
+  open_ended = not_all (node_prefix (length nodes) nodes) (nodes_go (length nodes) nodes);
   only = λ l f. let x = only_entries nodes l f in (x.0, x.1, ap level_line_text x.2);
 }
 
 pub next_entry : (nodes : List NodeName) (n : ℕ) (xs : List LevelEntry) → IsLevelCount (length nodes) → All IsNode nodes → IsLevelCount n → length xs < n
-    → All (IsLevelEntry (length nodes)) xs → Expects (entry_front nodes n xs) (λ e. level_line_text (line.Entry e)) (IsLevelEntry (length nodes))
+    → All (IsLevelEntry (length nodes)) xs → Expects (entry_prefix nodes n xs) (λ e. level_line_text (line.Entry e)) (IsLevelEntry (length nodes))
 next_entry nodes n xs counted_nodes names counted low good = record {
   some = λ e. cc;
   first = begins_entries nodes n xs counted_nodes names counted (omega arith) good;
-  open_ended = not_all (entry_front nodes n xs) (entries_go nodes n xs);
+  open_ended = not_all (entry_prefix nodes n xs) (entries_go nodes n xs);
   only = λ l f. let x = only_entry nodes n xs l low f in (x.0, x.1, ap level_line_text x.2);
 }
 
 abbrev pub Always : Unit {0} → Type 0
 Always u = Unit {0}
 
-pub last_line : (levels : Levels) → IsLevels levels → Expects (entry_front levels.nodes (length levels.entries) levels.entries) (λ (u : Unit {0}). codes "end") Always
+pub last_line : (levels : Levels) → IsLevels levels → Expects (entry_prefix levels.nodes (length levels.entries) levels.entries) (λ (u : Unit {0}). codes "end") Always
 last_line levels is =
-    let before = entry_front levels.nodes (length levels.entries) levels.entries in
+    let before = entry_prefix levels.nodes (length levels.entries) levels.entries in
     record {
       some = λ e. cc;
       first = begins_entries levels.nodes (length levels.entries) levels.entries is.nodes is.names is.entries (omega arith) is.each;
@@ -165,10 +165,10 @@ begun text reader lines number small = record { lines_are = lines; number_is = n
 -- the last line was read too
 module _ (text : List ℕ) (levels : Levels) (old : LevelReader) (read : AreLevelsRead text old levels) where
   abbrev before : List LevelLine
-  before = entry_front levels.nodes (length levels.entries) levels.entries
+  before = entry_prefix levels.nodes (length levels.entries) levels.entries
 
   all_lines : before ++ line.End ∷ [] ≡ level_lines levels
-  all_lines = append_assoc (node_front (length levels.nodes) levels.nodes) (entry_part levels.entries) (line.End ∷ [])
+  all_lines = append_assoc (node_prefix (length levels.nodes) levels.nodes) (entry_part levels.entries) (line.End ∷ [])
 
   -- a fault that isn't out of memory
   sure : (why : LevelText) → why ≢ fault.NoMemory → StopsFor text why → IsLevelFault text why

@@ -43,22 +43,22 @@ least_is_one t levels position P m n a b =
     (b.least m (subst (λ p. Edge t p m) node a.edge) (subst (λ e. P e m) entry a.such))
     (a.least n (subst (λ p. Edge t p n) (sym node) b.edge) (subst (λ e. P e n) (sym entry) b.such))
 
-told_one : (t : Topology) (levels : Levels) (check : LevelCheck) (a b : LevelFault) → ReportsCheck t levels check a → ReportsCheck t levels check b → a ≡ b
-told_one t levels (node_check position) a b p q = p ∙ sym q
-told_one t levels root_check a b p q = p ∙ sym q
-told_one t levels (parent_check position) a b p q = p ∙ sym q
-told_one t levels (edge_check position) a b p q = p ∙ sym q
-told_one t levels (new_check position) a b p q = p ∙ sym q
-told_one t levels (level_check position) a b p q = p ∙ sym q
-told_one t levels (closed_check position) a b p q =
+reported_one : (t : Topology) (levels : Levels) (check : LevelCheck) (a b : LevelFault) → ReportsCheck t levels check a → ReportsCheck t levels check b → a ≡ b
+reported_one t levels (node_check position) a b p q = p ∙ sym q
+reported_one t levels root_check a b p q = p ∙ sym q
+reported_one t levels (parent_check position) a b p q = p ∙ sym q
+reported_one t levels (edge_check position) a b p q = p ∙ sym q
+reported_one t levels (new_check position) a b p q = p ∙ sym q
+reported_one t levels (level_check position) a b p q = p ∙ sym q
+reported_one t levels (closed_check position) a b p q =
     p.2 ∙ (ap (NotClosed (position + 1)) (least_is_one t levels position (λ entry s. ¬ ListsInLevels levels s) p.0 q.0 p.1 q.1) ∙ sym q.2)
-told_one t levels (short_check position) a b p q =
+reported_one t levels (short_check position) a b p q =
     p.2 ∙ (ap (NotShort (position + 1)) (least_is_one t levels position (λ entry s. IsTooFar levels entry.level s) p.0 q.0 p.1 q.1) ∙ sym q.2)
 
 pub first_fail_is_one : (t : Topology) (levels : Levels) (a b : LevelFault) → IsRejectedFor t levels a → IsRejectedFor t levels b → a ≡ b
 first_fail_is_one t levels a b p q =
     let same = first_is_one (PassesCheck t levels) p.before q.before p.check q.check p.after q.after (sym p.are ∙ q.are) p.passed p.fails q.passed q.fails in
-    told_one t levels p.check a b p.tells (subst (λ check. ReportsCheck t levels check b) (sym same) q.tells)
+    reported_one t levels p.check a b p.tells (subst (λ check. ReportsCheck t levels check b) (sym same) q.tells)
 
 pub valid_is_not_rejected : (t : Topology) (levels : Levels) (why : LevelFault) → AreValidLevels t levels → ¬ IsRejectedFor t levels why
 valid_is_not_rejected t levels why valid fail =

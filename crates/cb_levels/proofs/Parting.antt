@@ -7,7 +7,7 @@ use Rattle.std.proofs.lemmas.List.{append_cancel_left, get_or_at, length-append}
 use Rattle.memchr.specs.Find.{IsFirstByte, is_byte}
 use Rattle.cb_text.specs.Decimals.{IsDecimal}
 use Rattle.cb_cert.specs.Format.{IsBetween}
-use Rattle.cb_cert.proofs.Cutting.{cut_at_space, front_lacks_space}
+use Rattle.cb_cert.proofs.Cutting.{cut_at_space, prefix_lacks_space}
 use Rattle.cb_cert.proofs.LineTexts.{cut_once, digits_lack_space}
 use Rattle.cb_levels.specs.declared.levels.LevelEntry.{LevelEntry}
 use Rattle.cb_levels.specs.declared.line.LevelLine.TheVariants as line
@@ -18,7 +18,7 @@ use Rattle.cb_levels.proofs.LevelTexts.{IsSmallEntry, entry_text}
 
 -- what stands around the first space
 pub around : (bytes : List ℕ) (at : ℕ) → IsFirstByte (is_byte 32) bytes (Some at) → AreAroundSpace bytes (take at bytes) (drop (at + 1) bytes)
-around bytes at first = record { written = cut_at_space bytes at first; first = front_lacks_space bytes at first }
+around bytes at first = record { written = cut_at_space bytes at first; first = prefix_lacks_space bytes at first }
 
 pub around_none : (bytes : List ℕ) → IsFirstByte (is_byte 32) bytes None → (before after : List ℕ) → bytes ≢ before ++ 32 ∷ after
 around_none bytes none before after is =

@@ -19,7 +19,7 @@ use Rattle.cb_levels.specs.declared.line.LevelLine.TheVariants as line
 use Rattle.cb_levels.specs.Text.{node_part, entry_part, level_lines}
 use Rattle.cb_levels.specs.Format.{IsLevelCount, IsLevelEntry}
 use Rattle.cb_levels.specs.Faults.{AreFirstLines, AreAllLines}
-use Rattle.cb_levels.specs.Steps.{node_front, entry_front}
+use Rattle.cb_levels.specs.Steps.{node_prefix, entry_prefix}
 use Rattle.cb_levels.proofs.Known.{heads, cut, cut_nodes, goes_on}
 
 -- ---- some nodes and entries
@@ -73,7 +73,7 @@ fewer xs ys f = record { of = f.of; is = f.is; more = ys ++ f.more; are = f.are 
 pub whole_is_first : (lines : List LevelLine) → AreAllLines lines → AreFirstLines lines
 whole_is_first lines whole = record { of = whole.0; is = whole.1; more = []; are = sym whole.2 ∙ sym (append-nil lines) }
 
-pub begins_nodes : (n : ℕ) (xs : List NodeName) → IsLevelCount n → length xs ≤ n → All IsNode xs → AreFirstLines (node_front n xs)
+pub begins_nodes : (n : ℕ) (xs : List NodeName) → IsLevelCount n → length xs ≤ n → All IsNode xs → AreFirstLines (node_prefix n xs)
 begins_nodes n xs counted low good =
     let rest = replicate (n - length xs) any_node in
     let nodes = xs ++ rest in
@@ -99,7 +99,7 @@ pub begins_header : AreFirstLines (line.Header ∷ [])
 begins_header = fewer (line.Header ∷ []) (line.Nodes 1 ∷ []) (begins_nodes 1 [] (omega arith, omega arith) (omega arith) (All-nil IsNode))
 
 pub begins_entries : (nodes : List NodeName) (n : ℕ) (xs : List LevelEntry) → IsLevelCount (length nodes) → All IsNode nodes → IsLevelCount n → length xs ≤ n
-    → All (IsLevelEntry (length nodes)) xs → AreFirstLines (entry_front nodes n xs)
+    → All (IsLevelEntry (length nodes)) xs → AreFirstLines (entry_prefix nodes n xs)
 begins_entries nodes n xs counted_nodes names counted low good =
     let E = IsLevelEntry (length nodes) in
     let rest = replicate (n - length xs) any_entry in
@@ -121,8 +121,8 @@ begins_entries nodes n xs counted_nodes names counted low good =
         each = All-append E xs rest good (repeated E (n - length xs) any_entry (any_entry_is (length nodes) counted_nodes));
       };
       more = map line.Entry rest ++ end;
-      are = ap (λ (ls : List LevelLine). node_front (length nodes) nodes ++ ls) tail
-          ∙ sym (append_assoc (node_front (length nodes) nodes) (line.Entries n ∷ map line.Entry xs) (map line.Entry rest ++ end));
+      are = ap (λ (ls : List LevelLine). node_prefix (length nodes) nodes ++ ls) tail
+          ∙ sym (append_assoc (node_prefix (length nodes) nodes) (line.Entries n ∷ map line.Entry xs) (map line.Entry rest ++ end));
     }
 
 -- ---- which line may follow
@@ -144,7 +144,7 @@ only_nodes l f =
     (length nodes, (f.is).nodes, sym first.0)
 
 -- what follows the header and n nodes
-after_nodes : (n : ℕ) (xs : List NodeName) (l : LevelLine) → (f : AreFirstLines (node_front n xs ++ l ∷ []))
+after_nodes : (n : ℕ) (xs : List NodeName) (l : LevelLine) → (f : AreFirstLines (node_prefix n xs ++ l ∷ []))
     → (length (f.of).nodes ≡ n) × (map line.Node (f.of).nodes ++ (entry_part (f.of).entries ++ line.End ∷ []) ≡ map line.Node xs ++ l ∷ f.more)
 after_nodes n xs l f =
     let nodes = (f.of).nodes in
@@ -155,7 +155,7 @@ after_nodes n xs l f =
     let count = first.0 in
     (cc, first.1 ∙ append_assoc (map line.Node xs) (l ∷ []) f.more)
 
-pub only_node : (n : ℕ) (xs : List NodeName) (l : LevelLine) → length xs < n → AreFirstLines (node_front n xs ++ l ∷ []) → (x : NodeName) × IsNode x × (l ≡ line.Node x)
+pub only_node : (n : ℕ) (xs : List NodeName) (l : LevelLine) → length xs < n → AreFirstLines (node_prefix n xs ++ l ∷ []) → (x : NodeName) × IsNode x × (l ≡ line.Node x)
 only_node n xs l low f =
     let nodes = (f.of).nodes in
     let after = after_nodes n xs l f in
@@ -163,7 +163,7 @@ only_node n xs l low f =
     let next = next_item line.Node nodes xs (entry_part (f.of).entries ++ line.End ∷ []) l f.more after.1 (omega arith) in
     (next.0, all_at IsNode nodes (f.is).names (length xs) next.0 next.1, next.2)
 
-pub only_entries : (xs : List NodeName) (l : LevelLine) → AreFirstLines (node_front (length xs) xs ++ l ∷ []) → (n : ℕ) × IsLevelCount n × (l ≡ line.Entries n)
+pub only_entries : (xs : List NodeName) (l : LevelLine) → AreFirstLines (node_prefix (length xs) xs ++ l ∷ []) → (n : ℕ) × IsLevelCount n × (l ≡ line.Entries n)
 only_entries xs l f =
     let entries = (f.of).entries in
     let after = after_nodes (length xs) xs l f in
@@ -172,16 +172,16 @@ only_entries xs l f =
     (length entries, (f.is).entries, sym first.0)
 
 -- what follows the nodes and n entries
-after_entries : (nodes : List NodeName) (n : ℕ) (xs : List LevelEntry) (l : LevelLine) → (f : AreFirstLines (entry_front nodes n xs ++ l ∷ []))
+after_entries : (nodes : List NodeName) (n : ℕ) (xs : List LevelEntry) (l : LevelLine) → (f : AreFirstLines (entry_prefix nodes n xs ++ l ∷ []))
     → ((f.of).nodes ≡ nodes) × (length (f.of).entries ≡ n) × (map line.Entry (f.of).entries ++ line.End ∷ [] ≡ map line.Entry xs ++ l ∷ f.more)
 after_entries nodes n xs l f =
     let entries = (f.of).entries in
     let end = line.End ∷ [] in
-    let front = node_front (length nodes) nodes in
+    let prefix = node_prefix (length nodes) nodes in
     let mine = line.Entries n ∷ map line.Entry xs in
     let tail = entry_part entries ++ end in
-    let regroup : (entry_front nodes n xs ++ l ∷ []) ++ f.more ≡ front ++ (mine ++ l ∷ f.more) =
-    append_assoc (entry_front nodes n xs) (l ∷ []) f.more ∙ append_assoc front mine (l ∷ f.more)
+    let regroup : (entry_prefix nodes n xs ++ l ∷ []) ++ f.more ≡ prefix ++ (mine ++ l ∷ f.more) =
+    append_assoc (entry_prefix nodes n xs) (l ∷ []) f.more ∙ append_assoc prefix mine (l ∷ f.more)
     in
     let body = heads line.Header line.Header (node_part (f.of).nodes ++ tail) (node_part nodes ++ (mine ++ l ∷ f.more)) (f.are ∙ regroup) in
     let parts = cut_nodes (f.of).nodes nodes tail (mine ++ l ∷ f.more) body.1 in
@@ -189,7 +189,7 @@ after_entries nodes n xs l f =
     let count = first.0 in
     (parts.0, cc, first.1)
 
-pub only_entry : (nodes : List NodeName) (n : ℕ) (xs : List LevelEntry) (l : LevelLine) → length xs < n → AreFirstLines (entry_front nodes n xs ++ l ∷ [])
+pub only_entry : (nodes : List NodeName) (n : ℕ) (xs : List LevelEntry) (l : LevelLine) → length xs < n → AreFirstLines (entry_prefix nodes n xs ++ l ∷ [])
     → (e : LevelEntry) × IsLevelEntry (length nodes) e × (l ≡ line.Entry e)
 only_entry nodes n xs l low f =
     let entries = (f.of).entries in
@@ -199,7 +199,7 @@ only_entry nodes n xs l low f =
     let good = all_at (IsLevelEntry (length (f.of).nodes)) entries (f.is).each (length xs) next.0 next.1 in
     (next.0, subst (λ (ns : List NodeName). IsLevelEntry (length ns) next.0) after.0 good, next.2)
 
-pub only_end : (nodes : List NodeName) (xs : List LevelEntry) (l : LevelLine) → AreFirstLines (entry_front nodes (length xs) xs ++ l ∷ []) → l ≡ line.End
+pub only_end : (nodes : List NodeName) (xs : List LevelEntry) (l : LevelLine) → AreFirstLines (entry_prefix nodes (length xs) xs ++ l ∷ []) → l ≡ line.End
 only_end nodes xs l f =
     let after = after_entries nodes (length xs) xs l f in
     let parts = cut line.Entry (λ x y same. cc) (f.of).entries xs (line.End ∷ []) (l ∷ f.more) after.1 after.2 in
@@ -226,14 +226,14 @@ each_goes f never (x ∷ xs) = All-cons Goes (f x) (map f xs) (never x) (each_go
 pub header_goes : All Goes (line.Header ∷ [])
 header_goes = All-cons Goes line.Header [] (λ e. cc) (All-nil Goes)
 
-pub nodes_go : (n : ℕ) (xs : List NodeName) → All Goes (node_front n xs)
+pub nodes_go : (n : ℕ) (xs : List NodeName) → All Goes (node_prefix n xs)
 nodes_go n xs =
     All-cons Goes line.Header (line.Nodes n ∷ map line.Node xs) (λ e. cc)
     (All-cons Goes (line.Nodes n) (map line.Node xs) (λ e. cc) (each_goes line.Node (λ x e. cc) xs))
 
-pub entries_go : (nodes : List NodeName) (n : ℕ) (xs : List LevelEntry) → All Goes (entry_front nodes n xs)
+pub entries_go : (nodes : List NodeName) (n : ℕ) (xs : List LevelEntry) → All Goes (entry_prefix nodes n xs)
 entries_go nodes n xs =
-    All-append Goes (node_front (length nodes) nodes) (line.Entries n ∷ map line.Entry xs) (nodes_go (length nodes) nodes)
+    All-append Goes (node_prefix (length nodes) nodes) (line.Entries n ∷ map line.Entry xs) (nodes_go (length nodes) nodes)
     (All-cons Goes (line.Entries n) (map line.Entry xs) (λ e. cc) (each_goes line.Entry (λ x e. cc) xs))
 
 -- nothing follows all lines

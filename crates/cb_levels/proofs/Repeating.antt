@@ -13,7 +13,7 @@ use Rattle.cb_levels.specs.declared.line.LevelLine.TheVariants as line
 use Rattle.cb_levels.specs.declared.reader.LevelReader.{LevelReader}
 use Rattle.cb_levels.specs.Text.{level_line_text}
 use Rattle.cb_levels.specs.Format.{IsLevelCount, IsLevelEntry}
-use Rattle.cb_levels.specs.Steps.{node_front, entry_front, HasReadLines, ReadsLine, MissesLine, StopsFor, AreNodesRead, AreLevelsRead}
+use Rattle.cb_levels.specs.Steps.{node_prefix, entry_prefix, HasReadLines, ReadsLine, MissesLine, StopsFor, AreNodesRead, AreLevelsRead}
 use Rattle.cb_levels.proofs.Expecting.{took, missed, count_of_nodes, next_node, count_of_entries, next_entry}
 
 -- ---- nodes
@@ -23,7 +23,7 @@ pub record NodesSoFar (old now : LevelReader) (count i : ℕ) (xs : List NodeNam
   pub counted : IsLevelCount count
   pub many : length xs ≡ i
   pub good : All IsNode xs
-  pub read : (text : List ℕ) → HasReadLines text old (line.Header ∷ []) → HasReadLines text now (node_front count xs)
+  pub read : (text : List ℕ) → HasReadLines text old (line.Header ∷ []) → HasReadLines text now (node_prefix count xs)
 
 pub nodes_none : (old now : LevelReader) (count : ℕ) → ReadsLine old now (codes "nodes " ++ decimal count) × IsLevelCount count → NodesSoFar old now count 0 []
 nodes_none old now count takes = record {
@@ -45,13 +45,13 @@ module _ (old now : LevelReader) (count i : ℕ) (xs : List NodeName) (so_far : 
     good = All-push IsNode xs x so_far.good takes.1;
     read = λ text read.
         subst (λ ls. HasReadLines text new (line.Header ∷ line.Nodes count ∷ ls)) (sym (map-append line.Node xs (x ∷ [])))
-        (took text now new (node_front count xs) (line.Node x) (so_far.read text read) takes.0);
+        (took text now new (node_prefix count xs) (line.Node x) (so_far.read text read) takes.0);
   }
 
   pub no_node : i < count → (why : LevelText) → MissesLine now (λ met. (x : NodeName) → IsNode x → met ≢ level_line_text (line.Node x)) why
       → (text : List ℕ) → HasReadLines text old (line.Header ∷ []) → StopsFor text why
   no_node low why miss text read =
-      missed (node_front count xs) (λ x. level_line_text (line.Node x)) IsNode (next_node count xs so_far.counted (omega (arith, so_far.many)) so_far.good) text now
+      missed (node_prefix count xs) (λ x. level_line_text (line.Node x)) IsNode (next_node count xs so_far.counted (omega (arith, so_far.many)) so_far.good) text now
       (so_far.read text read) why miss
 
   pub nodes_all : i ≡ count → (text : List ℕ) → HasReadLines text old (line.Header ∷ []) → AreNodesRead text now xs
@@ -60,7 +60,7 @@ module _ (old now : LevelReader) (count i : ℕ) (xs : List NodeName) (so_far : 
       record {
         count = subst IsLevelCount same so_far.counted;
         names = so_far.good;
-        read = subst (λ k. HasReadLines text now (node_front k xs)) same (so_far.read text read);
+        read = subst (λ k. HasReadLines text now (node_prefix k xs)) same (so_far.read text read);
       }
 
 -- ---- entries
@@ -70,7 +70,7 @@ pub record EntriesSoFar (m : ℕ) (old now : LevelReader) (count i : ℕ) (xs : 
   pub counted : IsLevelCount count
   pub many : length xs ≡ i
   pub good : All (IsLevelEntry m) xs
-  pub read : (text : List ℕ) (nodes : List NodeName) → length nodes ≡ m → AreNodesRead text old nodes → HasReadLines text now (entry_front nodes count xs)
+  pub read : (text : List ℕ) (nodes : List NodeName) → length nodes ≡ m → AreNodesRead text old nodes → HasReadLines text now (entry_prefix nodes count xs)
 
 pub entries_none : (m : ℕ) (old now : LevelReader) (count : ℕ) → ReadsLine old now (codes "entries " ++ decimal count) × IsLevelCount count
     → EntriesSoFar m old now count 0 []
@@ -78,14 +78,14 @@ entries_none m old now count takes = record {
   counted = takes.1;
   many = refl;
   good = All-nil (IsLevelEntry m);
-  read = λ text nodes same read. took text old now (node_front (length nodes) nodes) (line.Entries count) read.read takes.0;
+  read = λ text nodes same read. took text old now (node_prefix (length nodes) nodes) (line.Entries count) read.read takes.0;
 }
 
 pub no_count_of_entries : (m : ℕ) (old : LevelReader) (why : LevelText)
     → MissesLine old (λ met. (n : ℕ) → IsLevelCount n → met ≢ codes "entries " ++ decimal n) why
     → (text : List ℕ) (nodes : List NodeName) → length nodes ≡ m → AreNodesRead text old nodes → StopsFor text why
 no_count_of_entries m old why miss text nodes same read =
-    missed (node_front (length nodes) nodes) (λ n. codes "entries " ++ decimal n) IsLevelCount (count_of_entries nodes read.count read.names) text old read.read why miss
+    missed (node_prefix (length nodes) nodes) (λ n. codes "entries " ++ decimal n) IsLevelCount (count_of_entries nodes read.count read.names) text old read.read why miss
 
 module _ (m : ℕ) (old now : LevelReader) (count i : ℕ) (xs : List LevelEntry) (so_far : EntriesSoFar m old now count i xs) where
   pub entries_more : (new : LevelReader) (x : LevelEntry) → ReadsLine now new (level_line_text (line.Entry x)) × IsLevelEntry m x
@@ -95,12 +95,12 @@ module _ (m : ℕ) (old now : LevelReader) (count i : ℕ) (xs : List LevelEntry
     many = omega (arith, so_far.many, length-append xs (x ∷ []));
     good = All-push (IsLevelEntry m) xs x so_far.good takes.1;
     read = λ text nodes same read.
-        let front = node_front (length nodes) nodes in
-        let lines : entry_front nodes count xs ++ line.Entry x ∷ [] ≡ entry_front nodes count (xs ++ x ∷ []) =
-        append_assoc front (line.Entries count ∷ map line.Entry xs) (line.Entry x ∷ [])
-        ∙ ap (λ (ls : List LevelLine). front ++ line.Entries count ∷ ls) (sym (map-append line.Entry xs (x ∷ [])))
+        let prefix = node_prefix (length nodes) nodes in
+        let lines : entry_prefix nodes count xs ++ line.Entry x ∷ [] ≡ entry_prefix nodes count (xs ++ x ∷ []) =
+        append_assoc prefix (line.Entries count ∷ map line.Entry xs) (line.Entry x ∷ [])
+        ∙ ap (λ (ls : List LevelLine). prefix ++ line.Entries count ∷ ls) (sym (map-append line.Entry xs (x ∷ [])))
         in
-        subst (HasReadLines text new) lines (took text now new (entry_front nodes count xs) (line.Entry x) (so_far.read text nodes same read) takes.0);
+        subst (HasReadLines text new) lines (took text now new (entry_prefix nodes count xs) (line.Entry x) (so_far.read text nodes same read) takes.0);
   }
 
   pub no_entry : i < count → (why : LevelText) → MissesLine now (λ met. (x : LevelEntry) → IsLevelEntry m x → met ≢ level_line_text (line.Entry x)) why
@@ -108,7 +108,7 @@ module _ (m : ℕ) (old now : LevelReader) (count i : ℕ) (xs : List LevelEntry
   no_entry low why miss text nodes same read =
       let good = subst (λ k. All (IsLevelEntry k) xs) (sym same) so_far.good in
       let missing = subst (λ k. MissesLine now (λ met. (x : LevelEntry) → IsLevelEntry k x → met ≢ level_line_text (line.Entry x)) why) (sym same) miss in
-      missed (entry_front nodes count xs) (λ x. level_line_text (line.Entry x)) (IsLevelEntry (length nodes))
+      missed (entry_prefix nodes count xs) (λ x. level_line_text (line.Entry x)) (IsLevelEntry (length nodes))
       (next_entry nodes count xs read.count read.names so_far.counted (omega (arith, so_far.many)) good) text now (so_far.read text nodes same read) why missing
 
   pub entries_all : i ≡ count → (text : List ℕ) (nodes : List NodeName) → length nodes ≡ m → AreNodesRead text old nodes
@@ -122,5 +122,5 @@ module _ (m : ℕ) (old now : LevelReader) (count i : ℕ) (xs : List LevelEntry
           entries = subst IsLevelCount count_is so_far.counted;
           each = subst (λ k. All (IsLevelEntry k) xs) (sym same) so_far.good;
         };
-        read = subst (λ k. HasReadLines text now (entry_front nodes k xs)) count_is (so_far.read text nodes same read);
+        read = subst (λ k. HasReadLines text now (entry_prefix nodes k xs)) count_is (so_far.read text nodes same read);
       }

@@ -160,21 +160,21 @@ good_entry n few e is =
     let node = (is.node).1 in
     let level = is.level in
     let parent = is.parent in
-    let front = word ++ decimal e.node ++ gap in
-    let middle = front ++ decimal e.level ++ gap in
+    let prefix = word ++ decimal e.node ++ gap in
+    let middle = prefix ++ decimal e.level ++ gap in
     let a = length-decimal-le 5 e.node (omega arith) (omega arith) (omega arith) in
     let b = length-decimal-le 5 e.level (omega arith) (omega arith) (omega arith) in
     let c = length-decimal-le 5 e.parent (omega arith) (omega arith) (omega arith) in
     let one = length-append word (decimal e.node) in
     let two = length-append (word ++ decimal e.node) gap in
-    let three = length-append front (decimal e.level) in
-    let four = length-append (front ++ decimal e.level) gap in
+    let three = length-append prefix (decimal e.level) in
+    let four = length-append (prefix ++ decimal e.level) gap in
     let five = length-append middle (decimal e.parent) in
     let space = lacks_by gap refl in
     record {
       lacks = both middle (decimal e.parent)
-          (both (front ++ decimal e.level) gap
-          (both front (decimal e.level)
+          (both (prefix ++ decimal e.level) gap
+          (both prefix (decimal e.level)
           (both (word ++ decimal e.node) gap (both word (decimal e.node) (lacks_by word refl) (decimal_lacks e.node (omega arith))) space)
           (decimal_lacks e.level (omega arith))) space)
           (decimal_lacks e.parent (omega arith));

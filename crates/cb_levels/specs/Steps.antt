@@ -16,12 +16,12 @@ use Rattle.cb_levels.specs.Format.{IsLevelCount, IsLevels, SpellsLevels}
 use Rattle.cb_levels.specs.Faults.{IsLevelFault}
 
 -- the header, and these nodes of n
-abbrev pub node_front : ℕ → List NodeName → List LevelLine
-node_front n nodes = line.Header ∷ line.Nodes n ∷ map line.Node nodes
+abbrev pub node_prefix : ℕ → List NodeName → List LevelLine
+node_prefix n nodes = line.Header ∷ line.Nodes n ∷ map line.Node nodes
 
 -- all nodes, and these entries of n
-abbrev pub entry_front : List NodeName → ℕ → List LevelEntry → List LevelLine
-entry_front nodes n entries = node_front (length nodes) nodes ++ line.Entries n ∷ map line.Entry entries
+abbrev pub entry_prefix : List NodeName → ℕ → List LevelEntry → List LevelLine
+entry_prefix nodes n entries = node_prefix (length nodes) nodes ++ line.Entries n ∷ map line.Entry entries
 
 -- of the text these lines were read
 pub record HasReadLines (text : List ℕ) (reader : LevelReader) (before : List LevelLine) : Type 0 where
@@ -62,7 +62,7 @@ StopsFor text why = (why ≡ fault.NoMemory) ⊎ IsLevelFault text why
 pub record AreNodesRead (text : List ℕ) (reader : LevelReader) (nodes : List NodeName) : Type 0 where
   pub count : IsLevelCount (length nodes)
   pub names : All IsNode nodes
-  pub read : HasReadLines text reader (node_front (length nodes) nodes)
+  pub read : HasReadLines text reader (node_prefix (length nodes) nodes)
 
 -- after the header nodes are read, or it is known why not
 abbrev pub ReadsNodes : LevelReader → LevelReader → Result (List NodeName) LevelText → Type 0
@@ -72,7 +72,7 @@ ReadsNodes old new (Err why) = (text : List ℕ) → HasReadLines text old (line
 -- levels of the format, whose lines but the last were read
 pub record AreLevelsRead (text : List ℕ) (reader : LevelReader) (levels : Levels) : Type 0 where
   pub is : IsLevels levels
-  pub read : HasReadLines text reader (entry_front levels.nodes (length levels.entries) levels.entries)
+  pub read : HasReadLines text reader (entry_prefix levels.nodes (length levels.entries) levels.entries)
 
 -- after that many nodes entries are read, or it is known why not
 abbrev pub ReadsEntries : ℕ → LevelReader → LevelReader → Result (List LevelEntry) LevelText → Type 0

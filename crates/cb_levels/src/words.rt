@@ -19,8 +19,8 @@ fn rest_after<'a>(bytes: &'a [u8], word: &[u8]) -> Option<&'a [u8]>
     if bytes.len() < length {
         return None;
     }
-    let front = &bytes[..length];
-    if front == word {
+    let prefix = &bytes[..length];
+    if prefix == word {
         Some(&bytes[length..])
     } else {
         None

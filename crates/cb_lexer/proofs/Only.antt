@@ -74,7 +74,7 @@ one_bytes k k' r r' (inr a) (inl b) e =
 one_bytes k k' r r' (inr a) (inr b) e =
     ap bytes_of (some_same k k' (two_signs (bytes_of k' ++ r') (Some k) (Some k') (subst (λ l. SignAt l (Some k)) e (sign_at k r a)) (sign_at k' r' b)))
 
--- the fixed tokens are told by their bytes
+-- the fixed tokens are known by their bytes
 abbrev fixed_of : List ℕ → Option Lexeme
 fixed_of bs =
     if pointwise nat_eq bs (codes "class") then Some lexemes.Class else (if pointwise nat_eq bs (codes "extends") then Some lexemes.Extends else (if pointwise nat_eq bs (codes "problem") then Some lexemes.Problem else (
@@ -89,28 +89,28 @@ abbrev IsFixed : Lexeme → Type 0
 IsFixed (lexemes.Name t) = ⊥
 IsFixed k = Unit {0}
 
-told : (k : Lexeme) → IsFixed k → fixed_of (bytes_of k) ≡ Some k
-told lexemes.Class f = refl
-told lexemes.Extends f = refl
-told lexemes.Problem f = refl
-told lexemes.Symptom f = refl
-told lexemes.Event f = refl
-told lexemes.Relation f = refl
-told lexemes.To f = refl
-told lexemes.One f = refl
-told lexemes.Many f = refl
-told lexemes.Inverse f = refl
-told lexemes.Rule f = refl
-told lexemes.Block f = refl
-told lexemes.Hide f = refl
-told lexemes.Open f = refl
-told lexemes.Close f = refl
-told lexemes.Semicolon f = refl
-told lexemes.Colon f = refl
-told lexemes.Dot f = refl
-told lexemes.Arrow f = refl
-told lexemes.Plus f = refl
-told (lexemes.Name t) f = absurd f
+reported : (k : Lexeme) → IsFixed k → fixed_of (bytes_of k) ≡ Some k
+reported lexemes.Class f = refl
+reported lexemes.Extends f = refl
+reported lexemes.Problem f = refl
+reported lexemes.Symptom f = refl
+reported lexemes.Event f = refl
+reported lexemes.Relation f = refl
+reported lexemes.To f = refl
+reported lexemes.One f = refl
+reported lexemes.Many f = refl
+reported lexemes.Inverse f = refl
+reported lexemes.Rule f = refl
+reported lexemes.Block f = refl
+reported lexemes.Hide f = refl
+reported lexemes.Open f = refl
+reported lexemes.Close f = refl
+reported lexemes.Semicolon f = refl
+reported lexemes.Colon f = refl
+reported lexemes.Dot f = refl
+reported lexemes.Arrow f = refl
+reported lexemes.Plus f = refl
+reported (lexemes.Name t) f = absurd f
 
 fixed_kinds : (k : Lexeme) → IsFixed k → IsWord k ⊎ IsSign k
 fixed_kinds lexemes.Open f = inr tt
@@ -181,7 +181,7 @@ same_token text r r' start k k' at at' e = elim (name_or_fixed k) [
   ]
   | inr f ↦ elim (name_or_fixed k') [
     | inl n' ↦ absurd (name_not_fixed n'.0.name k (subst (λ q. IsTokenAt text start q r') n'.1 at').name f (sym (ap bytes_of n'.1) ∙ sym e))
-    | inr f' ↦ some_same k k' (sym (told k f) ∙ ap fixed_of e ∙ told k' f')
+    | inr f' ↦ some_same k k' (sym (reported k f) ∙ ap fixed_of e ∙ reported k' f')
   ]
 ]
 

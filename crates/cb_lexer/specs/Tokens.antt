@@ -61,13 +61,13 @@ IsSign lexemes.Plus = Unit {0}
 IsSign k = ⊥
 
 abbrev pub BeginsWith : List ℕ → List ℕ → Type 0
-BeginsWith bytes front = (more : List ℕ) × (bytes ≡ front ++ more)
+BeginsWith bytes prefix = (more : List ℕ) × (bytes ≡ prefix ++ more)
 
 -- a sign of that length begins the bytes
 pub record IsSignAt (bytes : List ℕ) (k : Lexeme) (count : ℕ) : Type 0 where
   pub sign : IsSign k
   pub count_is : count ≡ length (bytes_of k)
-  pub front : BeginsWith bytes (bytes_of k)
+  pub prefix : BeginsWith bytes (bytes_of k)
 
 -- no sign begins the bytes
 abbrev pub NoSign : List ℕ → Type 0

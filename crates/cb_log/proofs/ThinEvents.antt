@@ -127,10 +127,10 @@ module _ (t : Topology) (mode : Mode) (w : ℕ) (all : List Record) (e : Event) 
   -- among what is reported of the windows that close at a place
   in_closing : (records : List Record) (closing : List Closed) (events : List Event) → take (length records) all ≡ records
       → AreClosing all w (length records) closing → Diagnoses t mode w records closing events → Contains events e → TellsThin t mode w all e
-  in_closing records [] events front closes none has = absurd (no_event events e none has)
-  in_closing records (c ∷ closing) events front closes p has =
+  in_closing records [] events prefix closes none has = absurd (no_event events e none has)
+  in_closing records (c ∷ closing) events prefix closes p has =
       let is_network : IsNetwork t mode (take (length records) all) p.network =
-      subst (λ (rs : List Record). IsNetwork t mode rs p.network) (sym front) p.is_network in
+      subst (λ (rs : List Record). IsNetwork t mode rs p.network) (sym prefix) p.is_network in
       elim (Contains-append_cases p.opening p.diagnoses e (subst (λ (es : List Event). Contains es e) p.events_are has)) [
         | inl early ↦
             opening_tells t mode w all records (length records) c ((closes.each c).0 (contains_head c closing)) p.network is_network p.basis p.opening
@@ -152,13 +152,13 @@ module _ (t : Topology) (mode : Mode) (w : ℕ) (all : List Record) (e : Event) 
       let records : List Record = records_of before in
       let parts : all ≡ records ++ r ∷ records_of later = whole ∙ records_of_both before (said line r ∷ later) in
       let split : all ≡ (records ++ r ∷ []) ++ records_of later = parts ∙ sym (append_assoc records (r ∷ []) (records_of later)) in
-      let front : take (length records) all ≡ records = ap (take (length records)) parts ∙ take-append_seam records (r ∷ records_of later) in
+      let prefix : take (length records) all ≡ records = ap (take (length records)) parts ∙ take-append_seam records (r ∷ records_of later) in
       let long = length_push records r in
       let closes : AreClosing all w (length records) here.closing.closing =
       subst (λ (rs : List Record). AreClosing rs w (length records) here.closing.closing) (sym split)
       (closing_stays (records ++ r ∷ []) (records_of later) w (length records) here.closing.closing (omega arith) here.closing.closes) in
       elim (Contains-append_cases here.closings here.refusals e (subst (λ (es : List Event). Contains es e) here.events_are has)) [
-        | inl early ↦ in_closing records here.closing.closing here.closings front closes here.closing.diagnoses early
+        | inl early ↦ in_closing records here.closing.closing here.closings prefix closes here.closing.diagnoses early
         | inr late ↦ absurd (body_has_none t mode records line r.body here.refusals e here.body late thin)
       ]
 

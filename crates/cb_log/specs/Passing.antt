@@ -45,7 +45,7 @@ pub record Clears (old new : Kept) (source : List ℕ) (node : NodeName) : Type 
   pub others : (other : List ℕ) → other ≢ source → map.get new.windows other ≡ map.get old.windows other
 
 -- an open window is reported with its times and nodes
-pub record IsTold (kept : Kept) (now : ℕ) (c : Closed) : Type 0 where
+pub record IsReported (kept : Kept) (now : ℕ) (c : Closed) : Type 0 where
   pub window : OpenWindow
   pub is : map.get kept.windows c.from ≡ Some window
   pub opened : c.opened ≡ window.opened
@@ -56,9 +56,9 @@ pub record IsTold (kept : Kept) (now : ℕ) (c : Closed) : Type 0 where
 -- the open windows that are due at a time, in order
 pub record AreDue (kept : Kept) (now : ℕ) (closing : List Closed) : Type 0 where
   pub rise : Rises closed_cmp closing
-  pub each : (c : Closed) → Contains closing c ↔ (IsTold kept now c × (c.opened + kept.length ≤ now))
+  pub each : (c : Closed) → Contains closing c ↔ (IsReported kept now c × (c.opened + kept.length ≤ now))
 
 -- all open windows, in order
 pub record AreOpen (kept : Kept) (closing : List Closed) : Type 0 where
   pub rise : Rises closed_cmp closing
-  pub each : (c : Closed) → Contains closing c ↔ IsTold kept kept.now c
+  pub each : (c : Closed) → Contains closing c ↔ IsReported kept kept.now c

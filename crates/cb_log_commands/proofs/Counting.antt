@@ -6,11 +6,11 @@ use Rattle.std.specs.Io.KnownBytes.{Consumes}
 use Rattle.std.proofs.lemmas.List.{length-append}
 use Rattle.std.proofs.lemmas.List.Elements.{All-append}
 use Rattle.cb_change.specs.InTurn.{IsCostInTurn, AddsUp}
-use Rattle.cb_change.proofs.InTurn.{adds_up, front_costs_less}
+use Rattle.cb_change.proofs.InTurn.{adds_up, prefix_costs_less}
 use Rattle.cb_io.specs.declared.line_reader.Line.{Line as Given}
 use Rattle.cb_io.specs.declared.line_reader.Line.TheVariants as given
 use Rattle.cb_io.specs.LineReading.{Reading, coming, IsOneLine, GivesEnded, GivesLast, GivesLine, IsNumbered, Says}
-use Rattle.cb_io.specs.Outside.{FilesTold, left_of, ReadsFront}
+use Rattle.cb_io.specs.Outside.{FilesReport, left_of, ReadsPrefix}
 use Rattle.cb_network.specs.declared.edit.Edit.{Edit}
 use Rattle.cb_network.specs.Regular.{IsRegular}
 use Rattle.cb_network.specs.Topology.{Topology}
@@ -29,11 +29,11 @@ use Rattle.cb_alarm.proofs.OneSkip.{come_to_one}
 use Rattle.cb_outcome.specs.LogJobs.{Watch}
 use Rattle.cb_outcome.specs.Reading.{LeavesRest}
 use Rattle.cb_outcome.specs.Costs.{CountsLines, lines_taken}
-use Rattle.cb_outcome.proofs.LogFronts.{front_lines, front_ended, first_come}
+use Rattle.cb_outcome.proofs.LogPrefixes.{prefix_lines, prefix_ended, first_come}
 use Rattle.cb_session.specs.State.{State, network_of}
 use Rattle.cb_log_commands.specs.Counting.{CountsLine, CountsGiven, IsCountedAt}
 use Rattle.cb_log_commands.specs.Telling.{joined, numbered, ReadsLog}
-use Rattle.cb_file_kinds.proofs.Chain.{take_front}
+use Rattle.cb_file_kinds.proofs.Chain.{take_prefix}
 use Rattle.cb_log_commands.proofs.Following.{left_there, no_more}
 use Rattle.cb_log_commands.proofs.Further.{one_alone, last_is}
 use Rattle.cb_log_commands.proofs.Lines.{one_none, ended_are, lines_are, numbered_more, joined_more, length_more}
@@ -84,11 +84,11 @@ module _ (t : Topology) where
       omega (arith, first, last, sum)
 
   -- the first of some lines cost no more than all
-  pub counts_front : (before behind : List NumberedLine) (start new : ℕ) → CountsLines t before start new → CountsLines t (before ++ behind) start new
-  counts_front before behind start new counts = λ cost is.
-      let (some, others, all_is, come) = first_come before behind is.0 is.1 in
+  pub counts_prefix : (before beyond : List NumberedLine) (start new : ℕ) → CountsLines t before start new → CountsLines t (before ++ beyond) start new
+  counts_prefix before beyond start new counts = λ cost is.
+      let (some, others, all_is, come) = first_come before beyond is.0 is.1 in
       let edits = ap (λ (es : List LogEntry). edits_of (records_of es)) all_is ∙ edits_in some others in
-      let (first, costs, less) = front_costs_less t (edits_of (records_of some)) (edits_of (records_of others)) cost
+      let (first, costs, less) = prefix_costs_less t (edits_of (records_of some)) (edits_of (records_of others)) cost
       (subst (λ (es : List Edit). IsCostInTurn t es cost) edits is.2) in
       let low = counts first (some, come, costs) in
       omega (arith, low, less)
@@ -106,9 +106,9 @@ joined_end ls all = ap ended_lines (sym (append-nil (joined ls))) ∙ ended_are 
 -- and they are the first of those that are taken with more bytes
 first_taken : (ls : List (List ℕ)) → All IsOneLine ls → (more rest : List ℕ) → (later : List NumberedLine) × (lines_taken (joined ls ++ more) rest ≡ numbered ls ++ later)
 first_taken ls all more [] =
-    let (later, e) = front_lines (joined ls) more in (later, e ∙ ap (λ (v : List NumberedLine). v ++ later) (joined_end ls all))
+    let (later, e) = prefix_lines (joined ls) more in (later, e ∙ ap (λ (v : List NumberedLine). v ++ later) (joined_end ls all))
 first_taken ls all more (b ∷ rest) =
-    let (later, e) = front_ended (joined ls) more in (later, e ∙ ap (λ (v : List NumberedLine). v ++ later) (joined_end ls all))
+    let (later, e) = prefix_ended (joined ls) more in (later, e ∙ ap (λ (v : List NumberedLine). v ++ later) (joined_end ls all))
 
 -- what stands before the same bytes is the same
 cut_off : (a b c : List ℕ) → a ++ c ≡ b ++ c → a ≡ b
@@ -117,7 +117,7 @@ cut_off a b c e =
     let one = length-append a c in
     let two = length-append b c in
     let same : length a ≡ length b = omega (arith, whole, one, two) in
-    sym (take_front a c) ∙ (ap (λ (n : ℕ). take n (a ++ c)) same ∙ (ap (take (length b)) e ∙ take_front b c))
+    sym (take_prefix a c) ∙ (ap (λ (n : ℕ). take n (a ++ c)) same ∙ (ap (take (length b)) e ∙ take_prefix b c))
 
 -- no more is counted than the lines cost that were taken, where the bytes are those of these lines and some more
 taken_counts : (t : Topology) (log : List ℕ) (ls : List (List ℕ)) → All IsOneLine ls → (start steps : ℕ) → CountsLines t (numbered ls) start steps
@@ -127,14 +127,14 @@ taken_counts t log ls all start steps counts kept left taken log_is =
     let same : taken.0 ≡ joined ls ++ kept =
     cut_off taken.0 (joined ls ++ kept) taken.1 (sym taken.2 ∙ (log_is ∙ sym (append_assoc (joined ls) kept taken.1))) in
     let (later, are) = first_taken ls all kept taken.1 in
-    subst (λ (v : List NumberedLine). CountsLines t v start steps) (sym (ap (λ (front : List ℕ). lines_taken front taken.1) same ∙ are)) (counts_front t (numbered ls) later start steps counts)
+    subst (λ (v : List NumberedLine). CountsLines t v start steps) (sym (ap (λ (prefix : List ℕ). lines_taken prefix taken.1) same ∙ are)) (counts_prefix t (numbered ls) later start steps counts)
 
 same_some : (x y : List ℕ) → Some x ≡ Some y → x ≡ y
 same_some x y e = cc
 
-consumed : (l rest front : List ℕ) (left after : Option (List ℕ)) → left ≡ Some l → after ≡ Some rest → Consumes left after front → l ≡ front ++ rest
-consumed l rest front left after is after_is came =
-    subst (λ (o : Option (List ℕ)). Consumes (Some l) o front) after_is (subst (λ (o : Option (List ℕ)). Consumes o after front) is came)
+consumed : (l rest prefix : List ℕ) (left after : Option (List ℕ)) → left ≡ Some l → after ≡ Some rest → Consumes left after prefix → l ≡ prefix ++ rest
+consumed l rest prefix left after is after_is came =
+    subst (λ (o : Option (List ℕ)). Consumes (Some l) o prefix) after_is (subst (λ (o : Option (List ℕ)). Consumes o after prefix) is came)
 
 -- ---- the next piece
 
@@ -145,7 +145,7 @@ module _ (watch : Watch) (log : List ℕ) (old : Reading) (bytes : List ℕ) (se
 
   given_are : take old.given log ≡ joined ls
   given_are =
-      ap (λ (n : ℕ). take n log) at.is_at.given_is ∙ (ap (take (length (joined ls))) at.is_at.log_is ∙ take_front (joined ls) bytes)
+      ap (λ (n : ℕ). take n log) at.is_at.given_is ∙ (ap (take (length (joined ls))) at.is_at.log_is ∙ take_prefix (joined ls) bytes)
 
   so_far : CountsLines watch.from (numbered ls) start steps
   so_far = subst (λ (v : List NumberedLine). CountsLines watch.from v start steps) (ap log_lines given_are ∙ joined_lines ls at.is_at.one_each) at.counts
@@ -154,18 +154,18 @@ module _ (watch : Watch) (log : List ℕ) (old : Reading) (bytes : List ℕ) (se
   now = subst (λ (m : Mode). IsNetwork watch.from m (records_of at.is_at.entries) (network_of session)) (at.is_at.mode ∙ at.mode) at.is_at.stands.network
 
   -- none was given, and some more bytes may have been taken
-  pub nothing_given : (files after : FilesTold) → coming old files ≡ Some bytes → ReadsFront files after old.name
+  pub nothing_given : (files after : FilesReport) → coming old files ≡ Some bytes → ReadsPrefix files after old.name
       → (taken : LeavesRest log (left_of after old.name)) → CountsLines watch.from (lines_taken taken.0 taken.1) start steps
   nothing_given files after comes read taken =
       let (l, is, are) = left_there old.kept (left_of files old.name) bytes comes in
-      let front = read.0 in
-      let came : l ≡ front ++ taken.1 = consumed l taken.1 front (left_of files old.name) (left_of after old.name) is taken.3 read.1 in
-      let bytes_are : bytes ≡ (old.kept ++ front) ++ taken.1 =
-      are ∙ (ap (λ (v : List ℕ). old.kept ++ v) came ∙ sym (append_assoc old.kept front taken.1)) in
-      taken_counts watch.from log ls at.is_at.one_each start steps so_far (old.kept ++ front) (left_of after old.name) taken
+      let prefix = read.0 in
+      let came : l ≡ prefix ++ taken.1 = consumed l taken.1 prefix (left_of files old.name) (left_of after old.name) is taken.3 read.1 in
+      let bytes_are : bytes ≡ (old.kept ++ prefix) ++ taken.1 =
+      are ∙ (ap (λ (v : List ℕ). old.kept ++ v) came ∙ sym (append_assoc old.kept prefix taken.1)) in
+      taken_counts watch.from log ls at.is_at.one_each start steps so_far (old.kept ++ prefix) (left_of after old.name) taken
       (at.is_at.log_is ∙ ap (λ (v : List ℕ). joined ls ++ v) bytes_are)
 
-  module _ (new : Reading) (after : FilesTold) (name : new.name ≡ old.name) (steps' : ℕ) where
+  module _ (new : Reading) (after : FilesReport) (name : new.name ≡ old.name) (steps' : ℕ) where
     -- what is left of the file after these bytes
     left_is : (rest : List ℕ) → coming new after ≡ Some rest → (taken : LeavesRest log (left_of after old.name)) → rest ≡ new.kept ++ taken.1
     left_is rest comes taken =
@@ -208,7 +208,7 @@ module _ (watch : Watch) (log : List ℕ) (old : Reading) (bytes : List ℕ) (se
               let size = length_more ls line in
               let here : new.given ≡ length (joined more) = omega (arith, given_is, before, size) in
               let are : take new.given log ≡ joined more =
-              ap (λ (n : ℕ). take n log) here ∙ (ap (take (length (joined more))) (log_more is) ∙ take_front (joined more) gives.rest) in
+              ap (λ (n : ℕ). take n log) here ∙ (ap (take (length (joined more))) (log_more is) ∙ take_prefix (joined more) gives.rest) in
               subst (λ (v : List NumberedLine). CountsLines watch.from v start steps') (sym (ap log_lines are ∙ joined_lines more (all_more is.begin.one))) further
           by_way (inr is) = let ended : true ≡ false = sym is.ended ∙ going in absurd (cc)
 

@@ -13,21 +13,21 @@ use Rattle.cb_log.specs.Basis.{Mode}
 use Rattle.cb_log.specs.Entries.{records_of}
 use Rattle.cb_log.specs.Events.{EntryGives, EndGives}
 use Rattle.cb_log.proofs.OneMore.{entries_give_more}
-use Rattle.cb_alarm.specs.Lines.{NumberedLine, line_of, ComesTo, ComeTo, log_lines, FrontGives}
+use Rattle.cb_alarm.specs.Lines.{NumberedLine, line_of, ComesTo, ComeTo, log_lines, PrefixGives}
 use Rattle.cb_report.specs.EventTexts.{event_text, events_text}
-use Rattle.cb_outcome.specs.LogJobs.{Watch, WholeTells, FrontTells, log_limit}
-use Rattle.cb_outcome.proofs.LogFronts.{front_is_front}
+use Rattle.cb_outcome.specs.LogJobs.{Watch, WholeTells, PrefixTells, log_limit}
+use Rattle.cb_outcome.proofs.LogPrefixes.{prefix_gives_prefix}
 use Rattle.cb_session.specs.State.{State}
 use Rattle.cb_log_commands.specs.Following.{IsDueUpto}
 use Rattle.cb_log_commands.specs.Telling.{joined, numbered, IsAt, StepTells, TellsLine, TellsEnd}
 use Rattle.cb_log_commands.proofs.Lines.{one_take, one_none, ended_are, lines_are, numbered_more, joined_more, length_more, zip_more}
 
 -- the text of events that follow others
-text_more : (opening told text : List ℕ) (events more : List Event) → told ≡ opening ++ events_text events → text ≡ events_text more
-    → told ++ text ≡ opening ++ events_text (events ++ more)
-text_more opening told text events more t m =
+text_more : (opening reported text : List ℕ) (events more : List Event) → reported ≡ opening ++ events_text events → text ≡ events_text more
+    → reported ++ text ≡ opening ++ events_text (events ++ more)
+text_more opening reported text events more t m =
     let joined_text : events_text (events ++ more) ≡ events_text events ++ events_text more = flat_map-append event_text events more in
-    let parts : told ++ text ≡ (opening ++ events_text events) ++ events_text more = λ i. t i ++ m i in
+    let parts : reported ++ text ≡ (opening ++ events_text events) ++ events_text more = λ i. t i ++ m i in
     parts ∙ (append_assoc opening (events_text events) (events_text more) ∙ ap (λ (v : List ℕ). opening ++ v) (sym joined_text))
 
 pub one_alone : (line : List ℕ) → IsOneLine line → All IsOneLine (line ∷ [])
@@ -37,58 +37,58 @@ pub last_is : (line : List ℕ) → (line ≡ [] → ⊥) → last_line line ≡
 last_is [] some = absurd (some refl)
 last_is (b ∷ bs) some = refl
 
-module _ (watch : Watch) (regular : IsRegular watch.from.model) (log : List ℕ) (number given : ℕ) (bytes : List ℕ) (session : State) (told : List ℕ)
-    (is_at : IsAt watch log number given bytes session told) where
+module _ (watch : Watch) (regular : IsRegular watch.from.model) (log : List ℕ) (number given : ℕ) (bytes : List ℕ) (session : State) (reported : List ℕ)
+    (is_at : IsAt watch log number given bytes session reported) where
   -- ---- what is due
 
   -- bytes after the lines that end none tell nothing more
-  tells_front : (part : List ℕ) → IsOneLine part → FrontTells watch (joined is_at.lines ++ part) told
-  tells_front part one = (
+  tells_prefix : (part : List ℕ) → IsOneLine part → PrefixTells watch (joined is_at.lines ++ part) reported
+  tells_prefix part one = (
     is_at.events,
     (is_at.entries, subst (λ (ls : List NumberedLine). ComeTo ls is_at.entries) (sym (ended_are is_at.lines part is_at.one_each one)) is_at.come, is_at.gives),
-    is_at.told_is,
+    is_at.reported_is,
   )
 
-  module _ (front rest : List ℕ) (bytes_are : bytes ≡ front ++ rest) (one : IsOneLine front) where
-    log_parts : log ≡ (joined is_at.lines ++ front) ++ rest
-    log_parts = is_at.log_is ∙ (ap (λ (v : List ℕ). joined is_at.lines ++ v) bytes_are ∙ sym (append_assoc (joined is_at.lines) front rest))
+  module _ (prefix rest : List ℕ) (bytes_are : bytes ≡ prefix ++ rest) (one : IsOneLine prefix) where
+    log_parts : log ≡ (joined is_at.lines ++ prefix) ++ rest
+    log_parts = is_at.log_is ∙ (ap (λ (v : List ℕ). joined is_at.lines ++ v) bytes_are ∙ sym (append_assoc (joined is_at.lines) prefix rest))
 
-    -- all that was told is due while the next line comes
-    pub told_is_due : IsDueUpto watch log (given + length front) told
-    told_is_due =
+    -- all that was reported is due while the next line comes
+    pub reported_is_due : IsDueUpto watch log (given + length prefix) reported
+    reported_is_due =
         let within = is_at.within in
-        let k = min (given + length front) log_limit in
+        let k = min (given + length prefix) log_limit in
         let j = k - given in
         let low : given ≤ k = omega (arith, within) in
-        let high : k ≤ given + length front = omega arith in
-        let parts = log_parts ∙ append_assoc (joined is_at.lines) front rest in
-        let there : take k log ≡ take (length (joined is_at.lines) + j) (joined is_at.lines ++ (front ++ rest)) =
+        let high : k ≤ given + length prefix = omega arith in
+        let parts = log_parts ∙ append_assoc (joined is_at.lines) prefix rest in
+        let there : take k log ≡ take (length (joined is_at.lines) + j) (joined is_at.lines ++ (prefix ++ rest)) =
         λ i. take (counted k low i) (parts i) in
-        let cut = take-append-add (joined is_at.lines) (front ++ rest) j in
-        let short = take-append-le j front rest (omega (arith, low, high)) in
-        subst (λ (v : List ℕ). FrontTells watch v told) (sym (there ∙ (cut ∙ ap (λ (v : List ℕ). joined is_at.lines ++ v) short)))
-        (tells_front (take j front) (one_take j front one))
+        let cut = take-append-add (joined is_at.lines) (prefix ++ rest) j in
+        let short = take-append-le j prefix rest (omega (arith, low, high)) in
+        subst (λ (v : List ℕ). PrefixTells watch v reported) (sym (there ∙ (cut ∙ ap (λ (v : List ℕ). joined is_at.lines ++ v) short)))
+        (tells_prefix (take j prefix) (one_take j prefix one))
       where
         counted : (k : ℕ) → given ≤ k → k ≡ length (joined is_at.lines) + (k - given)
         counted k low = let is = is_at.given_is in omega (arith, low, is)
 
     -- and no more than that before the next line ends
-    pub due_is_short : (upto : ℕ) (due : List ℕ) → upto ≤ given + length front → IsDueUpto watch log upto due → length due ≤ length told
+    pub due_is_short : (upto : ℕ) (due : List ℕ) → upto ≤ given + length prefix → IsDueUpto watch log upto due → length due ≤ length reported
     due_is_short upto due early (first, gives, due_is) =
         let m = min upto log_limit in
-        let all = joined is_at.lines ++ front in
-        let size = length-append (joined is_at.lines) front in
+        let all = joined is_at.lines ++ prefix in
+        let size = length-append (joined is_at.lines) prefix in
         let counted = is_at.given_is in
         let within : m ≤ length all = omega (arith, early, size, counted) in
         let there : take m log ≡ take m all = ap (take m) log_parts ∙ take-append-le m all rest within in
-        let (events, all_give, told_is) = tells_front front one in
-        let here = subst (λ (v : List ℕ). FrontGives watch.from watch.mode watch.window v first) there gives in
-        let whole = subst (λ (v : List ℕ). FrontGives watch.from watch.mode watch.window v events) (sym (take-append-drop m all)) all_give in
-        let (more, is) = front_is_front watch.from watch.mode watch.window (take m all) (drop m all) first events regular here (inl whole) in
-        longer first events more due_is told_is is
+        let (events, all_give, reported_is) = tells_prefix prefix one in
+        let here = subst (λ (v : List ℕ). PrefixGives watch.from watch.mode watch.window v first) there gives in
+        let whole = subst (λ (v : List ℕ). PrefixGives watch.from watch.mode watch.window v events) (sym (take-append-drop m all)) all_give in
+        let (more, is) = prefix_gives_prefix watch.from watch.mode watch.window (take m all) (drop m all) first events regular here (inl whole) in
+        longer first events more due_is reported_is is
       where
-        longer : (first events more : List Event) → due ≡ watch.opening ++ events_text first → told ≡ watch.opening ++ events_text events
-            → events ≡ first ++ more → length due ≤ length told
+        longer : (first events more : List Event) → due ≡ watch.opening ++ events_text first → reported ≡ watch.opening ++ events_text events
+            → events ≡ first ++ more → length due ≤ length reported
         longer first events more d t is =
             let a = ap length d in
             let b = ap length (t ∙ (ap (λ (es : List Event). watch.opening ++ events_text es) is ∙ sym (text_more watch.opening due (events_text more) first more d refl))) in
@@ -115,7 +115,7 @@ module _ (watch : Watch) (regular : IsRegular watch.from.model) (log : List ℕ)
 
     -- where a LF ends it
     pub next_at : (rest : List ℕ) → bytes ≡ line ++ 10 ∷ rest → given + length line + 1 ≤ log_limit
-        → IsAt watch log (number + 1) (given + length line + 1) rest session' (told ++ text)
+        → IsAt watch log (number + 1) (given + length line + 1) rest session' (reported ++ text)
     next_at rest bytes_are within = record {
       lines = is_at.lines ++ line ∷ [];
       one_each = All-append IsOneLine is_at.lines (line ∷ []) is_at.one_each (one_alone line one);
@@ -130,15 +130,15 @@ module _ (watch : Watch) (regular : IsRegular watch.from.model) (log : List ℕ)
       come = come_more;
       events = is_at.events ++ step.events;
       gives = entries_give_more watch.from watch.mode watch.window [] is_at.entries tells.entry is_at.events step.events is_at.gives gives_here;
-      told_is = text_more watch.opening told text is_at.events step.events is_at.told_is step.text_is;
+      reported_is = text_more watch.opening reported text is_at.events step.events is_at.reported_is step.text_is;
       mode = mode ∙ is_at.mode;
       window = window ∙ is_at.window;
       stands = step.stands;
     }
 
     -- where the end ends it
-    pub last_told : (ends : List ℕ) → (line ≡ [] → ⊥) → bytes ≡ line → TellsEnd session' ends → WholeTells watch log (told ++ (text ++ ends))
-    last_told ends some bytes_are end =
+    pub last_reported : (ends : List ℕ) → (line ≡ [] → ⊥) → bytes ≡ line → TellsEnd session' ends → WholeTells watch log (reported ++ (text ++ ends))
+    last_reported ends some bytes_are end =
         let (events, gives, text_is) = end watch.from (is_at.entries ++ tells.entry ∷ []) regular step.stands in
         let whole : log ≡ joined is_at.lines ++ line = is_at.log_is ∙ ap (λ (v : List ℕ). joined is_at.lines ++ v) bytes_are in
         let are : log_lines log ≡ numbered (is_at.lines ++ line ∷ []) =
@@ -155,14 +155,14 @@ module _ (watch : Watch) (regular : IsRegular watch.from.model) (log : List ℕ)
                 (subst (λ (w : ℕ). EndGives watch.from session'.mode w (records_of (is_at.entries ++ tells.entry ∷ [])) events) (window ∙ is_at.window) gives);
             events_are = refl;
           },
-          sym (append_assoc told text ends)
-              ∙ text_more watch.opening (told ++ text) ends (is_at.events ++ step.events) events
-              (text_more watch.opening told text is_at.events step.events is_at.told_is step.text_is) text_is,
+          sym (append_assoc reported text ends)
+              ∙ text_more watch.opening (reported ++ text) ends (is_at.events ++ step.events) events
+              (text_more watch.opening reported text is_at.events step.events is_at.reported_is step.text_is) text_is,
         )
 
   -- where no line comes
-  pub end_told : (ends : List ℕ) → bytes ≡ [] → TellsEnd session ends → WholeTells watch log (told ++ ends)
-  end_told ends none end =
+  pub end_reported : (ends : List ℕ) → bytes ≡ [] → TellsEnd session ends → WholeTells watch log (reported ++ ends)
+  end_reported ends none end =
       let (events, gives, text_is) = end watch.from is_at.entries regular is_at.stands in
       let whole : log ≡ joined is_at.lines ++ [] = is_at.log_is ∙ ap (λ (v : List ℕ). joined is_at.lines ++ v) none in
       let are : log_lines log ≡ numbered is_at.lines =
@@ -179,5 +179,5 @@ module _ (watch : Watch) (regular : IsRegular watch.from.model) (log : List ℕ)
               (subst (λ (w : ℕ). EndGives watch.from session.mode w (records_of is_at.entries) events) is_at.window gives);
           events_are = refl;
         },
-        text_more watch.opening told ends is_at.events events is_at.told_is text_is,
+        text_more watch.opening reported ends is_at.events events is_at.reported_is text_is,
       )

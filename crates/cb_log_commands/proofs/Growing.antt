@@ -1,7 +1,7 @@
 -- What is made up, judged, and what `grow` makes of it.
 use Rattle.std.proofs.Common.{◌≡◌, ◌⊎◌, ℕ, List, refl, sym, subst, inl, inr, Result, Ok, Err}
-use Rattle.cb_io.specs.Outside.{FilesTold}
-use Rattle.cb_io.proofs.Told.{ReadsEach-nil}
+use Rattle.cb_io.specs.Outside.{FilesReport}
+use Rattle.cb_io.proofs.Reported.{ReadsEach-nil}
 use Rattle.cb_model.specs.declared.tables.Tables.{Tables}
 use Rattle.cb_grammar.specs.declared.tree.Tree.{Tree}
 use Rattle.cb_syntax.specs.Spells.{SpellsModel}
@@ -76,7 +76,7 @@ module _ (sites : ℕ) (text second : List ℕ) (e : text ≡ model_text) (f : s
 -- ---- a fault
 
 pub refused_comes : (sites start : ℕ) (fault : Fault) (result : Result Output Fault) → AnswersFault fault result
-    → IsWant fault ⊎ HasMadeUpFault sites fault → (files : FilesTold) → Comes (grow sites start) files files result
+    → IsWant fault ⊎ HasMadeUpFault sites fault → (files : FilesReport) → Comes (grow sites start) files files result
 refused_comes sites start fault (Ok output) (empty, is, not) (inl want) files = absurd (not want)
 refused_comes sites start fault (Ok output) (empty, is, not) (inr has) files = record {
   known = nothing;

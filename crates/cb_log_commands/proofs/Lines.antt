@@ -27,11 +27,11 @@ no_lf bytes one k d low =
     ]
 
 -- a prefix of them has none either
-pub one_front : (front rest : List ℕ) → IsOneLine (front ++ rest) → IsOneLine front
-one_front front rest one contains = one (Contains-append_left front rest 10 contains)
+pub one_prefix : (prefix rest : List ℕ) → IsOneLine (prefix ++ rest) → IsOneLine prefix
+one_prefix prefix rest one contains = one (Contains-append_left prefix rest 10 contains)
 
 pub one_take : (n : ℕ) (bytes : List ℕ) → IsOneLine bytes → IsOneLine (take n bytes)
-one_take n bytes one = one_front (take n bytes) (drop n bytes) (subst IsOneLine (sym (take-append-drop n bytes)) one)
+one_take n bytes one = one_prefix (take n bytes) (drop n bytes) (subst IsOneLine (sym (take-append-drop n bytes)) one)
 
 pub one_none : IsOneLine []
 one_none (k, low, is) = absurd (omega (arith, low))

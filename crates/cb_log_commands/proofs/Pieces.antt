@@ -7,7 +7,7 @@ use Rattle.std.proofs.lemmas.List.{length-append}
 use Rattle.cb_io.specs.declared.line_reader.Line.{Line as Given}
 use Rattle.cb_io.specs.declared.line_reader.Line.TheVariants as given
 use Rattle.cb_io.specs.LineReading.{Reading, IsOneLine, GivesEnded, GivesLast, GivesLine, IsAtEnd, IsNumbered, Says, Advances}
-use Rattle.cb_io.specs.Outside.{FilesTold}
+use Rattle.cb_io.specs.Outside.{FilesReport}
 use Rattle.cb_network.specs.Regular.{IsRegular}
 use Rattle.cb_alarm.specs.Lines.{NumberedLine, line_of, log_line_limit}
 use Rattle.cb_alarm.specs.Lines as lines
@@ -15,7 +15,7 @@ use Rattle.cb_outcome.specs.LogJobs.{Watch, WholeTells}
 use Rattle.cb_session.specs.State.{State}
 use Rattle.cb_log_commands.specs.Telling.{joined, IsAt, TellsLine, TellsGiven, TellsEnd, Comes, ReadsLog}
 use Rattle.cb_log_commands.proofs.Lines.{one_none}
-use Rattle.cb_log_commands.proofs.Further.{next_at, last_told, end_told}
+use Rattle.cb_log_commands.proofs.Further.{next_at, last_reported, end_reported}
 
 -- what stands after the text of a line: that of the end, where it has come
 abbrev pub EndsWith : Bool → State → List ℕ → List ℕ → Type 0
@@ -42,9 +42,9 @@ short_line number line short = cond_true (nat_le (length line) log_line_limit) (
 pub long_line : (number : ℕ) (line : List ℕ) → log_line_limit < length line → line_of (number, line) ≡ lines.long number
 long_line number line past = cond_false (nat_le (length line) log_line_limit) (lines.text number line) (lines.long number) (not_within (length line) log_line_limit past)
 
-module _ (old new : Reading) (after : FilesTold) (session mid : State) (told_text out : List ℕ) (reads_log : ReadsLog old)
-    (mode : mid.mode ≡ session.mode) (window : mid.windows.length ≡ session.windows.length) (ends : EndsWith new.ended mid told_text out)
-    (watch : Watch) (log told bytes : List ℕ) (regular : IsRegular watch.from.model) (is_at : IsAt watch log old.number old.given bytes session told) where
+module _ (old new : Reading) (after : FilesReport) (session mid : State) (reported_text out : List ℕ) (reads_log : ReadsLog old)
+    (mode : mid.mode ≡ session.mode) (window : mid.windows.length ≡ session.windows.length) (ends : EndsWith new.ended mid reported_text out)
+    (watch : Watch) (log reported bytes : List ℕ) (regular : IsRegular watch.from.model) (is_at : IsAt watch log old.number old.given bytes session reported) where
   size : length log ≡ old.given + length bytes
   size =
       let a = ap length is_at.log_is in
@@ -52,27 +52,27 @@ module _ (old new : Reading) (after : FilesTold) (session mid : State) (told_tex
       let g = is_at.given_is in
       omega (arith, a, b, g)
 
-  ends_as : (b : Bool) → new.ended ≡ b → EndsWith b mid told_text out
-  ends_as b e = subst (λ (x : Bool). EndsWith x mid told_text out) e ends
+  ends_as : (b : Bool) → new.ended ≡ b → EndsWith b mid reported_text out
+  ends_as b e = subst (λ (x : Bool). EndsWith x mid reported_text out) e ends
 
-  module _ (line : List ℕ) (tells : TellsLine session mid (line_of (old.number + 1, line)) told_text) (gives : GivesLine old new after bytes line) where
-    by_way : GivesEnded old new bytes line gives.rest ⊎ GivesLast old new bytes line gives.rest → Comes new.ended watch log old new after mid told out bytes
+  module _ (line : List ℕ) (tells : TellsLine session mid (line_of (old.number + 1, line)) reported_text) (gives : GivesLine old new after bytes line) where
+    by_way : GivesEnded old new bytes line gives.rest ⊎ GivesLast old new bytes line gives.rest → Comes new.ended watch log old new after mid reported out bytes
     by_way (inl is) =
         let limit = reads_log.total_most in
         let within = gives.within in
         let given_is = is.given in
-        let next = next_at watch regular log old.number old.given bytes session told is_at line is.begin.one mid told_text tells mode window gives.rest is.begin.are
+        let next = next_at watch regular log old.number old.given bytes session reported is_at line is.begin.one mid reported_text tells mode window gives.rest is.begin.are
         (omega (arith, limit, within, given_is)) in
-        let out_is : out ≡ told_text = ends_as false is.ended in
-        subst (λ (b : Bool). Comes b watch log old new after mid told out bytes) (sym is.ended) (record {
+        let out_is : out ≡ reported_text = ends_as false is.ended in
+        subst (λ (b : Bool). Comes b watch log old new after mid reported out bytes) (sym is.ended) (record {
           line = line;
           rest = gives.rest;
           begin = is.begin;
           comes = gives.comes;
           is_at =
-              subst (λ (n : ℕ). IsAt watch log n new.given gives.rest mid (told ++ out)) (sym gives.number)
-              (subst (λ (g : ℕ). IsAt watch log (old.number + 1) g gives.rest mid (told ++ out)) (sym is.given)
-              (subst (λ (t : List ℕ). IsAt watch log (old.number + 1) (old.given + length line + 1) gives.rest mid (told ++ t)) (sym out_is) next));
+              subst (λ (n : ℕ). IsAt watch log n new.given gives.rest mid (reported ++ out)) (sym gives.number)
+              (subst (λ (g : ℕ). IsAt watch log (old.number + 1) g gives.rest mid (reported ++ out)) (sym is.given)
+              (subst (λ (t : List ℕ). IsAt watch log (old.number + 1) (old.given + length line + 1) gives.rest mid (reported ++ t)) (sym out_is) next));
         })
     by_way (inr is) =
         let limit = reads_log.total_most in
@@ -81,42 +81,42 @@ module _ (old new : Reading) (after : FilesTold) (session mid : State) (told_tex
         let all = size in
         let line_size = ap length is.last.are in
         let (end, tells_end, out_is) = ends_as true is.ended in
-        let whole = last_told watch regular log old.number old.given bytes session told is_at line is.last.one mid told_text tells mode window end is.last.some is.last.are tells_end in
-        subst (λ (b : Bool). Comes b watch log old new after mid told out bytes) (sym is.ended) (record {
+        let whole = last_reported watch regular log old.number old.given bytes session reported is_at line is.last.one mid reported_text tells mode window end is.last.some is.last.are tells_end in
+        subst (λ (b : Bool). Comes b watch log old new after mid reported out bytes) (sym is.ended) (record {
           one = subst IsOneLine (sym is.last.are) is.last.one;
           comes = gives.comes ∙ ap (λ (l : List ℕ). Some l) is.none;
-          tells = subst (λ (t : List ℕ). WholeTells watch log (told ++ t)) (sym out_is) whole;
+          tells = subst (λ (t : List ℕ). WholeTells watch log (reported ++ t)) (sym out_is) whole;
           within = omega (arith, limit, within, given_is, all, line_size);
         })
 
-  at_end : mid ≡ session → told_text ≡ [] → IsAtEnd old new after bytes → Comes new.ended watch log old new after mid told out bytes
+  at_end : mid ≡ session → reported_text ≡ [] → IsAtEnd old new after bytes → Comes new.ended watch log old new after mid reported out bytes
   at_end same nothing is =
       let within = is_at.within in
       let all = size in
       let none = ap length is.none in
       let (end, tells_end, out_is) = ends_as true is.ended in
-      let whole = end_told watch regular log old.number old.given bytes session told is_at end is.none (subst (λ (s : State). TellsEnd s end) same tells_end) in
-      subst (λ (b : Bool). Comes b watch log old new after mid told out bytes) (sym is.ended) (record {
+      let whole = end_reported watch regular log old.number old.given bytes session reported is_at end is.none (subst (λ (s : State). TellsEnd s end) same tells_end) in
+      subst (λ (b : Bool). Comes b watch log old new after mid reported out bytes) (sym is.ended) (record {
         one = subst IsOneLine (sym is.none) one_none;
         comes = is.comes;
-        tells = subst (λ (t : List ℕ). WholeTells watch log (told ++ t)) (sym (out_is ∙ ap (λ (t : List ℕ). t ++ end) nothing)) whole;
+        tells = subst (λ (t : List ℕ). WholeTells watch log (reported ++ t)) (sym (out_is ∙ ap (λ (t : List ℕ). t ++ end) nothing)) whole;
         within = omega (arith, within, all, none);
       })
 
-  pub piece_says : (line : Given) → IsNumbered new line → TellsGiven session mid line new.text told_text → Says old new after (Ok line) bytes
-      → Comes new.ended watch log old new after mid told out bytes
+  pub piece_says : (line : Given) → IsNumbered new line → TellsGiven session mid line new.text reported_text → Says old new after (Ok line) bytes
+      → Comes new.ended watch log old new after mid reported out bytes
   piece_says (given.Text number) is tells says =
       let limit = reads_log.line_most in
       let short = says.short in
       let here : line_of (old.number + 1, new.text) ≡ lines.text number new.text =
       short_line (old.number + 1) new.text (omega (arith, limit, short)) ∙ ap (λ (n : ℕ). lines.text n new.text) (sym says.line.number ∙ sym is) in
-      by_way new.text (subst (λ (l : NumberedLine). TellsLine session mid l told_text) (sym here) tells) says.line says.line.way
+      by_way new.text (subst (λ (l : NumberedLine). TellsLine session mid l reported_text) (sym here) tells) says.line says.line.way
   piece_says (given.Long number) is tells says =
       let limit = reads_log.line_most in
       let past = says.long in
       let here : line_of (old.number + 1, says.line) ≡ lines.long number =
       long_line (old.number + 1) says.line (omega (arith, limit, past)) ∙ ap (λ (n : ℕ). lines.long n) (sym says.gives.number ∙ sym is) in
-      by_way says.line (subst (λ (l : NumberedLine). TellsLine session mid l told_text) (sym here) tells) says.gives says.gives.way
+      by_way says.line (subst (λ (l : NumberedLine). TellsLine session mid l reported_text) (sym here) tells) says.gives says.gives.way
   piece_says given.End is tells says = at_end tells.0 tells.1 says
 
 -- an answer goes on within the limit of the file, or the end has come

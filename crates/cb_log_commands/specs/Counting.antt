@@ -3,7 +3,7 @@ use Rattle.std.specs.Prelude.{◌≡◌, ◌+◌, ◌≤◌, ℕ, List, [], take
 use Rattle.cb_io.specs.declared.line_reader.Line.{Line as Given}
 use Rattle.cb_io.specs.declared.line_reader.Line.TheVariants as given
 use Rattle.cb_io.specs.LineReading.{Reading}
-use Rattle.cb_io.specs.Outside.{FilesTold, left_of}
+use Rattle.cb_io.specs.Outside.{FilesReport, left_of}
 use Rattle.cb_network.specs.Regular.{IsRegular}
 use Rattle.cb_network.specs.Topology.{Topology}
 use Rattle.cb_log.specs.Basis.{wanted}
@@ -38,12 +38,12 @@ pub record IsCountedAt (watch : Watch) (log : List ℕ) (reader : Reading) (byte
   pub regular : IsRegular watch.from.model
   pub distance : ℕ
   pub mode : watch.mode ≡ wanted distance
-  pub told : List ℕ
-  pub is_at : IsAt watch log reader.number reader.given bytes session told
+  pub reported : List ℕ
+  pub is_at : IsAt watch log reader.number reader.given bytes session reported
   pub counts : CountsLines watch.from (log_lines (take reader.given log)) start steps
 
 -- then, once the next piece is asked for, no more were counted than the lines cost that were taken
-abbrev pub PieceTakes : Reading → FilesTold → State → ℕ → ℕ → List ℕ → Type 0
+abbrev pub PieceTakes : Reading → FilesReport → State → ℕ → ℕ → List ℕ → Type 0
 PieceTakes reader after session old new bytes = (watch : Watch) (log : List ℕ) (start : ℕ) → IsCountedAt watch log reader bytes session start old
     → (taken : LeavesRest log (left_of after reader.name)) → CountsLines watch.from (lines_taken taken.0 taken.1) start new
 
@@ -53,18 +53,18 @@ PieceCounts reader reader' session old new bytes = (watch : Watch) (log : List �
     → reader'.ended ≡ false → CountsLines watch.from (log_lines (take reader'.given log)) start new
 
 -- since the start no more steps were counted than the lines cost that were given
-pub record HasCounted (watch : Watch) (now : FilesTold) (reader : Reading) (start steps : ℕ) : Type 0 where
+pub record HasCounted (watch : Watch) (now : FilesReport) (reader : Reading) (start steps : ℕ) : Type 0 where
   pub distance : ℕ
   pub mode : watch.mode ≡ wanted distance
   pub counts : IfSome (left_of now reader.name) (λ log. CountsLines watch.from (log_lines (take reader.given log)) start steps)
 
 -- the steps of a line that was taken, where the log goes on
-abbrev pub CountsOn : Watch → FilesTold → Reading → ℕ → ℕ → Result Bool LogStop → Type 0
+abbrev pub CountsOn : Watch → FilesReport → Reading → ℕ → ℕ → Result Bool LogStop → Type 0
 CountsOn watch now reader start steps (Ok false) = HasCounted watch now reader start steps
 CountsOn watch now reader start steps result = Unit {0}
 
 -- no more steps were counted than the lines cost that were taken of the name
-abbrev pub CountsTaken : Topology → List ℕ → FilesTold → FilesTold → ℕ → ℕ → Type 0
+abbrev pub CountsTaken : Topology → List ℕ → FilesReport → FilesReport → ℕ → ℕ → Type 0
 CountsTaken t name now after start steps =
     IfSome (left_of now name) (λ log. (taken : LeavesRest log (left_of after name)) → CountsLines t (lines_taken taken.0 taken.1) start steps)
 

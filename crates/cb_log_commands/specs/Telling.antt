@@ -6,7 +6,7 @@ use Rattle.cb_io.specs.declared.line_reader.Line.TheVariants as given
 use Rattle.cb_io.specs.declared.whole.ReadStop.{ReadStop}
 use Rattle.cb_io.specs.declared.whole.ReadStop.TheVariants as reads
 use Rattle.cb_io.specs.LineReading.{Reading, coming, IsOneLine, BeginWith, RunsOver, StopsWithin}
-use Rattle.cb_io.specs.Outside.{FilesTold, SinkTold, left_of, WritesAll}
+use Rattle.cb_io.specs.Outside.{FilesReport, SinkReport, left_of, WritesAll}
 use Rattle.cb_log.specs.declared.event.Event.{Event}
 use Rattle.cb_log.specs.Entries.{LogEntry, records_of}
 use Rattle.cb_log.specs.Events.{EntryGives, EntriesGive, EndGives}
@@ -31,7 +31,7 @@ abbrev pub numbered : List (List ℕ) → List NumberedLine
 numbered lines = map line_of (enumerate_from 1 lines)
 
 -- A log, read up to a line's end: these bytes come, and this text was given, after what the watch opens with.
-pub record IsAt (watch : Watch) (log : List ℕ) (number given : ℕ) (rest : List ℕ) (session : State) (told : List ℕ) : Type 0 where
+pub record IsAt (watch : Watch) (log : List ℕ) (number given : ℕ) (rest : List ℕ) (session : State) (reported : List ℕ) : Type 0 where
   pub lines : List (List ℕ)
   pub one_each : All IsOneLine lines
   pub log_is : log ≡ joined lines ++ rest
@@ -42,7 +42,7 @@ pub record IsAt (watch : Watch) (log : List ℕ) (number given : ℕ) (rest : Li
   pub come : ComeTo (numbered lines) entries
   pub events : List Event
   pub gives : EntriesGive watch.from watch.mode watch.window [] entries events
-  pub told_is : told ≡ watch.opening ++ events_text events
+  pub reported_is : reported ≡ watch.opening ++ events_text events
   pub mode : session.mode ≡ watch.mode
   pub window : session.windows.length ≡ watch.window
   pub stands : StandsForEntries session watch.from entries
@@ -75,32 +75,32 @@ TellsEnd session text = (opening : Topology) (before : List LogEntry) → IsRegu
 -- ---- the next piece: what is reported of a line, and of the end where no line follows
 
 -- a line came that a LF ends, and the log is read up to its end
-pub record ComesNext (watch : Watch) (log : List ℕ) (old new : Reading) (after : FilesTold) (session : State) (told text bytes : List ℕ) : Type 0 where
+pub record ComesNext (watch : Watch) (log : List ℕ) (old new : Reading) (after : FilesReport) (session : State) (reported text bytes : List ℕ) : Type 0 where
   pub line : List ℕ
   pub rest : List ℕ
   pub begin : BeginWith bytes line rest
   pub comes : coming new after ≡ Some rest
-  pub is_at : IsAt watch log new.number new.given rest session (told ++ text)
+  pub is_at : IsAt watch log new.number new.given rest session (reported ++ text)
 
 -- the end came, after a line or none
-pub record ComesLast (watch : Watch) (log : List ℕ) (old new : Reading) (after : FilesTold) (told text bytes : List ℕ) : Type 0 where
+pub record ComesLast (watch : Watch) (log : List ℕ) (old new : Reading) (after : FilesReport) (reported text bytes : List ℕ) : Type 0 where
   pub one : IsOneLine bytes
   pub comes : coming new after ≡ Some []
-  pub tells : WholeTells watch log (told ++ text)
+  pub tells : WholeTells watch log (reported ++ text)
   pub within : length log ≤ log_limit
 
 -- one or the other, by whether the end has come
-abbrev pub Comes : Bool → Watch → List ℕ → Reading → Reading → FilesTold → State → List ℕ → List ℕ → List ℕ → Type 0
-Comes false watch log old new after session told text bytes = ComesNext watch log old new after session told text bytes
-Comes true watch log old new after session told text bytes = ComesLast watch log old new after told text bytes
+abbrev pub Comes : Bool → Watch → List ℕ → Reading → Reading → FilesReport → State → List ℕ → List ℕ → List ℕ → Type 0
+Comes false watch log old new after session reported text bytes = ComesNext watch log old new after session reported text bytes
+Comes true watch log old new after session reported text bytes = ComesLast watch log old new after reported text bytes
 
 -- what the text of the next piece says, where these bytes were to come
-abbrev pub PieceSays : Reading → Reading → FilesTold → State → State → List ℕ → List ℕ → Type 0
-PieceSays old new after session session' text bytes = (watch : Watch) (log told : List ℕ) → IsRegular watch.from.model
-    → IsAt watch log old.number old.given bytes session told → Comes new.ended watch log old new after session' told text bytes
+abbrev pub PieceSays : Reading → Reading → FilesReport → State → State → List ℕ → List ℕ → Type 0
+PieceSays old new after session session' text bytes = (watch : Watch) (log reported : List ℕ) → IsRegular watch.from.model
+    → IsAt watch log old.number old.given bytes session reported → Comes new.ended watch log old new after session' reported text bytes
 
 -- what it says that there is none
-abbrev pub StopSays : Reading → FilesTold → ReadStop → List ℕ → Type 0
+abbrev pub StopSays : Reading → FilesReport → ReadStop → List ℕ → Type 0
 StopSays old after reads.TooMuch bytes = RunsOver old after bytes
 StopSays old after reads.ReadFault bytes = StopsWithin old after bytes
 StopSays old after reads.NoMemory bytes = Unit {0}
@@ -114,19 +114,19 @@ pub record ReadsLog (reader : Reading) : Type 0 where
   pub going : reader.refused ≡ false
 
 -- what was given is written, and these bytes come
-pub record HasTold (watch : Watch) (log : List ℕ) (reader : Reading) (files : FilesTold) (session : State) (out out' : SinkTold) : Type 0 where
+pub record HasReported (watch : Watch) (log : List ℕ) (reader : Reading) (files : FilesReport) (session : State) (out out' : SinkReport) : Type 0 where
   pub rest : List ℕ
   pub comes : coming reader files ≡ Some rest
-  pub told : List ℕ
-  pub is_at : IsAt watch log reader.number reader.given rest session told
-  pub written : WritesAll out out' told
+  pub reported : List ℕ
+  pub is_at : IsAt watch log reader.number reader.given rest session reported
+  pub written : WritesAll out out' reported
 
 -- The log is followed as the watch says. `now` and `out` are reported before it is read.
-pub record Going (watch : Watch) (now : FilesTold) (out : SinkTold) (reader : Reading) (files : FilesTold) (out' : SinkTold) (session : State) : Type 0 where
+pub record Going (watch : Watch) (now : FilesReport) (out : SinkReport) (reader : Reading) (files : FilesReport) (out' : SinkReport) (session : State) : Type 0 where
   pub regular : IsRegular watch.from.model
   pub only : ReadsOnly reader.name now files
   pub faults : out.faults ≤ out'.faults
-  pub told : IfSome (left_of now reader.name) (λ log. HasTold watch log reader files session out out')
+  pub reported : IfSome (left_of now reader.name) (λ log. HasReported watch log reader files session out out')
 
 -- what is wrong where following a log of this name ends so
 abbrev pub wrong_of : List ℕ → Result (Unit {0}) LogStop → Option Fault
@@ -134,13 +134,13 @@ wrong_of name (Ok done) = None
 wrong_of name (Err stop) = Some (fault_of_stop name stop)
 
 -- where the next piece was written it goes on, unless that was the last; and else it has ended
-abbrev pub GoesOrEnds : Watch → FilesTold → SinkTold → Reading → FilesTold → SinkTold → State → Result Bool LogStop → Type 0
+abbrev pub GoesOrEnds : Watch → FilesReport → SinkReport → Reading → FilesReport → SinkReport → State → Result Bool LogStop → Type 0
 GoesOrEnds watch now out reader files out' session (Ok false) = Going watch now out reader files out' session
 GoesOrEnds watch now out reader files out' session (Ok true) = EndsLog watch reader.name now files out out' None
 GoesOrEnds watch now out reader files out' session (Err stop) = EndsLog watch reader.name now files out out' (Some (fault_of_stop reader.name stop))
 
 -- A session stands at the beginning of a log, and what the watch opens with is written.
-pub record Opens (watch : Watch) (session : State) (out out' : SinkTold) : Type 0 where
+pub record Opens (watch : Watch) (session : State) (out out' : SinkReport) : Type 0 where
   pub regular : IsRegular watch.from.model
   pub mode : session.mode ≡ watch.mode
   pub window : session.windows.length ≡ watch.window
@@ -149,7 +149,7 @@ pub record Opens (watch : Watch) (session : State) (out out' : SinkTold) : Type 
   pub faults : out.faults ≤ out'.faults
 
 -- A session stands at the beginning of a log, and this is what the watch opens with.
-pub record OpensBehind (watch : Watch) (opening : List ℕ) (session : State) : Type 0 where
+pub record OpensAfter (watch : Watch) (opening : List ℕ) (session : State) : Type 0 where
   pub regular : IsRegular watch.from.model
   pub mode : session.mode ≡ watch.mode
   pub window : session.windows.length ≡ watch.window

@@ -48,14 +48,14 @@ pub fn correlate<'w, F: Files, O: Sink, L: Ledger>(
         steps.old steps.new }
 {
     let topology = read_network(alloc, files, model, topology)?;
-    let mut session = opened(alloc, topology, asked, steps)?;
+    let mut session = open_session(alloc, topology, asked, steps)?;
     let end = follow(alloc, files, out, log, &mut session, steps);
     drop(session);
     end
 }
 
 /// A session at the beginning of a log, over the topology.
-pub fn opened<L: Ledger>(
+pub fn open_session<L: Ledger>(
     alloc: Global,
     topology: Topology,
     asked: Correlation,

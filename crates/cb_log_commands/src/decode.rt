@@ -1,6 +1,6 @@
 //! The command `decode`.
 ghost use Rattle.std.specs.Prelude.{◌≡◌, ◌≤◌, ◌^◌, IfOk};
-ghost use Rattle.cb_io.specs.Outside.{SinkTold};
+ghost use Rattle.cb_io.specs.Outside.{SinkReport};
 ghost use Rattle.cb_network.specs.Topology.{Topology as TopologyOf};
 ghost use Rattle.cb_cert.specs.declared.certificate.Certificate.{Certificate};
 ghost use Rattle.cb_outcome.specs.Commands.Decode.{decode as command};
@@ -9,7 +9,7 @@ ghost use Rattle.cb_topo.specs.Numbered.{topology_of};
 ghost use Rattle.cb_log_commands.specs.Following.{EndsLog};
 ghost use Rattle.cb_file_kinds.specs.Given.{IsGivenBy, IsGivenBySome};
 ghost use Rattle.cb_log_commands.specs.Fixed.{StandsFixed};
-ghost use Rattle.cb_log_commands.specs.Telling.{OpensBehind};
+ghost use Rattle.cb_log_commands.specs.Telling.{OpensAfter};
 ghost use Rattle.cb_log_commands.specs.Ways.{Ends};
 ghost use Rattle.cb_file_kinds.specs.Ending.{wrong};
 
@@ -53,14 +53,14 @@ pub fn decode<'w, F: Files, O: Sink, L: Ledger>(
         steps: &mut *steps,
     };
     let ShownBook { book, line } = read_as(alloc, files, names.book, kind)?;
-    let mut session = fixed(alloc, book, window, steps)?;
-    let end = follow_behind(alloc, files, out, &line, names.log, &mut session, steps);
+    let mut session = session_over(alloc, book, window, steps)?;
+    let end = follow_rest(alloc, files, out, &line, names.log, &mut session, steps);
     drop(session);
     end
 }
 
 // A session at the beginning of a log, by the codebook.
-fn fixed<L: Ledger>(
+fn session_over<L: Ledger>(
     alloc: Global,
     given: GivenBook,
     window: u64,
@@ -84,7 +84,7 @@ fn fixed<L: Ledger>(
 }
 
 // Writes a text, and follows a log after it.
-fn follow_behind<'w, F: Files, O: Sink, L: Ledger>(
+fn follow_rest<'w, F: Files, O: Sink, L: Ledger>(
     alloc: Global,
     files: &mut F,
     out: &mut O,
@@ -93,7 +93,7 @@ fn follow_behind<'w, F: Files, O: Sink, L: Ledger>(
     session: &mut Session,
     steps: &mut Steps<L>,
 ) -> Result<(), Fault<'w>>
-    ensures { (watch : Watch) → OpensBehind watch opening.now session.old
+    ensures { (watch : Watch) → OpensAfter watch opening.now session.old
         → EndsLog watch log.entry (F.tells files.old) (F.tells files.new) (O.tells out.old) (O.tells out.new) (wrong result) }
 {
     if write_all(out, opening).is_err() {

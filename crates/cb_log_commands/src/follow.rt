@@ -2,7 +2,7 @@
 ghost use Rattle.std.specs.Prelude.{◌≡◌, ◌⊎◌, ◌<◌, ◌≤◌, ℕ, true, IfOk, IfErr, IfSome, IsErrOf};
 ghost use Rattle.cb_alarm.specs.Lines.{log_line_limit};
 ghost use Rattle.cb_io.specs.LineReading.{coming, unread, ReadsSame, GoesOn};
-ghost use Rattle.cb_io.specs.Outside.{FilesTold, SinkTold, ReadFailed};
+ghost use Rattle.cb_io.specs.Outside.{FilesReport, SinkReport, ReadFailed};
 ghost use Rattle.cb_log.specs.Basis.{wanted as for_wanted};
 ghost use Rattle.cb_outcome.specs.LogJobs.{Watch, log_limit};
 ghost use Rattle.cb_log_commands.specs.Counting.{PieceTakes, PieceCounts, HasCounted, CountsOn, CountsTaken};
@@ -36,9 +36,9 @@ pub(crate) fn follow<'w, F: Files, O: Sink, L: Ledger>(
     session: &mut Session,
     steps: &mut Steps<L>,
 ) -> Result<(), Fault<'w>>
-    ensures ends { (watch : Watch) (before : SinkTold) → Opens watch session.old before (O.tells out.old)
+    ensures ends { (watch : Watch) (before : SinkReport) → Opens watch session.old before (O.tells out.old)
         → EndsLog watch log.entry (F.tells files.old) (F.tells files.new) before (O.tells out.new) (wrong result) }
-    ensures steps { (watch : Watch) (before : SinkTold) (d : ℕ) → watch.mode ≡ for_wanted d → Opens watch session.old before (O.tells out.old)
+    ensures steps { (watch : Watch) (before : SinkReport) (d : ℕ) → watch.mode ≡ for_wanted d → Opens watch session.old before (O.tells out.old)
         → CountsTaken watch.from log.entry (F.tells files.old) (F.tells files.new) steps.old steps.new }
 {
     match follow_lines(alloc, files, out, log.as_str(), session, steps) {
@@ -56,9 +56,9 @@ fn follow_lines<F: Files, O: Sink, L: Ledger>(
     session: &mut Session,
     steps: &mut Steps<L>,
 ) -> Result<(), LogStop>
-    ensures ends { (watch : Watch) (before : SinkTold) → Opens watch session.old before (O.tells out.old)
+    ensures ends { (watch : Watch) (before : SinkReport) → Opens watch session.old before (O.tells out.old)
         → EndsLog watch log.now (F.tells files.old) (F.tells files.new) before (O.tells out.new) (wrong_of log.now result) }
-    ensures steps { (watch : Watch) (before : SinkTold) (d : ℕ) → watch.mode ≡ for_wanted d → Opens watch session.old before (O.tells out.old)
+    ensures steps { (watch : Watch) (before : SinkReport) (d : ℕ) → watch.mode ≡ for_wanted d → Opens watch session.old before (O.tells out.old)
         → CountsTaken watch.from log.now (F.tells files.old) (F.tells files.new) steps.old steps.new }
 {
     let mut reader = reader_of(alloc, log)?;
@@ -84,10 +84,10 @@ fn tell_all<F: Files, O: Sink, L: Ledger>(
     steps: &mut Steps<L>,
 ) -> Result<(), LogStop>
     requires { ReadsLog reader.old }
-    ensures ends { (watch : Watch) (now : FilesTold) (before : SinkTold)
+    ensures ends { (watch : Watch) (now : FilesReport) (before : SinkReport)
         → Going watch now before reader.old (F.tells files.old) (O.tells out.old) session.old
         → EndsLog watch reader.old.name now (F.tells files.new) before (O.tells out.new) (wrong_of reader.old.name result) }
-    ensures steps { (watch : Watch) (now : FilesTold) (before : SinkTold) (start : ℕ)
+    ensures steps { (watch : Watch) (now : FilesReport) (before : SinkReport) (start : ℕ)
         → Going watch now before reader.old (F.tells files.old) (O.tells out.old) session.old → HasCounted watch now reader.old start steps.old
         → CountsTaken watch.from reader.old.name now (F.tells files.new) start steps.new }
 {
@@ -108,13 +108,13 @@ fn tell_next<F: Files, O: Sink, L: Ledger>(
     ensures same { ReadsSame reader.old reader.new }
     ensures goes_on { IfOk result (λ ended. ReadsLog reader.new) }
     ensures advances { IfOk result (λ ended. (ended ≡ true) ⊎ ((reader.old.given < reader.new.given) × (reader.new.given ≤ reader.old.total_most))) }
-    ensures tells { (watch : Watch) (now : FilesTold) (before : SinkTold)
+    ensures tells { (watch : Watch) (now : FilesReport) (before : SinkReport)
         → Going watch now before reader.old (F.tells files.old) (O.tells out.old) session.old
         → GoesOrEnds watch now before reader.new (F.tells files.new) (O.tells out.new) session.new result }
-    ensures steps { (watch : Watch) (now : FilesTold) (before : SinkTold) (start : ℕ)
+    ensures steps { (watch : Watch) (now : FilesReport) (before : SinkReport) (start : ℕ)
         → Going watch now before reader.old (F.tells files.old) (O.tells out.old) session.old → HasCounted watch now reader.old start steps.old
         → CountsTaken watch.from reader.old.name now (F.tells files.new) start steps.new }
-    ensures counts { (watch : Watch) (now : FilesTold) (before : SinkTold) (start : ℕ)
+    ensures counts { (watch : Watch) (now : FilesReport) (before : SinkReport) (start : ℕ)
         → Going watch now before reader.old (F.tells files.old) (O.tells out.old) session.old → HasCounted watch now reader.old start steps.old
         → CountsOn watch now reader.new start steps.new result }
 {

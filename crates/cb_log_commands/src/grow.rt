@@ -1,6 +1,6 @@
 //! The command `grow`.
 ghost use Rattle.std.specs.Prelude.{◌≡◌, ◌⊎◌, ◌≤◌, IfOk, IfErr};
-ghost use Rattle.cb_io.specs.Outside.{FilesTold};
+ghost use Rattle.cb_io.specs.Outside.{FilesReport};
 ghost use Rattle.cb_outcome.specs.Commands.Grow.{grow as command};
 ghost use Rattle.cb_gen.specs.Log.{log_text as made_up_log};
 ghost use Rattle.cb_outcome.specs.Grown.{MakesUp, HasMadeUpFault};
@@ -10,7 +10,7 @@ ghost use Rattle.cb_file_kinds.specs.Ending.{Comes};
 ghost use Rattle.cb_file_kinds.specs.Kinds.{IsWant};
 ghost use Rattle.cb_log_commands.specs.Summing.{AnswersFault, GivesSummary};
 
-use crate::correlate::{Correlation, opened};
+use crate::correlate::{Correlation, open_session};
 use crate::sum_up::sum_up;
 use cb_check::check;
 use cb_file_kinds::Output;
@@ -37,7 +37,7 @@ pub fn grow<'w, L: Ledger>(
     steps: &mut Steps<L>,
 ) -> Result<Output<'w>, Fault<'w>>
     requires { (command sites start).range }
-    ensures comes { (files : FilesTold) → Comes (command sites start) files files result }
+    ensures comes { (files : FilesReport) → Comes (command sites start) files files result }
     ensures steps { CountsGrow sites start steps.old steps.new }
 {
     match made_up(alloc, sites as u32) {
@@ -85,7 +85,7 @@ fn summary_of<L: Ledger>(
     ensures steps { CountsLog (topology_of topology) (made_up_log sites start) steps.old steps.new }
 {
     let log = log_text(alloc, sites, start)?;
-    let mut session = opened(alloc, topology, ASKED, steps)?;
+    let mut session = open_session(alloc, topology, ASKED, steps)?;
     let mut summary = Summary::new(sites, start);
     let end = sum_up(alloc, &log, &mut session, &mut summary, steps);
     drop(session);

@@ -27,14 +27,14 @@ length_zip R (x ∷ xs) [] zip = absurd zip
 length_zip R (x ∷ xs) (y ∷ ys) zip = ap suc (length_zip R xs ys zip.1)
 
 -- a prefix that ends with an item
-front : {X : Type 0} (all xs : List X) (x : X) → take (suc (length xs)) all ≡ xs ++ x ∷ [] → (take (length xs) all ≡ xs) × (slice_get all (length xs) ≡ Some x)
-front [] [] x e = absurd (cc e)
-front (a ∷ all) [] x e = (refl, cc e)
-front [] (y ∷ xs) x e = absurd (cc e)
-front (a ∷ all) (y ∷ xs) x e =
+prefix : {X : Type 0} (all xs : List X) (x : X) → take (suc (length xs)) all ≡ xs ++ x ∷ [] → (take (length xs) all ≡ xs) × (slice_get all (length xs) ≡ Some x)
+prefix [] [] x e = absurd (cc e)
+prefix (a ∷ all) [] x e = (refl, cc e)
+prefix [] (y ∷ xs) x e = absurd (cc e)
+prefix (a ∷ all) (y ∷ xs) x e =
     let head : a ≡ y = cc e in
     let tail : take (suc (length xs)) all ≡ xs ++ x ∷ [] = cc e in
-    let rest = front all xs x tail in
+    let rest = prefix all xs x tail in
     (ap (λ zs. a ∷ zs) rest.0 ∙ ap (λ z. z ∷ xs) head, rest.1)
 
 -- the problems of the first numbers, and their groups, whatever problems come after them
@@ -66,13 +66,13 @@ module _ (n : Numbered) (columns ids : List NodeId) where
       in
       record {
         problems = held.problems ++ p ∷ [];
-        coded = subst (λ front. AreProblemsAt n columns front (held.problems ++ p ∷ [])) (sym (take_more ids i id at))
+        coded = subst (λ prefix. AreProblemsAt n columns prefix (held.problems ++ p ∷ [])) (sym (take_more ids i id at))
             (zip_push (IsProblemAt n columns) (take i ids) held.problems id p held.coded is);
         holds = holds held.problems held.holds;
         sound = subst (λ width. FitsTogether width new) is.coded.width sound;
         groups = λ all are same.
             let next : suc (length held.problems) ≡ i + 1 = omega arith in
-            let parts = front all held.problems p (ap (λ k. take k all) next ∙ same) in
+            let parts = prefix all held.problems p (ap (λ k. take k all) next ∙ same) in
             one_more_grouped (length columns) all are i p (subst (λ k. slice_get all k ≡ Some p) size parts.1) (groups_in old) (groups_in new)
             (held.groups all are (subst (λ k. take k all ≡ held.problems) size parts.0)) added;
       }
@@ -80,7 +80,7 @@ module _ (n : Numbered) (columns ids : List NodeId) where
   pub all_held : (i : ℕ) (grouping : Grouping) → i ≡ length ids → AreHeld n columns ids i grouping → AreGroupedAt n columns ids grouping
   all_held i grouping end held =
       let whole : take i ids ≡ ids = take_all i ids (omega arith) in
-      let coded = subst (λ front. AreProblemsAt n columns front held.problems) whole held.coded in
+      let coded = subst (λ prefix. AreProblemsAt n columns prefix held.problems) whole held.coded in
       let size = length_zip (IsProblemAt n columns) ids held.problems coded in
       let same : take i held.problems ≡ held.problems = take_all i held.problems (omega arith) in
       record {

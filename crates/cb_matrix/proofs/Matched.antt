@@ -38,7 +38,7 @@ code_from n columns id reached code found coded = record {
 pub zip_more : {X Y : Type 0} (R : X → Y → Type 0) (xs : List X) (ys : List Y) (i : ℕ) (d : X) (y : Y) → i < length xs → AllZip R (take i xs) ys
     → R (slice_index_or xs i d) y → AllZip R (take (i + 1) xs) (ys ++ y ∷ [])
 zip_more R xs ys i d y lt zip here =
-    subst (λ front. AllZip R front (ys ++ y ∷ [])) (sym (take_more xs i (slice_index_or xs i d) (slice_get-get_or xs i d lt)))
+    subst (λ prefix. AllZip R prefix (ys ++ y ∷ [])) (sym (take_more xs i (slice_index_or xs i d) (slice_get-get_or xs i d lt)))
     (zip_push R (take i xs) ys (slice_index_or xs i d) y zip here)
 
 -- the name of the number at a place

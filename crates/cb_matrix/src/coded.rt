@@ -15,7 +15,7 @@ use cb_nodes::NodeId;
 use std::alloc::{AllocError, Global};
 
 /// The problems of these numbers in the groups of their codes over the columns.
-pub(crate) fn grouped(
+pub(crate) fn grouping_of(
     alloc: Global,
     cache: &Cache,
     columns: &Columns,
@@ -27,7 +27,7 @@ pub(crate) fn grouped(
     ensures { IfOk result (AreGroupedAt cache.now.graph columns.now.nodes nodes.now) }
 {
     let none = zeros(alloc, cache.pool().width())?;
-    let mut grouping = Grouping::quiet(alloc, columns.nodes.len())?;
+    let mut grouping = Grouping::of_quiet(alloc, columns.nodes.len())?;
     for node in nodes.as_slice() {
         let problem = coded_problem(alloc, cache, columns, *node, &none)?;
         grouping.add(alloc, problem)?;

@@ -20,7 +20,7 @@ pub struct Columns {
 }
 
 /// The columns of these numbers. All numbers of nodes are below `room`.
-pub fn indexed(alloc: Global, nodes: List<NodeId>, room: usize) -> Result<Columns, AllocError>
+pub fn column_index(alloc: Global, nodes: List<NodeId>, room: usize) -> Result<Columns, AllocError>
     requires once { IsOnce nodes }
     requires below { IsBelow room nodes }
     ensures { IfOk result (AreIndexed room nodes) }

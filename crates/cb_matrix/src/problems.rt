@@ -3,8 +3,8 @@ ghost use Rattle.std.specs.Prelude.{IfOk};
 ghost use Rattle.cb_topo.specs.Numbered.{topology_of};
 ghost use Rattle.cb_matrix.specs.Problems.{AreAllGrouped};
 
-use crate::coded::grouped;
-use crate::codes::indexed;
+use crate::coded::grouping_of;
+use crate::codes::column_index;
 use crate::names::names_of;
 use cb_cache::Cache;
 use cb_codes::Grouping;
@@ -28,9 +28,9 @@ impl GroupedProblems {
         let _room = topology.node_room();
         let column_nodes = topology.columns(alloc)?;
         let columns = names_of(alloc, topology, &column_nodes)?;
-        let index = indexed(alloc, column_nodes, 64 * cache.pool().width())?;
+        let index = column_index(alloc, column_nodes, 64 * cache.pool().width())?;
         let problem_nodes = topology.problems(alloc)?;
-        let grouping = grouped(alloc, cache, &index, &problem_nodes)?;
+        let grouping = grouping_of(alloc, cache, &index, &problem_nodes)?;
         Ok(GroupedProblems { columns, grouping })
     }
 }

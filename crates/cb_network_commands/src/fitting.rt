@@ -15,7 +15,7 @@ ghost use Rattle.cb_network_commands.specs.Fitted.{AreFitted, HaveNames, IsFitte
 
 use crate::judge::matrix_of;
 use cb_codes::Groups;
-use cb_decode::{called, unknown_among, word_of};
+use cb_decode::{group_name, unknown_among, word_of};
 use cb_file_kinds::Output;
 use cb_matrix::Matrix;
 use cb_model::{GroupName, List, NodeName};
@@ -39,7 +39,7 @@ pub(crate) fn fitting<'w, L: Ledger>(
 {
     let matrix = matrix_of(alloc, topology, steps)?;
     match Pairs::of(alloc, matrix.codes()) {
-        Ok(pairs) => listed(alloc, &matrix, &pairs, raised),
+        Ok(pairs) => listing(alloc, &matrix, &pairs, raised),
         Err(fault) => refused(alloc, fault),
     }
 }
@@ -124,7 +124,7 @@ fn line_of(alloc: Global, groups: &Groups, guess: Guess) -> Result<FitLine, Allo
     requires within { IsOfGroups (length groups.now.groups) guess }
     ensures { IfOk result (NamesGuess groups.now.groups guess) }
 {
-    let first = called(alloc, groups, guess.first)?;
+    let first = group_name(alloc, groups, guess.first)?;
     let second = called_second(alloc, groups, guess.second)?;
     Ok(FitLine { first, second })
 }
@@ -140,7 +140,7 @@ fn called_second(
     ensures { IfOk result (IsSecondCalled groups.now.groups second) }
 {
     match second {
-        Some(place) => Ok(Some(called(alloc, groups, place)?)),
+        Some(place) => Ok(Some(group_name(alloc, groups, place)?)),
         None => Ok(None),
     }
 }

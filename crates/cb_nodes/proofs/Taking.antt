@@ -11,7 +11,7 @@ use Rattle.cb_nodes.specs.declared.node.Node.{Node}
 use Rattle.cb_nodes.specs.declared.numbers.Numbers.{Numbers}
 use Rattle.cb_nodes.specs.Kept.{AreKept, SameSlots, TakesNumber, GivesBack}
 use Rattle.cb_nodes.specs.Table.{Table, HasNumber, count_of}
-use Rattle.cb_nodes.proofs.Apart.{pairs_last, pairs_front, pairs_more}
+use Rattle.cb_nodes.proofs.Apart.{pairs_last, pairs_prefix, pairs_more}
 
 pub same_number : (i j : NodeId) → i.0 ≡ j.0 → i ≡ j
 same_number i j e = λ k. record { 0 = e k }
@@ -52,7 +52,7 @@ taken_free old new id node kept popped free_room written slots_room =
     let has : Contains old.free.items id = subst (λ xs. Contains xs id) (sym popped) (Contains-push new.free.items id) in
     let lt = kept.within id has in
     let none = kept.vacant id has in
-    let front : (x : NodeId) → Contains new.free.items x → Contains old.free.items x = λ x in_x. subst (λ xs. Contains xs x) (sym popped) (Contains-append_left new.free.items (id ∷ []) x in_x) in
+    let prefix : (x : NodeId) → Contains new.free.items x → Contains old.free.items x = λ x in_x. subst (λ xs. Contains xs x) (sym popped) (Contains-append_left new.free.items (id ∷ []) x in_x) in
     let once : Once (new.free.items ++ id ∷ []) = subst Once popped kept.once in
     let other : (x : NodeId) → Contains new.free.items x → x.0 ≢ id.0 = λ x in_x e. pairs_last (λ a b. a ≢ b) new.free.items id once x in_x (same_number x id e) in
     let size : length new.slots.items ≡ length old.slots.items = ap length written ∙ length-set old.slots.items id.0 (Some node) in
@@ -62,9 +62,9 @@ taken_free old new id node kept popped free_room written slots_room =
     record {
       kept = record {
         counted = omega (arith, kept.counted);
-        within = λ x in_x. omega (arith, kept.within x (front x in_x));
-        vacant = λ x in_x. others x.0 (other x in_x) ∙ kept.vacant x (front x in_x);
-        once = pairs_front (λ a b. a ≢ b) new.free.items id once;
+        within = λ x in_x. omega (arith, kept.within x (prefix x in_x));
+        vacant = λ x in_x. others x.0 (other x in_x) ∙ kept.vacant x (prefix x in_x);
+        once = pairs_prefix (λ a b. a ≢ b) new.free.items id once;
         spare = omega (arith, kept.spare);
       };
       same_spare = record { slots = slots_room; free = free_room };

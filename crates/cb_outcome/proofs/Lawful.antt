@@ -48,7 +48,7 @@ pub data MakingEnds (making : Making) (whole : ℕ) (outcome : Outcome) : Type 0
   wrong : (fault : Fault) → outcome.fault ≡ Some fault → making.faults fault → IsQuietAt (status_of fault) outcome.out
       → MakingEnds making whole outcome
 
--- what is found at the end of a job whose output was written, and whose fault was told
+-- what is found at the end of a job whose output was written, and whose fault was reported
 abbrev pub IsShown : (Known → Status → Seen → Type 0) → Known → Seen → Outcome → Type 0
 IsShown finds known s a = WritesAll s.out s.out_after a.out → SaysFault a.fault s.err s.err_after → OnOutput (ending a.fault) (finds known (ending a.fault) s)
 

@@ -2,7 +2,7 @@ pub mod FirstLines
 pub mod Once
 pub mod FitsOne
 pub mod JobsOne
-pub mod LogFronts
+pub mod LogPrefixes
 pub mod LogsOne
 pub mod GrownOne
 pub mod Apart

@@ -1,7 +1,7 @@
 -- What is printed of a whole log names the causes.
 use Rattle.std.proofs.Common.{◌≡◌, ℕ, List, take, sym, subst}
 use Rattle.std.specs.List.{Contains}
-use Rattle.cb_io.specs.Outside.{SinkTold, WritesAll}
+use Rattle.cb_io.specs.Outside.{SinkReport, WritesAll}
 use Rattle.cb_network.specs.Regular.{IsRegular}
 use Rattle.cb_log.specs.declared.event.Event.{Event}
 use Rattle.cb_log.specs.Entries.{records_of}
@@ -15,7 +15,7 @@ use Rattle.cb_outcome.specs.Prints.{PrintsEvents}
 use Rattle.cb_outcome.proofs.Apart.{AllApart}
 use Rattle.cb_outcome.proofs.Finding.{lists_nearest}
 
-pub prints_events : (watch : Watch) (log due : List ℕ) (out out' : SinkTold) → IsRegular watch.from.model → AllApart watch.from watch.mode
+pub prints_events : (watch : Watch) (log due : List ℕ) (out out' : SinkReport) → IsRegular watch.from.model → AllApart watch.from watch.mode
     → WholeTells watch log due → WritesAll out out' due → PrintsEvents watch log out out'
 prints_events watch log due out out' regular apart (events, gives, due_is) written = record {
   events = events;

@@ -16,16 +16,16 @@ use Rattle.cb_log.specs.Basis.{Mode, fixed}
 use Rattle.cb_log.specs.Entries.{LogEntry}
 use Rattle.cb_log.specs.Events.{EntriesGive}
 use Rattle.cb_log.proofs.EventsOne.{entries_give_one}
-use Rattle.cb_alarm.specs.Lines.{LogGives, FrontGives, ended_lines}
+use Rattle.cb_alarm.specs.Lines.{LogGives, PrefixGives, ended_lines}
 use Rattle.cb_alarm.proofs.OneSkip.{come_to_one, log_gives_one}
 use Rattle.cb_report.specs.CertificateTexts.{accepted_text}
 use Rattle.cb_report.specs.EventTexts.{event_text, events_text}
 use Rattle.cb_report.specs.declared.fault.Fault.TheVariants as faults
 use Rattle.cb_outcome.specs.Outcome.{Outcome, done, done_with}
-use Rattle.cb_outcome.specs.LogJobs.{Watch, StatesBook, States, IsFixedWatch, WholeTells, FrontTells, LogTells, log_limit}
+use Rattle.cb_outcome.specs.LogJobs.{Watch, StatesBook, States, IsFixedWatch, WholeTells, PrefixTells, LogTells, log_limit}
 use Rattle.cb_outcome.specs.Laws.{BeginsWith}
 use Rattle.cb_outcome.proofs.JobsOne.{shows_is_one}
-use Rattle.cb_outcome.proofs.LogFronts.{front_is_front}
+use Rattle.cb_outcome.proofs.LogPrefixes.{prefix_gives_prefix}
 
 -- ---- a log is followed in one way
 
@@ -53,10 +53,10 @@ fixed_is_one t c w a b p q =
 short_or_long : (m n : ℕ) → m ≤ n → n < m → ⊥
 short_or_long m n le lt = omega (arith, le, lt)
 
-front_gives_one : (t : Topology) (mode : Mode) (w : ℕ) (front : List ℕ) (xs ys : List Event) → IsRegular t.model → FrontGives t mode w front xs
-    → FrontGives t mode w front ys → xs ≡ ys
-front_gives_one t mode w front xs ys regular (some, come, gives) (other, come', gives') =
-    let same = come_to_one (ended_lines front) other some come' come in
+prefix_gives_one : (t : Topology) (mode : Mode) (w : ℕ) (prefix : List ℕ) (xs ys : List Event) → IsRegular t.model → PrefixGives t mode w prefix xs
+    → PrefixGives t mode w prefix ys → xs ≡ ys
+prefix_gives_one t mode w prefix xs ys regular (some, come, gives) (other, come', gives') =
+    let same = come_to_one (ended_lines prefix) other some come' come in
     entries_give_one t regular mode w [] some xs ys gives (subst (λ (es : List LogEntry). EntriesGive t mode w [] es ys) same gives')
 
 module _ (watch : Watch) (regular : IsRegular watch.from.model) where
@@ -64,9 +64,9 @@ module _ (watch : Watch) (regular : IsRegular watch.from.model) where
   whole_tells_one log x y (xs, g, e) (ys, h, f) =
       e ∙ (ap (λ (es : List Event). watch.opening ++ events_text es) (log_gives_one watch.from watch.mode watch.window log xs ys regular g h) ∙ sym f)
 
-  front_tells_one : (front x y : List ℕ) → FrontTells watch front x → FrontTells watch front y → x ≡ y
-  front_tells_one front x y (xs, g, e) (ys, h, f) =
-      e ∙ (ap (λ (es : List Event). watch.opening ++ events_text es) (front_gives_one watch.from watch.mode watch.window front xs ys regular g h) ∙ sym f)
+  prefix_tells_one : (prefix x y : List ℕ) → PrefixTells watch prefix x → PrefixTells watch prefix y → x ≡ y
+  prefix_tells_one prefix x y (xs, g, e) (ys, h, f) =
+      e ∙ (ap (λ (es : List Event). watch.opening ++ events_text es) (prefix_gives_one watch.from watch.mode watch.window prefix xs ys regular g h) ∙ sym f)
 
   pub tells_one : (name log : List ℕ) (whole : ℕ) (a b : Outcome) → LogTells watch name log whole a → LogTells watch name log whole b → a ≡ b
   tells_one name log whole a b (inl p) (inl q) =
@@ -74,7 +74,7 @@ module _ (watch : Watch) (regular : IsRegular watch.from.model) where
   tells_one name log whole a b (inl p) (inr q) = absurd (short_or_long (length log) log_limit p.short q.long)
   tells_one name log whole a b (inr p) (inl q) = absurd (short_or_long (length log) log_limit q.short p.long)
   tells_one name log whole a b (inr p) (inr q) =
-      p.gives ∙ (ap (λ (out : List ℕ). done_with out (faults.LimitBytes name) whole) (front_tells_one (take log_limit log) p.out q.out p.tells q.tells) ∙ sym q.gives)
+      p.gives ∙ (ap (λ (out : List ℕ). done_with out (faults.LimitBytes name) whole) (prefix_tells_one (take log_limit log) p.out q.out p.tells q.tells) ∙ sym q.gives)
 
 -- ---- the first bytes
 
@@ -85,9 +85,9 @@ take_of (suc k) (suc m) [] le = refl
 take_of (suc k) (suc m) (x ∷ xs) le = ap (λ (v : List ℕ). x ∷ v) (take_of k m xs (omega arith))
 
 -- the text of events of which these are the first
-text_front : (opening due out : List ℕ) (first rest all : List Event) → due ≡ opening ++ events_text first → out ≡ opening ++ events_text all
+text_prefix : (opening due out : List ℕ) (first rest all : List Event) → due ≡ opening ++ events_text first → out ≡ opening ++ events_text all
     → all ≡ first ++ rest → BeginsWith out due
-text_front opening due out first rest all d o e =
+text_prefix opening due out first rest all d o e =
     let joined : events_text all ≡ events_text first ++ events_text rest = ap events_text e ∙ flat_map-append event_text first rest in
     let text : out ≡ opening ++ (events_text first ++ events_text rest) = o ∙ ap (λ (v : List ℕ). opening ++ v) joined in
     let moved : opening ++ (events_text first ++ events_text rest) ≡ (opening ++ events_text first) ++ events_text rest = simp append_assoc in
@@ -97,16 +97,16 @@ begins : (out due : List ℕ) (outcome : Outcome) → outcome.out ≡ out → Be
 begins out due outcome e (rest, is) = (rest, e ∙ is)
 
 module _ (watch : Watch) (regular : IsRegular watch.from.model) (name log : List ℕ) (k whole : ℕ) (within : k ≤ log_limit) (due : List ℕ) (outcome : Outcome) where
-  pub tells_front : FrontTells watch (take k log) due → LogTells watch name log whole outcome → BeginsWith outcome.out due
-  tells_front (first, f, d) (inl p) =
+  pub tells_prefix : PrefixTells watch (take k log) due → LogTells watch name log whole outcome → BeginsWith outcome.out due
+  tells_prefix (first, f, d) (inl p) =
       let (all, g, o) = p.tells in
       let gives = subst (λ (v : List ℕ). LogGives watch.from watch.mode watch.window v all) (sym (take-append-drop k log)) g in
-      let (rest, is) = front_is_front watch.from watch.mode watch.window (take k log) (drop k log) first all regular f (inr gives) in
-      begins p.out due outcome (ap (λ (v : Outcome). v.out) p.gives) (text_front watch.opening due p.out first rest all d o is)
-  tells_front (first, f, d) (inr p) =
+      let (rest, is) = prefix_gives_prefix watch.from watch.mode watch.window (take k log) (drop k log) first all regular f (inr gives) in
+      begins p.out due outcome (ap (λ (v : Outcome). v.out) p.gives) (text_prefix watch.opening due p.out first rest all d o is)
+  tells_prefix (first, f, d) (inr p) =
       let (all, g, o) = p.tells in
       let cut = take log_limit log in
       let parts : take k log ++ drop k cut ≡ cut = ap (λ (v : List ℕ). v ++ drop k cut) (sym (take_of k log_limit log within)) ∙ take-append-drop k cut in
-      let gives = subst (λ (v : List ℕ). FrontGives watch.from watch.mode watch.window v all) (sym parts) g in
-      let (rest, is) = front_is_front watch.from watch.mode watch.window (take k log) (drop k cut) first all regular f (inl gives) in
-      begins p.out due outcome (ap (λ (v : Outcome). v.out) p.gives) (text_front watch.opening due p.out first rest all d o is)
+      let gives = subst (λ (v : List ℕ). PrefixGives watch.from watch.mode watch.window v all) (sym parts) g in
+      let (rest, is) = prefix_gives_prefix watch.from watch.mode watch.window (take k log) (drop k cut) first all regular f (inl gives) in
+      begins p.out due outcome (ap (λ (v : Outcome). v.out) p.gives) (text_prefix watch.opening due p.out first rest all d o is)

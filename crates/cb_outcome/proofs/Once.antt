@@ -22,7 +22,7 @@ use Rattle.cb_line_files.specs.Symptoms.{ListsNodes, IsFirstBad}
 use Rattle.cb_cert.specs.declared.certificate.Certificate.{Certificate}
 use Rattle.cb_cert.specs.declared.fault.CertText.{CertText}
 use Rattle.cb_cert.specs.Format.{SpellsCertificate}
-use Rattle.cb_cert.specs.Fronts.{IsReading}
+use Rattle.cb_cert.specs.Prefixes.{IsReading}
 use Rattle.cb_cert.proofs.Readings.{reading_is_one}
 use Rattle.cb_validity.specs.declared.verdict.Rejected.{Rejected}
 use Rattle.cb_validity.specs.Checks.{IsFirstFail}

@@ -8,15 +8,15 @@ use Rattle.cb_report.specs.declared.fault.Fault.{Fault}
 use Rattle.cb_outcome.specs.Outcome.{Outcome, refused}
 use Rattle.cb_outcome.specs.Judged.{File, Known, nothing, Job, Gives, PassFrom}
 use Rattle.cb_outcome.specs.Contents.{Left, Reads, names_of, with_texts, files_from, log_from}
-use Rattle.cb_outcome.specs.LogJobs.{Watch, FrontTells, LogTells, log_limit}
+use Rattle.cb_outcome.specs.LogJobs.{Watch, PrefixTells, LogTells, log_limit}
 use Rattle.cb_outcome.specs.Command.{Command, Making, Task, makes, follows, refuses, logs_in, reads_of, file_words, WatchesLog, TaskGives, JobGives}
 use Rattle.cb_outcome.specs.Asked.{command_for}
-use Rattle.cb_outcome.specs.Answer.{IsOutcome, IsToldUpto, IsDue}
-use Rattle.cb_outcome.specs.Laws.{BeginsWith, OutcomeIsOne, DueIsFront, PassedGoToJob, DoneReadsAll}
+use Rattle.cb_outcome.specs.Answer.{IsOutcome, IsReportedUpto, IsDue}
+use Rattle.cb_outcome.specs.Laws.{BeginsWith, OutcomeIsOne, DueIsPrefix, PassedGoToJob, DoneReadsAll}
 use Rattle.cb_outcome.specs.Point.{Point}
 use Rattle.cb_outcome.proofs.Asked.{lawful}
 use Rattle.cb_outcome.proofs.Lawful.{MakingEnds, well, wrong, LawfulFor, IsLawful}
-use Rattle.cb_outcome.proofs.LogsOne.{tells_one, tells_front}
+use Rattle.cb_outcome.proofs.LogsOne.{tells_one, tells_prefix}
 use Rattle.cb_outcome.proofs.Once.{IsSound, says_sound, pass_sound, says_one, refused_one, not_both}
 
 pub some_name : (name : List ℕ) (names : List (List ℕ)) → name ∷ names ≢ []
@@ -68,33 +68,33 @@ ends_empty [] = refl
 ends_empty (x ∷ xs) = ap (λ (ys : List ℕ). x ∷ ys) (ends_empty xs)
 
 -- what the first bytes of a log tell is a prefix of what results from the task
-task_front : (log : List ℕ → List ℕ) (task : Task) (range : Type 0) (reads : Reads) → LawfulFor range reads task → (known : Known) (whole taken : ℕ) (name : List ℕ) (watch : Watch)
+task_prefix : (log : List ℕ → List ℕ) (task : Task) (range : Type 0) (reads : Reads) → LawfulFor range reads task → (known : Known) (whole taken : ℕ) (name : List ℕ) (watch : Watch)
     (due : List ℕ) (outcome : Outcome) → IsSound known → logs_in task ≡ name ∷ [] → WatchesLog task known watch
-    → FrontTells watch (take (min taken log_limit) (log name)) due → TaskGives log task known whole outcome → BeginsWith outcome.out due
-task_front log (makes making) range reads law known whole taken name watch due outcome sound one is f gives = absurd is
-task_front log (follows own watches) range reads law known whole taken name watch due outcome sound one is f (other, is', g) =
+    → PrefixTells watch (take (min taken log_limit) (log name)) due → TaskGives log task known whole outcome → BeginsWith outcome.out due
+task_prefix log (makes making) range reads law known whole taken name watch due outcome sound one is f gives = absurd is
+task_prefix log (follows own watches) range reads law known whole taken name watch due outcome sound one is f (other, is', g) =
     let same = law.one known other watch is' is in
-    let told = subst (λ (n : List ℕ). FrontTells watch (take (min taken log_limit) (log n)) due) (one_log name own one) f in
-    tells_front watch (law.regular known watch sound is) own (log own) (min taken log_limit) whole (min-le_right taken log_limit) due outcome told
+    let reported = subst (λ (n : List ℕ). PrefixTells watch (take (min taken log_limit) (log n)) due) (one_log name own one) f in
+    tells_prefix watch (law.regular known watch sound is) own (log own) (min taken log_limit) whole (min-le_right taken log_limit) due outcome reported
     (subst (λ (x : Watch). LogTells x own (log own) whole outcome) same g)
-task_front log (refuses fault) range reads law known whole taken name watch due outcome sound one is f gives = absurd is
+task_prefix log (refuses fault) range reads law known whole taken name watch due outcome sound one is f gives = absurd is
 
 module _ (c : Command) (law : IsLawful c) (left : Left) where
-  told_front : (taken : ℕ) (due : List ℕ) (outcome : Outcome) → IsToldUpto left c taken due → IsOutcome c left outcome → BeginsWith outcome.out due
-  told_front taken due outcome told answers =
-      let (whole, gives) = job_of (JobGives left c) (files_from left (reads_of c)) nothing 0 told.known outcome tt told.pass answers in
-      task_front (λ name. log_from left (reads_of c) name) c.task c.range (reads_of c) law told.known whole taken told.name told.watch due outcome
-      (pass_sound nothing (files_from left (reads_of c)) told.known tt told.pass) told.log told.follows told.tells gives
+  reported_prefix : (taken : ℕ) (due : List ℕ) (outcome : Outcome) → IsReportedUpto left c taken due → IsOutcome c left outcome → BeginsWith outcome.out due
+  reported_prefix taken due outcome reported answers =
+      let (whole, gives) = job_of (JobGives left c) (files_from left (reads_of c)) nothing 0 reported.known outcome tt reported.pass answers in
+      task_prefix (λ name. log_from left (reads_of c) name) c.task c.range (reads_of c) law reported.known whole taken reported.name reported.watch due outcome
+      (pass_sound nothing (files_from left (reads_of c)) reported.known tt reported.pass) reported.log reported.follows reported.tells gives
 
-  pub due_front : (point : Point) (due : List ℕ) (outcome : Outcome) → IsOutcome c left outcome → IsDue c left point due → BeginsWith outcome.out due
-  due_front Point.start due outcome is e = (outcome.out, ap (λ (xs : List ℕ). xs ++ outcome.out) (sym e))
-  due_front (Point.upto taken) due outcome is told = told_front taken due outcome told is
-  due_front Point.end due outcome is (other, it, e) =
+  pub due_prefix : (point : Point) (due : List ℕ) (outcome : Outcome) → IsOutcome c left outcome → IsDue c left point due → BeginsWith outcome.out due
+  due_prefix Point.start due outcome is e = (outcome.out, ap (λ (xs : List ℕ). xs ++ outcome.out) (sym e))
+  due_prefix (Point.upto taken) due outcome is reported = reported_prefix taken due outcome reported is
+  due_prefix Point.end due outcome is (other, it, e) =
       let same : outcome ≡ other = command_one c law left outcome other is it in
       ([], ap (λ (o : Outcome). o.out) same ∙ (sym e ∙ ends_empty due))
 
-pub due_is_front : DueIsFront
-due_is_front asked left point due outcome is told = due_front (command_for asked) (lawful asked) left point due outcome is told
+pub due_is_prefix : DueIsPrefix
+due_is_prefix asked left point due outcome is reported = due_prefix (command_for asked) (lawful asked) left point due outcome is reported
 
 pub passed_go_to_job : PassedGoToJob
 passed_go_to_job asked left known outcome pass is =

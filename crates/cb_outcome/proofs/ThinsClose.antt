@@ -11,11 +11,11 @@ use Rattle.cb_log.proofs.ThinEvents.{thins_are_close, thins_so_far_are_close}
 use Rattle.cb_network.specs.Topology.{Topology}
 use Rattle.cb_report.specs.declared.summary.Summary.{Summary}
 use Rattle.cb_outcome.specs.Grown.{SumsUpLog}
-use Rattle.cb_outcome.specs.LogJobs.{Watch, FrontTells}
+use Rattle.cb_outcome.specs.LogJobs.{Watch, PrefixTells}
 
-pub front_thins_are_close : (watch : Watch) (front out : List ℕ) (tells : FrontTells watch front out) (event : Event) → Contains tells.0 event
+pub prefix_thins_are_close : (watch : Watch) (prefix out : List ℕ) (tells : PrefixTells watch prefix out) (event : Event) → Contains tells.0 event
     → IsTrue (is_thin event) → (records : List Record) × TellsThin watch.from watch.mode watch.window records event
-front_thins_are_close watch front out (events, (entries, come, give), is) event has thin =
+prefix_thins_are_close watch prefix out (events, (entries, come, give), is) event has thin =
     (records_of entries, thins_so_far_are_close watch.from watch.mode watch.window entries events give event has thin)
 
 pub summed_thins_are_close : (t : Topology) (mode : Mode) (w : ℕ) (log : List ℕ) (summary : Summary) (sums : SumsUpLog t mode w log summary) (event : Event)

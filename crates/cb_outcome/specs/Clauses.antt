@@ -1,7 +1,7 @@
 -- The clauses of a run of a command. `s` is all that is seen of it.
 use Rattle.std.specs.Prelude.{◌≡◌, ◌≢◌, ◌⊎◌, ℕ, ◌+◌, ◌<◌, ◌≤◌, ◌++◌, List, [], ◌∷◌, take, length, map, slice_get, Option, Some, IsSome}
 use Rattle.std.specs.List.{Contains}
-use Rattle.cb_io.specs.Outside.{contents, left_of, ReadFailed, WritesAll, WritesFront, WriteFailed}
+use Rattle.cb_io.specs.Outside.{contents, left_of, ReadFailed, WritesAll, WritesPrefix, WriteFailed}
 use Rattle.cb_report.specs.declared.fault.Fault.{Fault}
 use Rattle.cb_report.specs.declared.fault.Fault.TheVariants as faults
 use Rattle.cb_report.specs.declared.status.Status.{Status}
@@ -12,7 +12,7 @@ use Rattle.cb_outcome.specs.Outcome.{Outcome}
 use Rattle.cb_outcome.specs.Contents.{Left, Pass, files_from, files_before}
 use Rattle.cb_outcome.specs.Answer.{IsOutcome, IsDue}
 use Rattle.cb_outcome.specs.Point.{Point}
-use Rattle.cb_outcome.specs.Reading.{Told, ReadsTo}
+use Rattle.cb_outcome.specs.Reading.{WhereReported, ReadsTo}
 use Rattle.cb_outcome.specs.Seen.{Seen, SaysFault}
 use Rattle.cb_outcome.specs.Command.{Command, reads_of, file_words}
 
@@ -29,11 +29,11 @@ pub record Answers (c : Command) (status : Status) (s : Seen) (left : Left) : Ty
 
 -- at each status but 8, 9 and 10 the run answers the outcome
 abbrev pub AnswersOutcome : Command → Status → Seen → Type 0
-AnswersOutcome c status s = OnAnswer status (Told s.files (Answers c status s))
+AnswersOutcome c status s = OnAnswer status (WhereReported s.files (Answers c status s))
 
 -- what was written is a prefix of what was due at some point of the run
 abbrev pub WritesDue : Command → Seen → Type 0
-WritesDue c s = Told s.files (λ left. (point : Point) × (due : List ℕ) × IsDue c left point due × WritesFront s.out s.out_after due)
+WritesDue c s = WhereReported s.files (λ left. (point : Point) × (due : List ℕ) × IsDue c left point due × WritesPrefix s.out s.out_after due)
 
 -- all judged files were read whole
 abbrev pub ReadsJudged : Command → Seen → Type 0
@@ -47,7 +47,7 @@ HaveAllPassed c left = Pass (files_from left (reads_of c))
 pub record HasComeToLog (c : Command) (s : Seen) : Type 0 where
   pub follows : (reads_of c).logs ≢ []
   pub read : ReadsJudged c s
-  pub passed : Told s.files (HaveAllPassed c)
+  pub passed : WhereReported s.files (HaveAllPassed c)
 
 -- nothing was written, unless the run has come to a log
 abbrev pub IsQuietBeforeLog : Command → Seen → Type 0
@@ -112,7 +112,7 @@ pub record WritesAllDue (c : Command) (name : List ℕ) (s : Seen) (left : Left)
 -- at a judged file nothing was written, and at the log all that was due
 pub record WritesAt (c : Command) (place : ℕ) (name : List ℕ) (s : Seen) : Type 0 where
   pub judged : place < length c.files → WritesAll s.out s.out_after []
-  pub log : length c.files ≤ place → Told s.files (WritesAllDue c name s)
+  pub log : length c.files ≤ place → WhereReported s.files (WritesAllDue c name s)
 
 -- A read of the file word at a position failed, the line names it, those before it were read whole and have passed, and what was due was
 -- written.
@@ -123,7 +123,7 @@ pub record BlamesRead (c : Command) (s : Seen) : Type 0 where
   pub failed : ReadFailed s.files s.files_after name
   pub read : ReadsTo place (file_words c) s.files s.files_after
   pub says : SaysFault (Some (faults.ReadFault name)) s.err s.err_after
-  pub passed : Told s.files (HavePassed c place)
+  pub passed : WhereReported s.files (HavePassed c place)
   pub written : WritesAt c place name s
 
 -- the run is past its start
@@ -146,7 +146,7 @@ IsNearPoint c Point.end s left = (name : List ℕ) (taken : ℕ) → (reads_of c
 -- what was written is a prefix of what was due at a point past the start, and the log wasn't read far past that point
 abbrev pub WritesPastStart : Command → Seen → Left → Type 0
 WritesPastStart c s left = (point : Point) × IsPastStart point × IsNearPoint c point s left
-    × ((due : List ℕ) × IsDue c left point due × WritesFront s.out s.out_after due)
+    × ((due : List ℕ) × IsDue c left point due × WritesPrefix s.out s.out_after due)
 
 -- if what is due once a number of bytes of the log was taken is longer than what was written, not many more bytes than those were taken
 abbrev pub IsNotFarAhead : Command → List ℕ → Seen → Left → Type 0
@@ -163,9 +163,9 @@ pub record BlamesWrite (c : Command) (s : Seen) : Type 0 where
   pub failed : WriteFailed s.out s.out_after
   pub says : SaysFault (Some faults.WriteFault) s.err s.err_after
   pub read : ReadsJudged c s
-  pub passed : Told s.files (HaveAllPassed c)
-  pub due : Told s.files (WritesPastStart c s)
-  pub ahead : Told s.files (ReadsNotFarAhead c s)
+  pub passed : WhereReported s.files (HaveAllPassed c)
+  pub due : WhereReported s.files (WritesPastStart c s)
+  pub ahead : WhereReported s.files (ReadsNotFarAhead c s)
 
 -- the log was come to, and all that was due at a point of it was written, which is no farther than what was taken of it
 pub record StopsInLog (c : Command) (s : Seen) (left : Left) : Type 0 where
@@ -181,7 +181,7 @@ pub record StopsInLog (c : Command) (s : Seen) (left : Left) : Type 0 where
 
 -- memory ran out: nothing was written, or all that was due at a point of the log
 abbrev pub BlamesMemory : Command → Seen → Type 0
-BlamesMemory c s = WritesAll s.out s.out_after [] ⊎ Told s.files (StopsInLog c s)
+BlamesMemory c s = WritesAll s.out s.out_after [] ⊎ WhereReported s.files (StopsInLog c s)
 
 -- at 8 a read failed, at 9 a write, and at 10 memory ran out
 abbrev pub Blames : Command → Status → Seen → Type 0
@@ -205,4 +205,4 @@ NoReadFails c s = (name : List ℕ) → IsFileWord c name → ¬ ReadFailed s.fi
 -- where no read of a file word and no write of the output fails, the run answers the outcome, unless memory runs out
 abbrev pub IsComplete : Command → Status → Seen → Type 0
 IsComplete c status s = NoReadFails c s → (¬ WriteFailed s.out s.out_after)
-    → (status ≡ statuses.Memory) ⊎ Told s.files (Answers c status s)
+    → (status ≡ statuses.Memory) ⊎ WhereReported s.files (Answers c status s)

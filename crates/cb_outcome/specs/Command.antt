@@ -1,6 +1,6 @@
 -- What a command is.
 use Rattle.std.specs.Prelude.{◌≡◌, ℕ, ◌≤◌, ◌++◌, List, [], ◌∷◌}
-use Rattle.cb_io.specs.Outside.{FilesTold}
+use Rattle.cb_io.specs.Outside.{FilesReport}
 use Rattle.cb_outcome.specs.Roles.{Role}
 use Rattle.cb_report.specs.declared.fault.Fault.{Fault}
 use Rattle.cb_report.specs.declared.status.Status.{Status}
@@ -41,7 +41,7 @@ pub record Command : Type 1 where
   pub files : List (Role × List ℕ)
   pub task : Task
   pub range : Type 0
-  pub counts : FilesTold → FilesTold → ℕ → ℕ → Type 0
+  pub counts : FilesReport → FilesReport → ℕ → ℕ → Type 0
 
 -- something is done
 abbrev pub IsDoing : Task → Type 0

@@ -3,7 +3,7 @@ use Rattle.std.specs.Prelude.{◌≡◌, ℕ, ◌+◌, ◌≤◌, List, [], ◌�
 use Rattle.cb_change.specs.Costs.{IsOpenCost}
 use Rattle.cb_change.specs.InTurn.{IsCostInTurn}
 use Rattle.cb_gen.specs.Log.{log_text}
-use Rattle.cb_io.specs.Outside.{FilesTold, left_of}
+use Rattle.cb_io.specs.Outside.{FilesReport, left_of}
 use Rattle.cb_network.specs.Topology.{Topology}
 use Rattle.cb_log.specs.Entries.{LogEntry, records_of}
 use Rattle.cb_log.specs.Network.{edits_of}
@@ -42,7 +42,7 @@ pub record CountsSearch (left : Left) (reads : Reads) (old new : ℕ) : Type 0 w
 
 -- `correlate`: the topology is that of the model and the topology file, and the lines are those of the log's bytes that were taken. Where
 -- the two files give no topology, no step is counted, nor where the log was never come to, so that what is left under its name is no rest of it.
-pub record CountsCorrelate (left : Left) (reads : Reads) (log : List ℕ) (after : FilesTold) (old new : ℕ) : Type 0 where
+pub record CountsCorrelate (left : Left) (reads : Reads) (log : List ℕ) (after : FilesReport) (old new : ℕ) : Type 0 where
   pub most : (t : Topology) → PassFrom nothing (files_from left reads) (network t)
       → (taken : LeavesRest (log_from left reads log) (left_of after log)) → CountsBoth t (lines_taken taken.0 taken.1) old new
   pub none : ((t : Topology) → ¬ PassFrom nothing (files_from left reads) (network t)) → new ≡ old

@@ -9,7 +9,7 @@ use Rattle.cb_log.specs.declared.record.Record.{Record}
 use Rattle.cb_log.specs.Basis.{Mode}
 use Rattle.cb_log.specs.Entries.{records_of}
 use Rattle.cb_log.specs.Whole.{is_thin, TellsThin}
-use Rattle.cb_alarm.specs.Lines.{LogGives, FrontGives}
+use Rattle.cb_alarm.specs.Lines.{LogGives, PrefixGives}
 use Rattle.cb_report.specs.declared.summary.Summary.{Summary}
 use Rattle.cb_report.specs.declared.fault.Fault.{Fault}
 use Rattle.cb_request.specs.Commands.{request_of}
@@ -22,7 +22,7 @@ use Rattle.cb_outcome.specs.Commands.Codebook.{codebook}
 use Rattle.cb_outcome.specs.Commands.Verify.{verify}
 use Rattle.cb_outcome.specs.Asked.{command_of, command_for}
 use Rattle.cb_outcome.specs.Grown.{SumsUpLog}
-use Rattle.cb_outcome.specs.LogJobs.{Watch, FrontTells, log_limit}
+use Rattle.cb_outcome.specs.LogJobs.{Watch, PrefixTells, log_limit}
 use Rattle.cb_outcome.specs.Answer.{IsOutcome, IsDue}
 use Rattle.cb_outcome.specs.Point.{Point}
 
@@ -41,23 +41,23 @@ OutcomeGoesByBytes = (asked : Option Request) (left left' : Left) (a : Outcome) 
 
 -- the bytes begin with these
 abbrev pub BeginsWith : List ℕ → List ℕ → Type 0
-BeginsWith bytes front = (rest : List ℕ) × (bytes ≡ front ++ rest)
+BeginsWith bytes prefix = (rest : List ℕ) × (bytes ≡ prefix ++ rest)
 
 -- the events of the first bytes of a log are the first events of more bytes of it, and of the whole log
-abbrev pub FrontIsFront : Type 0
-FrontIsFront = (t : Topology) (mode : Mode) (window : ℕ) (front more : List ℕ) (due all : List Event) → IsRegular t.model
-    → FrontGives t mode window front due → FrontGives t mode window (front ++ more) all ⊎ LogGives t mode window (front ++ more) all
+abbrev pub PrefixGivesPrefix : Type 0
+PrefixGivesPrefix = (t : Topology) (mode : Mode) (window : ℕ) (prefix more : List ℕ) (due all : List Event) → IsRegular t.model
+    → PrefixGives t mode window prefix due → PrefixGives t mode window (prefix ++ more) all ⊎ LogGives t mode window (prefix ++ more) all
     → (rest : List Event) × (all ≡ due ++ rest)
 
 -- what is due at any point is a prefix of the outcome's output
-abbrev pub DueIsFront : Type 0
-DueIsFront = (asked : Option Request) (left : Left) (point : Point) (due : List ℕ) (outcome : Outcome)
+abbrev pub DueIsPrefix : Type 0
+DueIsPrefix = (asked : Option Request) (left : Left) (point : Point) (due : List ℕ) (outcome : Outcome)
     → IsOutcome (command_for asked) left outcome → IsDue (command_for asked) left point due → BeginsWith outcome.out due
 
 -- each thin event of what is due, once a number of bytes of a log was taken, names two groups that are closer than wanted, in the topology of
 -- that moment
-abbrev pub FrontThinsAreClose : Type 0
-FrontThinsAreClose = (watch : Watch) (front out : List ℕ) (tells : FrontTells watch front out) (event : Event) → Contains tells.0 event
+abbrev pub PrefixThinsAreClose : Type 0
+PrefixThinsAreClose = (watch : Watch) (prefix out : List ℕ) (tells : PrefixTells watch prefix out) (event : Event) → Contains tells.0 event
     → IsTrue (is_thin event) → (records : List Record) × TellsThin watch.from watch.mode watch.window records event
 
 -- and so does each thin event of a log that is summed up

@@ -11,7 +11,7 @@ use Rattle.cb_validity.specs.Reading.{ArePlaces}
 use Rattle.cb_validity.specs.Verdicts.{Shows}
 use Rattle.cb_log.specs.declared.event.Event.{Event}
 use Rattle.cb_log.specs.Basis.{Mode, wanted, fixed}
-use Rattle.cb_alarm.specs.Lines.{LogGives, FrontGives}
+use Rattle.cb_alarm.specs.Lines.{LogGives, PrefixGives}
 use Rattle.cb_report.specs.declared.fault.Fault.TheVariants as faults
 use Rattle.cb_report.specs.CertificateTexts.{accepted_text}
 use Rattle.cb_report.specs.EventTexts.{events_text}
@@ -58,9 +58,9 @@ WholeTells watch log out =
     (events : List Event) × LogGives watch.from watch.mode watch.window log events × (out ≡ watch.opening ++ events_text events)
 
 -- the output of the lines that ended within the first bytes of a log
-abbrev pub FrontTells : Watch → List ℕ → List ℕ → Type 0
-FrontTells watch front out =
-    (events : List Event) × FrontGives watch.from watch.mode watch.window front events × (out ≡ watch.opening ++ events_text events)
+abbrev pub PrefixTells : Watch → List ℕ → List ℕ → Type 0
+PrefixTells watch prefix out =
+    (events : List Event) × PrefixGives watch.from watch.mode watch.window prefix events × (out ≡ watch.opening ++ events_text events)
 
 -- a log that isn't too long gives its whole output
 pub record GivesWhole (watch : Watch) (log : List ℕ) (whole : ℕ) (outcome : Outcome) : Type 0 where
@@ -70,12 +70,12 @@ pub record GivesWhole (watch : Watch) (log : List ℕ) (whole : ℕ) (outcome : 
   pub gives : outcome ≡ done out (suc whole)
 
 -- and one that is gives the output of the lines before the first byte too many
-pub record GivesFront (watch : Watch) (name log : List ℕ) (whole : ℕ) (outcome : Outcome) : Type 0 where
+pub record GivesPrefix (watch : Watch) (name log : List ℕ) (whole : ℕ) (outcome : Outcome) : Type 0 where
   pub long : log_limit < length log
   pub out : List ℕ
-  pub tells : FrontTells watch (take log_limit log) out
+  pub tells : PrefixTells watch (take log_limit log) out
   pub gives : outcome ≡ done_with out (faults.LimitBytes name) whole
 
 -- what a log of this name gives that is followed so
 abbrev pub LogTells : Watch → List ℕ → List ℕ → ℕ → Outcome → Type 0
-LogTells watch name log whole outcome = GivesWhole watch log whole outcome ⊎ GivesFront watch name log whole outcome
+LogTells watch name log whole outcome = GivesWhole watch log whole outcome ⊎ GivesPrefix watch name log whole outcome

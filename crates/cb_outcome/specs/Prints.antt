@@ -2,7 +2,7 @@
 use Rattle.std.specs.Prelude.{◌≡◌, ◌↔◌, ℕ, ◌<◌, ◌≤◌, ◌++◌, List, [], ◌∷◌, length, Bool, Option, Some, IsTrue}
 use Rattle.std.specs.List.{Contains}
 use Rattle.std.specs.List.Sorted.{IsStrictlyIncreasing}
-use Rattle.cb_io.specs.Outside.{SinkTold, WritesAll}
+use Rattle.cb_io.specs.Outside.{SinkReport, WritesAll}
 use Rattle.cb_model.specs.declared.node.GroupName.{GroupName}
 use Rattle.cb_model.specs.declared.node.GroupName.TheVariants.{Least}
 use Rattle.cb_model.specs.declared.node.NodeName.{NodeName}
@@ -62,7 +62,7 @@ pub record HasCodeOf (codes : List (List Bool)) (g h : Guess) : Type 0 where
   pub same : guess_code codes h ≡ guess_code codes g
 
 -- `burst` printed exactly the groups nearest to the nodes, by codes from what causes what
-pub record PrintsFinding (t : Topology) (nodes : List NodeName) (out out' : SinkTold) : Type 0 where
+pub record PrintsFinding (t : Topology) (nodes : List NodeName) (out out' : SinkReport) : Type 0 where
   pub finding : Finding
   pub burst : IsBurst t nodes finding
   pub printed : WritesAll out out' (burst_text finding)
@@ -70,7 +70,7 @@ pub record PrintsFinding (t : Topology) (nodes : List NodeName) (out out' : Sink
 
 -- What fits the nodes was printed: exactly the guesses nearest to them, by codes from what causes what. Where they differ from the code of a guess
 -- at no more columns than the radius, exactly the guesses with that code are listed, and it is sure.
-pub record PrintsFits (t : Topology) (nodes : List NodeName) (out out' : SinkTold) : Type 0 where
+pub record PrintsFits (t : Topology) (nodes : List NodeName) (out out' : SinkReport) : Type 0 where
   pub columns : List NodeName
   pub groups : List Group
   pub matrix : IsMatrix t columns groups
@@ -83,7 +83,7 @@ pub record PrintsFits (t : Topology) (nodes : List NodeName) (out out' : SinkTol
 -- The events of a log were printed: there is one diagnosis for each window, in the order in which the windows close, and each lists exactly
 -- the groups nearest to the window's nodes; each thin event names two groups that are closer than wanted, with their distance; and of each
 -- source the diagnoses are those of the lines that it alone would have made.
-pub record PrintsEvents (watch : Watch) (log : List ℕ) (out out' : SinkTold) : Type 0 where
+pub record PrintsEvents (watch : Watch) (log : List ℕ) (out out' : SinkReport) : Type 0 where
   pub events : List Event
   pub gives : LogGives watch.from watch.mode watch.window log events
   pub printed : WritesAll out out' (watch.opening ++ events_text events)
@@ -95,7 +95,7 @@ pub record PrintsEvents (watch : Watch) (log : List ℕ) (out out' : SinkTold) :
   pub alone : (source : List ℕ) → LinesAlone watch.from watch.mode watch.window source (log_lines log) events
 
 -- what was printed is a text that a certificate file may have, and it spells a certificate that is valid for the topology
-pub record PrintsValid (t : Topology) (out out' : SinkTold) : Type 0 where
+pub record PrintsValid (t : Topology) (out out' : SinkReport) : Type 0 where
   pub text : List ℕ
   pub certificate : Certificate
   pub valid : IsValidText t text certificate

@@ -1,5 +1,5 @@
 //! What holds of outcomes.
-ghost use Rattle.cb_outcome.specs.Laws.{OutcomeIsOne, OutcomeGoesByBytes, FrontIsFront, DueIsFront, FrontThinsAreClose, SummedThinsAreClose, PassedGoToJob, PassedEndWell, DoneReadsAll, AskedIsInRange, FileWordsAreRead, WrittenIsAccepted};
+ghost use Rattle.cb_outcome.specs.Laws.{OutcomeIsOne, OutcomeGoesByBytes, PrefixGivesPrefix, DueIsPrefix, PrefixThinsAreClose, SummedThinsAreClose, PassedGoToJob, PassedEndWell, DoneReadsAll, AskedIsInRange, FileWordsAreRead, WrittenIsAccepted};
 
 /// The words of the command line and the bytes of the files have one outcome: in how large pieces the files give their
 /// bytes makes no difference.
@@ -13,19 +13,19 @@ pub fn outcome_goes_by_bytes()
 {}
 
 /// The events of the first bytes of a log are its first events.
-pub fn front_is_front()
-    ensures { FrontIsFront }
+pub fn prefix_gives_prefix()
+    ensures { PrefixGivesPrefix }
 {}
 
 /// What is due at any point of a run is a prefix of the outcome's output.
-pub fn due_is_front()
-    ensures { DueIsFront }
+pub fn due_is_prefix()
+    ensures { DueIsPrefix }
 {}
 
 /// Each thin event that is due before a log's end names two groups that are closer than wanted, with their distance; at a wanted distance
 /// of 1 none comes.
-pub fn front_thins_are_close()
-    ensures { FrontThinsAreClose }
+pub fn prefix_thins_are_close()
+    ensures { PrefixThinsAreClose }
 {}
 
 /// So does each thin event of a log that is summed up, as `grow` does.

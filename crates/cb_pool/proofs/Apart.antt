@@ -16,8 +16,8 @@ module _ {X : Type 0} (R : X → X → Type 0) where
       let last : get_or all (length xs) x ≡ y = get_or_push xs y x (length xs) refl in
       subst (λ z. R x z) last (subst (λ z. R z (get_or all (length xs) x)) at h)
 
-  pub pairs_front : (xs : List X) (y : X) → AllPairs R (xs ++ y ∷ []) → AllPairs R xs
-  pairs_front xs y pairs i j d lt within =
+  pub pairs_prefix : (xs : List X) (y : X) → AllPairs R (xs ++ y ∷ []) → AllPairs R xs
+  pairs_prefix xs y pairs i j d lt within =
       let all : List X = xs ++ y ∷ [] in
       let more : j < length all = omega (arith, length_push xs y) in
       let first : i < length xs = omega arith in

@@ -144,16 +144,16 @@ put_none : (zs : List ℕ) → put_chunk 0 zs [] ≡ zs
 put_none [] = refl
 put_none (z ∷ zs) = refl
 
--- words that are put into the front of a list leave what stands after it
-pub put_front : (i : ℕ) (xs zs ys : List ℕ) → i + length ys ≤ length xs → put_chunk i (xs ++ zs) ys ≡ put_chunk i xs ys ++ zs
-put_front zero [] zs [] le = put_none zs
-put_front zero [] zs (y ∷ ys) le = absurd (omega arith)
-put_front (suc i) [] zs ys le = absurd (omega arith)
-put_front zero (x ∷ xs) zs [] le = refl
-put_front zero (x ∷ xs) zs (y ∷ ys) le = ap (λ l. y ∷ l) (put_front zero xs zs ys (omega arith))
-put_front (suc i) (x ∷ xs) zs ys le = ap (λ l. x ∷ l) (put_front i xs zs ys (omega arith))
+-- words that are put into the start of a list leave what stands after it
+pub put_prefix : (i : ℕ) (xs zs ys : List ℕ) → i + length ys ≤ length xs → put_chunk i (xs ++ zs) ys ≡ put_chunk i xs ys ++ zs
+put_prefix zero [] zs [] le = put_none zs
+put_prefix zero [] zs (y ∷ ys) le = absurd (omega arith)
+put_prefix (suc i) [] zs ys le = absurd (omega arith)
+put_prefix zero (x ∷ xs) zs [] le = refl
+put_prefix zero (x ∷ xs) zs (y ∷ ys) le = ap (λ l. y ∷ l) (put_prefix zero xs zs ys (omega arith))
+put_prefix (suc i) (x ∷ xs) zs ys le = ap (λ l. x ∷ l) (put_prefix i xs zs ys (omega arith))
 
--- words before a place are those of the front up to it
+-- words before a place are those of the prefix up to it
 pub take_within : (at width later : ℕ) (xs : List ℕ) → at + width ≤ later → later ≤ length xs → take (at + width - at) (drop at (take later xs)) ≡ take width (drop at xs)
 take_within at width later xs apart within =
     let e : at + width - at ≡ width = omega arith in

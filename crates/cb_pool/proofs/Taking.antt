@@ -8,7 +8,7 @@ use Rattle.std.proofs.lemmas.List.Sums.{sum_by-set, sum_by-append}
 use Rattle.cb_pool.specs.declared.slot.Slot.{Slot}
 use Rattle.cb_pool.specs.declared.slots.Slots.{Slots}
 use Rattle.cb_pool.specs.Kept.{AreKept, TakesSlot, IsOut}
-use Rattle.cb_pool.proofs.Apart.{pairs_last, pairs_front, pairs_more}
+use Rattle.cb_pool.proofs.Apart.{pairs_last, pairs_prefix, pairs_more}
 
 same_slot : (i j : Slot) → i.0 ≡ j.0 → i ≡ j
 same_slot i j e = λ k. record { 0 = e k }
@@ -23,12 +23,12 @@ count_back : (taken : List Bool) (i : ℕ) → i < length taken → IsOut taken 
 count_back taken i lt out = let h = sum_by-set one taken i false false lt in let e : one (slice_index_or taken i false) ≡ 1 = ap one out in omega (arith, h, e)
 
 -- a free slot is there
-pub free_within : (old : Slots) (front : List Slot) (slot : Slot) → AreKept old → old.free.items ≡ front ++ slot ∷ [] → slot.0 < length old.taken.items
-free_within old front slot kept popped = kept.within slot (subst (λ xs. Contains xs slot) (sym popped) (Contains-push front slot))
+pub free_within : (old : Slots) (prefix : List Slot) (slot : Slot) → AreKept old → old.free.items ≡ prefix ++ slot ∷ [] → slot.0 < length old.taken.items
+free_within old prefix slot kept popped = kept.within slot (subst (λ xs. Contains xs slot) (sym popped) (Contains-push prefix slot))
 
 -- and isn't taken
-pub free_vacant : (old : Slots) (front : List Slot) (slot : Slot) → AreKept old → old.free.items ≡ front ++ slot ∷ [] → slice_index_or old.taken.items slot.0 false ≡ false
-free_vacant old front slot kept popped = kept.vacant slot (subst (λ xs. Contains xs slot) (sym popped) (Contains-push front slot))
+pub free_vacant : (old : Slots) (prefix : List Slot) (slot : Slot) → AreKept old → old.free.items ≡ prefix ++ slot ∷ [] → slice_index_or old.taken.items slot.0 false ≡ false
+free_vacant old prefix slot kept popped = kept.vacant slot (subst (λ xs. Contains xs slot) (sym popped) (Contains-push prefix slot))
 
 -- the last of the free slots is taken
 pub taken_again : (old new : Slots) (slot : Slot) → AreKept old → old.free.items ≡ new.free.items ++ slot ∷ [] → vec_capacity new.free ≡ vec_capacity old.free
@@ -37,7 +37,7 @@ taken_again old new slot kept popped listed written noted room =
     let has : Contains old.free.items slot = subst (λ xs. Contains xs slot) (sym popped) (Contains-push new.free.items slot) in
     let lt = kept.within slot has in
     let free = kept.vacant slot has in
-    let front : (x : Slot) → Contains new.free.items x → Contains old.free.items x = λ x in_x. subst (λ xs. Contains xs x) (sym popped) (Contains-append_left new.free.items (slot ∷ []) x in_x) in
+    let prefix : (x : Slot) → Contains new.free.items x → Contains old.free.items x = λ x in_x. subst (λ xs. Contains xs x) (sym popped) (Contains-append_left new.free.items (slot ∷ []) x in_x) in
     let once : AllPairs (λ a b. a ≢ b) (new.free.items ++ slot ∷ []) = subst (AllPairs (λ a b. a ≢ b)) popped kept.once in
     let other : (x : Slot) → Contains new.free.items x → x.0 ≢ slot.0 = λ x in_x e. pairs_last (λ a b. a ≢ b) new.free.items slot once x in_x (same_slot x slot e) in
     let size : length new.taken.items ≡ length old.taken.items = ap length written ∙ length-set old.taken.items slot.0 true in
@@ -45,9 +45,9 @@ taken_again old new slot kept popped listed written noted room =
     let fewer : length old.free.items ≡ length new.free.items + 1 = ap length popped ∙ length_push new.free.items slot in
     record {
       counted = omega (arith, kept.counted);
-      within = λ x in_x. omega (arith, kept.within x (front x in_x));
-      vacant = λ x in_x. ap (λ t. slice_index_or t x.0 false) written ∙ get_or-set_other old.taken.items slot.0 x.0 true false (other x in_x) ∙ kept.vacant x (front x in_x);
-      once = pairs_front (λ a b. a ≢ b) new.free.items slot once;
+      within = λ x in_x. omega (arith, kept.within x (prefix x in_x));
+      vacant = λ x in_x. ap (λ t. slice_index_or t x.0 false) written ∙ get_or-set_other old.taken.items slot.0 x.0 true false (other x in_x) ∙ kept.vacant x (prefix x in_x);
+      once = pairs_prefix (λ a b. a ≢ b) new.free.items slot once;
       begun = omega (arith, kept.begun);
       noted = omega (arith, kept.noted);
       listed = omega (arith, kept.listed);

@@ -85,7 +85,7 @@ fn unite_with_earlier(words: &mut [u64], width: usize, at: usize, later: usize)
 
 /// Adds a row of zeros, for which there is capacity.
 pub(crate) fn add_row(words: &mut Vec<u64>, width: usize, i: usize)
-    requires behind { length words.old.items ≡ width * i }
+    requires after { length words.old.items ≡ width * i }
     requires room { width * i + width ≤ vec_capacity words.old }
     ensures clears { Clears width words.old.items words.new.items i }
     ensures words { length words.new.items ≡ width * i + width }
@@ -120,7 +120,7 @@ pub(crate) fn widened(
 
 // Adds a row with zeros after it, for which there is capacity.
 fn add_wider(made: &mut Vec<u64>, row: &[u64], wider: usize, i: usize)
-    requires behind { length made.old.items ≡ wider * i }
+    requires after { length made.old.items ≡ wider * i }
     requires room { wider * i + wider ≤ vec_capacity made.old }
     requires wider { length row.now ≤ wider }
     ensures words { made.new.items ≡ made.old.items ++ row.now ++ replicate (wider - length row.now) 0 }

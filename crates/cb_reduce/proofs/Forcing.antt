@@ -14,7 +14,7 @@ use Rattle.cb_reduce.specs.Moves.{SomeAreClose}
 use Rattle.cb_coding.specs.Pairs.{IsPair}
 use Rattle.cb_reduce.specs.Forced.{IsForced, Forces, MarksOnly, MarksApart}
 use Rattle.cb_reduce.proofs.Places.{code_at_is}
-use Rattle.cb_reduce.proofs.Fronts.{front, front_more, step_where}
+use Rattle.cb_reduce.proofs.Prefixes.{prefix, prefix_more, step_where}
 use Rattle.cb_reduce.proofs.Kept.{in_kept, was_kept, kept_rise}
 
 abbrev once : Bool → ℕ
@@ -54,7 +54,7 @@ module _ (codes : List (List Bool)) (i j : ℕ) where
 
   -- what forced columns tell apart, the columns before one and the kept ones do, where those from it on are kept
   pub forced_within : (m : ℕ) (forced kept : List Bool) → length kept ≡ length forced → ((k : ℕ) → m ≤ k → bit forced k ≡ true → bit kept k ≡ true)
-      → apart (kept_of forced) codes i j ≤ front codes i j m + apart (kept_of kept) codes i j
+      → apart (kept_of forced) codes i j ≤ prefix codes i j m + apart (kept_of kept) codes i j
   forced_within m forced kept long are =
       let early : ℕ → Bool = λ k. nat_lt k m in
       let late : ℕ → Bool = λ k. not (nat_lt k m) in
@@ -75,7 +75,7 @@ module _ (codes : List (List Bool)) (i j : ℕ) where
 
   -- the columns up to one and the kept ones after it are no more than all
   pub parts_of_all : (width m : ℕ) (kept : List Bool) → m < width → length kept ≡ width → ((k : ℕ) → k < m + 1 → bit kept k ≡ false)
-      → front codes i j (m + 1) + apart (kept_of kept) codes i j ≤ apart (all_columns width) codes i j
+      → prefix codes i j (m + 1) + apart (kept_of kept) codes i j ≤ apart (all_columns width) codes i j
   parts_of_all width m kept lt long none =
       let late : ℕ → Bool = λ k. nat_lt m k in
       let early : ℕ → Bool = λ k. not (nat_lt m k) in
@@ -92,7 +92,7 @@ module _ (codes : List (List Bool)) (i j : ℕ) where
       let was = was_kept kept k there in
       let within = was.0 in
       elim (cases_lt m k) [
-        | inl behind ↦ kept_by_filter late (all_columns width) k (in_all_columns width k (omega arith)) (lt-ltb m k behind)
+        | inl after ↦ kept_by_filter late (all_columns width) k (in_all_columns width k (omega arith)) (lt-ltb m k after)
         | inr before ↦ absurd (both_ways _ (none k (omega arith)) was.1)
       ])
       in
@@ -107,7 +107,7 @@ forced_is_close width codes need m kept lt long none is = record {
   is_pair = is.is_pair;
   close = λ safe.
       let parts = parts_of_all codes is.first is.second width m kept lt long none in
-      let more = front_more codes is.first is.second m in
+      let more = prefix_more codes is.first is.second m in
       let one = step_where codes is.first is.second m is.differ in
       let no_less = is.no_less in
       omega arith;

@@ -14,7 +14,7 @@ use Rattle.cb_reduce.specs.Places.{IsPlace, kept_of}
 use Rattle.cb_reduce.specs.Moves.{waiter, at_column, IsSafe, IsHeld, IsCovered, Grows}
 use Rattle.cb_reduce.proofs.Forcing.{more_marked}
 use Rattle.cb_reduce.proofs.Places.{code_at_is}
-use Rattle.cb_reduce.proofs.Fronts.{front, front_more, front_rises, step_where}
+use Rattle.cb_reduce.proofs.Prefixes.{prefix, prefix_more, prefix_rises, step_where}
 
 -- the list that a column gives
 pub list_is : (lists : List (List Waiter)) (c : ℕ) (pairs : List Waiter) → c < length lists → pairs ≡ get_or lists c pairs → pairs ≡ at_column lists c
@@ -81,35 +81,35 @@ module _ (codes : List (List Bool)) where
 
 -- what a place says of a pair
 module _ (codes : List (List Bool)) (i j : ℕ) (v w : List Bool) (at : slice_get codes i ≡ Some v) (at' : slice_get codes j ≡ Some w) (kept : List ℕ) (d before : ℕ) where
-  behind : distance kept v w ≡ apart kept codes i j
-  behind = rw (← code_at_is codes i v at, ← code_at_is codes j w at') refl
+  after : distance kept v w ≡ apart kept codes i j
+  after = rw (← code_at_is codes i v at, ← code_at_is codes j w at') refl
 
-  before_is : (c : ℕ) → distance (all_columns c) v w ≡ front codes i j c
+  before_is : (c : ℕ) → distance (all_columns c) v w ≡ prefix codes i j c
   before_is c = rw (← code_at_is codes i v at, ← code_at_is codes j w at') refl
 
   differs : (c : ℕ) → differ (bit v c) (bit w c) ≡ true → differ (bit (code_at codes i) c) (bit (code_at codes j) c) ≡ true
   differs c is = rw (code_at_is codes i v at, code_at_is codes j w at') is
 
   pub nowhere_is_safe : IsPlace v w kept before d Nowhere → IsSafe codes kept d 0 i j
-  nowhere_is_safe far = let same = behind in let none : front codes i j 0 ≡ 0 = refl in omega arith
+  nowhere_is_safe far = let same = after in let none : prefix codes i j 0 ≡ 0 = refl in omega arith
 
   pub at_is_safe : (c : ℕ) → IsPlace v w kept before d (At c) → IsSafe codes kept d (c + 1) i j
   at_is_safe c place =
-      let same = behind in
+      let same = after in
       let sum = place.2 in
-      let front_is = before_is c in
-      let more = front_more codes i j c in
+      let prefix_is = before_is c in
+      let more = prefix_more codes i j c in
       let one = step_where codes i j c (differs c place.1) in
       omega arith
 
   pub close_isnt_safe : IsPlace v w kept before d Close → IsSafe codes kept d before i j → ⊥
-  close_isnt_safe close safe = let same = behind in let front_is = before_is before in omega arith
+  close_isnt_safe close safe = let same = after in let prefix_is = before_is before in omega arith
 
   pub others_are_safe : (place : WaitingPlace) → (place ≡ Close → ⊥) → IsPlace v w kept before d place → IsSafe codes kept d before i j
-  others_are_safe Nowhere other far = let same = behind in omega arith
+  others_are_safe Nowhere other far = let same = after in omega arith
   others_are_safe (At c) other place =
       let safe = at_is_safe c place in
-      let rise = front_rises codes i j (c + 1) before (let lt = place.0 in omega arith) in
+      let rise = prefix_rises codes i j (c + 1) before (let lt = place.0 in omega arith) in
       omega arith
   others_are_safe Close other far = absurd (other refl)
 

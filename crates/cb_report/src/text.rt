@@ -1,6 +1,6 @@
 //! What a command prints.
 ghost use Rattle.std.specs.Prelude.{◌≤◌, OnOk, OnErr};
-ghost use Rattle.cb_io.specs.Outside.{WritesAll, WritesFront, WriteFailed};
+ghost use Rattle.cb_io.specs.Outside.{WritesAll, WritesPrefix, WriteFailed};
 ghost use Rattle.cb_report.specs.Text.{bytes_of_text};
 
 use crate::matrix::MatrixLines;
@@ -17,7 +17,7 @@ impl Text {
     /// Writes all bytes, or a prefix of them before a fault.
     pub fn write<O: Sink>(self, out: &mut O) -> Result<(), Failed>
         ensures all { OnOk result (WritesAll (O.tells out.old) (O.tells out.new) (bytes_of_text self)) }
-        ensures front { WritesFront (O.tells out.old) (O.tells out.new) (bytes_of_text self) }
+        ensures prefix { WritesPrefix (O.tells out.old) (O.tells out.new) (bytes_of_text self) }
         ensures counts { (O.tells out.old).faults ≤ (O.tells out.new).faults }
         ensures failed { OnErr result (WriteFailed (O.tells out.old) (O.tells out.new)) }
     {

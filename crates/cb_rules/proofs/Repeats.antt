@@ -51,9 +51,9 @@ module _ (tree : Tree) (classes : Keeps tree TwoClasses) where
 
   module _ (names : Keeps tree TwoNames) where
     -- of a relation whose target and declaring class are known, whether it leads home is whether the one descends from the other
-    pub home_told : (k : ℕ) (name : List ℕ) (next home i : ℕ) → LeadsOn tree k name next → HasAt tree k (Declares name) home i
+    pub home_reported : (k : ℕ) (name : List ℕ) (next home i : ℕ) → LeadsOn tree k name next → HasAt tree k (Declares name) home i
         → ((n : ℕ) × IsAbove tree next n home) ↔ LeadsHome tree k name
-    home_told k name next home i on has = (
+    home_reported k name next home i on has = (
       λ (n, above). (home, i, on.0, next, n, has, on.1, on.2, above),
       λ (home', i', to, next', n, has', leads, named, above).
           let place = one_place tree classes names name k home' i' home i has' has in

@@ -1,4 +1,4 @@
--- What a source is told doesn't hang on what other sources say.
+-- What is reported of a source doesn't hang on what other sources say.
 use Rattle.std.proofs.Common.{ℕ, List, [], ◌∷◌, refl, sym, subst, append-nil}
 use Rattle.cb_network.specs.Regular.{IsRegular}
 use Rattle.cb_network.specs.Topology.{Topology}

@@ -20,22 +20,22 @@ use Rattle.cb_session.specs.Acts.{GoesOn, RefusesEdit}
 use Rattle.cb_session.specs.Course.{fixed_state}
 use Rattle.cb_session.specs.State.{State}
 use Rattle.cb_session.specs.Steps.{EntryTells, EntryStands, ClosesAtEnd, TellsAtEnd}
-use Rattle.cb_session.specs.Told.{TellsInUse}
-use Rattle.cb_session.proofs.Behind.{records_said}
+use Rattle.cb_session.specs.Reported.{TellsInUse}
+use Rattle.cb_session.proofs.After.{records_said}
 use Rattle.cb_session.proofs.Stepping.{Closes}
 
 -- of no window there is no diagnosis
-none_told : (P : Closed → Event → Type 0) (events : List Event) → AllZip P [] events → events ≡ []
-none_told P [] each = refl
-none_told P (e ∷ events) each = absurd each
+none_reported : (P : Closed → Event → Type 0) (events : List Event) → AllZip P [] events → events ≡ []
+none_reported P [] each = refl
+none_reported P (e ∷ events) each = absurd each
 
 -- a refusal is what results from the body
 refusal_comes : (t : Topology) (book : Book) (records : List Record) (line : ℕ) (body : Body) (events : List Event) → RefusesEdit line body events
     → BodyGives t (fixed book) records line body events
-refusal_comes t book records line (Raise source node) events told = told
-refusal_comes t book records line (Clear source node) events told = told
-refusal_comes t book records line (Change edit) events told = told
-refusal_comes t book records line Tick events told = told
+refusal_comes t book records line (Raise source node) events reported = reported
+refusal_comes t book records line (Clear source node) events reported = reported
+refusal_comes t book records line (Change edit) events reported = reported
+refusal_comes t book records line Tick events reported = reported
 
 module _ (cache : Cached) (ready : Ready) where
   abbrev network : Topology
@@ -43,7 +43,7 @@ module _ (cache : Cached) (ready : Ready) where
 
   diagnosed : (opening : Topology) → network ≡ opening → (w : ℕ) (records : List Record) (closing : List Closed) (events : List Event)
       → TellsInUse network (fixed ready.book) ready closing events → Diagnoses opening (fixed ready.book) w records closing events
-  diagnosed opening same w records [] events tells = none_told (IsDiagnosis tells.basis) events tells.each
+  diagnosed opening same w records [] events tells = none_reported (IsDiagnosis tells.basis) events tells.each
   diagnosed opening same w records (c ∷ closing) events tells = record {
     network = network;
     is_network = same;

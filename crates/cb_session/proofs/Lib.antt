@@ -1,7 +1,7 @@
 pub mod Alone
 pub mod Bases
 pub mod Following
-pub mod Behind
+pub mod After
 pub mod Telling
 pub mod Stepping
 pub mod ByOne

@@ -15,13 +15,13 @@ use Rattle.cb_topo.specs.Numbered.{topology_of}
 use Rattle.cb_session.specs.declared.basis.Ready.{Ready}
 use Rattle.cb_session.specs.declared.course.Course.{Course}
 use Rattle.cb_session.specs.declared.course.Course.TheVariants.{Wanted, Fixed}
-use Rattle.cb_session.specs.declared.told.Told.{Told}
+use Rattle.cb_session.specs.declared.reported.Reported.{Reported}
 use Rattle.cb_session.specs.Course.{wanted_state, fixed_state, state_of}
 use Rattle.cb_session.specs.Settled.{IsOverSome, IsSettled, IsFixed, Fits}
 use Rattle.cb_session.specs.Sources.{EndsAlone}
 use Rattle.cb_session.specs.State.{State, StandsForEntries}
 use Rattle.cb_session.specs.Steps.{ClosesAtEnd, TellsAtEnd}
-use Rattle.cb_session.specs.Told.{TellsInUse, ReportsWindows}
+use Rattle.cb_session.specs.Reported.{TellsInUse, ReportsWindows}
 use Rattle.cb_session.proofs.Alone.{ends_alone}
 use Rattle.cb_session.proofs.ByOne.{fixed_ends}
 use Rattle.cb_session.proofs.Stepping.{HasRisingNodes, end_rise, end_tells}
@@ -48,10 +48,10 @@ module _ (cache : Cached) (windows : Kept) (course : Course) (s : State) (view :
     pub wanted_rise : (closing : List Closed) → ClosesAtEnd s.windows closing → All HasRisingNodes closing
     wanted_rise closing closes = end_rise windows closing wanted_fits.over (closes_wanted closing closes)
 
-    pub wanted_tells : (closing : List Closed) → ClosesAtEnd s.windows closing → (told : Told) → ReportsWindows network d ready closing told → TellsAtEnd s told.events
-    wanted_tells closing closes told tells =
-        subst (λ (x : State). TellsAtEnd x told.events) wanted_view
-        (λ opening before stands. end_tells cache d windows ready closing told (closes_wanted closing closes) tells opening before stands)
+    pub wanted_tells : (closing : List Closed) → ClosesAtEnd s.windows closing → (reported : Reported) → ReportsWindows network d ready closing reported → TellsAtEnd s reported.events
+    wanted_tells closing closes reported tells =
+        subst (λ (x : State). TellsAtEnd x reported.events) wanted_view
+        (λ opening before stands. end_tells cache d windows ready closing reported (closes_wanted closing closes) tells opening before stands)
 
   module _ (ready : Ready) (is : course ≡ Fixed ready) where
     pub fixed_view : fixed_state cache windows ready ≡ s

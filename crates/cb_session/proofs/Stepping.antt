@@ -30,19 +30,19 @@ use Rattle.cb_alarm.specs.Spelled.{SpellsRecord, SaysBody}
 use Rattle.cb_alarm.proofs.OneSkip.{comes_to_one}
 use Rattle.cb_topo.specs.Numbered.{topology_of}
 use Rattle.cb_session.specs.declared.basis.Ready.{Ready}
-use Rattle.cb_session.specs.declared.told.Told.{Told}
+use Rattle.cb_session.specs.declared.reported.Reported.{Reported}
 use Rattle.cb_session.specs.Acts.{Acts, GoesOn, IsWellNamed}
 use Rattle.cb_session.specs.Ready.{IsReady}
 use Rattle.cb_session.specs.Course.{wanted_state}
 use Rattle.cb_session.specs.Settled.{IsOverSome, IsSettled}
 use Rattle.cb_session.specs.State.{State, network_of, IsBookOf, KeepsBook, StandsForEntries}
 use Rattle.cb_session.specs.Steps.{EntryTells, EntryStands, ClosesAtEnd}
-use Rattle.cb_session.specs.Told.{ReportsWindows, kept_of}
+use Rattle.cb_session.specs.Reported.{ReportsWindows, kept_of}
 use Rattle.cb_session.proofs.Bases.{ready_has_basis}
-use Rattle.cb_session.proofs.Behind.{records_said, records_stay, IsChangedBy, changed_by, body_gives}
+use Rattle.cb_session.proofs.After.{records_said, records_stay, IsChangedBy, changed_by, body_gives}
 use Rattle.cb_session.specs.Sources.{StandsAlone}
 use Rattle.cb_session.proofs.Alone.{stands_alone}
-use Rattle.cb_session.proofs.Telling.{book_of, told_comes, keeps_behind, ready_stays}
+use Rattle.cb_session.proofs.Telling.{book_of, reported_comes, keeps_after, ready_stays}
 
 -- the instance that an edit makes has a name of the grammar, where all its names are
 good_name : (edit : Edit) → HasNames edit → HasGoodName edit
@@ -83,7 +83,7 @@ aside_stands s entry none = λ opening before regular stands.
       book = keeps_same opening s.mode s.windows.length s before (before ++ entry ∷ []) same stands.book;
     }
 
--- what is reported of the entry that a line comes to is told of each that it comes to
+-- what is reported of the entry that a line comes to is reported of each that it comes to
 pub all_tell : (line : NumberedLine) (entry : LogEntry) → ComesTo line entry → (s : State) (events : List Event) → EntryTells s entry events
     → (other : LogEntry) → ComesTo line other → EntryTells s other events
 all_tell line entry comes s events tells other too = subst (λ (e : LogEntry). EntryTells s e events) (comes_to_one line entry other comes too) tells
@@ -109,21 +109,21 @@ module _ (d number : ℕ) (r : Record) (cache fresh : Cached) (windows later : K
   abbrev new : Topology
   new = topology_of fresh.graph
 
-  -- a record closes windows, is told, and acts
-  pub record Goes (closing : List Closed) (told : Told) (changed : Bool) (acted : List Event) : Type 0 where
+  -- a record closes windows, is reported, and acts
+  pub record Goes (closing : List Closed) (reported : Reported) (changed : Bool) (acted : List Event) : Type 0 where
     pub closes : Closes windows r.at closing
-    pub tells : ReportsWindows network d ready closing told
+    pub tells : ReportsWindows network d ready closing reported
     pub acts : Acts network number r.body new changed acted
     pub on : GoesOn windows later r
     pub same_length : later.length ≡ windows.length
     pub settled : IsSettled network d windows ready
 
-  module _ (closing : List Closed) (told : Told) (changed : Bool) (acted : List Event) (goes : Goes closing told changed acted) where
-    pub record_tells : EntryTells (wanted_state cache d windows ready) (said number r) (told.events ++ acted)
+  module _ (closing : List Closed) (reported : Reported) (changed : Bool) (acted : List Event) (goes : Goes closing reported changed acted) where
+    pub record_tells : EntryTells (wanted_state cache d windows ready) (said number r) (reported.events ++ acted)
     record_tells = λ opening before regular stands. record {
-      closings = told.events;
-      closing = told_comes opening d windows.length (records_of before) (r ∷ []) network stands.network ready stands.book.0 closing
-          (goes.closes (records_of before) r refl stands.windows) told goes.tells;
+      closings = reported.events;
+      closing = reported_comes opening d windows.length (records_of before) (r ∷ []) network stands.network ready stands.book.0 closing
+          (goes.closes (records_of before) r refl stands.windows) reported goes.tells;
       refusals = acted;
       body = body_gives opening regular (records_of before) network stands.network r d r.body number new changed acted goes.acts;
       events_are = refl;
@@ -131,7 +131,7 @@ module _ (d number : ℕ) (r : Record) (cache fresh : Cached) (windows later : K
 
     -- what stays ready
     abbrev kept : Option Ready
-    kept = kept_of changed ready told.made
+    kept = kept_of changed ready reported.made
 
     same_network : changed ≡ false → new ≡ network
     same_network = acts_same r.body goes.acts
@@ -144,7 +144,7 @@ module _ (d number : ℕ) (r : Record) (cache fresh : Cached) (windows later : K
         acts_same Tick acts e = acts.0
 
     ready_kept : IfSome kept (IsReady new (wanted d))
-    ready_kept = ready_stays network new d ready goes.settled.ready_is closing told goes.tells changed same_network
+    ready_kept = ready_stays network new d ready goes.settled.ready_is closing reported goes.tells changed same_network
 
     pub settled_still : IsSettled new d later kept
     settled_still = record {
@@ -159,8 +159,8 @@ module _ (d number : ℕ) (r : Record) (cache fresh : Cached) (windows later : K
         let by : IsChangedBy opening regular (records_of before) network stands.network r new changed =
         changed_by opening regular (records_of before) network stands.network r r.body refl number new changed acted goes.acts in
         let keeps : IsSome (book_of kept) ↔ HasBook opening windows.length (records_of before ++ r ∷ []) =
-        keeps_behind opening d windows.length (records_of before) r network ready stands.book.0 closing
-        (goes.closes (records_of before) r refl stands.windows) told goes.tells changed by.accepted by.refused in
+        keeps_after opening d windows.length (records_of before) r network ready stands.book.0 closing
+        (goes.closes (records_of before) r refl stands.windows) reported goes.tells changed by.accepted by.refused in
         record {
           network = subst (λ (rs : List Record). IsNow opening rs new) same by.is_now;
           windows = subst (StandsFor later) same (goes.on (records_of before) stands.windows);
@@ -189,13 +189,13 @@ pub end_rise : (windows : Kept) (closing : List Closed) → IsOverSome windows �
 end_rise windows closing over closes = all_rise over.0 windows.length (length over.0) closing (closes over.0 over.1)
 
 -- what is reported of them is what results from the end
-pub end_tells : (cache : Cached) (d : ℕ) (windows : Kept) (ready : Option Ready) (closing : List Closed) (told : Told) → ClosesAtEnd windows closing
-    → ReportsWindows (topology_of cache.graph) d ready closing told → (opening : Topology) (before : List LogEntry) → StandsForEntries (wanted_state cache d windows ready) opening before
-    → EndGives opening (wanted d) windows.length (records_of before) told.events
-end_tells cache d windows ready closing told closes tells opening before stands =
-    told_comes opening d windows.length (records_of before) [] (topology_of cache.graph) stands.network ready stands.book.0 closing
+pub end_tells : (cache : Cached) (d : ℕ) (windows : Kept) (ready : Option Ready) (closing : List Closed) (reported : Reported) → ClosesAtEnd windows closing
+    → ReportsWindows (topology_of cache.graph) d ready closing reported → (opening : Topology) (before : List LogEntry) → StandsForEntries (wanted_state cache d windows ready) opening before
+    → EndGives opening (wanted d) windows.length (records_of before) reported.events
+end_tells cache d windows ready closing reported closes tells opening before stands =
+    reported_comes opening d windows.length (records_of before) [] (topology_of cache.graph) stands.network ready stands.book.0 closing
     (subst (λ (rs : List Record). AreClosing rs windows.length (length (records_of before)) closing) (sym (append-nil (records_of before)))
-    (closes (records_of before) stands.windows)) told tells
+    (closes (records_of before) stands.windows)) reported tells
 
 -- at the beginning no codebook is in use
 no_book : (opening : Topology) (w : ℕ) → IsSome {T = Book} None ↔ HasBook opening w []

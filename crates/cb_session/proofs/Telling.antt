@@ -13,9 +13,9 @@ use Rattle.cb_log.specs.Events.{HasBook, ClosingGives, Diagnoses}
 use Rattle.cb_log.specs.Network.{IsNow, IsAcceptedAt}
 use Rattle.cb_log.proofs.BookSteps.{book_steps}
 use Rattle.cb_session.specs.declared.basis.Ready.{Ready}
-use Rattle.cb_session.specs.declared.told.Told.{Told}
+use Rattle.cb_session.specs.declared.reported.Reported.{Reported}
 use Rattle.cb_session.specs.Ready.{IsReady}
-use Rattle.cb_session.specs.Told.{TellsMade, ReportsWindows, kept_of}
+use Rattle.cb_session.specs.Reported.{TellsMade, ReportsWindows, kept_of}
 
 -- the codebook of what is ready
 abbrev pub book_of : Option Ready → Option Book
@@ -30,19 +30,19 @@ module _ (t : Topology) (d w : ℕ) (records : List Record) where
   KeepsReady ready rs = IsSome (book_of ready) ↔ HasBook t w rs
 
   diagnosed : (network : Topology) → IsNow t records network → (ready : Option Ready) → KeepsReady ready records
-      → (closing : List Closed) (told : Told) → ReportsWindows network d ready closing told → Diagnoses t (wanted d) w records closing told.events
-  diagnosed network now ready keeps [] told tells = tells.0
-  diagnosed network now (Some ready) keeps (c ∷ closing) told tells = record {
+      → (closing : List Closed) (reported : Reported) → ReportsWindows network d ready closing reported → Diagnoses t (wanted d) w records closing reported.events
+  diagnosed network now ready keeps [] reported tells = tells.0
+  diagnosed network now (Some ready) keeps (c ∷ closing) reported tells = record {
     network = network;
     is_network = now;
     basis = tells.0.basis;
     opening = [];
     is_opening = inl (keeps.0 refl, refl);
-    diagnoses = told.events;
+    diagnoses = reported.events;
     each = tells.0.each;
     events_are = refl;
   }
-  diagnosed network now None keeps (c ∷ closing) told tells = record {
+  diagnosed network now None keeps (c ∷ closing) reported tells = record {
     network = network;
     is_network = now;
     basis = tells.3.basis;
@@ -54,13 +54,13 @@ module _ (t : Topology) (d w : ℕ) (records : List Record) where
   }
 
   -- what is reported is what results from the windows
-  pub told_comes : (next : List Record) (network : Topology) → IsNow t records network → (ready : Option Ready) → KeepsReady ready records
-      → (closing : List Closed) → AreClosing (records ++ next) w (length records) closing → (told : Told) → ReportsWindows network d ready closing told
-      → ClosingGives t (wanted d) w records next told.events
-  told_comes next network now ready keeps closing closes told tells = record {
+  pub reported_comes : (next : List Record) (network : Topology) → IsNow t records network → (ready : Option Ready) → KeepsReady ready records
+      → (closing : List Closed) → AreClosing (records ++ next) w (length records) closing → (reported : Reported) → ReportsWindows network d ready closing reported
+      → ClosingGives t (wanted d) w records next reported.events
+  reported_comes next network now ready keeps closing closes reported tells = record {
     closing = closing;
     closes = closes;
-    diagnoses = diagnosed network now ready keeps closing told tells;
+    diagnoses = diagnosed network now ready keeps closing reported tells;
   }
 
   module _ (r : Record) where
@@ -69,56 +69,56 @@ module _ (t : Topology) (d w : ℕ) (records : List Record) where
     ClosesSome = (c : Closed) × ClosesAt (records ++ r ∷ []) w (length records) c
 
     -- after what is reported a codebook is ready exactly where one was in use, or the record closes a window
-    ready_behind : (network : Topology) (ready : Option Ready) → KeepsReady ready records → (closing : List Closed)
-        → AreClosing (records ++ r ∷ []) w (length records) closing → (told : Told) → ReportsWindows network d ready closing told
-        → IsSome (book_of (kept_of false ready told.made)) ↔ (HasBook t w records ⊎ ClosesSome)
-    ready_behind network (Some ready) keeps [] closes told tells = (
+    ready_after : (network : Topology) (ready : Option Ready) → KeepsReady ready records → (closing : List Closed)
+        → AreClosing (records ++ r ∷ []) w (length records) closing → (reported : Reported) → ReportsWindows network d ready closing reported
+        → IsSome (book_of (kept_of false ready reported.made)) ↔ (HasBook t w records ⊎ ClosesSome)
+    ready_after network (Some ready) keeps [] closes reported tells = (
       λ e. inl (keeps.0 refl),
       λ e. rw tells.1,
     )
-    ready_behind network (Some ready) keeps (c ∷ closing) closes told tells = (
+    ready_after network (Some ready) keeps (c ∷ closing) closes reported tells = (
       λ e. inl (keeps.0 refl),
       λ e. rw tells.1,
     )
-    ready_behind network None keeps [] closes told tells = (
+    ready_after network None keeps [] closes reported tells = (
       λ e. absurd (none_is_no_some (rw tells.1 at e)),
       λ has. elim has [
         | inl had ↦ absurd (none_is_no_some (keeps.1 had))
         | inr some ↦ absurd (nothing_in_empty some.0 ((closes.each some.0).1 some.1))
       ],
     )
-    ready_behind network None keeps (c ∷ closing) closes told tells = (
+    ready_after network None keeps (c ∷ closing) closes reported tells = (
       λ e. inr (c, (closes.each c).0 (contains_head c closing)),
       λ has. rw tells.1,
     )
 
     -- what stays ready is so exactly where a codebook is in use after the record
-    pub keeps_behind : (network : Topology) (ready : Option Ready) → KeepsReady ready records → (closing : List Closed)
-        → AreClosing (records ++ r ∷ []) w (length records) closing → (told : Told) → ReportsWindows network d ready closing told → (changed : Bool)
+    pub keeps_after : (network : Topology) (ready : Option Ready) → KeepsReady ready records → (closing : List Closed)
+        → AreClosing (records ++ r ∷ []) w (length records) closing → (reported : Reported) → ReportsWindows network d ready closing reported → (changed : Bool)
         → (changed ≡ true → IsAcceptedAt t (records ++ r ∷ []) (length records))
         → (changed ≡ false → ¬ IsAcceptedAt t (records ++ r ∷ []) (length records))
-        → KeepsReady (kept_of changed ready told.made) (records ++ r ∷ [])
-    keeps_behind network ready keeps closing closes told tells true accepted refused = (
+        → KeepsReady (kept_of changed ready reported.made) (records ++ r ∷ [])
+    keeps_after network ready keeps closing closes reported tells true accepted refused = (
       λ e. absurd (none_is_no_some e),
       λ has. absurd (((book_steps t records r w).0 has).1 (accepted refl)),
     )
-    keeps_behind network ready keeps closing closes told tells false accepted refused =
-        let both = ready_behind network ready keeps closing closes told tells in
+    keeps_after network ready keeps closing closes reported tells false accepted refused =
+        let both = ready_after network ready keeps closing closes reported tells in
         let steps = book_steps t records r w in (
           λ e. steps.1 (both.0 e, refused refl),
           λ has. both.1 (steps.0 has).0,
         )
 
 -- what stays ready is ready for the topology
-pub ready_stays : (network new : Topology) (d : ℕ) (ready : Option Ready) → IfSome ready (IsReady network (wanted d)) → (closing : List Closed) (told : Told)
-    → ReportsWindows network d ready closing told → (changed : Bool) → (changed ≡ false → new ≡ network)
-    → IfSome (kept_of changed ready told.made) (IsReady new (wanted d))
-ready_stays network new d ready is closing told tells true same = tt
-ready_stays network new d ready is closing told tells false same =
-    subst (λ (u : Topology). IfSome (kept_of false ready told.made) (IsReady u (wanted d))) (sym (same refl)) (here ready is closing tells)
+pub ready_stays : (network new : Topology) (d : ℕ) (ready : Option Ready) → IfSome ready (IsReady network (wanted d)) → (closing : List Closed) (reported : Reported)
+    → ReportsWindows network d ready closing reported → (changed : Bool) → (changed ≡ false → new ≡ network)
+    → IfSome (kept_of changed ready reported.made) (IsReady new (wanted d))
+ready_stays network new d ready is closing reported tells true same = tt
+ready_stays network new d ready is closing reported tells false same =
+    subst (λ (u : Topology). IfSome (kept_of false ready reported.made) (IsReady u (wanted d))) (sym (same refl)) (here ready is closing tells)
   where
-    here : (ready : Option Ready) → IfSome ready (IsReady network (wanted d)) → (closing : List Closed) → ReportsWindows network d ready closing told
-        → IfSome (kept_of false ready told.made) (IsReady network (wanted d))
+    here : (ready : Option Ready) → IfSome ready (IsReady network (wanted d)) → (closing : List Closed) → ReportsWindows network d ready closing reported
+        → IfSome (kept_of false ready reported.made) (IsReady network (wanted d))
     here (Some ready) is [] tells = rw tells.1 is
     here (Some ready) is (c ∷ closing) tells = rw tells.1 is
     here None is [] tells = rw tells.1 tt

@@ -30,9 +30,9 @@ Acts network line (Change edit) new changed events =
 Acts network line body new changed events = (new ≡ network) × (changed ≡ false) × (events ≡ [])
 
 -- what an entry's body does, with what is reported put after the events so far
-abbrev pub ActsBehind : Topology → ℕ → Body → Topology → Bool → List Event → List Event → Type 0
-ActsBehind network line body new changed old events =
-    (told : List Event) × Acts network line body new changed told × (events ≡ old ++ told)
+abbrev pub ActsAfter : Topology → ℕ → Body → Topology → Bool → List Event → List Event → Type 0
+ActsAfter network line body new changed old events =
+    (reported : List Event) × Acts network line body new changed reported × (events ≡ old ++ reported)
 
 -- an edit is refused where the codebook is fixed, and of no other body anything is reported
 abbrev pub RefusesEdit : ℕ → Body → List Event → Type 0

@@ -4,7 +4,7 @@ pub mod Taken
 pub mod Ready
 pub mod Course
 pub mod Settled
-pub mod Told
+pub mod Reported
 pub mod Acts
 pub mod Steps
 pub mod Sources

@@ -6,7 +6,7 @@ ghost use Rattle.cb_network.specs.Laws.{HasGoodName};
 ghost use Rattle.cb_log.specs.Entries.{said};
 ghost use Rattle.cb_log.specs.declared.record.Body.TheVariants.{Change};
 ghost use Rattle.cb_topo.specs.Numbered.{topology_of};
-ghost use Rattle.cb_session.specs.Acts.{ActsBehind, GoesOn, IsWellNamed};
+ghost use Rattle.cb_session.specs.Acts.{ActsAfter, GoesOn, IsWellNamed};
 ghost use Rattle.cb_session.specs.Counted.{IsEntryCost};
 ghost use Rattle.cb_session.specs.Numbers.{KeepsNumbers};
 
@@ -31,7 +31,7 @@ pub(crate) fn act<L: Ledger>(
     steps: &mut Steps<L>,
 ) -> Result<bool, AllocError>
     requires { IsWellNamed next.now.body }
-    ensures acts { IfOk result (λ changed. ActsBehind (topology_of cache.old.graph) number next.now.body (topology_of cache.new.graph) changed events.old events.new) }
+    ensures acts { IfOk result (λ changed. ActsAfter (topology_of cache.old.graph) number next.now.body (topology_of cache.new.graph) changed events.old events.new) }
     ensures goes_on { OnOk result (GoesOn windows.old windows.new next.now) }
     ensures numbers { OnOk result (KeepsNumbers cache.old.graph cache.new.graph) }
     ensures length { windows.new.length ≡ windows.old.length }
@@ -71,7 +71,7 @@ fn change<L: Ledger>(
     steps: &mut Steps<L>,
 ) -> Result<bool, AllocError>
     requires { HasGoodName edit.now }
-    ensures acts { IfOk result (λ changed. ActsBehind (topology_of cache.old.graph) number (Change edit.now) (topology_of cache.new.graph) changed events.old events.new) }
+    ensures acts { IfOk result (λ changed. ActsAfter (topology_of cache.old.graph) number (Change edit.now) (topology_of cache.new.graph) changed events.old events.new) }
     ensures numbers { OnOk result (KeepsNumbers cache.old.graph cache.new.graph) }
     ensures same { OnErr result (cache.new ≡ cache.old) }
     ensures steps { OnErr result (steps.new ≡ steps.old) }

@@ -12,7 +12,7 @@ ghost use Rattle.cb_session.specs.Settled.{IsOverSome};
 ghost use Rattle.cb_session.specs.Steps.{EntryTells, EntryStands};
 
 use crate::basis::Ready;
-use crate::told::told_in_use;
+use crate::reported::reported_in_use;
 use cb_log::{Body, Event, Record, RefusedWhy};
 use cb_model::List;
 use cb_window::Windows;
@@ -38,7 +38,7 @@ pub(crate) fn go_on_fixed(
     ensures same { OnErr result (windows.new ≡ windows.old) }
 {
     let closing = windows.due(alloc, next.at)?;
-    let events = told_in_use(alloc, ready, &closing);
+    let events = reported_in_use(alloc, ready, &closing);
     drop(closing);
     let mut events = events?;
     refuse_edit(alloc, windows, number, next, &mut events)?;
@@ -53,7 +53,7 @@ fn refuse_edit(
     next: &Record,
     events: &mut List<Event>,
 ) -> Result<(), AllocError>
-    ensures refuses { OnOk result ((told : Items EventOf) × RefusesEdit number next.now.body told × (events.new ≡ events.old ++ told)) }
+    ensures refuses { OnOk result ((reported : Items EventOf) × RefusesEdit number next.now.body reported × (events.new ≡ events.old ++ reported)) }
     ensures goes_on { OnOk result (GoesOn windows.old windows.new next.now) }
     ensures length { windows.new.length ≡ windows.old.length }
     ensures same { OnErr result (windows.new ≡ windows.old) }

@@ -7,8 +7,8 @@ mod course;
 mod entry;
 mod fixed;
 mod line;
+mod reported;
 mod session;
-mod told;
 mod wanted;
 
 pub use line::LogLine;

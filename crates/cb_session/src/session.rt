@@ -24,7 +24,7 @@ use crate::course::Course;
 use crate::entry::{Taken, entry_of};
 use crate::fixed::go_on_fixed;
 use crate::line::LogLine;
-use crate::told::{tell, told_in_use};
+use crate::reported::{reported_in_use, tell};
 use crate::wanted::go_on_wanted;
 use cb_alarm::Scratch;
 use cb_cache::Cache;
@@ -217,13 +217,13 @@ impl Session {
             → EndsAlone opening self.now.mode self.now.windows.length before events) }
     {
         let closing = self.windows.rest(alloc)?;
-        let events = self.told_of(alloc, &closing);
+        let events = self.reported_of(alloc, &closing);
         drop(closing);
         events
     }
 
     // What is reported of the windows that close at the end.
-    fn told_of(&self, alloc: Global, closing: &List<Closed>) -> Result<List<Event>, AllocError>
+    fn reported_of(&self, alloc: Global, closing: &List<Closed>) -> Result<List<Event>, AllocError>
         requires { ClosesAtEnd self.now.windows closing.now }
         ensures { IfOk result (TellsAtEnd self.now) }
     {
@@ -231,7 +231,7 @@ impl Session {
             Course::Wanted { distance, ready } => {
                 Ok(tell(alloc, &self.cache, ready, *distance, closing)?.events)
             }
-            Course::Fixed { ready } => told_in_use(alloc, ready, closing),
+            Course::Fixed { ready } => reported_in_use(alloc, ready, closing),
         }
     }
 

@@ -12,7 +12,7 @@ ghost use Rattle.cb_session.specs.Steps.{EntryTells, EntryStands};
 
 use crate::act::act;
 use crate::basis::Ready;
-use crate::told::{keep, tell};
+use crate::reported::{keep, tell};
 use cb_cache::Cache;
 use cb_log::{Event, Record};
 use cb_model::List;
@@ -47,10 +47,18 @@ pub(crate) fn go_on_wanted<L: Ledger>(
     ensures cost { OnOk result (CountsAtMost (IsEntryCost (topology_of cache.old.graph) (said number next.now)) steps.old steps.new) }
 {
     let closing = windows.due(alloc, next.at)?;
-    let told = tell(alloc, cache, ready, distance, &closing);
+    let reported = tell(alloc, cache, ready, distance, &closing);
     drop(closing);
-    let mut told = told?;
-    let changed = act(alloc, cache, windows, number, next, &mut told.events, steps)?;
-    keep(ready, told.made, changed);
-    Ok(told.events)
+    let mut reported = reported?;
+    let changed = act(
+        alloc,
+        cache,
+        windows,
+        number,
+        next,
+        &mut reported.events,
+        steps,
+    )?;
+    keep(ready, reported.made, changed);
+    Ok(reported.events)
 }

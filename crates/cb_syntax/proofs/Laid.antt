@@ -73,58 +73,58 @@ EndsToken k rest = EndsRun rest
 line_ahead : (before rest : List ℕ) → line_of before (length before) ≡ line_of (before ++ rest) (length before)
 line_ahead before rest = ap (λ l. 1 + count_by (λ b. b == 10) l) (take_all (length before) before (omega arith) ∙ sym (take_at before rest (length before) refl))
 
-placed_token : (before rest behind : List ℕ) (k : Lexeme) → EndsToken k behind → IsTokenAt (before ++ rest) (length before) (placed before k) behind
-placed_token before rest behind (lexemes.Name t) e = record { ends = e.0; name = e.1; line = line_ahead before rest; start_is = refl }
-placed_token before rest behind lexemes.Open e = tt
-placed_token before rest behind lexemes.Close e = tt
-placed_token before rest behind lexemes.Semicolon e = tt
-placed_token before rest behind lexemes.Colon e = tt
-placed_token before rest behind lexemes.Dot e = tt
-placed_token before rest behind lexemes.Arrow e = tt
-placed_token before rest behind lexemes.Plus e = tt
-placed_token before rest behind lexemes.Class e = e
-placed_token before rest behind lexemes.Extends e = e
-placed_token before rest behind lexemes.Problem e = e
-placed_token before rest behind lexemes.Symptom e = e
-placed_token before rest behind lexemes.Event e = e
-placed_token before rest behind lexemes.Relation e = e
-placed_token before rest behind lexemes.To e = e
-placed_token before rest behind lexemes.One e = e
-placed_token before rest behind lexemes.Many e = e
-placed_token before rest behind lexemes.Inverse e = e
-placed_token before rest behind lexemes.Rule e = e
-placed_token before rest behind lexemes.Block e = e
-placed_token before rest behind lexemes.Hide e = e
+placed_token : (before rest beyond : List ℕ) (k : Lexeme) → EndsToken k beyond → IsTokenAt (before ++ rest) (length before) (placed before k) beyond
+placed_token before rest beyond (lexemes.Name t) e = record { ends = e.0; name = e.1; line = line_ahead before rest; start_is = refl }
+placed_token before rest beyond lexemes.Open e = tt
+placed_token before rest beyond lexemes.Close e = tt
+placed_token before rest beyond lexemes.Semicolon e = tt
+placed_token before rest beyond lexemes.Colon e = tt
+placed_token before rest beyond lexemes.Dot e = tt
+placed_token before rest beyond lexemes.Arrow e = tt
+placed_token before rest beyond lexemes.Plus e = tt
+placed_token before rest beyond lexemes.Class e = e
+placed_token before rest beyond lexemes.Extends e = e
+placed_token before rest beyond lexemes.Problem e = e
+placed_token before rest beyond lexemes.Symptom e = e
+placed_token before rest beyond lexemes.Event e = e
+placed_token before rest beyond lexemes.Relation e = e
+placed_token before rest beyond lexemes.To e = e
+placed_token before rest beyond lexemes.One e = e
+placed_token before rest beyond lexemes.Many e = e
+placed_token before rest beyond lexemes.Inverse e = e
+placed_token before rest beyond lexemes.Rule e = e
+placed_token before rest beyond lexemes.Block e = e
+placed_token before rest beyond lexemes.Hide e = e
 
 -- the range after some bytes
-range_behind : (before middle rest : List ℕ) → slice_range (before ++ (middle ++ rest)) (length before) (length (before ++ middle)) ≡ middle
-range_behind before middle rest =
+range_beyond : (before middle rest : List ℕ) → slice_range (before ++ (middle ++ rest)) (length before) (length (before ++ middle)) ≡ middle
+range_beyond before middle rest =
     let size : length (before ++ middle) - length before ≡ length middle = omega (arith, length-append before middle) in
     rw (drop_at before (middle ++ rest) (length before) refl, size) (take_at middle rest (length middle) refl)
 
-pub stands_at : (before space : List ℕ) (k : Lexeme) (behind : List ℕ) → IsGap space → EndsToken k behind →
-    Stands (before ++ (space ++ (bytes_of k ++ behind))) (length before) (length (before ++ space)) (placed (before ++ space) k) (length (before ++ space ++ bytes_of k))
-stands_at before space k behind space_is ends =
-    let text = before ++ (space ++ (bytes_of k ++ behind)) in
-    let cut : before ++ space ++ (bytes_of k ++ behind) ≡ text = append_assoc before space (bytes_of k ++ behind) in
-    let all : before ++ space ++ bytes_of k ++ behind ≡ text = append_assoc (before ++ space) (bytes_of k) behind ∙ cut in
+pub stands_at : (before space : List ℕ) (k : Lexeme) (beyond : List ℕ) → IsGap space → EndsToken k beyond →
+    Stands (before ++ (space ++ (bytes_of k ++ beyond))) (length before) (length (before ++ space)) (placed (before ++ space) k) (length (before ++ space ++ bytes_of k))
+stands_at before space k beyond space_is ends =
+    let text = before ++ (space ++ (bytes_of k ++ beyond)) in
+    let cut : before ++ space ++ (bytes_of k ++ beyond) ≡ text = append_assoc before space (bytes_of k ++ beyond) in
+    let all : before ++ space ++ bytes_of k ++ beyond ≡ text = append_assoc (before ++ space) (bytes_of k) beyond ∙ cut in
     record {
       after = omega (arith, length-append before space);
-      within = omega (arith, sym (ap length all), length-append (before ++ space ++ bytes_of k) behind);
-      gap = subst IsGap (sym (range_behind before space (bytes_of k ++ behind))) space_is;
+      within = omega (arith, sym (ap length all), length-append (before ++ space ++ bytes_of k) beyond);
+      gap = subst IsGap (sym (range_beyond before space (bytes_of k ++ beyond))) space_is;
       length = length-append (before ++ space) (bytes_of k) ∙ ap (λ n. length (before ++ space) + length n) (sym (placed_bytes (before ++ space) k));
-      bytes = ap (λ t. slice_range t (length (before ++ space)) (length (before ++ space ++ bytes_of k))) (sym cut) ∙ range_behind (before ++ space) (bytes_of k) behind ∙ sym (placed_bytes (before ++ space) k);
+      bytes = ap (λ t. slice_range t (length (before ++ space)) (length (before ++ space ++ bytes_of k))) (sym cut) ∙ range_beyond (before ++ space) (bytes_of k) beyond ∙ sym (placed_bytes (before ++ space) k);
       whole = subst (λ t. IsTokenAt t (length (before ++ space)) (placed (before ++ space) k) (drop (length (before ++ space ++ bytes_of k)) t)) cut
-          (subst (λ d. IsTokenAt (before ++ space ++ (bytes_of k ++ behind)) (length (before ++ space)) (placed (before ++ space) k) d)
-          (sym (ap (drop (length (before ++ space ++ bytes_of k))) (cut ∙ sym all) ∙ drop_at (before ++ space ++ bytes_of k) behind (length (before ++ space ++ bytes_of k)) refl))
-          (placed_token (before ++ space) (bytes_of k ++ behind) behind k ends));
+          (subst (λ d. IsTokenAt (before ++ space ++ (bytes_of k ++ beyond)) (length (before ++ space)) (placed (before ++ space) k) d)
+          (sym (ap (drop (length (before ++ space ++ bytes_of k))) (cut ∙ sym all) ∙ drop_at (before ++ space ++ bytes_of k) beyond (length (before ++ space ++ bytes_of k)) refl))
+          (placed_token (before ++ space) (bytes_of k ++ beyond) beyond k ends));
     }
 
-stands_in : (text before space first : List ℕ) (k : Lexeme) (behind : List ℕ) → text ≡ before ++ (space ++ (bytes_of k ++ behind)) → first ≡ before ++ space → IsGap space → EndsToken k behind →
+stands_in : (text before space first : List ℕ) (k : Lexeme) (beyond : List ℕ) → text ≡ before ++ (space ++ (bytes_of k ++ beyond)) → first ≡ before ++ space → IsGap space → EndsToken k beyond →
     Stands text (length before) (length first) (placed first k) (length (first ++ bytes_of k))
-stands_in text before space first k behind text_is first_is gap ends =
+stands_in text before space first k beyond text_is first_is gap ends =
     subst (λ t. Stands t (length before) (length first) (placed first k) (length (first ++ bytes_of k))) (sym text_is)
-    (subst (λ f. Stands (before ++ (space ++ (bytes_of k ++ behind))) (length before) (length f) (placed f k) (length (f ++ bytes_of k))) (sym first_is) (stands_at before space k behind gap ends))
+    (subst (λ f. Stands (before ++ (space ++ (bytes_of k ++ beyond))) (length before) (length f) (placed f k) (length (f ++ bytes_of k))) (sym first_is) (stands_at before space k beyond gap ends))
 
 -- the gaps are gaps, and each token ends
 abbrev pub Good : List Piece → List ℕ → Type 0

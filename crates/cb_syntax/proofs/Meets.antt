@@ -4,7 +4,7 @@ use Rattle.cb_text.specs.Names.{IsRun}
 use Rattle.cb_grammar.specs.declared.tree.Tree.{Tree}
 use Rattle.cb_grammar.specs.declared.lexeme.Lexeme.{Lexeme}
 use Rattle.cb_grammar.specs.declared.lexeme.Lexeme.TheVariants as lexemes
-use Rattle.cb_grammar.specs.Grammar.{IsFront}
+use Rattle.cb_grammar.specs.Grammar.{IsPrefix}
 use Rattle.cb_lexer.specs.Places.{IsSpot}
 use Rattle.cb_lexer.specs.Tokens.{Stands, IsTokenAt, ReadsTokens, bytes_of}
 
@@ -50,5 +50,5 @@ abbrev no_classes : Tree
 no_classes = record { classes = [] }
 
 -- each model begins with no token
-pub front_none : IsFront []
-front_none = ([], (no_classes, record { fits = λ k d low. absurd (omega arith); tokens = refl }))
+pub prefix_none : IsPrefix []
+prefix_none = ([], (no_classes, record { fits = λ k d low. absurd (omega arith); tokens = refl }))

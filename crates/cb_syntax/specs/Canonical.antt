@@ -18,13 +18,13 @@ joins_before Plus = true
 joins_before k = false
 
 -- `.` has no space after it
-abbrev pub joins_behind : Lexeme → Bool
-joins_behind Dot = true
-joins_behind k = false
+abbrev pub joins_beyond : Lexeme → Bool
+joins_beyond Dot = true
+joins_beyond k = false
 
 -- what stands between two tokens of a line
 abbrev pub space_between : Lexeme → Lexeme → List ℕ
-space_between k next = if joins_behind k || joins_before next then [] else codes " "
+space_between k next = if joins_beyond k || joins_before next then [] else codes " "
 
 -- the tokens, with spaces between them
 abbrev pub spaced : List Lexeme → List ℕ

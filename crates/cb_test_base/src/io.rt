@@ -43,11 +43,11 @@ fn files_are_read_whole_in_any_pieces(rt: HostRuntime) -> Result<(), Fail> {
     for (piece, failing, name, most, answer, left) in cases {
         assert!(rt; piece > 0);
         let mut files = sample(alloc, piece, failing)?;
-        let told = match read_whole(alloc, &mut files, name, most) {
+        let reported = match read_whole(alloc, &mut files, name, most) {
             Ok(all) => String::from_utf8(all).unwrap_or(String::new(alloc)),
             Err(stop) => format!(in alloc; "{stop}")?,
         };
-        assert_eq!(rt; told.as_str(), answer, "{name} by {piece}");
+        assert_eq!(rt; reported.as_str(), answer, "{name} by {piece}");
         let mut rest = [0; 9];
         files.piece(9);
         assert_eq!(rt; files.read("a", &mut rest), Ok(left), "{name} by {piece}");
@@ -56,7 +56,7 @@ fn files_are_read_whole_in_any_pieces(rt: HostRuntime) -> Result<(), Fail> {
 }
 
 #[test]
-fn a_sink_takes_a_front_before_a_fault(rt: HostRuntime) -> Result<(), Fail> {
+fn a_sink_takes_a_prefix_before_a_fault(rt: HostRuntime) -> Result<(), Fail> {
     let alloc = rt.alloc();
     // The room, the piece, the call that fails, if not 0, and what is taken of "abcde".
     let cases: [(usize, usize, u64, &[u8]); 7] = [
@@ -125,7 +125,7 @@ fn what_never_fails_gives_all_and_takes_all(rt: HostRuntime) -> Result<(), Fail>
 }
 
 // What a reader tells of a file, answer by answer, up to the end or a refusal; a line that is known to be the last has a dot.
-fn told_lines(
+fn reported_lines(
     alloc: Global,
     files: &mut MemFiles,
     name: &str,
@@ -133,13 +133,13 @@ fn told_lines(
     total_most: u64,
 ) -> Result<String, Fail> {
     let mut reader = LineReader::new(alloc, name, line_most, total_most)?;
-    let mut told = String::new(alloc);
+    let mut reported = String::new(alloc);
     'answers: for _ in 0..9 {
         let line = match reader.next_line(files) {
             Ok(line) => line,
             Err(stop) => {
-                told.push_str(format!(in alloc; "{stop}")?.as_str())?;
-                return Ok(told);
+                reported.push_str(format!(in alloc; "{stop}")?.as_str())?;
+                return Ok(reported);
             }
         };
         let word = match line {
@@ -148,12 +148,12 @@ fn told_lines(
                 from_utf8(reader.text()).unwrap_or("?")
             )?,
             Line::Long { number } => format!(in alloc; "{number} long")?,
-            Line::End => return Ok(told),
+            Line::End => return Ok(reported),
         };
-        told.push_str(word.as_str())?;
-        told.push_str(if reader.has_ended() { ". " } else { ", " })?;
+        reported.push_str(word.as_str())?;
+        reported.push_str(if reader.has_ended() { ". " } else { ", " })?;
     }
-    Ok(told)
+    Ok(reported)
 }
 
 // The file and the most bytes in all, where a line has at most 3; the piece, the call that fails, if not 0, and what is reported.
@@ -180,7 +180,7 @@ const LINE_CASES: [(&str, u64, usize, u64, &str); 19] = [
 ];
 
 // What is reported of a file that is read in such pieces and fails at one call, if not 0.
-fn told_by(
+fn reported_by(
     alloc: Global,
     text: &str,
     total_most: u64,
@@ -195,18 +195,18 @@ fn told_by(
     if failing > 0 {
         files.fail_at(failing)?;
     }
-    told_lines(alloc, &mut files, "a", 3, total_most)
+    reported_lines(alloc, &mut files, "a", 3, total_most)
 }
 
 #[test]
-fn lines_are_told_in_any_pieces(rt: HostRuntime) -> Result<(), Fail> {
+fn lines_are_reported_in_any_pieces(rt: HostRuntime) -> Result<(), Fail> {
     let alloc = rt.alloc();
     for (text, total_most, piece, failing, answer) in LINE_CASES {
         assert!(rt; piece > 0);
-        let told = told_by(alloc, text, total_most, piece, failing)?;
-        assert_eq!(rt; told.as_str(), answer, "{text} by {piece}, {failing}");
+        let reported = reported_by(alloc, text, total_most, piece, failing)?;
+        assert_eq!(rt; reported.as_str(), answer, "{text} by {piece}, {failing}");
     }
-    let told = told_lines(alloc, &mut MemFiles::new(alloc), "a", 3, 99)?;
-    assert_eq!(rt; told.as_str(), "read fault");
+    let reported = reported_lines(alloc, &mut MemFiles::new(alloc), "a", 3, 99)?;
+    assert_eq!(rt; reported.as_str(), "read fault");
     Ok(())
 }

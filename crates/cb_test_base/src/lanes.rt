@@ -19,7 +19,7 @@ fn is_found(a: &[u64], b: &[u64], only: &[u64], bit: usize) -> bool
 }
 
 // Whether the kernels tell two rows of `n` words apart that differ in the last bit of one word alone.
-fn are_told_apart(alloc: Global, n: usize, word: usize) -> Result<bool, AllocError> {
+fn are_distinguished(alloc: Global, n: usize, word: usize) -> Result<bool, AllocError> {
     let mut a = vec![in alloc; 0x00ff_00ff_0000_0001_u64; n]?;
     let mut b = vec![in alloc; 0x00ff_00ff_0000_0001_u64; n]?;
     let mut only = vec![in alloc; 0_u64; n]?;
@@ -39,7 +39,7 @@ fn every_length(rt: HostRuntime) -> Result<(), Fail> {
     for n in 0..=70_usize {
         let last = n.saturating_sub(1);
         for word in [0, (n / 4 * 4).saturating_sub(1), last] {
-            assert!(rt; are_told_apart(rt.alloc(), n, word)?, "{n} {word}");
+            assert!(rt; are_distinguished(rt.alloc(), n, word)?, "{n} {word}");
         }
     }
     Ok(())

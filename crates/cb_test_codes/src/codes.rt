@@ -9,7 +9,7 @@ use cb_model::NodeName;
 use std::alloc::{AllocError, Global};
 use std::test::Fail;
 
-// Whether two codes of three columns stand where they were put, and are told by the columns that they have.
+// Whether two codes of three columns stand where they were put, and are known by the columns that they have.
 fn rows_are_kept(alloc: Global) -> Result<bool, AllocError> {
     let mut codes = Codes::new(alloc, 3);
     codes.push(alloc, Row::zeroed(alloc, 3)?)?;
@@ -26,7 +26,7 @@ fn rows_are_kept(alloc: Global) -> Result<bool, AllocError> {
     )
 }
 
-// Whether it is told that just these codes have the column.
+// Whether it is reported that just these codes have the column.
 fn are_holders(codes: &Codes, column: usize, places: &[u32]) -> bool {
     match codes.holders(column) {
         Some(found) => found.as_slice() == places,
@@ -44,7 +44,7 @@ fn codes_stand_where_they_were_put(rt: HostRuntime) -> Result<(), Fail> {
 fn five_problems(alloc: Global) -> Result<Grouping, AllocError>
     ensures { IfOk result (FitsTogether 3) }
 {
-    let mut grouping = Grouping::quiet(alloc, 3)?;
+    let mut grouping = Grouping::of_quiet(alloc, 3)?;
     for (event, instance, code) in [
         (b"Down", b"a", "110"),
         (b"Heat", b"a", "000"),

@@ -73,7 +73,7 @@ fn finds_the_nearest_groups(rt: HostRuntime) -> Result<(), Fail> {
 
 // The groups of the five problems.
 fn three_groups(alloc: Global) -> Result<Groups, AllocError> {
-    let mut grouping = Grouping::quiet(alloc, 3)?;
+    let mut grouping = Grouping::of_quiet(alloc, 3)?;
     for (event, instance, code) in PROBLEMS {
         let name = NodeName::of(alloc, event.as_bytes(), instance.as_bytes())?;
         let code = code_of(alloc, 3, code)?;
@@ -162,7 +162,7 @@ fn stands_last(nodes: &List<NodeName>, i: usize) -> bool
     true
 }
 
-// A code from its text, as wide as is told.
+// A code from its text, as wide as is given.
 fn code_of(alloc: Global, width: usize, text: &str) -> Result<Row, AllocError>
     ensures { IfOk result (λ code. length code ≡ width) }
 {

@@ -75,7 +75,7 @@ fn comes_last(problems: &List<Problem>, i: usize) -> bool
     true
 }
 
-// A code from its text, as wide as is told.
+// A code from its text, as wide as is given.
 fn code_of(alloc: Global, width: usize, text: &str) -> Result<Row, AllocError>
     ensures { IfOk result (λ code. length code ≡ width) }
 {

@@ -311,7 +311,7 @@ const LONG: [Long; 14] = [
 fn long_line(
     alloc: Global,
     before: &[u8],
-    behind: &[u8],
+    after: &[u8],
     piece: &[u8],
     doublings: u32,
 ) -> Result<Vec<u8>, AllocError> {
@@ -322,14 +322,14 @@ fn long_line(
     }
     let mut line = Vec::from_slice(alloc, before)?;
     line.extend_from_slice(middle.as_slice())?;
-    line.extend_from_slice(behind)?;
+    line.extend_from_slice(after)?;
     Ok(line)
 }
 
 #[test]
 fn reads_long_lines(rt: HostRuntime) -> Result<(), Fail> {
-    for (before, behind, piece, doublings, wanted) in LONG {
-        let line = long_line(rt.alloc(), before, behind, piece, doublings)?;
+    for (before, after, piece, doublings, wanted) in LONG {
+        let line = long_line(rt.alloc(), before, after, piece, doublings)?;
         check(&rt, rt.alloc(), line.as_slice(), wanted)?;
     }
     Ok(())
@@ -338,8 +338,8 @@ fn reads_long_lines(rt: HostRuntime) -> Result<(), Fail> {
 #[test]
 fn reads_long_plain_lines(rt: HostRuntime) -> Result<(), Fail> {
     let mut scratch = Scratch::new(rt.alloc());
-    for (before, behind, piece, doublings, wanted) in LONG {
-        let line = long_line(rt.alloc(), before, behind, piece, doublings)?;
+    for (before, after, piece, doublings, wanted) in LONG {
+        let line = long_line(rt.alloc(), before, after, piece, doublings)?;
         check_plain(&rt, rt.alloc(), &mut scratch, line.as_slice(), wanted)?;
     }
     Ok(())

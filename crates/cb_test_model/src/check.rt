@@ -185,7 +185,7 @@ fn shown(alloc: Global, tables: &Tables) -> Result<String, AllocError> {
 }
 
 // What the check says of the text, with another line at one place.
-fn told(alloc: Global, place: usize, instead: &[u8]) -> Result<String, AllocError> {
+fn reported(alloc: Global, place: usize, instead: &[u8]) -> Result<String, AllocError> {
     let Some(tree) = tree_of(alloc, place, instead)? else {
         return String::from_str(alloc, "no tree");
     };
@@ -216,7 +216,7 @@ fn checks_trees(rt: HostRuntime) -> Result<(), Fail> {
         (9, b"  block back ;", "NoBlocked 10"),
     ];
     for (place, instead, wanted) in cases {
-        assert_eq!(rt; told(rt.alloc(), place, instead)?.as_str(), wanted);
+        assert_eq!(rt; reported(rt.alloc(), place, instead)?.as_str(), wanted);
     }
     Ok(())
 }

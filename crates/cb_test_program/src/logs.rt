@@ -92,7 +92,7 @@ const LOGS: [Followed; 12] = [
         log: "{\"at\":100,\"from\":\"c1\",\"raise\":\"NoSignal@a\"}\n{\"at\":50,\"from\":\"c1\",\"raise\":\"NoSignal@b\"}\n{\"at\":18446744073709551615,\"tick\":true}\n{\"at\":18446744073709551615,\"from\":\"c1\",\"raise\":\"NoSignal@a\"}\n",
         out: "book columns 2 of 3 distance 1 radius 0 groups 4\ndiagnosis c1 100 18446744073709551615 raised 2 unknown 0 distance 0 radius 0 sure groups 1\n  group Cut@L1\ndiagnosis c1 18446744073709551615 18446744073709551615 raised 1 unknown 0 distance 0 radius 0 sure groups 1\n  group Fail@a\n",
     },
-    // Groups that are closer than wanted are told before the book.
+    // Groups that are closer than wanted are reported before the book.
     Followed {
         model: LINK,
         topology: LINKED,
@@ -178,7 +178,7 @@ const FIRST_DIAGNOSIS: &str =
     "book columns 2 of 3 distance 1 radius 0 groups 4\ndiagnosis c1 5 15 raised 1 unknown 0 distance 0 radius 0 sure groups 1\n  group Fail@a\n";
 
 #[test]
-fn a_log_that_fails_keeps_what_was_told(rt: HostRuntime) -> Result<(), Fail> {
+fn a_log_that_fails_keeps_what_was_reported(rt: HostRuntime) -> Result<(), Fail> {
     // The pieces, and the call that fails, if not 0: of reads, of which the model and the topology take some each and the log one or more
     // before its end, or of writes.
     let cases: [(usize, u64, u64, u8, &str, &str); 10] = [

@@ -190,7 +190,7 @@ fn a_failed_read_names_its_file(rt: HostRuntime) -> Result<(), Fail> {
 }
 
 #[test]
-fn a_fault_is_told_before_the_next_file_is_read(rt: HostRuntime) -> Result<(), Fail> {
+fn a_fault_is_reported_before_the_next_file_is_read(rt: HostRuntime) -> Result<(), Fail> {
     // The files that are there, the status and the line.
     let cases: [(&[(&str, &str)], u8, &str); 2] = [
         (&[("m", "class A {\n")], 3, "error 3 model unfinished\n"),
@@ -215,7 +215,7 @@ fn a_fault_is_told_before_the_next_file_is_read(rt: HostRuntime) -> Result<(), F
 }
 
 #[test]
-fn a_refused_write_leaves_a_front(rt: HostRuntime) -> Result<(), Fail> {
+fn a_refused_write_leaves_a_prefix(rt: HostRuntime) -> Result<(), Fail> {
     for (failing_write, out) in [(1, ""), (2, "burst r"), (3, "burst raised 0")] {
         let case = Case {
             words: &["burst", "m", "t", "s"],
@@ -323,11 +323,11 @@ fn each_write_fails(
     worked: &Worked<'_>,
 ) -> Result<(), Fail> {
     let mut write = 0_u64;
-    let mut front = Vec::new(alloc);
+    let mut prefix = Vec::new(alloc);
     for piece in worked.out.as_bytes().chunks(PIECE) {
         write = write.saturating_add(1);
-        let Ok(out) = from_utf8(&front) else {
-            return Err(Fail::new("a front of the output is text"));
+        let Ok(out) = from_utf8(&prefix) else {
+            return Err(Fail::new("a prefix of the output is text"));
         };
         let wanted = Wanted {
             code: 9,
@@ -335,7 +335,7 @@ fn each_write_fails(
             err: "error 9 write\n",
         };
         check(rt, alloc, &in_pieces(worked, 0, write), &wanted)?;
-        front.extend_from_slice(piece)?;
+        prefix.extend_from_slice(piece)?;
     }
     let wanted = Wanted {
         code: 0,
@@ -541,7 +541,7 @@ fn a_line_of_too_many_bytes_is_refused(rt: HostRuntime) -> Result<(), Fail> {
 }
 
 #[test]
-fn a_pump_is_told_by_its_symptoms(rt: HostRuntime) -> Result<(), Fail> {
+fn a_pump_is_known_by_its_symptoms(rt: HostRuntime) -> Result<(), Fail> {
     // The topology, the symptoms, and the answer.
     let cases: [(&str, &str, &str); 7] = [
         (
@@ -601,7 +601,7 @@ fn a_pump_is_told_by_its_symptoms(rt: HostRuntime) -> Result<(), Fail> {
 }
 
 #[test]
-fn links_are_told_by_their_symptoms(rt: HostRuntime) -> Result<(), Fail> {
+fn links_are_known_by_their_symptoms(rt: HostRuntime) -> Result<(), Fail> {
     // The model, the topology, the symptoms, and the answer.
     let cases: [(&str, &str, &str, &str); 4] = [
         (
@@ -696,7 +696,7 @@ fn a_matrix_is_printed(rt: HostRuntime) -> Result<(), Fail> {
 }
 
 #[test]
-fn a_wrong_line_is_told(rt: HostRuntime) -> Result<(), Fail> {
+fn a_wrong_line_is_reported(rt: HostRuntime) -> Result<(), Fail> {
     // The model, the topology, the symptoms, and the line.
     let cases: [(&str, &str, &str, &str); 14] = [
         (PUMP, CREATE_64, "", "error 4 topology line 1 bad-words\n"),

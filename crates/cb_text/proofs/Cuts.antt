@@ -12,20 +12,20 @@ use Rattle.cb_text.specs.Names.{is_letter, is_name_byte, IsRun, IsNode, NodesAre
 abbrev pub Lacks : ℕ → List ℕ → Type 0
 Lacks cut bytes = All (λ b. nat_eq b cut ≡ false) bytes
 
-module _ (cut : ℕ) (front back other_front other_back : List ℕ) (lacks : Lacks cut front) (other_lacks : Lacks cut other_front)
-    (same : front ++ cut ∷ back ≡ other_front ++ cut ∷ other_back) where
-  fronts_are_one : front ≡ other_front
-  fronts_are_one =
-      let here = slice_split_at (λ b. nat_eq b cut) front cut back lacks (search rules) in
-      let there = slice_split_at (λ b. nat_eq b cut) other_front cut other_back other_lacks (search rules) in
+module _ (cut : ℕ) (prefix back other_prefix other_back : List ℕ) (lacks : Lacks cut prefix) (other_lacks : Lacks cut other_prefix)
+    (same : prefix ++ cut ∷ back ≡ other_prefix ++ cut ∷ other_back) where
+  prefixes_are_one : prefix ≡ other_prefix
+  prefixes_are_one =
+      let here = slice_split_at (λ b. nat_eq b cut) prefix cut back lacks (search rules) in
+      let there = slice_split_at (λ b. nat_eq b cut) other_prefix cut other_back other_lacks (search rules) in
       let both = sym here ∙ (ap (slice_split (λ b. nat_eq b cut)) same ∙ there) in
       cc both
 
   -- both parts are determined
-  cut_once : (front ≡ other_front) × (back ≡ other_back)
+  cut_once : (prefix ≡ other_prefix) × (back ≡ other_back)
   cut_once =
-      let tails = append_cancel_left front (cut ∷ back) (cut ∷ other_back) (same ∙ ap (λ (f : List ℕ). f ++ cut ∷ other_back) (sym fronts_are_one)) in
-      (fronts_are_one, cc tails)
+      let tails = append_cancel_left prefix (cut ∷ back) (cut ∷ other_back) (same ∙ ap (λ (f : List ℕ). f ++ cut ∷ other_back) (sym prefixes_are_one)) in
+      (prefixes_are_one, cc tails)
 
 -- `@` is no byte of a name
 byte_is_no_at : (b : ℕ) → IsTrue (is_name_byte b) → nat_eq b 64 ≡ false

@@ -7,7 +7,7 @@ use Rattle.std.proofs.lemmas.Bool.{cases_lt, cases_Bool, false≢true}
 use Rattle.std.proofs.lemmas.Fmt.{decimal-digits_value, digits_decimal, digits_value-decimal, decimal_nonempty, decimal_digit, first_decimal}
 use Rattle.std.proofs.lemmas.List.{drop_more, drop_all}
 use Rattle.std.proofs.lemmas.Str.Parse.{IsNumeralModel, numerals_by_fold}
-use Rattle.cb_text.specs.Decimals.{IsDecimal, AreDigits, HasZeroInFront, number_after, number_of}
+use Rattle.cb_text.specs.Decimals.{IsDecimal, AreDigits, HasLeadingZero, number_after, number_of}
 
 own : IsNumeralModel AreDigits number_of
 own = numerals_by_fold AreDigits (search rules) number_after (search rules)
@@ -68,16 +68,16 @@ all_read bytes k n high read =
       read.small,
     )
 
--- digits without a zero in front are what their number is written with
-pub written : (bytes : List ℕ) (n : ℕ) → 0 < length bytes → ¬ HasZeroInFront bytes → AreDigits bytes × (number_of bytes ≡ n) × (n < 2 ^ 64) → IsDecimal bytes n
+-- digits without a leading zero are what their number is written with
+pub written : (bytes : List ℕ) (n : ℕ) → 0 < length bytes → ¬ HasLeadingZero bytes → AreDigits bytes × (number_of bytes ≡ n) × (n < 2 ^ 64) → IsDecimal bytes n
 written bytes n some unpadded (are, is, small) =
-    let front : get_or bytes 0 0 ≡ 48 → length bytes ≡ 1 = λ zero. elim (cases_lt 1 (length bytes)) [
+    let prefix : get_or bytes 0 0 ≡ 48 → length bytes ≡ 1 = λ zero. elim (cases_lt 1 (length bytes)) [
       | inl more ↦ absurd (unpadded (more, zero))
       | inr one ↦ omega (arith, some)
     ] in
     record {
       small = small;
-      written = sym (decimal-digits_value own bytes are some front (omega (arith, is, small))) ∙ ap decimal is;
+      written = sym (decimal-digits_value own bytes are some prefix (omega (arith, is, small))) ∙ ap decimal is;
     }
 
 module _ (bytes : List ℕ) (n : ℕ) (is : IsDecimal bytes n) where
@@ -90,11 +90,11 @@ module _ (bytes : List ℕ) (n : ℕ) (is : IsDecimal bytes n) where
       let same : number_of bytes ≡ n = ap number_of is.written ∙ digits_value-decimal own n is.small in
       subst (λ x. x < 2 ^ 64) (sym same) is.small
 
-  -- there is one at least, and no zero stands in front of others
+  -- there is one at least, and no zero stands before others
   pub some_bytes : 0 < length bytes
   some_bytes = let some = decimal_nonempty n is.small in omega (arith, some, ap length is.written)
 
-  pub unpadded : ¬ HasZeroInFront bytes
+  pub unpadded : ¬ HasLeadingZero bytes
   unpadded (more, zero) = elim (cases_lt 0 n) [
     | inl some ↦
         let first = first_decimal n some is.small in

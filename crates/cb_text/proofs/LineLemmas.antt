@@ -1,4 +1,4 @@
--- How lines come off the front of a text.
+-- How lines are taken off the start of a text.
 use Rattle.std.proofs.Common.{◌≡◌, ℕ, ◌+◌, ◌-◌, min, ◌<◌, ◌≤◌, true, nat_eq, List, [], ◌∷◌, ◌++◌, length, get_or, take, drop, Some, None, refl, sym, ap, ◌∙◌, inl, inr, arith}
 use Rattle.std.specs.Prelude.{slice_range}
 use Rattle.std.specs.List.{Contains, slice_split, onto_first, position_or_len, enumerate_from}
@@ -21,8 +21,8 @@ parts_cons (b ∷ bs) = elim (cases_Bool (nat_eq b 10)) [
 ]
 
 -- a line that ends at a LF, and the lines after it
-lines_of-front : (line rest : List ℕ) → Lacks 10 line → lines_of (line ++ 10 ∷ rest) ≡ line ∷ lines_of rest
-lines_of-front line rest lacks =
+lines_of-prefix : (line rest : List ℕ) → Lacks 10 line → lines_of (line ++ 10 ∷ rest) ≡ line ∷ lines_of rest
+lines_of-prefix line rest lacks =
     let later = parts_cons rest in
     let both = slice_split_at (λ b. nat_eq b 10) line 10 rest lacks refl in
     ap lines_of_parts (both ∙ ap (λ (ps : List (List ℕ)). line ∷ ps) later.2) ∙ ap (λ (ps : List (List ℕ)). line ∷ lines_of_parts ps) (sym later.2)
@@ -56,14 +56,14 @@ module _ (text : List ℕ) (from : ℕ) (low : from < length text) where
             let place : start + (line.end - start) ≡ line.end = omega (arith, is.in_order) in
             let rest : drop line.end text ≡ 10 ∷ drop line.next text =
             drop_more text line.end 0 within ∙ (ap (λ b. b ∷ drop (line.end + 1) text) (get_or_from_slice_get text line.end 10 0 lf.0) ∙ ap (λ n. 10 ∷ drop n text) (sym lf.1)) in
-            let behind : drop (line.end - start) (drop start text) ≡ 10 ∷ drop line.next text =
+            let after : drop (line.end - start) (drop start text) ≡ 10 ∷ drop line.next text =
             drop-drop (line.end - start) start text ∙ (ap (λ n. drop n text) place ∙ rest) in
             let cut : drop start text ≡ bytes ++ 10 ∷ drop line.next text =
-            sym (take-append-drop (line.end - start) (drop start text)) ∙ ap (λ (l : List ℕ). bytes ++ l) behind in
-            ap lines_of (here ∙ cut) ∙ lines_of-front bytes (drop line.next text) lacks
+            sym (take-append-drop (line.end - start) (drop start text)) ∙ ap (λ (l : List ℕ). bytes ++ l) after in
+            ap lines_of (here ∙ cut) ∙ lines_of-prefix bytes (drop line.next text) lacks
       ]
 
--- where the search for a byte passed no place, the front has none
+-- where the search for a byte passed no place, the prefix has none
 absent_before : (cut n : ℕ) (bytes : List ℕ) → ((k : ℕ) → k < n → k < length bytes → ¬ (nat_eq (get_or bytes k 0) cut ≡ true)) → ¬ Contains (take n bytes) cut
 absent_before cut n bytes before (k, low, is) =
     let within : k < min n (length bytes) = omega (arith, low, length-take n bytes) in
@@ -114,15 +114,15 @@ line_within text from line is = elim is.ends [
 ]
 
 -- parts are at most as many lines
-lines_of_front : (b : ℕ) (parts : List (List ℕ)) → length (lines_of_parts (onto_first b parts)) ≤ length (lines_of_parts parts) + 1
-lines_of_front b [] = omega arith
-lines_of_front b ([] ∷ []) = omega arith
-lines_of_front b ((c ∷ cs) ∷ []) = omega arith
-lines_of_front b (part ∷ next ∷ parts) = omega arith
+lines_of_prefix : (b : ℕ) (parts : List (List ℕ)) → length (lines_of_parts (onto_first b parts)) ≤ length (lines_of_parts parts) + 1
+lines_of_prefix b [] = omega arith
+lines_of_prefix b ([] ∷ []) = omega arith
+lines_of_prefix b ((c ∷ cs) ∷ []) = omega arith
+lines_of_prefix b (part ∷ next ∷ parts) = omega arith
 
-lines_of_behind : (parts : List (List ℕ)) → length (lines_of_parts ([] ∷ parts)) ≤ length (lines_of_parts parts) + 1
-lines_of_behind [] = omega arith
-lines_of_behind (part ∷ parts) = omega arith
+lines_of_after : (parts : List (List ℕ)) → length (lines_of_parts ([] ∷ parts)) ≤ length (lines_of_parts parts) + 1
+lines_of_after [] = omega arith
+lines_of_after (part ∷ parts) = omega arith
 
 -- a text has at least as many bytes as lines
 pub lines_are_few : (text : List ℕ) → length (lines_of text) ≤ length text
@@ -131,8 +131,8 @@ lines_are_few (b ∷ bs) =
     let few = lines_are_few bs in
     let parts = slice_split (λ c. nat_eq c 10) bs in
     elim (cases_Bool (nat_eq b 10)) [
-      | inl lf ↦ rw lf (omega (arith, few, lines_of_behind parts))
-      | inr other ↦ rw other (omega (arith, few, lines_of_front b parts))
+      | inl lf ↦ rw lf (omega (arith, few, lines_of_after parts))
+      | inr other ↦ rw other (omega (arith, few, lines_of_prefix b parts))
     ]
 
 -- what is met on the way from line to line are the lines

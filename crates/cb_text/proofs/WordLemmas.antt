@@ -1,4 +1,4 @@
--- How words come off the front of a line.
+-- How words are taken off the start of a line.
 use Rattle.std.proofs.Common.{◌≡◌, ◌↔◌, ℕ, suc, ◌<◌, one-add, true, false, List, [], ◌∷◌, length, get_or, take, drop, filter, refl, sym, ap, ◌∙◌, inl, inr, arith}
 use Rattle.std.specs.List.{All, slice_split, prefix_len, position_or_len, after_first}
 use Rattle.std.proofs.lemmas.Bool.{cases_lt, cases_Bool}
@@ -8,20 +8,20 @@ use Rattle.std.proofs.lemmas.List.Splits.{slice_split-cons_yes, slice_split_none
 use Rattle.std.proofs.lemmas.List.Sums.{fails_before_first, passes_at_first, prefix_len_stops}
 use Rattle.cb_text.specs.Words.{is_blank, has_byte, words_of}
 
--- a blank byte in front changes no word
+-- a leading blank byte changes no word
 words_of-blank : (b : ℕ) (bs : List ℕ) → is_blank b ≡ true → words_of (b ∷ bs) ≡ words_of bs
 words_of-blank b bs blank = ap (filter has_byte) (slice_split-cons_yes is_blank b bs blank)
 
--- nor do all blank bytes in front
+-- nor do all leading blank bytes
 pub words_of-drop : (line : List ℕ) → words_of (drop (prefix_len is_blank line) line) ≡ words_of line
 words_of-drop [] = refl
 words_of-drop (b ∷ bs) = elim (cases_Bool (is_blank b)) [
   | inl blank ↦
-      let front : prefix_len is_blank (b ∷ bs) ≡ suc (prefix_len is_blank bs) = rw (blank, one-add) refl in
-      ap (λ n. words_of (drop n (b ∷ bs))) front ∙ (words_of-drop bs ∙ sym (words_of-blank b bs blank))
+      let prefix : prefix_len is_blank (b ∷ bs) ≡ suc (prefix_len is_blank bs) = rw (blank, one-add) refl in
+      ap (λ n. words_of (drop n (b ∷ bs))) prefix ∙ (words_of-drop bs ∙ sym (words_of-blank b bs blank))
   | inr other ↦
-      let front : prefix_len is_blank (b ∷ bs) ≡ 0 = rw other refl in
-      ap (λ n. words_of (drop n (b ∷ bs))) front
+      let prefix : prefix_len is_blank (b ∷ bs) ≡ 0 = rw other refl in
+      ap (λ n. words_of (drop n (b ∷ bs))) prefix
 ]
 
 -- a first byte that is not blank begins a word

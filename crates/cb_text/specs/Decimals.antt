@@ -21,5 +21,5 @@ abbrev pub number_of : List ℕ → ℕ
 number_of bytes = number_after 0 bytes
 
 -- a leading zero, with another byte after it
-abbrev pub HasZeroInFront : List ℕ → Type 0
-HasZeroInFront bytes = (1 < length bytes) × (get_or bytes 0 0 ≡ 48)
+abbrev pub HasLeadingZero : List ℕ → Type 0
+HasLeadingZero bytes = (1 < length bytes) × (get_or bytes 0 0 ≡ 48)

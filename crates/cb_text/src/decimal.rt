@@ -2,7 +2,7 @@
 ghost use Rattle.std.specs.Prelude.{◌≡◌, ◌↔◌, ◌+◌, ◌-◌, ◌*◌, ◌<◌, ◌^◌, ℕ, true, IfSome, IfNone, IsTrue};
 ghost use Rattle.std.specs.Char.{is_ascii_digit};
 ghost use Rattle.std.specs.Option.{SomeIff};
-ghost use Rattle.cb_text.specs.Decimals.{IsDecimal, AreDigits, HasZeroInFront, number_of};
+ghost use Rattle.cb_text.specs.Decimals.{IsDecimal, AreDigits, HasLeadingZero, number_of};
 
 /// The number that is written with these bytes. Other forms of a number, with a plus or with leading zeros, are none.
 pub fn decimal_of(bytes: &[u8]) -> Option<u64>
@@ -20,7 +20,7 @@ pub fn decimal_of(bytes: &[u8]) -> Option<u64>
 
 // Whether there is a leading zero with other bytes after it.
 fn is_padded(bytes: &[u8]) -> bool
-    ensures { IsTrue result ↔ HasZeroInFront bytes.now }
+    ensures { IsTrue result ↔ HasLeadingZero bytes.now }
 {
     bytes.len() > 1 && bytes[0] == b'0'
 }

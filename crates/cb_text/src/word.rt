@@ -77,16 +77,16 @@ fn first_word(line: &[u8]) -> Option<(&[u8], &[u8])>
     ensures none { IfNone result (words_of line.now ≡ []) }
     ensures some { IfSome result (λ parts. words_of line.now ≡ parts.0.now ∷ words_of parts.1.now) }
 {
-    let start = blank_front(line);
+    let start = blank_prefix(line);
     if start == line.len() {
         return None;
     }
     let rest = &line[start..];
-    Some(rest.split_at(word_front(rest)))
+    Some(rest.split_at(word_prefix(rest)))
 }
 
 // How many blank bytes a line begins with.
-fn blank_front(line: &[u8]) -> usize
+fn blank_prefix(line: &[u8]) -> usize
     ensures value { result ≡ prefix_len is_blank line.now }
     ensures within { result ≤ length line.now }
 {
@@ -94,7 +94,7 @@ fn blank_front(line: &[u8]) -> usize
 }
 
 // How many other bytes a line begins with.
-fn word_front(line: &[u8]) -> usize
+fn word_prefix(line: &[u8]) -> usize
     ensures value { result ≡ position_or_len is_blank line.now }
     ensures within { result ≤ length line.now }
 {

@@ -5,7 +5,7 @@ use Rattle.std.specs.List.{Contains}
 use Rattle.std.proofs.lemmas.List.{length-append}
 use Rattle.std.proofs.lemmas.List.Elements.{Contains-append_right}
 use Rattle.cb_model.proofs.Rising.{contains_head}
-use Rattle.cb_io.specs.Outside.{SinkTold, WritesAll, WritesFront, WriteFailed}
+use Rattle.cb_io.specs.Outside.{SinkReport, WritesAll, WritesPrefix, WriteFailed}
 use Rattle.cb_outcome.specs.Roles.{Role}
 use Rattle.cb_report.specs.Text.{bytes_of_text}
 use Rattle.cb_report.specs.Status.{OnAnswer}
@@ -22,7 +22,7 @@ use Rattle.cb_outcome.specs.Contents.{Left, Reads, HasRole, with_texts, files_fr
 use Rattle.cb_outcome.specs.Command.{Command, Task, makes as task_makes, follows as task_follows, refuses as task_refuses, IsDoing, IsRefusal, reads_of, file_words, TaskGives, TaskFaults, JobGives}
 use Rattle.cb_outcome.specs.Answer.{IsOutcome}
 use Rattle.cb_outcome.specs.Point.{Point}
-use Rattle.cb_outcome.specs.Reading.{Told, ReadsTo}
+use Rattle.cb_outcome.specs.Reading.{WhereReported, ReadsTo}
 use Rattle.cb_outcome.specs.Seen.{Seen}
 use Rattle.cb_outcome.specs.Ends.{MayEnd}
 use Rattle.cb_outcome.specs.Clauses.{Answers, AnswersOutcome, WritesDue, ReadsJudged, HaveAllPassed, KeepsQuiet, NamesFileWord, SaysStatus, ReadsInOrder, Blames}
@@ -36,7 +36,7 @@ use Rattle.cb_outcome.proofs.Ended.{some_name}
 use Rattle.cb_top.proofs.Followed as follow
 use Rattle.cb_outcome.proofs.Lawful.{LawfulFor, IsLawful}
 use Rattle.cb_outcome.proofs.Outcomes.{texts_count, names_count}
-use Rattle.cb_file_kinds.proofs.Chain.{if_some, if_some2, of_all, map_append, take_front, take_whole, reads_all, reads_none}
+use Rattle.cb_file_kinds.proofs.Chain.{if_some, if_some2, of_all, map_append, take_prefix, take_whole, reads_all, reads_none}
 use Rattle.cb_top.proofs.Made.{gives_job, gives_refused}
 use Rattle.cb_top.proofs.Plain.{IsPlain, refused_plain, fit}
 
@@ -50,7 +50,7 @@ pub record Wrote (bytes : List ℕ) (fault : Option Fault) (status : Status) (s 
 
 -- a write failed, and the run ends with that
 pub record Broke (bytes : List ℕ) (status : Status) (s : Seen) : Type 0 where
-  pub front : WritesFront s.out s.out_after bytes
+  pub prefix : WritesPrefix s.out s.out_after bytes
   pub failed : WriteFailed s.out s.out_after
   pub status_is : status ≡ statuses.WriteFault
   pub says : TakesLine s.err s.err_after (fault_text faults.WriteFault)
@@ -66,7 +66,7 @@ pub record Stopped (c : Command) (s : Seen) (fault : Fault) : Type 0 where
   pub later : List (Role × List ℕ)
   pub files_are : c.files ≡ earlier ++ file ∷ later
   pub known : Known
-  pub passed : Told s.files (λ left. PassFrom nothing (with_texts left [] earlier) known)
+  pub passed : WhereReported s.files (λ left. PassFrom nothing (with_texts left [] earlier) known)
   pub read : ReadsTo (length earlier) (file_words c) s.files s.files_after
 
 pub data Story (c : Command) (status : Status) (s : Seen) : Type 0 where
@@ -109,7 +109,7 @@ module _ (s : Seen) (status : Status) (end : Option Fault) (status_is : status �
 
   broke : (bytes : List ℕ) → IsCutOff bytes end s.out s.out_after → Broke bytes status s
   broke bytes is = record {
-    front = is.front;
+    prefix = is.prefix;
     failed = is.failed;
     status_is = status_is ∙ ap ending is.end_is;
     says = subst (λ (e : Option Fault). TakesLine s.err s.err_after (line_text e)) is.end_is says;
@@ -156,13 +156,13 @@ keeps_quiet c statuses.ReadFault s q = inl q
 keeps_quiet c statuses.Memory s q = inl q
 keeps_quiet c status s q = q
 
-front_none : (out out' : SinkTold) → WritesAll out out' [] → WritesFront out out' []
-front_none out out' q = (0, omega arith, q)
+prefix_none : (out out' : SinkReport) → WritesAll out out' [] → WritesPrefix out out' []
+prefix_none out out' q = (0, omega arith, q)
 
-front_all : (out out' : SinkTold) (bytes : List ℕ) → WritesAll out out' bytes → WritesFront out out' bytes
-front_all out out' bytes w = (length bytes, omega arith, subst (λ (l : List ℕ). WritesAll out out' l) (sym (take_whole bytes)) w)
+prefix_all : (out out' : SinkReport) (bytes : List ℕ) → WritesAll out out' bytes → WritesPrefix out out' bytes
+prefix_all out out' bytes w = (length bytes, omega arith, subst (λ (l : List ℕ). WritesAll out out' l) (sym (take_whole bytes)) w)
 
-not_nil : {X : Type 0} (front rest : List X) (x : X) → front ++ x ∷ rest ≡ [] → ⊥
+not_nil : {X : Type 0} (prefix rest : List X) (x : X) → prefix ++ x ∷ rest ≡ [] → ⊥
 not_nil [] rest x e = cc
 not_nil (y ∷ ys) rest x e = cc
 
@@ -187,7 +187,7 @@ module _ (c : Command) where
         subst (λ (n : ℕ). ReadsTo n (file_words c) s.files s.files_after) (omega (arith, count, none))
         (reads_all s.files s.files_after (file_words c) makes.read)
 
-    has_passed : Told s.files (HaveAllPassed c)
+    has_passed : WhereReported s.files (HaveAllPassed c)
     has_passed = if_some s.files.left _ _ (λ left said. (makes.known, said)) makes.said
 
     has_read : ReadsJudged c s
@@ -206,10 +206,10 @@ module _ (c : Command) where
 
     -- it is a judged file
     before_log : length c.files ≤ length at.earlier → ⊥
-    before_log behind =
+    before_log beyond =
         let all = ap length at.files_are in
         let parts = length-append at.earlier (at.file ∷ at.later) in
-        omega (arith, behind, all, parts)
+        omega (arith, beyond, all, parts)
 
     some_file : file_words c ≢ []
     some_file e = not_nil (names at.earlier) (names at.later ++ (reads_of c).logs) at.file.1 (sym names_are ∙ e)
@@ -234,9 +234,9 @@ module _ (c : Command) where
         at_named [] rest name = refl
         at_named (f ∷ fs) rest name = at_named fs rest name
 
-    passed_there : Told s.files (λ left. PassFrom nothing (with_texts left [] (take (length at.earlier) c.files)) at.known)
+    passed_there : WhereReported s.files (λ left. PassFrom nothing (with_texts left [] (take (length at.earlier) c.files)) at.known)
     passed_there =
-        let taken : take (length at.earlier) c.files ≡ at.earlier = ap (take (length at.earlier)) at.files_are ∙ take_front at.earlier (at.file ∷ at.later) in
+        let taken : take (length at.earlier) c.files ≡ at.earlier = ap (take (length at.earlier)) at.files_are ∙ take_prefix at.earlier (at.file ∷ at.later) in
         if_some s.files.left _ _ (λ left said. subst (λ (fs : List (Role × List ℕ)). PassFrom nothing (with_texts left [] fs) at.known) (sym taken) said) at.passed
 
 -- nothing is done
@@ -281,7 +281,7 @@ module _ (c : Command) (law : IsLawful c) (s : Seen) where
   answer status (idle fault is same end) =
       let none = idle_is c law fault is in
       at_status AnswerOf status (status_of fault) end.status_is
-      (on_answer (status_of fault) (Told s.files (Answers c (status_of fault) s)) (of_all s.files.left _ (λ left. record {
+      (on_answer (status_of fault) (WhereReported s.files (Answers c (status_of fault) s)) (of_all s.files.left _ (λ left. record {
         outcome = refused fault 0;
         is = subst (λ (fs : List (Role × List ℕ)). Gives (JobGives left c) nothing 0 (with_texts left [] fs) (refused fault 0)) (sym none.files) (none.gives left nothing 0);
         status_is = refl;
@@ -291,7 +291,7 @@ module _ (c : Command) (law : IsLawful c) (s : Seen) where
       })))
   answer status (made doing bytes fault makes end) =
       at_status AnswerOf status (ending fault) end.status_is
-      (on_answer (ending fault) (Told s.files (Answers c (ending fault) s)) (if_some s.files.left _ _ (λ left said. record {
+      (on_answer (ending fault) (WhereReported s.files (Answers c (ending fault) s)) (if_some s.files.left _ _ (λ left said. record {
         outcome = outcome_of c bytes fault;
         is = outcome_is c s bytes fault makes left said;
         status_is = refl;
@@ -307,7 +307,7 @@ module _ (c : Command) (law : IsLawful c) (s : Seen) where
       at_status AnswerOf status statuses.ReadFault (end.status_is ∙ ap status_of fails.is) tt
   answer status (refusing doing fault at is end) =
       at_status AnswerOf status (status_of fault) end.status_is
-      (on_answer (status_of fault) (Told s.files (Answers c (status_of fault) s)) (if_some2 s.files.left _ _ _ (λ left said text_is. record {
+      (on_answer (status_of fault) (WhereReported s.files (Answers c (status_of fault) s)) (if_some2 s.files.left _ _ _ (λ left said text_is. record {
         outcome = refused fault (length at.earlier);
         is = subst (λ (fs : List (Role × List ℕ)). Gives (JobGives left c) nothing 0 (with_texts left [] fs) (refused fault (length at.earlier))) (sym at.files_are)
             (subst (λ (n : ℕ). Gives (JobGives left c) nothing 0 (with_texts left [] (at.earlier ++ at.file ∷ at.later)) (refused fault n)) (omega arith)
@@ -321,32 +321,32 @@ module _ (c : Command) (law : IsLawful c) (s : Seen) where
       at_status AnswerOf status (ending end) is (follow.answer c law doing s end follows says)
 
   nothing_due : WritesAll s.out s.out_after [] → WritesDue c s
-  nothing_due quiet = of_all s.files.left _ (λ left. (Point.start, [], refl, front_none s.out s.out_after quiet))
+  nothing_due quiet = of_all s.files.left _ (λ left. (Point.start, [], refl, prefix_none s.out s.out_after quiet))
 
-  abbrev FrontOf : Status → Type 0
-  FrontOf status = WritesDue c s
+  abbrev PrefixOf : Status → Type 0
+  PrefixOf status = WritesDue c s
 
-  pub front : (status : Status) → Story c status s → WritesDue c s
-  front status (idle fault is same end) = nothing_due end.written
-  front status (made doing bytes fault makes end) =
+  pub prefix : (status : Status) → Story c status s → WritesDue c s
+  prefix status (idle fault is same end) = nothing_due end.written
+  prefix status (made doing bytes fault makes end) =
       (if_some s.files.left _ _ (λ left said. (
         Point.end,
         bytes,
         (outcome_of c bytes fault, outcome_is c s bytes fault makes left said, refl),
-        front_all s.out s.out_after bytes end.written,
+        prefix_all s.out s.out_after bytes end.written,
       )) makes.said)
-  front status (unwritten doing bytes fault makes end) =
+  prefix status (unwritten doing bytes fault makes end) =
       (if_some s.files.left _ _ (λ left said. (
         Point.end,
         bytes,
         (outcome_of c bytes fault, outcome_is c s bytes fault makes left said, refl),
-        end.front,
+        end.prefix,
       )) makes.said)
-  front status (wanting doing fault want end) = nothing_due end.written
-  front status (failed doing fault at fails end) = nothing_due end.written
-  front status (refusing doing fault at is end) = nothing_due end.written
-  front status (followed doing end follows is says) =
-      (follow.front c law doing s end follows)
+  prefix status (wanting doing fault want end) = nothing_due end.written
+  prefix status (failed doing fault at fails end) = nothing_due end.written
+  prefix status (refusing doing fault at is end) = nothing_due end.written
+  prefix status (followed doing end follows is says) =
+      (follow.prefix c law doing s end follows)
 
   abbrev QuietOf : Status → Type 0
   QuietOf status = KeepsQuiet c status s
@@ -453,7 +453,7 @@ module _ (c : Command) (law : IsLawful c) (s : Seen) where
           Point.end,
           tt,
           λ name taken is alone has. absurd (some_name name [] (sym is ∙ makes.alone)),
-          (bytes, (outcome_of c bytes why, outcome_is c s bytes why makes left said, refl), end.front),
+          (bytes, (outcome_of c bytes why, outcome_is c s bytes why makes left said, refl), end.prefix),
         )) makes.said;
         ahead = of_all s.files.left _ (λ left name is. absurd (some_name name [] (sym is ∙ makes.alone)));
       })
@@ -469,7 +469,7 @@ module _ (c : Command) (law : IsLawful c) (s : Seen) where
         passed = if_some s.files.left _ _ (λ left said. (at.known, said)) (passed_there c s why at);
         written = record {
           judged = λ before. end.written;
-          log = λ behind. absurd (before_log c s why at behind);
+          log = λ beyond. absurd (before_log c s why at beyond);
         };
       })
   fault status (refusing doing why at is end) =

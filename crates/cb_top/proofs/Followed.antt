@@ -9,8 +9,8 @@ use Rattle.std.proofs.lemmas.List.Elements.{Contains-append_right}
 use Rattle.std.proofs.lemmas.Map.Views.{Contains-from_any}
 use Rattle.std.proofs.lemmas.Slice.Eq.{bytes_eq-Decides}
 use Rattle.cb_model.proofs.Rising.{contains_head}
-use Rattle.cb_io.specs.Outside.{contents, left_of, TakesAll, ReadsEach, WritesAll, WritesFront}
-use Rattle.cb_io.proofs.Told.{ReadFailed-after, ReadsEach-nil, ReadsEach-next}
+use Rattle.cb_io.specs.Outside.{contents, left_of, TakesAll, ReadsEach, WritesAll, WritesPrefix}
+use Rattle.cb_io.proofs.Reported.{ReadFailed-after, ReadsEach-nil, ReadsEach-next}
 use Rattle.cb_outcome.specs.Roles.{Role}
 use Rattle.cb_report.specs.Status.{OnAnswer}
 use Rattle.cb_report.specs.Faults.{ending}
@@ -23,18 +23,18 @@ use Rattle.cb_outcome.specs.Outcome.{Outcome, done, done_with}
 use Rattle.cb_outcome.specs.Judged.{Known, nothing, PassFrom}
 use Rattle.cb_outcome.specs.Contents.{Left, Reads, with_texts, files_from, log_from}
 use Rattle.cb_outcome.specs.Command.{Command, Task, makes, follows, refuses, IsDoing, logs_in, reads_of, file_words, WatchesLog, IsWatch, TaskGives, TaskFinds, JobGives}
-use Rattle.cb_outcome.specs.LogJobs.{Watch, WholeTells, FrontTells, LogTells, log_limit}
+use Rattle.cb_outcome.specs.LogJobs.{Watch, WholeTells, PrefixTells, LogTells, log_limit}
 use Rattle.cb_outcome.specs.Prints.{PrintsEvents}
 use Rattle.cb_outcome.specs.Answer.{IsOutcome, IsDue}
 use Rattle.cb_outcome.specs.Point.{Point}
-use Rattle.cb_outcome.specs.Reading.{Told, ReadsTo}
+use Rattle.cb_outcome.specs.Reading.{WhereReported, ReadsTo}
 use Rattle.cb_outcome.specs.Seen.{Seen}
 use Rattle.cb_outcome.specs.Ends.{MayEnd}
 use Rattle.cb_outcome.specs.Clauses.{Answers, WritesDue, ReadsJudged, HaveAllPassed, HasComeToLog, KeepsQuiet, NamesFileWord, HasTaken, WritesAllDue, BlamesRead, ahead_limit, IsNearPoint, WritesPastStart, IsNotFarAhead, ReadsNotFarAhead, BlamesWrite, StopsInLog, Blames}
 use Rattle.cb_outcome.specs.Finds.{Finds}
 use Rattle.cb_file_kinds.specs.Ending.{names}
 use Rattle.cb_log_commands.specs.Following.{IsDueUpto, IsDueOfAll, IsNearTaken, TellsLog, GoesWrong, FollowsLog}
-use Rattle.cb_file_kinds.proofs.Chain.{if_some, if_some2, take_whole, take_front, at_front, reads_all, reads_front}
+use Rattle.cb_file_kinds.proofs.Chain.{if_some, if_some2, take_whole, take_prefix, at_prefix, reads_all, reads_prefix}
 use Rattle.cb_outcome.proofs.Ended.{some_name}
 use Rattle.cb_outcome.proofs.Lawful.{LawfulFor, IsLawful}
 use Rattle.cb_outcome.proofs.Logged.{prints_events}
@@ -52,7 +52,7 @@ one_log : (name log : List ℕ) → log ∷ [] ≡ name ∷ [] → name ≡ log
 one_log name log e = cc
 
 there : {X : Type 0} (o : Option X) (P : X → Type 0) (x : X) → o ≡ Some x → IfSome o P → P x
-there {X} o P x e told = subst (λ (v : Option X). IfSome v P) e told
+there {X} o P x e reported = subst (λ (v : Option X). IfSome v P) e reported
 
 -- a task with a log is to follow it
 task_follows_log : (log : List ℕ → List ℕ) (task : Task) (name : List ℕ) (known : Known) (watch : Watch) (whole : ℕ) (outcome : Outcome)
@@ -89,10 +89,10 @@ take_none (suc n) [] e = refl
 take_none (suc n) (x ∷ xs) e = cc
 
 -- of these bytes a prefix came, and others are left
-consumed : (a b : Option (List ℕ)) (all front : List ℕ) → a ≡ Some all → Consumes a b front → (rest : List ℕ) × (all ≡ front ++ rest) × (b ≡ Some rest)
-consumed a b all front e came = rest_of b (subst (λ (o : Option (List ℕ)). Consumes o b front) e came)
+consumed : (a b : Option (List ℕ)) (all prefix : List ℕ) → a ≡ Some all → Consumes a b prefix → (rest : List ℕ) × (all ≡ prefix ++ rest) × (b ≡ Some rest)
+consumed a b all prefix e came = rest_of b (subst (λ (o : Option (List ℕ)). Consumes o b prefix) e came)
   where
-    rest_of : (o : Option (List ℕ)) → Consumes (Some all) o front → (rest : List ℕ) × (all ≡ front ++ rest) × (o ≡ Some rest)
+    rest_of : (o : Option (List ℕ)) → Consumes (Some all) o prefix → (rest : List ℕ) × (all ≡ prefix ++ rest) × (o ≡ Some rest)
     rest_of None came = absurd came
     rest_of (Some rest) came = (rest, came, refl)
 
@@ -117,13 +117,13 @@ module _ (c : Command) (law : IsLawful c) (doing : IsDoing c.task) (s : Seen) (e
   read_judged : ReadsTo (length c.files) (file_words c) s.files s.files_after
   read_judged =
       subst (λ (n : ℕ). ReadsTo n (file_words c) s.files s.files_after) (length-map c.files (λ (file : Role × List ℕ). file.1))
-      (reads_front s.files follows.now s.files_after (names c.files) [] follows.name (file_words c) names_are follows.read
-      follows.ends.only.others follows.ends.only.front)
+      (reads_prefix s.files follows.now s.files_after (names c.files) [] follows.name (file_words c) names_are follows.read
+      follows.ends.only.others follows.ends.only.prefix)
 
   has_read : ReadsJudged c s
   has_read = (length c.files, omega arith, read_judged)
 
-  has_passed : Told s.files (HaveAllPassed c)
+  has_passed : WhereReported s.files (HaveAllPassed c)
   has_passed = if_some s.files.left _ _ (λ left said. (follows.known, said)) follows.passed
 
   has_come : HasComeToLog c s
@@ -141,9 +141,9 @@ module _ (c : Command) (law : IsLawful c) (doing : IsDoing c.task) (s : Seen) (e
   -- ---- what is due
 
   -- what is reported of the log, by the bytes left of each name
-  in_log : (P : List ℕ → Type 0) → IfSome (left_of follows.now follows.name) P → Told s.files (λ left. P (log_from left (reads_of c) follows.name))
-  in_log P told =
-      if_some s.files.left _ _ (λ left known. there (left_of follows.now follows.name) P (log_from left (reads_of c) follows.name) (known follows.name) told) follows.read
+  in_log : (P : List ℕ → Type 0) → IfSome (left_of follows.now follows.name) P → WhereReported s.files (λ left. P (log_from left (reads_of c) follows.name))
+  in_log P reported =
+      if_some s.files.left _ _ (λ left known. there (left_of follows.now follows.name) P (log_from left (reads_of c) follows.name) (known follows.name) reported) follows.read
 
   -- this is due at a point near what was taken, or at the end
   abbrev PartOf : Left → List ℕ → Type 0
@@ -182,8 +182,8 @@ module _ (c : Command) (law : IsLawful c) (doing : IsDoing c.task) (s : Seen) (e
     point_of due (inl (upto, near, is)) = (Point.upto upto, due_upto upto due is)
     point_of due (inr (none, is)) = (Point.end, (done due (suc (length c.files)), whole_outcome due is, refl))
 
-  front_all : (due : List ℕ) → WritesAll s.out s.out_after due → WritesFront s.out s.out_after due
-  front_all due w = (length due, omega arith, subst (λ (l : List ℕ). WritesAll s.out s.out_after l) (sym (take_whole due)) w)
+  prefix_all : (due : List ℕ) → WritesAll s.out s.out_after due → WritesPrefix s.out s.out_after due
+  prefix_all due w = (length due, omega arith, subst (λ (l : List ℕ). WritesAll s.out s.out_after l) (sym (take_whole due)) w)
 
   -- all files were read whole, where the log was
   all_read : IfSome (left_of follows.now follows.name) (λ log. left_of s.files_after follows.name ≡ Some [])
@@ -215,7 +215,7 @@ module _ (c : Command) (law : IsLawful c) (doing : IsDoing c.task) (s : Seen) (e
       → TakesLine s.err s.err_after (line_text (Some (f follows.name)))
   named f other e says = subst (λ (n : List ℕ). TakesLine s.err s.err_after (line_text (Some (f n)))) e says
 
-  answer_by : (e : Option Fault) → Wrong e → TellsIt e → TakesLine s.err s.err_after (line_text e) → OnAnswer (ending e) (Told s.files (Answers c (ending e) s))
+  answer_by : (e : Option Fault) → Wrong e → TellsIt e → TakesLine s.err s.err_after (line_text e) → OnAnswer (ending e) (WhereReported s.files (Answers c (ending e) s))
   answer_by None wrong tells says =
       if_some2 s.files.left _ _ _ (λ left passed is. record {
         outcome = done is.due (suc (length c.files));
@@ -240,15 +240,15 @@ module _ (c : Command) (law : IsLawful c) (doing : IsDoing c.task) (s : Seen) (e
   answer_by (Some faults.Memory) wrong tells says = tt
   answer_by (Some fault) wrong tells says = absurd wrong
 
-  front_by : (e : Option Fault) → Wrong e → TellsIt e → WritesDue c s
-  front_by None wrong tells =
+  prefix_by : (e : Option Fault) → Wrong e → TellsIt e → WritesDue c s
+  prefix_by None wrong tells =
       if_some2 s.files.left _ _ _ (λ left passed is. (
         Point.end,
         is.due,
         (done is.due (suc (length c.files)), whole_outcome left passed is.due is.is_due, refl),
-        front_all is.due is.written,
+        prefix_all is.due is.written,
       )) follows.passed (in_log _ tells)
-  front_by (Some (faults.LimitBytes other)) wrong tells =
+  prefix_by (Some (faults.LimitBytes other)) wrong tells =
       if_some2 s.files.left _ _ _ (λ left passed is. (
         Point.end,
         is.due,
@@ -258,18 +258,18 @@ module _ (c : Command) (law : IsLawful c) (doing : IsDoing c.task) (s : Seen) (e
               (inr (record { long = is.long; out = is.due; tells = is.tells; gives = refl })),
           refl,
         ),
-        front_all is.due is.written,
+        prefix_all is.due is.written,
       )) follows.passed (in_log _ tells)
-  front_by (Some (faults.ReadFault other)) wrong tells =
+  prefix_by (Some (faults.ReadFault other)) wrong tells =
       if_some2 s.files.left _ _ _ (λ left passed is.
-      (Point.upto (length is.front), is.due, due_upto left passed (length is.front) is.due is.is_due, front_all is.due is.written)) follows.passed (in_log _ tells)
-  front_by (Some faults.WriteFault) wrong tells =
+      (Point.upto (length is.prefix), is.due, due_upto left passed (length is.prefix) is.due is.is_due, prefix_all is.due is.written)) follows.passed (in_log _ tells)
+  prefix_by (Some faults.WriteFault) wrong tells =
       if_some2 s.files.left _ _ _ (λ left passed is.
       let (point, is_due) = point_of left passed is.part.0 is.part.1 in (point, is.part.0, is_due, is.part.2)) follows.passed (in_log _ tells)
-  front_by (Some faults.Memory) wrong tells =
+  prefix_by (Some faults.Memory) wrong tells =
       if_some2 s.files.left _ _ _ (λ left passed is.
-      (Point.upto is.upto, is.due, due_upto left passed is.upto is.due is.is_due, front_all is.due is.written)) follows.passed (in_log _ tells)
-  front_by (Some fault) wrong tells = absurd wrong
+      (Point.upto is.upto, is.due, due_upto left passed is.upto is.due is.is_due, prefix_all is.due is.written)) follows.passed (in_log _ tells)
+  prefix_by (Some fault) wrong tells = absurd wrong
 
   quiet_by : (e : Option Fault) → Wrong e → KeepsQuiet c (ending e) s
   quiet_by None wrong = tt
@@ -305,23 +305,23 @@ module _ (c : Command) (law : IsLawful c) (doing : IsDoing c.task) (s : Seen) (e
   -- ---- a read of the log failed
 
   -- what was taken of the log's name, and what is due then
-  taken_of : (left : Left) → left_of s.files follows.name ≡ Some (contents left [] follows.name) → (front rest : List ℕ)
-      → log_from left (reads_of c) follows.name ≡ front ++ rest → left_of s.files_after follows.name ≡ Some rest
-      → (taken : ℕ) × HasTaken follows.name taken s left × (length front ≤ taken)
-      × ((due : List ℕ) → IsDueUpto follows.watch (log_from left (reads_of c) follows.name) (length front) due
+  taken_of : (left : Left) → left_of s.files follows.name ≡ Some (contents left [] follows.name) → (prefix rest : List ℕ)
+      → log_from left (reads_of c) follows.name ≡ prefix ++ rest → left_of s.files_after follows.name ≡ Some rest
+      → (taken : ℕ) × HasTaken follows.name taken s left × (length prefix ≤ taken)
+      × ((due : List ℕ) → IsDueUpto follows.watch (log_from left (reads_of c) follows.name) (length prefix) due
       → IsDueUpto follows.watch (log_from left (reads_of c) follows.name) taken due)
-  taken_of left before front rest log_is after =
+  taken_of left before prefix rest log_is after =
       by_test (list_any (λ other. bytes_eq other follows.name) (names c.files)) refl
     where
       by_test : (b : Bool) → list_any (λ other. bytes_eq other follows.name) (names c.files) ≡ b
-          → (taken : ℕ) × HasTaken follows.name taken s left × (length front ≤ taken)
-          × ((due : List ℕ) → IsDueUpto follows.watch (log_from left (reads_of c) follows.name) (length front) due
+          → (taken : ℕ) × HasTaken follows.name taken s left × (length prefix ≤ taken)
+          × ((due : List ℕ) → IsDueUpto follows.watch (log_from left (reads_of c) follows.name) (length prefix) due
           → IsDueUpto follows.watch (log_from left (reads_of c) follows.name) taken due)
       by_test true e =
           let all = contents left [] follows.name in
           let none : log_from left (reads_of c) follows.name ≡ [] = ap (λ (b : Bool). cond b [] all) e in
-          let front_none = none_before front rest (sym none ∙ log_is) in
-          let rest_none = (no_more front rest (sym none ∙ log_is)).1 in
+          let prefix_none = none_before prefix rest (sym none ∙ log_is) in
+          let rest_none = (no_more prefix rest (sym none ∙ log_is)).1 in
           let cut : (n : ℕ) → take n (log_from left (reads_of c) follows.name) ≡ [] = λ n. take_none n (log_from left (reads_of c) follows.name) none in (
             length all,
             record {
@@ -330,17 +330,17 @@ module _ (c : Command) (law : IsLawful c) (doing : IsDoing c.task) (s : Seen) (e
               before = before ∙ ap (λ (l : List ℕ). Some l) (sym (take_whole all) ∙ sym (append-nil (take (length all) all)));
               after = after ∙ ap (λ (l : List ℕ). Some l) rest_none;
             },
-            omega (arith, front_none),
-            λ due is_due. subst (λ (l : List ℕ). FrontTells follows.watch l due) (cut (min (length front) log_limit) ∙ sym (cut (min (length all) log_limit))) is_due,
+            omega (arith, prefix_none),
+            λ due is_due. subst (λ (l : List ℕ). PrefixTells follows.watch l due) (cut (min (length prefix) log_limit) ∙ sym (cut (min (length all) log_limit))) is_due,
           )
       by_test false e =
           let all = contents left [] follows.name in
           let whole : log_from left (reads_of c) follows.name ≡ all = ap (λ (b : Bool). cond b [] all) e in
-          let parts : all ≡ front ++ rest = sym whole ∙ log_is in
+          let parts : all ≡ prefix ++ rest = sym whole ∙ log_is in
           let size = ap length parts in
-          let sum = length-append front rest in
-          let first : take (length front) all ≡ front = ap (take (length front)) parts ∙ take_front front rest in (
-            length front,
+          let sum = length-append prefix rest in
+          let first : take (length prefix) all ≡ prefix = ap (take (length prefix)) parts ∙ take_prefix prefix rest in (
+            length prefix,
             record {
               within = omega (arith, size, sum);
               rest = rest;
@@ -352,20 +352,20 @@ module _ (c : Command) (law : IsLawful c) (doing : IsDoing c.task) (s : Seen) (e
           )
 
   -- what was left of each name at first
-  left_at_first : Told s.files (λ left. (name : List ℕ) → left_of s.files name ≡ Some (contents left [] name))
+  left_at_first : WhereReported s.files (λ left. (name : List ℕ) → left_of s.files name ≡ Some (contents left [] name))
   left_at_first = ReadsEach-nil s.files
 
   -- the judged files have passed, and this was left of each name at first
   abbrev Begun : Left → Type 0
   Begun left = PassFrom nothing (files_from left (reads_of c)) follows.known × ((name : List ℕ) → left_of s.files name ≡ Some (contents left [] name))
 
-  begun : Told s.files Begun
+  begun : WhereReported s.files Begun
   begun = if_some2 s.files.left _ _ Begun (λ left passed known. (passed, known)) follows.passed left_at_first
 
-  all_written : TellsIt (Some (faults.ReadFault follows.name)) → Told s.files (WritesAllDue c follows.name s)
+  all_written : TellsIt (Some (faults.ReadFault follows.name)) → WhereReported s.files (WritesAllDue c follows.name s)
   all_written tells =
       if_some2 s.files.left Begun _ _ (λ left both is.
-      let (taken, has_taken, low, is_due) = taken_of left (both.1 follows.name) is.front is.rest is.log_is is.left_is in record {
+      let (taken, has_taken, low, is_due) = taken_of left (both.1 follows.name) is.prefix is.rest is.log_is is.left_is in record {
         taken = taken;
         has_taken = has_taken;
         due = is.due;
@@ -381,7 +381,7 @@ module _ (c : Command) (law : IsLawful c) (doing : IsDoing c.task) (s : Seen) (e
     is =
         let judged = length-map c.files (λ (file : Role × List ℕ). file.1) in
         subst (λ (n : ℕ). slice_get (file_words c) n ≡ Some follows.name) judged
-        (ap (λ (ns : List (List ℕ)). slice_get ns (length (names c.files))) names_are ∙ at_front (names c.files) [] follows.name);
+        (ap (λ (ns : List (List ℕ)). slice_get ns (length (names c.files))) names_are ∙ at_prefix (names c.files) [] follows.name);
     failed = ReadFailed-after s.files follows.now s.files_after follows.name follows.counts wrong.1;
     read = read_judged;
     says = says;
@@ -391,7 +391,7 @@ module _ (c : Command) (law : IsLawful c) (doing : IsDoing c.task) (s : Seen) (e
     )) follows.passed;
     written = record {
       judged = λ before. absurd (omega (arith, before));
-      log = λ behind. all_written tells;
+      log = λ beyond. all_written tells;
     };
   }
 
@@ -441,25 +441,25 @@ module _ (c : Command) (law : IsLawful c) (doing : IsDoing c.task) (s : Seen) (e
       (end_here left both none taken (subst (λ (n : List ℕ). HasTaken n taken s left) name has))
 
   -- a prefix of this was written, which was due at a point past the start
-  part_due : (left : Left) → Begun left → (due : List ℕ) → PartOf left due → WritesFront s.out s.out_after due → WritesPastStart c s left
-  part_due left both due (inl (upto, near, is)) front =
-      (Point.upto upto, tt, near_point left both upto near, (due, due_upto left both.0 upto due is, front))
-  part_due left both due (inr (none, is)) front =
-      (Point.end, tt, end_point left both none, (due, (done due (suc (length c.files)), whole_outcome left both.0 due is, refl), front))
+  part_due : (left : Left) → Begun left → (due : List ℕ) → PartOf left due → WritesPrefix s.out s.out_after due → WritesPastStart c s left
+  part_due left both due (inl (upto, near, is)) prefix =
+      (Point.upto upto, tt, near_point left both upto near, (due, due_upto left both.0 upto due is, prefix))
+  part_due left both due (inr (none, is)) prefix =
+      (Point.end, tt, end_point left both none, (due, (done due (suc (length c.files)), whole_outcome left both.0 due is, refl), prefix))
 
   -- what is due by the clause is due by the watch
   due_here : (left : Left) → PassFrom nothing (files_from left (reads_of c)) follows.known → (upto : ℕ) (due : List ℕ) → IsDue c left (Point.upto upto) due
       → IsDueUpto follows.watch (log_from left (reads_of c) follows.name) upto due
-  due_here left passed upto due told =
-      let sound = pass_sound nothing (files_from left (reads_of c)) told.known tt told.pass in
-      let known : told.known ≡ follows.known = pass_is_one nothing (files_from left (reads_of c)) told.known follows.known tt told.pass passed in
-      let watch : told.watch ≡ follows.watch =
-      watch_one c.task c.range (reads_of c) law follows.known told.watch follows.watch (subst (λ (k : Known). IsWatch c k told.watch) known told.follows) follows.watches in
-      let name : told.name ≡ follows.name = one_log told.name follows.name (sym follows.log ∙ told.log) in
-      subst (λ (n : List ℕ). FrontTells follows.watch (take (min upto log_limit) (log_from left (reads_of c) n)) due) name
-      (subst (λ (w : Watch). FrontTells w (take (min upto log_limit) (log_from left (reads_of c) told.name)) due) watch told.tells)
+  due_here left passed upto due reported =
+      let sound = pass_sound nothing (files_from left (reads_of c)) reported.known tt reported.pass in
+      let known : reported.known ≡ follows.known = pass_is_one nothing (files_from left (reads_of c)) reported.known follows.known tt reported.pass passed in
+      let watch : reported.watch ≡ follows.watch =
+      watch_one c.task c.range (reads_of c) law follows.known reported.watch follows.watch (subst (λ (k : Known). IsWatch c k reported.watch) known reported.follows) follows.watches in
+      let name : reported.name ≡ follows.name = one_log reported.name follows.name (sym follows.log ∙ reported.log) in
+      subst (λ (n : List ℕ). PrefixTells follows.watch (take (min upto log_limit) (log_from left (reads_of c) n)) due) name
+      (subst (λ (w : Watch). PrefixTells w (take (min upto log_limit) (log_from left (reads_of c) reported.name)) due) watch reported.tells)
 
-  not_far : TellsIt (Some faults.WriteFault) → Told s.files (ReadsNotFarAhead c s)
+  not_far : TellsIt (Some faults.WriteFault) → WhereReported s.files (ReadsNotFarAhead c s)
   not_far tells =
       if_some2 s.files.left Begun _ _ (λ left both is other log alone some.
       let name : other ≡ follows.name = one_log other follows.name (sym follows.log ∙ log) in
@@ -491,17 +491,17 @@ module _ (c : Command) (law : IsLawful c) (doing : IsDoing c.task) (s : Seen) (e
   abbrev Come : Left → Type 0
   Come left = Begun left × (left_of follows.now follows.name ≡ Some (log_from left (reads_of c) follows.name))
 
-  come : Told s.files Come
+  come : WhereReported s.files Come
   come = if_some2 s.files.left Begun _ Come (λ left both known. (both, known follows.name)) begun follows.read
 
-  stops_in_log : TellsIt (Some faults.Memory) → Told s.files (StopsInLog c s)
+  stops_in_log : TellsIt (Some faults.Memory) → WhereReported s.files (StopsInLog c s)
   stops_in_log tells =
       if_some2 s.files.left Come _ _ (λ left here is.
-      let (front, came) = follows.ends.only.front in
+      let (prefix, came) = follows.ends.only.prefix in
       let (rest, log_is, after) =
-      consumed (left_of follows.now follows.name) (left_of s.files_after follows.name) (log_from left (reads_of c) follows.name) front here.1 came in
-      let (taken, has_taken, low, same_due) = taken_of left (here.0.1 follows.name) front rest log_is after in
-      let within = is.within front rest log_is after in record {
+      consumed (left_of follows.now follows.name) (left_of s.files_after follows.name) (log_from left (reads_of c) follows.name) prefix here.1 came in
+      let (taken, has_taken, low, same_due) = taken_of left (here.0.1 follows.name) prefix rest log_is after in
+      let within = is.within prefix rest log_is after in record {
         name = follows.name;
         log = follows.log;
         taken = taken;
@@ -518,8 +518,8 @@ module _ (c : Command) (law : IsLawful c) (doing : IsDoing c.task) (s : Seen) (e
   fault_by (Some (faults.LimitBytes other)) wrong tells says = tt
   fault_by (Some (faults.ReadFault other)) wrong tells says =
       let here = subst (λ (n : List ℕ). Wrong (Some (faults.ReadFault n))) wrong.0 wrong in
-      let told = subst (λ (n : List ℕ). TellsIt (Some (faults.ReadFault n))) wrong.0 tells in
-      blames_read here told (named (λ n. faults.ReadFault n) other wrong.0 says)
+      let reported = subst (λ (n : List ℕ). TellsIt (Some (faults.ReadFault n))) wrong.0 tells in
+      blames_read here reported (named (λ n. faults.ReadFault n) other wrong.0 says)
   fault_by (Some faults.WriteFault) wrong tells says = blames_write wrong tells says
   fault_by (Some faults.Memory) wrong tells says = inr (stops_in_log tells)
   fault_by (Some fault) wrong tells says = absurd wrong
@@ -540,11 +540,11 @@ module _ (c : Command) (law : IsLawful c) (doing : IsDoing c.task) (s : Seen) (e
 
   -- ---- the clauses
 
-  pub answer : TakesLine s.err s.err_after (line_text end) → OnAnswer (ending end) (Told s.files (Answers c (ending end) s))
+  pub answer : TakesLine s.err s.err_after (line_text end) → OnAnswer (ending end) (WhereReported s.files (Answers c (ending end) s))
   answer says = answer_by end follows.ends.wrong follows.ends.tells says
 
-  pub front : WritesDue c s
-  front = front_by end follows.ends.wrong follows.ends.tells
+  pub prefix : WritesDue c s
+  prefix = prefix_by end follows.ends.wrong follows.ends.tells
 
   pub quiet : KeepsQuiet c (ending end) s
   quiet = quiet_by end follows.ends.wrong

@@ -31,7 +31,7 @@ pub fn run<F: Files, O: Sink, E: Sink, L: Ledger>(
     // What comes out. At every status but 8, 9 and 10 status, output, line and the files read are those of the outcome.
     ensures answer { AnswersOutcome (command_in words.now) result (seen F.tells O.tells E.tells files.old files.new out.old out.new err.old err.new) }
     // At each, what was written is a prefix of what was due at some point of the run.
-    ensures front { WritesDue (command_in words.now) (seen F.tells O.tells E.tells files.old files.new out.old out.new err.old err.new) }
+    ensures prefix { WritesDue (command_in words.now) (seen F.tells O.tells E.tells files.old files.new out.old out.new err.old err.new) }
     // Nothing was written at any status but 0, 6 and 9; at 7, 8 and 10 unless the run has come to a log.
     ensures quiet { KeepsQuiet (command_in words.now) result (seen F.tells O.tells E.tells files.old files.new out.old out.new err.old err.new) }
     // The line is that of a fault of this status, which names no file but a file word; at 0 there is none.

@@ -146,9 +146,9 @@ created_lacks new name class i ids named were =
     }
 
 -- what a look-up found says whether there is a node
-pub told_node : (nodes : Table) (id : NodeId) (r : Option Node) → IfSome r (IsNode nodes id) → IfNone r (¬ HasNumber nodes id) → is_some r ≡ has_node nodes id
-told_node nodes id (Some node) found absent = sym (ap is_some found)
-told_node nodes id None found absent = none_is (slot nodes id.0) refl
+pub reported_node : (nodes : Table) (id : NodeId) (r : Option Node) → IfSome r (IsNode nodes id) → IfNone r (¬ HasNumber nodes id) → is_some r ≡ has_node nodes id
+reported_node nodes id (Some node) found absent = sym (ap is_some found)
+reported_node nodes id None found absent = none_is (slot nodes id.0) refl
   where
     none_is : (o : Option Node) → slot nodes id.0 ≡ o → false ≡ has_node nodes id
     none_is None is = sym (ap is_some is)

@@ -15,7 +15,7 @@ use Rattle.cb_network.proofs.Counts.{Kind, IsAt, of_problems, of_symptoms, probl
 use Rattle.cb_network.proofs.Kept.{live_of}
 use Rattle.cb_instances.specs.declared.id.InstanceId.{InstanceId}
 use Rattle.cb_instances.specs.Net.{Net, IsNamed, IsLive, HasEventAt, name_at, name_or, name_in_row, node_at, event_name}
-use Rattle.cb_instances.proofs.Muting.{event_told}
+use Rattle.cb_instances.proofs.Muting.{event_reported}
 use Rattle.cb_instances.proofs.Showing.{same_inside}
 use Rattle.cb_nodes.specs.declared.id.NodeId.{NodeId}
 use Rattle.cb_nodes.specs.declared.node.Node.{Node}
@@ -74,7 +74,7 @@ module _ (n : Numbered) (counts : NodeCounts) (kept : IsTopologyOf n.net n.nodes
       let had = kept.table.had i a.node a.is in
       let of_b : HasClass n.net.topology (name_at n.net b.node.instance) had.0 = subst (λ k. HasClass n.net.topology (name_at n.net k) had.0) instance had.1 in
       let has = has_event n.net b.node.instance had.0 b.node.event of_b (kept.table.had j b.node b.is) in
-      let event : a.node.event ≡ b.node.event = event_told n.net.topology.model kept.typed had.0 a.node.event b.node.event had.2 has (a.event ∙ sym b.event) in
+      let event : a.node.event ≡ b.node.event = event_reported n.net.topology.model kept.typed had.0 a.node.event b.node.event had.2 has (a.event ∙ sym b.event) in
       let node : a.node ≡ b.node = λ k. record { instance = instance k; event = event k } in
       kept.table.one i j b.node (subst (IsNode n.nodes i) node a.is) b.is
 
@@ -119,7 +119,7 @@ module _ (n : Numbered) (counts : NodeCounts) (kept : IsTopologyOf n.net n.nodes
     of_kind M names (d, of_d, (e, is)) =
         let here : M c e name.event = subst (λ k. M k e name.event) (same_inside d c (sym of_d ∙ of_class)) is in
         let has = names e here in
-        let event : e ≡ named.node.event = event_told n.net.topology.model kept.typed c e named.node.event has.0 has_it (event_name_is n.net.topology.model e has.0.row has.0.is ∙ (has.1 ∙ sym named.event)) in
+        let event : e ≡ named.node.event = event_reported n.net.topology.model kept.typed c e named.node.event has.0 has_it (event_name_is n.net.topology.model e has.0.row has.0.is ∙ (has.1 ∙ sym named.event)) in
         subst (λ k. M c k name.event) event here
 
     pub problem_is : IsProblemOf n.net.topology.model c named.node.event ↔ IsProblem n.net.topology name
@@ -135,9 +135,9 @@ module _ (n : Numbered) (counts : NodeCounts) (kept : IsTopologyOf n.net n.nodes
     )
 
   -- a look-up by number finds something just for the nodes
-  pub told_live : (id : NodeId) (r : Option Node) → IfSome r (IsNode n.nodes id) → IfNone r (¬ HasNumber n.nodes id) → IsTrue (is_some r) ↔ IsLiveNode n id
-  told_live id None found absent = (λ yes. absurd (false≢true yes), λ (name, named). absurd (absent (named.node, named.is)))
-  told_live id (Some node) found absent = (λ _. (node_at n.net node.instance node.event, named_node id node found), λ _. refl)
+  pub reported_live : (id : NodeId) (r : Option Node) → IfSome r (IsNode n.nodes id) → IfNone r (¬ HasNumber n.nodes id) → IsTrue (is_some r) ↔ IsLiveNode n id
+  reported_live id None found absent = (λ yes. absurd (false≢true yes), λ (name, named). absurd (absent (named.node, named.is)))
+  reported_live id (Some node) found absent = (λ _. (node_at n.net node.instance node.event, named_node id node found), λ _. refl)
 
   -- what the event of a number is for the class, the node of the number is
   module _ (id : NodeId) (at : Node) (is : IsNode n.nodes id at) (tables : Tables) (model : tables ≡ n.net.topology.model)
@@ -149,14 +149,14 @@ module _ (n : Numbered) (counts : NodeCounts) (kept : IsTopologyOf n.net n.nodes
     class : HasClass n.net.topology name.instance c
     class = of_class name.instance (subst (λ (k : Node). IsNamed n.net k.instance name.instance) (sym own) named.instance)
 
-    pub told_problem : (b : Bool) → IsTrue b ↔ IsProblemOf tables c at.event → IsTrue b ↔ IsProblem n.net.topology name
-    told_problem b told =
-        let here : IsTrue b ↔ IsProblemOf n.net.topology.model c named.node.event = subst (λ (k : Node). IsTrue b ↔ IsProblemOf n.net.topology.model c k.event) own (subst (λ t. IsTrue b ↔ IsProblemOf t c at.event) model told) in
+    pub reported_problem : (b : Bool) → IsTrue b ↔ IsProblemOf tables c at.event → IsTrue b ↔ IsProblem n.net.topology name
+    reported_problem b reported =
+        let here : IsTrue b ↔ IsProblemOf n.net.topology.model c named.node.event = subst (λ (k : Node). IsTrue b ↔ IsProblemOf n.net.topology.model c k.event) own (subst (λ t. IsTrue b ↔ IsProblemOf t c at.event) model reported) in
         let problem = problem_is id name named c class in
         (λ yes. problem.0 (here.0 yes), λ is. here.1 (problem.1 is))
 
-    pub told_symptom : (b : Bool) → IsTrue b ↔ IsSymptomOf tables c at.event → IsTrue b ↔ IsSymptomNode n.net.topology name
-    told_symptom b told =
-        let here : IsTrue b ↔ IsSymptomOf n.net.topology.model c named.node.event = subst (λ (k : Node). IsTrue b ↔ IsSymptomOf n.net.topology.model c k.event) own (subst (λ t. IsTrue b ↔ IsSymptomOf t c at.event) model told) in
+    pub reported_symptom : (b : Bool) → IsTrue b ↔ IsSymptomOf tables c at.event → IsTrue b ↔ IsSymptomNode n.net.topology name
+    reported_symptom b reported =
+        let here : IsTrue b ↔ IsSymptomOf n.net.topology.model c named.node.event = subst (λ (k : Node). IsTrue b ↔ IsSymptomOf n.net.topology.model c k.event) own (subst (λ t. IsTrue b ↔ IsSymptomOf t c at.event) model reported) in
         let symptom = symptom_is id name named c class in
         (λ yes. symptom.0 (here.0 yes), λ is. here.1 (symptom.1 is))

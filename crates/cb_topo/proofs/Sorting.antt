@@ -41,7 +41,7 @@ module _ {X Y : Type 0} (called : X → Y) where
         → IsSortedBy (λ a b. is_lt (cmp (called a) (called b))) xs
     sorted_by {g = g} {f = f} xs sorted answers =
         sorted (λ a b. is_lt (cmp (called a) (called b))) (ranks_by total called)
-        (always_returns_same g (λ a r. is_lt r ≡ is_lt (cmp (called a.0.now) (called a.1.0.now))) f (λ a r f' k. let told = answers a r f' k in (ap is_lt told.0, told.1)))
+        (always_returns_same g (λ a r. is_lt r ≡ is_lt (cmp (called a.0.now) (called a.1.0.now))) f (λ a r f' k. let reported = answers a r f' k in (ap is_lt reported.0, reported.1)))
 
     module _ (exact : IsAntisymmetric cmp) (found xs : List X) (moved : IsPermutation found xs) (unlike : AllPairs (λ a b. called a ≢ called b) found) where
       abbrev tie : X → X → Bool

@@ -39,25 +39,25 @@ impl Topology {
     pub fn columns(&self, alloc: Global) -> Result<List<NodeId>, AllocError>
         ensures { IfOk result (λ ids. (names : Items Node) × AreColumns (topology_of self.now) names × AreNamed self.now ids names) }
     {
-        self.listed(alloc, NodeKind::Column)
+        self.listing(alloc, NodeKind::Column)
     }
 
     /// The problems in order.
     pub fn problems(&self, alloc: Global) -> Result<List<NodeId>, AllocError>
         ensures { IfOk result (λ ids. (names : Items Node) × AreProblems (topology_of self.now) names × AreNamed self.now ids names) }
     {
-        self.listed(alloc, NodeKind::Problem)
+        self.listing(alloc, NodeKind::Problem)
     }
 
     /// All nodes in order, of any kind, muted or not.
     pub fn nodes(&self, alloc: Global) -> Result<List<NodeId>, AllocError>
         ensures { IfOk result (λ ids. (names : Items Node) × AreInOrder (IsNodeOf (topology_of self.now)) names × AreNamed self.now ids names) }
     {
-        self.listed(alloc, NodeKind::Any)
+        self.listing(alloc, NodeKind::Any)
     }
 
     // The nodes of the kind, in order.
-    fn listed(&self, alloc: Global, kind: NodeKind) -> Result<List<NodeId>, AllocError>
+    fn listing(&self, alloc: Global, kind: NodeKind) -> Result<List<NodeId>, AllocError>
         ensures { IfOk result (λ ids. (names : Items Node) × AreInOrder (IsOfKind kind (topology_of self.now)) names × AreNamed self.now ids names) }
     {
         match &self.order {

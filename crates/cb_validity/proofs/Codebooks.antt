@@ -60,9 +60,9 @@ code_is (h ∷ groups) zero g at = let same : h ≡ g = cc in ap (λ (x : Group)
 code_is (h ∷ groups) (suc i) g at = code_is groups i g at
 
 -- what stands after the first item
-behind_first : (h : Group) (others : List Group) (k : ℕ) (g : Group) → 0 < k → slice_get (h ∷ others) k ≡ Some g → Contains others g
-behind_first h others zero g some at = absurd (omega arith)
-behind_first h others (suc k) g some at = contains_from_get others k g at
+beyond_first : (h : Group) (others : List Group) (k : ℕ) (g : Group) → 0 < k → slice_get (h ∷ others) k ≡ Some g → Contains others g
+beyond_first h others zero g some at = absurd (omega arith)
+beyond_first h others (suc k) g some at = contains_from_get others k g at
 
 -- the name of a problem is among the names
 member_name : (problems : List Problem) (p : Problem) → Contains problems p → Contains (map (λ (q : Problem). q.name) problems) p.name
@@ -82,7 +82,7 @@ module _ (t : Topology) (columns : List NodeName) (groups : List Group) (matrix 
   pub group_at : (i : ℕ) (g : Group) → 0 < i → slice_get groups i ≡ Some g → IsGroup matrix.problems g
   group_at i g later at =
       let is = matrix.groups_are in
-      is.each g (behind_first (group_of matrix.problems (zeros (length columns))) is.others i g later
+      is.each g (beyond_first (group_of matrix.problems (zeros (length columns))) is.others i g later
       (subst (λ (gs : List Group). slice_get gs i ≡ Some g) is.quiet at))
 
   pub called_by : (i : ℕ) (node : NodeName) → IsCalled groups i (Least node) → CalledBy i node

@@ -166,22 +166,22 @@ outside_is_one t nodes span place m n a b =
     not_apart m n (b.least m to_m a.outside) (a.least n to_n b.outside)
 
 -- what is reported of the claim of a book
-told_of_book : (t : Topology) (d : ℕ) (nodes : List NodeName) (columns : List ℕ) (spans : List Span) (told : Rejected)
-    → TellsClaim t (certificate.Book d nodes columns spans) told
-    → (f s : GroupName) × (far : ℕ) × (told ≡ why.TooClose f s far) × AreTooClose t nodes columns spans d f s far
-told_of_book t d nodes columns spans (why.TooClose f s far) p = (f, s, far, refl, p)
-told_of_book t d nodes columns spans _ p = absurd p
+reported_of_book : (t : Topology) (d : ℕ) (nodes : List NodeName) (columns : List ℕ) (spans : List Span) (reported : Rejected)
+    → TellsClaim t (certificate.Book d nodes columns spans) reported
+    → (f s : GroupName) × (far : ℕ) × (reported ≡ why.TooClose f s far) × AreTooClose t nodes columns spans d f s far
+reported_of_book t d nodes columns spans (why.TooClose f s far) p = (f, s, far, refl, p)
+reported_of_book t d nodes columns spans _ p = absurd p
 
 -- what is reported of the claim of a thin certificate
-told_of_thin : (t : Topology) (w d : ℕ) (nodes : List NodeName) (first : Side) (second : Span) (told : Rejected)
-    → TellsClaim t (certificate.Thin w d nodes first second) told → (far : ℕ) × (told ≡ why.NotThin far) × AreAt t nodes first second far
-told_of_thin t w d nodes first second (why.NotThin far) p = (far, refl, p)
-told_of_thin t w d nodes first second _ p = absurd p
+reported_of_thin : (t : Topology) (w d : ℕ) (nodes : List NodeName) (first : Side) (second : Span) (reported : Rejected)
+    → TellsClaim t (certificate.Thin w d nodes first second) reported → (far : ℕ) × (reported ≡ why.NotThin far) × AreAt t nodes first second far
+reported_of_thin t w d nodes first second (why.NotThin far) p = (far, refl, p)
+reported_of_thin t w d nodes first second _ p = absurd p
 
-claim_told_once : (t : Topology) (c : Certificate) (a b : Rejected) → TellsClaim t c a → TellsClaim t c b → a ≡ b
-claim_told_once t (certificate.Book d nodes columns spans) a b p q =
-    let x = told_of_book t d nodes columns spans a p in
-    let y = told_of_book t d nodes columns spans b q in
+claim_reported_once : (t : Topology) (c : Certificate) (a b : Rejected) → TellsClaim t c a → TellsClaim t c b → a ≡ b
+claim_reported_once t (certificate.Book d nodes columns spans) a b p q =
+    let x = reported_of_book t d nodes columns spans a p in
+    let y = reported_of_book t d nodes columns spans b q in
     let same = too_close_is_one t nodes columns spans d x.0 y.0 x.1 y.1 x.2 y.2 x.4 y.4 in
     let ours = x.3 in
     let theirs = y.3 in
@@ -189,9 +189,9 @@ claim_told_once t (certificate.Book d nodes columns spans) a b p q =
     let s = same.1 in
     let far = same.2 in
     cc
-claim_told_once t (certificate.Thin w d nodes first second) a b p q =
-    let x = told_of_thin t w d nodes first second a p in
-    let y = told_of_thin t w d nodes first second b q in
+claim_reported_once t (certificate.Thin w d nodes first second) a b p q =
+    let x = reported_of_thin t w d nodes first second a p in
+    let y = reported_of_thin t w d nodes first second b q in
     let far = far_is_one t nodes first second x.0 y.0 x.2 y.2 in
     x.1 ∙ (ap why.NotThin far ∙ sym y.1)
 
@@ -209,7 +209,7 @@ tells_one t c (no_more_problems problems spans) a b p q =
     let same : p.0 ≡ q.0 = same_Some p.0 q.0 (sym p.1 ∙ q.1) in
     p.2 ∙ (ap why.NoSpan same ∙ sym q.2)
 tells_one t c (no_more_spans problems spans) a b p q = p ∙ sym q
-tells_one t c claim_check a b p q = claim_told_once t c a b p q
+tells_one t c claim_check a b p q = claim_reported_once t c a b p q
 
 checks_are_one : (t : Topology) (c : Certificate) (xs ys : List Check) → AreChecks t c xs → AreChecks t c ys → xs ≡ ys
 checks_are_one t (certificate.Book d nodes columns spans) xs ys a b =

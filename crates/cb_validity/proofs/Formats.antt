@@ -293,7 +293,7 @@ side_entries : (first : Side) → entries_of (side_spans first) ≡ sum_by entri
 side_entries side.Quiet = refl
 side_entries (side.Root span) =
     let whole = sum_by-cons (λ (x : Span). length x.entries) span [] in
-    let told = one_span_entries span in
+    let reported = one_span_entries span in
     omega arith
 
 pub format_is_checkable : (c : Certificate) → IsCertificate c → IsCheckable c
@@ -306,9 +306,9 @@ format_is_checkable (Book far nodes numbers spans) is =
     let body = nl ++ (cl ++ sl) in
     let claim = line.Book ∷ line.Distance far ∷ body in
     let claim_fits = all_left P claim (line.End ∷ []) (All-tail P line.Header (claim ++ line.End ∷ []) is.fit) in
-    let behind = All-tail P line.Book (line.Distance far ∷ body) claim_fits in
-    let wanted = All-head P (line.Distance far) body behind in
-    let body_fits = All-tail P (line.Distance far) body behind in
+    let beyond = All-tail P line.Book (line.Distance far ∷ body) claim_fits in
+    let wanted = All-head P (line.Distance far) body beyond in
+    let body_fits = All-tail P (line.Distance far) body beyond in
     let few_nodes = All-head P (line.Nodes (length nodes)) (map line.Node nodes) (all_left P nl (cl ++ sl) body_fits) in
     let later = all_right P nl (cl ++ sl) body_fits in
     let few_columns = All-head P (line.Columns (length numbers)) (map line.Column numbers) (all_left P cl sl later) in
@@ -332,8 +332,8 @@ format_is_checkable (Thin wanted far nodes first second) is =
     let body = nl ++ (fl ++ sl) in
     let claim = line.Thin ∷ line.Wanted wanted ∷ line.Distance far ∷ body in
     let claim_fits = all_left P claim (line.End ∷ []) (All-tail P line.Header (claim ++ line.End ∷ []) is.fit) in
-    let behind = All-tail P line.Thin (line.Wanted wanted ∷ line.Distance far ∷ body) claim_fits in
-    let body_fits = All-tail P (line.Distance far) body (All-tail P (line.Wanted wanted) (line.Distance far ∷ body) behind) in
+    let beyond = All-tail P line.Thin (line.Wanted wanted ∷ line.Distance far ∷ body) claim_fits in
+    let body_fits = All-tail P (line.Distance far) body (All-tail P (line.Wanted wanted) (line.Distance far ∷ body) beyond) in
     let few_nodes = All-head P (line.Nodes (length nodes)) (map line.Node nodes) (all_left P nl (fl ++ sl) body_fits) in
     let few = is.few in
     let e1 = sum_by-cons entries_in line.Header (claim ++ line.End ∷ []) in

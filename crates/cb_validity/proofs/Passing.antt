@@ -355,8 +355,8 @@ module _ (t : Topology) (d : ℕ) (nodes : List NodeName) (columns : List ℕ) (
       let second = map column_check (places columns) in
       let third = flat_map span_checks (asked_of 0 problems spans) in
       let last = no_more_problems problems spans ∷ no_more_spans problems spans ∷ claim_check ∷ [] in
-      let behind = all_right P first (second ++ (third ++ last)) all in
-      let rest = all_right P second (third ++ last) behind in
+      let beyond = all_right P first (second ++ (third ++ last)) all in
+      let rest = all_right P second (third ++ last) beyond in
       let end = all_right P third last rest in
       let no_problem : length problems ≤ length spans = All-head P (no_more_problems problems spans) (no_more_spans problems spans ∷ claim_check ∷ []) end in
       let end' = All-tail P (no_more_problems problems spans) (no_more_spans problems spans ∷ claim_check ∷ []) end in
@@ -367,7 +367,7 @@ module _ (t : Topology) (d : ℕ) (nodes : List NodeName) (columns : List ℕ) (
       in
       record {
         nodes_are = nodes_from_checks t c (all_left P first (second ++ (third ++ last)) all);
-        columns_are = columns_from_good t nodes columns (checks_of_places P column_check columns (all_left P second (third ++ last) behind));
+        columns_are = columns_from_good t nodes columns (checks_of_places P column_check columns (all_left P second (third ++ last) beyond));
         spans_are = record { problems = problems; problems_are = problems_are; each = spans_from_asked t nodes 0 problems spans (omega arith) asked };
         apart = claim;
       }
@@ -428,8 +428,8 @@ module _ (t : Topology) (w d : ℕ) (nodes : List NodeName) (second : Span) wher
       }
 
 pub valid_is_not_rejected_by : (t : Topology) (c : Certificate) → ((checks : List Check) → AreChecks t c checks → All (Passes t c) checks)
-    → (told : Rejected) → IsFirstFail t c told → ⊥
-valid_is_not_rejected_by t c pass told first =
+    → (reported : Rejected) → IsFirstFail t c reported → ⊥
+valid_is_not_rejected_by t c pass reported first =
     let f = first.2 in
     let all = subst (All (Passes t c)) f.are (pass first.0 first.1) in
     f.fails (All-head (Passes t c) f.check f.after (all_right (Passes t c) f.before (f.check ∷ f.after) all))
@@ -444,6 +444,6 @@ valid_passes_all t (certificate.Thin w d nodes first second) checks is = (
   (λ all. thin_valid t w d nodes second first (subst (All (Passes t (certificate.Thin w d nodes first second))) is all)),
 )
 
-pub valid_is_not_rejected : (t : Topology) (c : Certificate) (told : Rejected) → IsValid t c → IsFirstFail t c told → ⊥
-valid_is_not_rejected t c told valid first =
-    valid_is_not_rejected_by t c (λ checks are. (valid_passes_all t c checks are).0 valid) told first
+pub valid_is_not_rejected : (t : Topology) (c : Certificate) (reported : Rejected) → IsValid t c → IsFirstFail t c reported → ⊥
+valid_is_not_rejected t c reported valid first =
+    valid_is_not_rejected_by t c (λ checks are. (valid_passes_all t c checks are).0 valid) reported first

@@ -12,8 +12,8 @@ use Rattle.cb_validity.specs.Checks.{Check, AreChecks, Passes, FailsFirst, Judge
 use Rattle.cb_validity.specs.Verdicts.{TellsWhy}
 
 module _ (t : Topology) (c : Certificate) (xs ys : List Check) where
-  fails_later : (told : Rejected) → All (Passes t c) xs → FailsFirst t c ys told → FailsFirst t c (xs ++ ys) told
-  fails_later told passed f = record {
+  fails_later : (reported : Rejected) → All (Passes t c) xs → FailsFirst t c ys reported → FailsFirst t c (xs ++ ys) reported
+  fails_later reported passed f = record {
     before = xs ++ f.before;
     check = f.check;
     after = f.after;
@@ -23,8 +23,8 @@ module _ (t : Topology) (c : Certificate) (xs ys : List Check) where
     tells = f.tells;
   }
 
-  fails_already : (told : Rejected) → FailsFirst t c xs told → FailsFirst t c (xs ++ ys) told
-  fails_already told f = record {
+  fails_already : (reported : Rejected) → FailsFirst t c xs reported → FailsFirst t c (xs ++ ys) reported
+  fails_already reported f = record {
     before = f.before;
     check = f.check;
     after = f.after ++ ys;
@@ -50,7 +50,7 @@ passed_go_on t c xs ys (Err (why.NotClosed a b)) passed rest = fails_later t c x
 passed_go_on t c xs ys (Err (why.TooClose a b d)) passed rest = fails_later t c xs ys (why.TooClose a b d) passed rest
 passed_go_on t c xs ys (Err (why.NotThin a)) passed rest = fails_later t c xs ys (why.NotThin a) passed rest
 
-pub failed_stop : (t : Topology) (c : Certificate) (xs ys : List Check) (told : Rejected) → Judges t c xs (Err told) → Judges t c (xs ++ ys) (Err told)
+pub failed_stop : (t : Topology) (c : Certificate) (xs ys : List Check) (reported : Rejected) → Judges t c xs (Err reported) → Judges t c (xs ++ ys) (Err reported)
 failed_stop t c xs ys why.NoMemory failed = tt
 failed_stop t c xs ys (why.BadNode a) failed = fails_already t c xs ys (why.BadNode a) failed
 failed_stop t c xs ys (why.BadColumn a) failed = fails_already t c xs ys (why.BadColumn a) failed
@@ -64,8 +64,8 @@ failed_stop t c xs ys (why.NotClosed a b) failed = fails_already t c xs ys (why.
 failed_stop t c xs ys (why.TooClose a b d) failed = fails_already t c xs ys (why.TooClose a b d) failed
 failed_stop t c xs ys (why.NotThin a) failed = fails_already t c xs ys (why.NotThin a) failed
 
-pub judged_is_first_fail : (t : Topology) (c : Certificate) (checks : List Check) → AreChecks t c checks → (told : Rejected)
-    → Judges t c checks (Err told) → TellsWhy t c told
+pub judged_is_first_fail : (t : Topology) (c : Certificate) (checks : List Check) → AreChecks t c checks → (reported : Rejected)
+    → Judges t c checks (Err reported) → TellsWhy t c reported
 judged_is_first_fail t c checks are why.NoMemory failed = tt
 judged_is_first_fail t c checks are (why.BadNode a) failed = (checks, are, failed)
 judged_is_first_fail t c checks are (why.BadColumn a) failed = (checks, are, failed)

@@ -22,13 +22,13 @@ size_is_one t p m n one other =
 -- the first nodes cause no more together than all
 first_are_less : (t : Topology) (first others : List NodeName) (xs ys : List ℕ) → AllZip (IsReach t) (first ++ others) xs
     → AllZip (IsReach t) first ys → sum ys ≤ sum xs
-first_are_less t [] others xs [] all front = omega arith
-first_are_less t [] others xs (y ∷ ys) all front = absurd front
-first_are_less t (p ∷ ps) others [] ys all front = absurd all
-first_are_less t (p ∷ ps) others (x ∷ xs) [] all front = absurd front
-first_are_less t (p ∷ ps) others (x ∷ xs) (y ∷ ys) all front =
-    let here : x ≡ y = size_is_one t p x y all.0 front.0 in
-    let rest = first_are_less t ps others xs ys all.1 front.1 in
+first_are_less t [] others xs [] all prefix = omega arith
+first_are_less t [] others xs (y ∷ ys) all prefix = absurd prefix
+first_are_less t (p ∷ ps) others [] ys all prefix = absurd all
+first_are_less t (p ∷ ps) others (x ∷ xs) [] all prefix = absurd prefix
+first_are_less t (p ∷ ps) others (x ∷ xs) (y ∷ ys) all prefix =
+    let here : x ≡ y = size_is_one t p x y all.0 prefix.0 in
+    let rest = first_are_less t ps others xs ys all.1 prefix.1 in
     let whole = sum_by-cons (λ (k : ℕ). k) x xs in
     let part = sum_by-cons (λ (k : ℕ). k) y ys in
     omega arith

@@ -58,26 +58,26 @@ abbrev pub IsLive : BTreeMap (List ℕ) Open → Turn → Type 0
 IsLive windows turn = (o : Open) × (tree.get name_cmp windows turn.from ≡ Some o) × (o.opened ≡ turn.opened)
 
 -- this is reported of the window of the turn, which closes at that time
-pub record IsToldSo (windows : BTreeMap (List ℕ) Open) (turn : Turn) (time : ℕ) (c : Closed) : Type 0 where
+pub record IsReportedSo (windows : BTreeMap (List ℕ) Open) (turn : Turn) (time : ℕ) (c : Closed) : Type 0 where
   pub from : c.from ≡ turn.from
   pub opened : c.opened ≡ turn.opened
   pub closed : c.closed ≡ time
   pub nodes : (o : Open) → tree.get name_cmp windows turn.from ≡ Some o → (c.nodes ≡ o.nodes.keys) × IsStrictlySortedBy node_cmp o.nodes.keys
 
 -- the turns of these windows stand first in the queue, each opened by then, and each of the others opened later
-pub record AreToldUpTo (windows : BTreeMap (List ℕ) Open) (queue : BTreeSet Turn) (last time : ℕ) (closing : List Closed) : Type 0 where
-  pub front : List Turn
+pub record AreReportedUpTo (windows : BTreeMap (List ℕ) Open) (queue : BTreeSet Turn) (last time : ℕ) (closing : List Closed) : Type 0 where
+  pub prefix : List Turn
   pub rest : List Turn
-  pub are : queue.keys ≡ front ++ rest
+  pub are : queue.keys ≡ prefix ++ rest
   pub sorted : IsStrictlySortedBy turn_cmp queue.keys
-  pub told : AllZip (λ turn c. IsToldSo windows turn time c) front closing
-  pub early : (turn : Turn) → Contains front turn → turn.opened ≤ last
+  pub reported : AllZip (λ turn c. IsReportedSo windows turn time c) prefix closing
+  pub early : (turn : Turn) → Contains prefix turn → turn.opened ≤ last
   pub late : (turn : Turn) → Contains rest turn → last < turn.opened
 
 -- all windows in the queue are reported
-pub record AreToldAll (windows : BTreeMap (List ℕ) Open) (queue : BTreeSet Turn) (time : ℕ) (closing : List Closed) : Type 0 where
+pub record AreReportedAll (windows : BTreeMap (List ℕ) Open) (queue : BTreeSet Turn) (time : ℕ) (closing : List Closed) : Type 0 where
   pub last : ℕ
-  pub up : AreToldUpTo windows queue last time closing
+  pub up : AreReportedUpTo windows queue last time closing
   pub none : (turn : Turn) → ¬ Contains up.rest turn
 
 -- the window without the node

@@ -1,10 +1,10 @@
 //! The windows in which the alarms of sources are gathered, as a log goes on.
 #![tactic(auto)]
 
+mod closing;
 mod nodes;
 mod opening;
 mod queue;
-mod told;
 mod turn;
 mod windows;
 

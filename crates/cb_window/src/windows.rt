@@ -8,10 +8,10 @@ ghost use Rattle.cb_log.specs.Closing.{AreClosing};
 ghost use Rattle.cb_window.specs.Kept.{Puts};
 ghost use Rattle.cb_log.specs.Records.{IsByNone};
 
+use crate::closing::{close_all, close_up_to};
 use crate::nodes::{add_node, clear_node};
 use crate::opening::{is_open_still, open_window};
 use crate::queue::drop_due;
-use crate::told::{told_all, told_up_to};
 use crate::turn::Turn;
 use cb_log::Closed;
 use cb_model::{List, Name, NodeName};
@@ -114,7 +114,7 @@ impl Windows {
         if time < self.length {
             return Ok(List::new(alloc));
         }
-        told_up_to(alloc, &self.live, &self.queue, time - self.length, time)
+        close_up_to(alloc, &self.live, &self.queue, time - self.length, time)
     }
 
     /// The windows that the end of the log closes, in the same order.
@@ -122,7 +122,7 @@ impl Windows {
         ensures { IfOk result (λ closing. (records : Items Record) → StandsFor self.now records
             → AreClosing records self.now.length (length records) closing) }
     {
-        told_all(alloc, &self.live, &self.queue, self.time)
+        close_all(alloc, &self.live, &self.queue, self.time)
     }
 
     /// Goes on by a raise of that time: the node goes into the source's window, or opens one.

@@ -9,7 +9,7 @@ use Rattle.cb_outcome.specs.Jobs.{BurstGives}
 use Rattle.cb_outcome.specs.Prints.{PrintsFinding}
 use Rattle.cb_outcome.specs.Contents.{Reads}
 use Rattle.cb_outcome.specs.Costs.{CountsSearch}
-use Rattle.cb_outcome.specs.Reading.{Told}
+use Rattle.cb_outcome.specs.Reading.{WhereReported}
 use Rattle.cb_outcome.specs.Seen.{Seen}
 use Rattle.cb_outcome.specs.Command.{Command, Making, makes}
 
@@ -38,5 +38,5 @@ burst model topology symptoms = record {
   files = (burst_reads model topology symptoms).judged;
   task = makes burst_making;
   range = Unit {0};
-  counts = λ files after old new. Told files (λ left. CountsSearch left (burst_reads model topology symptoms) old new);
+  counts = λ files after old new. WhereReported files (λ left. CountsSearch left (burst_reads model topology symptoms) old new);
 }

@@ -6,7 +6,7 @@ use Rattle.cb_outcome.specs.Judged.{Known, network}
 use Rattle.cb_outcome.specs.LogJobs.{Watch, IsWantedWatch}
 use Rattle.cb_outcome.specs.Contents.{Reads}
 use Rattle.cb_outcome.specs.Costs.{CountsCorrelate}
-use Rattle.cb_outcome.specs.Reading.{Told}
+use Rattle.cb_outcome.specs.Reading.{WhereReported}
 
 -- after a topology, by codebooks for the wanted distance
 abbrev pub CorrelateWatches : ℕ → ℕ → Known → Watch → Type 0
@@ -23,5 +23,5 @@ correlate model topology log distance window = record {
   files = (correlate_reads model topology log).judged;
   task = follows log (CorrelateWatches distance window);
   range = IsWithin 1 9999 distance × IsWithin 1 1000000000000 window;
-  counts = λ files after old new. Told files (λ left. CountsCorrelate left (correlate_reads model topology log) log after old new);
+  counts = λ files after old new. WhereReported files (λ left. CountsCorrelate left (correlate_reads model topology log) log after old new);
 }

@@ -6,7 +6,7 @@ use Rattle.cb_outcome.specs.Judged.{Known, network}
 use Rattle.cb_outcome.specs.Jobs.{MatrixGives}
 use Rattle.cb_outcome.specs.Contents.{Reads}
 use Rattle.cb_outcome.specs.Costs.{CountsSearch}
-use Rattle.cb_outcome.specs.Reading.{Told}
+use Rattle.cb_outcome.specs.Reading.{WhereReported}
 use Rattle.cb_outcome.specs.Command.{Command, Making, makes, FindsNothing}
 
 -- after a topology, its matrix
@@ -28,5 +28,5 @@ matrix model topology = record {
   files = (matrix_reads model topology).judged;
   task = makes matrix_making;
   range = Unit {0};
-  counts = λ files after old new. Told files (λ left. CountsSearch left (matrix_reads model topology) old new);
+  counts = λ files after old new. WhereReported files (λ left. CountsSearch left (matrix_reads model topology) old new);
 }

@@ -9,7 +9,7 @@ use Rattle.cb_outcome.specs.Judged.{Known, raised}
 use Rattle.cb_outcome.specs.Jobs.{PairsGives}
 use Rattle.cb_outcome.specs.Prints.{PrintsFits}
 use Rattle.cb_outcome.specs.Costs.{CountsSearch}
-use Rattle.cb_outcome.specs.Reading.{Told}
+use Rattle.cb_outcome.specs.Reading.{WhereReported}
 use Rattle.cb_outcome.specs.Seen.{Seen}
 use Rattle.cb_outcome.specs.Command.{Command, Making, makes}
 use Rattle.cb_outcome.specs.Commands.Burst.{burst_reads}
@@ -39,5 +39,5 @@ pairs model topology symptoms = record {
   files = (burst_reads model topology symptoms).judged;
   task = makes pairs_making;
   range = Unit {0};
-  counts = λ files after old new. Told files (λ left. CountsSearch left (burst_reads model topology symptoms) old new);
+  counts = λ files after old new. WhereReported files (λ left. CountsSearch left (burst_reads model topology symptoms) old new);
 }

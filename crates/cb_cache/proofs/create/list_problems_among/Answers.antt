@@ -25,7 +25,7 @@ loop-event-preserved c =
     let kept = c.loop-event.invariant in
     let low = c.loop-event-test.true in
     let whole = c.problem_at.ensures.whole in
-    let front : take (i + 1) events ≡ take i events ++ e ∷ [] = take_more events i zero low in
+    let prefix : take (i + 1) events ≡ take i events ++ e ∷ [] = take_more events i zero low in
     let Among : List EventId → List NodeId → Type 0 = λ few ids. (id : NodeId) → Contains ids id ↔ IsProblemAmong n instance few id in
     let After : Vec NodeId Global → Type 0 = λ made.
     record { problems : Among (take (i + 1) events) made.items; once : AreOnce made.items; few : length made.items ≤ i + 1; room : vec_capacity made ≡ vec_capacity c.args.list.now } in
@@ -36,14 +36,14 @@ loop-event-preserved c =
           let problem = w.in-Some.ensures.problem in
           let items = w.push_reserved.ensures.items in
           subst After (sym w.list-is) record {
-            problems = subst (Among (take (i + 1) events)) (sym items) (subst (λ (few : List EventId). Among few (list ++ id ∷ [])) (sym front)
+            problems = subst (Among (take (i + 1) events)) (sym items) (subst (λ (few : List EventId). Among few (list ++ id ∷ [])) (sym prefix)
                 (among_more n whole instance events c.requires.once i zero low list kept.problems kept.once id is problem));
             once = subst AreOnce (sym items) (once_among n whole instance events c.requires.once i zero low list kept.problems kept.once id is problem);
             few = subst (λ (ids : List NodeId). length ids ≤ i + 1) (sym items) (let long = length_push list id in let few = kept.few in omega arith);
             room = w.push_reserved.ensures.capacity ∙ kept.room;
           }
       | in_default w ↦ subst After (sym w.list-is) record {
-        problems = subst (λ (few : List EventId). Among few list) (sym front)
+        problems = subst (λ (few : List EventId). Among few list) (sym prefix)
             (among_past n whole instance events c.requires.once i zero low list kept.problems kept.once w.in_default.ensures.none);
         once = kept.once;
         few = (let few = kept.few in omega arith);

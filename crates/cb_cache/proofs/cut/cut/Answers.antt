@@ -15,8 +15,8 @@ search_again-requires-clause-follows g c =
     let edit = c.args.edit.now in
     let edited : IsEdited old edit new = subst (λ (m : Numbered). IsEdited m edit new) c.touched.ensures.same c.in_ok-edit_graph.ensures.made in
     let step : IsStep (topology_of old) edit (topology_of new) = record { before = edited.sound; accepted = edited.applies.after; afterwards = edited.sound_after } in
-    let told : (k : ℕ) → Has c.touched.new.out k ↔ IsTouchedNumber old (topology_of new) k = c.touched.ensures.exactly (topology_of new) step in
-    (old, edit, c.requires.takes, record { edited = edited; right = c.requires.kept.right; told = told })
+    let reported : (k : ℕ) → Has c.touched.new.out k ↔ IsTouchedNumber old (topology_of new) k = c.touched.ensures.exactly (topology_of new) step in
+    (old, edit, c.requires.takes, record { edited = edited; right = c.requires.kept.right; reported = reported })
 
 pub returns-clause-cost : goal.returns-clause-cost
 returns-clause-cost g c =
@@ -25,8 +25,8 @@ returns-clause-cost g c =
     let edit = c.args.edit.now in
     let edited : IsEdited old edit new = subst (λ (m : Numbered). IsEdited m edit new) c.touched.ensures.same c.in_ok-edit_graph.ensures.made in
     let step : IsStep (topology_of old) edit (topology_of new) = record { before = edited.sound; accepted = edited.applies.after; afterwards = edited.sound_after } in
-    let told : (k : ℕ) → Has c.touched.new.out k ↔ IsTouchedNumber old (topology_of new) k = c.touched.ensures.exactly (topology_of new) step in
+    let reported : (k : ℕ) → Has c.touched.new.out k ↔ IsTouchedNumber old (topology_of new) k = c.touched.ensures.exactly (topology_of new) step in
     let rows = c.args.store.now.rows in
-    let follows : FollowsEdit old edit new c.touched.new.out rows.slots.items rows.pool = record { edited = edited; right = c.requires.kept.right; told = told } in
+    let follows : FollowsEdit old edit new c.touched.new.out rows.slots.items rows.pool = record { edited = edited; right = c.requires.kept.right; reported = reported } in
     subst (λ (m : Numbered). CountsAtMost (IsEditCost (topology_of old) edit (topology_of m)) c.args.steps.now c.search_again.new.steps) (sym c.search_again.ensures.same)
     (c.search_again.ensures.cost old edit c.requires.takes follows)

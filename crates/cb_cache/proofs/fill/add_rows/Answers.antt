@@ -33,10 +33,10 @@ loop-node-preserved g c =
     record {
       same = c.add_row.ensures.same ∙ kept.same;
       room = subst (λ (m : Numbered). HaveRoom m c.add_row.new.rows) kept.same c.add_row.ensures.room;
-      rows = subst (λ front. AddsRows n front c.args.rows.now.slots.items c.add_row.new.rows.slots.items c.args.rows.now.pool c.add_row.new.rows.pool) (sym more)
+      rows = subst (λ prefix. AddsRows n prefix c.args.rows.now.slots.items c.add_row.new.rows.slots.items c.args.rows.now.pool c.add_row.new.rows.pool) (sym more)
           (rows_more n (take i ids) id c.args.rows.now.slots.items c.loop-node.rows.slots.items c.add_row.new.rows.slots.items c.args.rows.now.pool c.loop-node.rows.pool c.add_row.new.rows.pool kept.rows
           (λ slot. c.requires.none id slot (Contains-get_or ids i zero c.loop-node-test.true)) (not_before ids i zero c.requires.once c.loop-node-test.true) low adds);
       spare = (let e = adds.spare in let f = kept.spare in omega arith);
-      cost = subst (λ front. CostAtMost n front c.args.steps.now c.add_row.new.steps) (sym more)
+      cost = subst (λ prefix. CostAtMost n prefix c.args.steps.now c.add_row.new.steps) (sym more)
           (cost_more n (take i ids) id cost.0 c.args.steps.now c.loop-node.steps c.add_row.new.steps kept.cost cost.1 cost.2);
     }

@@ -29,8 +29,8 @@ extend_rows-requires-clause-linked g c =
     let edit = c.args.edit.now in
     let edited : IsEdited old edit new = subst (λ (m : Numbered). IsEdited m edit new) c.touched.ensures.same c.in_ok-edit_graph.ensures.made in
     let step : IsStep (topology_of old) edit (topology_of new) = record { before = edited.sound; accepted = edited.applies.after; afterwards = edited.sound_after } in
-    let told : (k : ℕ) → Has c.touched.new.out k ↔ IsTouchedNumber old (topology_of new) k = c.touched.ensures.exactly (topology_of new) step in
-    (old, edit, record { link = c.requires.link; edited = edited; right = subst (λ (xs : List (Option Slot)). AreRight old xs c.args.store.now.rows.pool) (sym c.deref.ensures.value) c.requires.kept.right; marked = told; room = c.touched.ensures.length ∙ c.requires.kept.agenda.touched ∙ sym (link_room old edit (length new.nodes) c.requires.link edited.applies.node_room) })
+    let reported : (k : ℕ) → Has c.touched.new.out k ↔ IsTouchedNumber old (topology_of new) k = c.touched.ensures.exactly (topology_of new) step in
+    (old, edit, record { link = c.requires.link; edited = edited; right = subst (λ (xs : List (Option Slot)). AreRight old xs c.args.store.now.rows.pool) (sym c.deref.ensures.value) c.requires.kept.right; marked = reported; room = c.touched.ensures.length ∙ c.requires.kept.agenda.touched ∙ sym (link_room old edit (length new.nodes) c.requires.link edited.applies.node_room) })
 
 pub returns-clause-cost : goal.returns-clause-cost
 returns-clause-cost g c =
@@ -39,9 +39,9 @@ returns-clause-cost g c =
     let edit = c.args.edit.now in
     let edited : IsEdited old edit new = subst (λ (m : Numbered). IsEdited m edit new) c.touched.ensures.same c.in_ok-edit_graph.ensures.made in
     let step : IsStep (topology_of old) edit (topology_of new) = record { before = edited.sound; accepted = edited.applies.after; afterwards = edited.sound_after } in
-    let told : (k : ℕ) → Has c.touched.new.out k ↔ IsTouchedNumber old (topology_of new) k = c.touched.ensures.exactly (topology_of new) step in
+    let reported : (k : ℕ) → Has c.touched.new.out k ↔ IsTouchedNumber old (topology_of new) k = c.touched.ensures.exactly (topology_of new) step in
     let rows = c.args.store.now.rows in
     let linked : IsLinked old edit new c.touched.new.out c.deref.result.now rows.pool =
-    record { link = c.requires.link; edited = edited; right = subst (λ (xs : List (Option Slot)). AreRight old xs c.args.store.now.rows.pool) (sym c.deref.ensures.value) c.requires.kept.right; marked = told; room = c.touched.ensures.length ∙ c.requires.kept.agenda.touched ∙ sym (link_room old edit (length new.nodes) c.requires.link edited.applies.node_room) } in
+    record { link = c.requires.link; edited = edited; right = subst (λ (xs : List (Option Slot)). AreRight old xs c.args.store.now.rows.pool) (sym c.deref.ensures.value) c.requires.kept.right; marked = reported; room = c.touched.ensures.length ∙ c.requires.kept.agenda.touched ∙ sym (link_room old edit (length new.nodes) c.requires.link edited.applies.node_room) } in
     subst (λ (m : Numbered). CountsAtMost (IsEditCost (topology_of old) edit (topology_of m)) c.args.steps.now c.extend_rows.new.steps) (sym c.extend_rows.ensures.same)
     (c.extend_rows.ensures.cost old edit linked)

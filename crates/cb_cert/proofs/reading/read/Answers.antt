@@ -3,7 +3,7 @@ use Rattle.std.specs.Prelude.{IfErr}
 use Rattle.cb_cert.specs.declared.fault.CertText.TheVariants.{NoMemory}
 use Rattle.cb_cert.specs.declared.line.CertificateLine.TheVariants as line
 use Rattle.cb_cert.specs.Ahead.{at_end}
-use Rattle.cb_cert.specs.Fronts.{IsFault}
+use Rattle.cb_cert.specs.Prefixes.{IsFault}
 use Rattle.cb_cert.proofs.Loops.{exit}
 use Rattle.cb_cert.proofs.reading.read.Goals as goal
 

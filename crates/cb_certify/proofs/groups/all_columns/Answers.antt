@@ -5,13 +5,13 @@ use Rattle.cb_matrix.proofs.Matched.{all_below, once_of}
 use Rattle.cb_certify.specs.Columns.{AreAllColumns}
 use Rattle.cb_certify.proofs.groups.all_columns.Goals as goal
 
-pub indexed-requires-clause-once : goal.indexed-requires-clause-once
-indexed-requires-clause-once c =
+pub column_index-requires-clause-once : goal.column_index-requires-clause-once
+column_index-requires-clause-once c =
     let listed = c.in_ok-nodes.ensures in
     once_of c.args.topology.now c.in_ok-nodes.nodes listed.0 listed.1.rise listed.2
 
-pub indexed-requires-clause-below : goal.indexed-requires-clause-below
-indexed-requires-clause-below c =
+pub column_index-requires-clause-below : goal.column_index-requires-clause-below
+column_index-requires-clause-below c =
     let listed = c.in_ok-nodes.ensures in
     all_below c.args.topology.now c.node_room-room.result c.in_ok-nodes.nodes listed.0 c.node_room-room.ensures.above listed.2
 

@@ -11,8 +11,8 @@ use Rattle.cb_certify.specs.Members.{IsSideLive}
 use Rattle.cb_certify.proofs.Named.{side_live, side_called, name_called, one_side}
 use Rattle.cb_certify.proofs.shortfall.shortfall.Goals as goal
 
-pub called-requires : goal.called-requires
-called-requires g c =
+pub side_name-requires : goal.side_name-requires
+side_name-requires g c =
     let p = c.requires.pair in
     subst (λ (n : Numbered). IsSideLive n c.args.close.first) (sym c.topology.ensures)
     (side_live c.args.graph.now p.columns p.groups p.matrix p.pair.first c.args.close.first p.is.first)

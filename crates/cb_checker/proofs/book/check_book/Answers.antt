@@ -23,10 +23,10 @@ returns-in_err-ids-clause-judges g c = λ names are named.
     let nodes = c.args.nodes.now in
     let numbers = c.args.numbers.now in
     let spans = c.args.spans.now in
-    let told = c.in_err-ids.field-0.0 in
-    let failed = (subst (λ (m : Numbered). JudgesNodes (topology_of m) nodes (Err told)) c.topology.ensures c.in_err-ids.ensures.judges) (Book d nodes numbers spans) refl in
-    exit (λ r. IsJudged (topology_of n) d nodes numbers spans names (ended r)) c.from_residual.result told c.from_residual.ensures.1
-    (in_nodes (topology_of n) d nodes numbers spans names told failed)
+    let reported = c.in_err-ids.field-0.0 in
+    let failed = (subst (λ (m : Numbered). JudgesNodes (topology_of m) nodes (Err reported)) c.topology.ensures c.in_err-ids.ensures.judges) (Book d nodes numbers spans) refl in
+    exit (λ r. IsJudged (topology_of n) d nodes numbers spans names (ended r)) c.from_residual.result reported c.from_residual.ensures.1
+    (in_nodes (topology_of n) d nodes numbers spans names reported failed)
 
 pub check_columns-requires-clause-live : goal.check_columns-requires-clause-live
 check_columns-requires-clause-live g c =
@@ -56,12 +56,12 @@ returns-in_err-check_columns-clause-judges g c = λ names are named.
     let live = live_named n ids nodes named_ids in
     let known = is_known n ids (Book d nodes numbers spans) nodes refl c.requires.sides.whole named_ids good_nodes in
     let first = (subst (λ (m : Numbered). JudgesNodes (topology_of m) nodes (Ok tt)) c.topology.ensures c.in_ok-ids.ensures.judges) (Book d nodes numbers spans) refl in
-    let told = c.in_err-check_columns.field-0.0 in
-    let failed = (subst (λ xs. JudgesColumns n xs numbers (Err told)) c.deref.ensures.value
-    (subst (λ (m : Numbered). JudgesColumns m c.deref.result.now numbers (Err told)) c.topology-2.ensures c.in_err-check_columns.ensures.judges)) (Book d nodes numbers spans) known refl
+    let reported = c.in_err-check_columns.field-0.0 in
+    let failed = (subst (λ xs. JudgesColumns n xs numbers (Err reported)) c.deref.ensures.value
+    (subst (λ (m : Numbered). JudgesColumns m c.deref.result.now numbers (Err reported)) c.topology-2.ensures c.in_err-check_columns.ensures.judges)) (Book d nodes numbers spans) known refl
     in
-    exit (λ r. IsJudged (topology_of n) d nodes numbers spans names (ended r)) c.from_residual-in_err-check_columns.result told c.from_residual-in_err-check_columns.ensures.1
-    (in_columns (topology_of n) d nodes numbers spans names told first failed)
+    exit (λ r. IsJudged (topology_of n) d nodes numbers spans names (ended r)) c.from_residual-in_err-check_columns.result reported c.from_residual-in_err-check_columns.ensures.1
+    (in_columns (topology_of n) d nodes numbers spans names reported first failed)
 
 pub check_spans-requires-clause-live : goal.check_spans-requires-clause-live
 check_spans-requires-clause-live g c =
@@ -102,10 +102,10 @@ returns-in_err-coded-clause-judges g c = λ names are named.
     let second = (subst (λ xs. JudgesColumns n xs numbers (Ok tt)) c.deref.ensures.value
     (subst (λ (m : Numbered). JudgesColumns m c.deref.result.now numbers (Ok tt)) c.topology-2.ensures c.in_ok-check_columns.ensures.judges)) (Book d nodes numbers spans) known refl
     in
-    let told = c.in_err-coded.field-0.0 in
-    let failed = (subst (λ xs. JudgesSpans n xs sides.problems spans (Err told)) c.deref-2.ensures.value c.in_err-coded.ensures.judges) (Book d nodes numbers spans) names known named in
-    exit (λ r. IsJudged (topology_of n) d nodes numbers spans names (ended r)) c.from_residual-in_err-coded.result told c.from_residual-in_err-coded.ensures.1
-    (in_spans (topology_of n) d nodes numbers spans names told first second failed)
+    let reported = c.in_err-coded.field-0.0 in
+    let failed = (subst (λ xs. JudgesSpans n xs sides.problems spans (Err reported)) c.deref-2.ensures.value c.in_err-coded.ensures.judges) (Book d nodes numbers spans) names known named in
+    exit (λ r. IsJudged (topology_of n) d nodes numbers spans names (ended r)) c.from_residual-in_err-coded.result reported c.from_residual-in_err-coded.ensures.1
+    (in_spans (topology_of n) d nodes numbers spans names reported first second failed)
 
 pub check_count-requires-clause-live : goal.check_count-requires-clause-live
 check_count-requires-clause-live g c =
@@ -137,10 +137,10 @@ returns-in_err-check_count-clause-judges g c = λ names are named.
     in
     let third = (subst (λ xs. JudgesSpans n xs sides.problems spans (Ok tt)) c.deref-2.ensures.value c.in_ok-coded.ensures.judges) (Book d nodes numbers spans) names known named in
     let there = c.topology-3.ensures ∙ c.in_ok-coded.ensures.same in
-    let told = c.in_err-check_count.field-0.0 in
-    let failed = (subst (λ (m : Numbered). JudgesCount m sides.problems spans (Err told)) there c.in_err-check_count.ensures.judges) (Book d nodes numbers spans) names named in
-    exit (λ r. IsJudged (topology_of n) d nodes numbers spans names (ended r)) c.from_residual-in_err-check_count.result told c.from_residual-in_err-check_count.ensures.1
-    (in_count (topology_of n) d nodes numbers spans names told first second third failed)
+    let reported = c.in_err-check_count.field-0.0 in
+    let failed = (subst (λ (m : Numbered). JudgesCount m sides.problems spans (Err reported)) there c.in_err-check_count.ensures.judges) (Book d nodes numbers spans) names named in
+    exit (λ r. IsJudged (topology_of n) d nodes numbers spans names (ended r)) c.from_residual-in_err-check_count.result reported c.from_residual-in_err-check_count.ensures.1
+    (in_count (topology_of n) d nodes numbers spans names reported first second third failed)
 
 pub judge_book-requires-clause-there : goal.judge_book-requires-clause-there
 judge_book-requires-clause-there g c =

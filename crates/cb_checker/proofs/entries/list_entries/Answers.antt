@@ -5,7 +5,7 @@ use Rattle.cb_topo.specs.Numbered.{topology_of}
 use Rattle.cb_checker.specs.Reasons.{AreStated}
 use Rattle.cb_checker.specs.Spans.{asked}
 use Rattle.cb_checker.proofs.Joined.{exit, range_fails, range_passes}
-use Rattle.cb_checker.proofs.Stating.{none_stated, stated_upto, kept_pass, pass_more, unled_told}
+use Rattle.cb_checker.proofs.Stating.{none_stated, stated_upto, kept_pass, pass_more, unled_reported}
 use Rattle.cb_checker.proofs.entries.list_entries.Goals as goal
 
 pub loop-place-init : goal.loop-place-init
@@ -29,13 +29,13 @@ returns-in_err-list_entry-clause-led c = λ n led whole root known.
     let span = c.args.span.now in
     let checks = entry_checks (asked c.args.before root span) in
     let place = c.loop-place.place in
-    let told = c.in_err-list_entry.field-0.0 in
+    let reported = c.in_err-list_entry.field-0.0 in
     let old = c.loop-place.marks.reasons.items in
     let new = c.list_entry.new.marks.reasons.items in
     let pass = kept_pass c.args.ids.now c.args.before span old new place c.in_err-list_entry.ensures.keeps c.loop-place.invariant.passed in
-    exit (Judges (topology_of n) whole (flat_map checks (range_with_len 1 (length span.entries - 1)))) c.from_residual.result told c.from_residual.ensures.1
+    exit (Judges (topology_of n) whole (flat_map checks (range_with_len 1 (length span.entries - 1)))) c.from_residual.result reported c.from_residual.ensures.1
     (range_fails (topology_of n) whole checks 1 (length span.entries - 1) place (omega arith) (omega arith)
-    (λ j least low. pass n whole root known j least low (λ reason in' at. led reason in')) told
+    (λ j least low. pass n whole root known j least low (λ reason in' at. led reason in')) reported
     (c.in_err-list_entry.ensures.judges n (λ reason in' at. led reason in') whole root known))
 
 pub returns-in_err-list_entry-clause-unled : goal.returns-in_err-list_entry-clause-unled
@@ -45,7 +45,7 @@ returns-in_err-list_entry-clause-unled c =
     let old = c.loop-place.marks.reasons.items in
     let new = c.list_entry.new.marks.reasons.items in
     let pass = kept_pass c.args.ids.now c.args.before span old new place c.in_err-list_entry.ensures.keeps c.loop-place.invariant.passed in
-    unled_told c.args.ids.now c.args.before span new (place + 1) place c.in_err-list_entry.ensures.stated pass (omega arith) (omega arith)
+    unled_reported c.args.ids.now c.args.before span new (place + 1) place c.in_err-list_entry.ensures.stated pass (omega arith) (omega arith)
 
 pub returns-in_err-list_entry-clause-stated : goal.returns-in_err-list_entry-clause-stated
 returns-in_err-list_entry-clause-stated c =
@@ -82,7 +82,7 @@ returns-clause-unled c =
     let place = c.loop-place.place in
     let some = c.requires.some in
     let most = c.loop-place.auto.place-end in
-    unled_told c.args.ids.now c.args.before c.args.span.now c.loop-place.marks.reasons.items place place c.loop-place.invariant.stated c.loop-place.invariant.passed
+    unled_reported c.args.ids.now c.args.before c.args.span.now c.loop-place.marks.reasons.items place place c.loop-place.invariant.stated c.loop-place.invariant.passed
     (omega arith) (omega arith)
 
 pub returns-clause-stated : goal.returns-clause-stated

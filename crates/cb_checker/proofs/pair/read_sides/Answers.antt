@@ -11,19 +11,19 @@ use Rattle.cb_checker.proofs.pair.read_sides.Goals as goal
 
 pub returns-in_err-first-clause-judges : goal.returns-in_err-first-clause-judges
 returns-in_err-first-clause-judges g c = λ whole known.
-    let told = c.in_err-first.field-0.0 in
-    exit (λ r. Judges (topology_of c.args.graph.now) whole (flat_map span_checks (asked_sides c.args.first.now c.args.second.now)) (ended r)) c.from_residual.result told
-    c.from_residual.ensures.1 (first_stops c.args.graph.now c.args.ids.now c.args.first.now c.args.second.now told c.in_err-first.ensures.judges whole known)
+    let reported = c.in_err-first.field-0.0 in
+    exit (λ r. Judges (topology_of c.args.graph.now) whole (flat_map span_checks (asked_sides c.args.first.now c.args.second.now)) (ended r)) c.from_residual.result reported
+    c.from_residual.ensures.1 (first_stops c.args.graph.now c.args.ids.now c.args.first.now c.args.second.now reported c.in_err-first.ensures.judges whole known)
 
 pub returns-in_err-second-clause-judges : goal.returns-in_err-second-clause-judges
 returns-in_err-second-clause-judges g c = λ whole known.
-    let told = c.in_err-second.field-0.0 in
-    let two = subst (λ (m : Numbered). JudgesSpan m c.args.ids.now None c.entries_in-before.result c.args.second.now span_checks (Err told)) c.in_ok-first.ensures.same
+    let reported = c.in_err-second.field-0.0 in
+    let two = subst (λ (m : Numbered). JudgesSpan m c.args.ids.now None c.entries_in-before.result c.args.second.now span_checks (Err reported)) c.in_ok-first.ensures.same
     c.in_err-second.ensures.judges
     in
     exit (λ r. Judges (topology_of c.args.graph.now) whole (flat_map span_checks (asked_sides c.args.first.now c.args.second.now)) (ended r))
-    c.from_residual-in_err-second.result told c.from_residual-in_err-second.ensures.1
-    (both_judged c.args.graph.now c.args.ids.now c.args.first.now c.args.second.now c.entries_in-before.result (Err told) c.entries_in-before.ensures
+    c.from_residual-in_err-second.result reported c.from_residual-in_err-second.ensures.1
+    (both_judged c.args.graph.now c.args.ids.now c.args.first.now c.args.second.now c.entries_in-before.result (Err reported) c.entries_in-before.ensures
     c.in_ok-first.ensures.judges two whole known)
 
 pub returns-clause-judges : goal.returns-clause-judges

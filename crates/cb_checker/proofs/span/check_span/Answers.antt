@@ -25,10 +25,10 @@ pub returns-in_err-first-clause-judges : goal.returns-in_err-first-clause-judges
 returns-in_err-first-clause-judges g c = λ whole name known named.
     let t = topology_of c.args.graph.now in
     let a = asked c.args.before name c.args.span.now in
-    let told = c.in_err-first.field-0.0 in
-    let root = subst (λ (m : Numbered). JudgesSpan m c.args.ids.now c.args.root c.args.before c.args.span.now first (Err told)) c.topology.ensures c.in_err-first.ensures.judges in
-    exit (Judges t whole (span_checks a)) c.from_residual.result told c.from_residual.ensures.1
-    (failed_stop t whole (first a) (later a ++ closing a) told (root whole name known named))
+    let reported = c.in_err-first.field-0.0 in
+    let root = subst (λ (m : Numbered). JudgesSpan m c.args.ids.now c.args.root c.args.before c.args.span.now first (Err reported)) c.topology.ensures c.in_err-first.ensures.judges in
+    exit (Judges t whole (span_checks a)) c.from_residual.result reported c.from_residual.ensures.1
+    (failed_stop t whole (first a) (later a ++ closing a) reported (root whole name known named))
 
 pub check_entries-requires-clause-marked : goal.check_entries-requires-clause-marked
 check_entries-requires-clause-marked g c =
@@ -43,11 +43,11 @@ pub returns-in_err-check_entries-clause-judges : goal.returns-in_err-check_entri
 returns-in_err-check_entries-clause-judges g c = λ whole name known named.
     let t = topology_of c.args.graph.now in
     let a = asked c.args.before name c.args.span.now in
-    let told = c.in_err-check_entries.field-0.0 in
+    let reported = c.in_err-check_entries.field-0.0 in
     let root = subst (λ (m : Numbered). JudgesSpan m c.args.ids.now c.args.root c.args.before c.args.span.now first (Ok tt)) c.topology.ensures c.in_ok-first.ensures.judges in
-    exit (Judges t whole (span_checks a)) c.from_residual-in_err-check_entries.result told c.from_residual-in_err-check_entries.ensures.1
-    (passed_go_on t whole (first a) (later a ++ closing a) (Err told) (root whole name known named)
-    (failed_stop t whole (later a) (closing a) told (c.in_err-check_entries.ensures.judges whole name known)))
+    exit (Judges t whole (span_checks a)) c.from_residual-in_err-check_entries.result reported c.from_residual-in_err-check_entries.ensures.1
+    (passed_go_on t whole (first a) (later a ++ closing a) (Err reported) (root whole name known named)
+    (failed_stop t whole (later a) (closing a) reported (c.in_err-check_entries.ensures.judges whole name known)))
 
 pub check_closed-requires-clause-live : goal.check_closed-requires-clause-live
 check_closed-requires-clause-live g c = λ i id at.

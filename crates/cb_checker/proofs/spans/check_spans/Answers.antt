@@ -54,11 +54,11 @@ returns-in_err-check_span-clause-judges g c = λ whole names known named.
     let spans = c.args.spans.now in
     let root = c.at-root.result.now in
     let span = c.at-span.result.now in
-    let told = c.in_err-check_span.field-0.0 in
+    let reported = c.in_err-check_span.field-0.0 in
     let kept = c.loop-place.invariant in
-    let judged = subst (λ (m : Numbered). JudgesSpan m ids (Some root) c.loop-place.before span span_checks (Err told)) kept.same c.in_err-check_span.ensures.judges in
-    exit (λ r. Judges (topology_of n) whole (flat_map span_checks (asked_of 0 names spans)) (ended r)) c.from_residual.result told c.from_residual.ensures.1
-    (spans_fail n ids c.args.problems.now spans c.loop-place.place root span c.loop-place.before c.at-root.ensures c.at-span.ensures kept.before told kept.passed judged whole names known named)
+    let judged = subst (λ (m : Numbered). JudgesSpan m ids (Some root) c.loop-place.before span span_checks (Err reported)) kept.same c.in_err-check_span.ensures.judges in
+    exit (λ r. Judges (topology_of n) whole (flat_map span_checks (asked_of 0 names spans)) (ended r)) c.from_residual.result reported c.from_residual.ensures.1
+    (spans_fail n ids c.args.problems.now spans c.loop-place.place root span c.loop-place.before c.at-root.ensures c.at-span.ensures kept.before reported kept.passed judged whole names known named)
 
 pub add_problem-requires-clause-node : goal.add_problem-requires-clause-node
 add_problem-requires-clause-node g c =

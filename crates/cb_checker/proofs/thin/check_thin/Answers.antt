@@ -27,10 +27,10 @@ returns-in_err-ids-clause-judges g c =
     let thin = Thin claim.wanted claim.distance nodes first second in
     let of_nodes = map node_check (places nodes) in
     let of_sides = flat_map span_checks (asked_sides first second) in
-    let told = c.in_err-ids.field-0.0 in
-    let failed = (subst (λ (m : Numbered). JudgesNodes (topology_of m) nodes (Err told)) c.topology.ensures c.in_err-ids.ensures.judges) thin refl in
-    exit (λ r. Judges (topology_of n) thin (thin_checks nodes first second) (ended r)) c.from_residual.result told c.from_residual.ensures.1
-    (failed_stop (topology_of n) thin of_nodes (of_sides ++ claim_check ∷ []) told failed)
+    let reported = c.in_err-ids.field-0.0 in
+    let failed = (subst (λ (m : Numbered). JudgesNodes (topology_of m) nodes (Err reported)) c.topology.ensures c.in_err-ids.ensures.judges) thin refl in
+    exit (λ r. Judges (topology_of n) thin (thin_checks nodes first second) (ended r)) c.from_residual.result reported c.from_residual.ensures.1
+    (failed_stop (topology_of n) thin of_nodes (of_sides ++ claim_check ∷ []) reported failed)
 
 pub read_sides-requires-clause-live : goal.read_sides-requires-clause-live
 read_sides-requires-clause-live g c =
@@ -68,10 +68,10 @@ returns-in_err-codes-clause-judges g c =
     let good_nodes = subst (λ (m : Numbered). AreAll (IsGoodNode (topology_of m) nodes) (length nodes)) c.topology.ensures c.in_ok-ids.ensures.good in
     let known = is_known n ids thin nodes refl c.requires.sides.whole named_ids good_nodes in
     let one = (subst (λ (m : Numbered). JudgesNodes (topology_of m) nodes (Ok tt)) c.topology.ensures c.in_ok-ids.ensures.judges) thin refl in
-    let told = c.in_err-codes.field-0.0 in
-    let failed = (subst (λ xs. JudgesSides n xs first second (Err told)) c.deref.ensures.value c.in_err-codes.ensures.judges) thin known in
-    exit (λ r. Judges (topology_of n) thin (thin_checks nodes first second) (ended r)) c.from_residual-in_err-codes.result told c.from_residual-in_err-codes.ensures.1
-    (passed_go_on (topology_of n) thin of_nodes (of_sides ++ claim_check ∷ []) (Err told) one (failed_stop (topology_of n) thin of_sides (claim_check ∷ []) told failed))
+    let reported = c.in_err-codes.field-0.0 in
+    let failed = (subst (λ xs. JudgesSides n xs first second (Err reported)) c.deref.ensures.value c.in_err-codes.ensures.judges) thin known in
+    exit (λ r. Judges (topology_of n) thin (thin_checks nodes first second) (ended r)) c.from_residual-in_err-codes.result reported c.from_residual-in_err-codes.ensures.1
+    (passed_go_on (topology_of n) thin of_nodes (of_sides ++ claim_check ∷ []) (Err reported) one (failed_stop (topology_of n) thin of_sides (claim_check ∷ []) reported failed))
 
 pub distance-far-requires : goal.distance-far-requires
 distance-far-requires g c =

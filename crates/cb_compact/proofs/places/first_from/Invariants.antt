@@ -7,7 +7,7 @@ invariant-loop-low l = record {
   order : l.low ≤ l.high;
   within : l.high ≤ length l.places;
   before : AreRising l.places → (k : ℕ) → k < l.low → slice_index_or l.places k 0 < l.from;
-  behind : AreRising l.places → (k : ℕ) → l.high ≤ k → k < length l.places → l.from ≤ slice_index_or l.places k 0;
+  after : AreRising l.places → (k : ℕ) → l.high ≤ k → k < length l.places → l.from ≤ slice_index_or l.places k 0;
 }
 
 abbrev pub decreases-loop-low : goal.decreases-loop-low

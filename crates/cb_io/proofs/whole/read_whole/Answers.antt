@@ -1,5 +1,5 @@
 use Rattle.std.proofs.Common.{inr, ap, take, rules, arith, length-append, length-take}
-use Rattle.cb_io.proofs.Told.{HasRead-more, HasRead-end}
+use Rattle.cb_io.proofs.Reported.{HasRead-more, HasRead-end}
 use Rattle.cb_io.proofs.whole.read_whole.Goals as goal
 
 pub returns-then-count-eq0-clause-all : goal.returns-then-count-eq0-clause-all
@@ -21,14 +21,14 @@ returns-then-count-most-clause-too_much g c = λ _.
     let longer = length-append all.items more in
     (_, omega (arith, longer, length-take count c.read.new.buf, read.bound, c.len.ensures, all.ok.0), so_far.came)
 
-pub returns-then-count-most-clause-front : goal.returns-then-count-most-clause-front
-returns-then-count-most-clause-front g c =
+pub returns-then-count-most-clause-prefix : goal.returns-then-count-most-clause-prefix
+returns-then-count-most-clause-prefix g c =
     let read = c.in_ok-count.ensures in
     let now = g.F.Files.tells c.read.new.self in
     (_, (HasRead-more now _ c.loop-piece.invariant.2 read.bytes.0 read.others read.counts).came)
 
-pub returns-in_err-extend_from_slice-clause-front : goal.returns-in_err-extend_from_slice-clause-front
-returns-in_err-extend_from_slice-clause-front g c =
+pub returns-in_err-extend_from_slice-clause-prefix : goal.returns-in_err-extend_from_slice-clause-prefix
+returns-in_err-extend_from_slice-clause-prefix g c =
     let read = c.in_ok-count.ensures in
     let now = g.F.Files.tells c.read.new.self in
     (_, (HasRead-more now _ c.loop-piece.invariant.2 read.bytes.0 read.others read.counts).came)

@@ -1,5 +1,5 @@
 use Rattle.std.proofs.Common.{◌≤◌, ◌<◌, ◌-◌, length}
-use Rattle.cb_io.proofs.Told.{HasRead}
+use Rattle.cb_io.proofs.Reported.{HasRead}
 use Rattle.cb_io.proofs.whole.read_whole.Given as goal
 
 abbrev pub invariant-loop-piece : goal.invariant-loop-piece

@@ -1,6 +1,6 @@
 use Rattle.std.proofs.Common.{arith, length-drop}
 use Rattle.std.proofs.lemmas.List.{take_rest}
-use Rattle.cb_io.proofs.Told.{Appends-next}
+use Rattle.cb_io.proofs.Reported.{Appends-next}
 use Rattle.cb_io.proofs.whole.write_all.Goals as goal
 
 pub loop-at-preserved : goal.loop-at-preserved

@@ -7,7 +7,7 @@ use Rattle.cb_report.specs.declared.fault.Fault.TheVariants.{Memory}
 use Rattle.cb_log.specs.Basis.{wanted}
 use Rattle.cb_outcome.specs.Judged.{network}
 use Rattle.cb_outcome.specs.LogJobs.{Watch}
-use Rattle.cb_file_kinds.proofs.Chain.{err_is, reads_front}
+use Rattle.cb_file_kinds.proofs.Chain.{err_is, reads_prefix}
 use Rattle.cb_log_commands.proofs.Counted.{correlate_none, correlate_opened, correlate_followed}
 use Rattle.cb_log_commands.specs.Telling.{Opens}
 use Rattle.cb_log_commands.proofs.Following.{reads_nothing}
@@ -35,7 +35,7 @@ returns-in_err-session-clause-ends g c =
       comes = inl (record {
         is = refl;
         whole = 2;
-        read = reads_front old two two (m ∷ t ∷ []) [] c.args.log (m ∷ t ∷ c.args.log ∷ []) refl c.in_ok-topology.ensures.passed.read nothing.others nothing.front;
+        read = reads_prefix old two two (m ∷ t ∷ []) [] c.args.log (m ∷ t ∷ c.args.log ∷ []) refl c.in_ok-topology.ensures.passed.read nothing.others nothing.prefix;
       });
       delivers = record { written = Appends-nil (g.O.Sink.tells c.args.out.now).taken; end_is = refl };
     }))
@@ -77,8 +77,8 @@ returns-in_err-topology-clause-steps g c =
 pub returns-in_err-session-clause-steps : goal.returns-in_err-session-clause-steps
 returns-in_err-session-clause-steps g c =
     correlate_opened c.args.model c.args.topology c.args.log (g.F.Files.tells c.args.files.now)
-    (g.F.Files.tells c.read_network.new.files) (topology_of c.in_ok-topology.topology) c.args.steps.now c.opened.new.steps c.in_ok-topology.ensures.passed.said
-    c.in_ok-topology.ensures.passed.read c.opened.ensures.cost
+    (g.F.Files.tells c.read_network.new.files) (topology_of c.in_ok-topology.topology) c.args.steps.now c.open_session.new.steps c.in_ok-topology.ensures.passed.said
+    c.in_ok-topology.ensures.passed.read c.open_session.ensures.cost
 
 pub returns-clause-steps : goal.returns-clause-steps
 returns-clause-steps g c =
@@ -95,6 +95,6 @@ returns-clause-steps g c =
       faults = omega arith;
     } in
     correlate_followed c.args.model c.args.topology c.args.log (g.F.Files.tells c.args.files.now)
-    (g.F.Files.tells c.read_network.new.files) (g.F.Files.tells c.follow-end.new.files) t c.args.steps.now c.opened.new.steps c.follow-end.new.steps passed.said
-    passed.read (c.follow-end.ensures.ends watch out opens).only.front c.opened.ensures.cost
+    (g.F.Files.tells c.read_network.new.files) (g.F.Files.tells c.follow-end.new.files) t c.args.steps.now c.open_session.new.steps c.follow-end.new.steps passed.said
+    passed.read (c.follow-end.ensures.ends watch out opens).only.prefix c.open_session.ensures.cost
     (c.follow-end.ensures.steps watch out c.args.asked.distance refl opens)

@@ -11,7 +11,7 @@ use Rattle.cb_log.specs.Basis.{fixed}
 use Rattle.cb_outcome.specs.Judged.{Known, network, certified}
 use Rattle.cb_outcome.specs.LogJobs.{Watch}
 use Rattle.cb_file_kinds.specs.Ending.{Passed, network_files}
-use Rattle.cb_file_kinds.proofs.Chain.{err_is, reads_front, stops_there, passed_next}
+use Rattle.cb_file_kinds.proofs.Chain.{err_is, reads_prefix, stops_there, passed_next}
 use Rattle.cb_log_commands.proofs.Following.{reads_nothing}
 use Rattle.cb_log_commands.proofs.decode.decode.Goals as goal
 
@@ -61,13 +61,13 @@ returns-in_err-session g c =
       comes = inl (record {
         is = refl;
         whole = 3;
-        read = reads_front old three three (m ∷ t ∷ b ∷ []) [] names.log (m ∷ t ∷ b ∷ names.log ∷ []) refl after.read nothing.others nothing.front;
+        read = reads_prefix old three three (m ∷ t ∷ b ∷ []) [] names.log (m ∷ t ∷ b ∷ names.log ∷ []) refl after.read nothing.others nothing.prefix;
       });
       delivers = record { written = Appends-nil (g.O.Sink.tells c.args.out.now).taken; end_is = refl };
     }))
 
-pub fixed-requires-clause-given : goal.fixed-requires-clause-given
-fixed-requires-clause-given g c =
+pub session_over-requires-clause-given : goal.session_over-requires-clause-given
+session_over-requires-clause-given g c =
     let (known, given, says) = c.in_ok-book.ensures.value.says (network (topology_of c.in_ok-topology.topology)) refl in
     (topology_of c.in_ok-topology.topology, given.0, given.2.given)
 
@@ -103,7 +103,7 @@ returns g c =
       now = three;
       read = passed.read;
       counts = passed.counts;
-      ends = c.follow_behind-end.ensures watch (record {
+      ends = c.follow_rest-end.ensures watch (record {
         regular = stands.regular;
         mode = stands.mode;
         window = stands.length;

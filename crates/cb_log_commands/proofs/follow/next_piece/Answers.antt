@@ -5,7 +5,7 @@ use Rattle.cb_log_commands.specs.Counting.{CountsGiven}
 use Rattle.cb_log_commands.specs.Telling.{TellsGiven}
 use Rattle.cb_file_kinds.proofs.Chain.{if_some}
 use Rattle.cb_log_commands.proofs.Counting.{nothing_given, piece_takes, piece_counts}
-use Rattle.cb_log_commands.proofs.Following.{told_by}
+use Rattle.cb_log_commands.proofs.Following.{reported_by}
 use Rattle.cb_log_commands.proofs.Pieces.{EndsWith, goes_further, piece_says}
 use Rattle.cb_log_commands.proofs.follow.next_piece.Goals.{then-has_ended+in_ok-text_of_end, else-has_ended}
 use Rattle.cb_log_commands.proofs.follow.next_piece.Goals as goal
@@ -23,9 +23,9 @@ returns-clause-says g c =
           (ap (λ v. v.items) w.text-is)
     ] in
     let tells = subst (λ (bytes : List ℕ). TellsGiven c.args.session.now c.text_of_line.new.session c.in_ok-line.line bytes c.in_ok-text.text.items) c.text.ensures c.in_ok-text.ensures.tells in
-    if_some (coming c.args.reader.now (g.F.Files.tells c.args.files.now)) _ _ (λ bytes said watch log told regular is_at.
+    if_some (coming c.args.reader.now (g.F.Files.tells c.args.files.now)) _ _ (λ bytes said watch log reported regular is_at.
     piece_says c.args.reader.now c.next_line.new.self (g.F.Files.tells c.next_line.new.files) c.args.session.now c.text_of_line.new.session c.in_ok-text.text.items
-    c.if-has_ended.text.items c.requires c.in_ok-text.ensures.mode c.in_ok-text.ensures.length ends watch log told bytes regular is_at c.in_ok-line.line
+    c.if-has_ended.text.items c.requires c.in_ok-text.ensures.mode c.in_ok-text.ensures.length ends watch log reported bytes regular is_at c.in_ok-line.line
     c.in_ok-line.ensures.number tells said) c.in_ok-line.ensures.says
 
 pub returns-clause-advances : goal.returns-clause-advances
@@ -35,8 +35,8 @@ pub returns-in_err-line-clause-takes : goal.returns-in_err-line-clause-takes
 returns-in_err-line-clause-takes g c =
     let files = g.F.Files.tells c.args.files.now in
     let after = g.F.Files.tells c.next_line.new.files in
-    told_by (coming c.args.reader.now files) _ (λ bytes comes watch log start at.
-    nothing_given watch log c.args.reader.now bytes c.args.session.now start c.args.steps.now at files after comes c.next_line.ensures.front)
+    reported_by (coming c.args.reader.now files) _ (λ bytes comes watch log start at.
+    nothing_given watch log c.args.reader.now bytes c.args.session.now start c.args.steps.now at files after comes c.next_line.ensures.prefix)
 
 pub returns-in_err-text-clause-takes : goal.returns-in_err-text-clause-takes
 returns-in_err-text-clause-takes g c =

@@ -1,6 +1,6 @@
 use Rattle.std.proofs.Common.{List, ℕ, ap, subst, Err}
 use Rattle.cb_io.specs.declared.whole.ReadStop.{ReadStop}
-use Rattle.cb_io.specs.Outside.{WritesAll, WritesFront}
+use Rattle.cb_io.specs.Outside.{WritesAll, WritesPrefix}
 use Rattle.cb_log_commands.specs.Stops.{stop_of_read}
 use Rattle.cb_log_commands.specs.declared.stop.LogStop.TheVariants as stops
 use Rattle.cb_file_kinds.proofs.Chain.{err_is}
@@ -23,7 +23,7 @@ returns-in_err-write_all-clause-tells g c =
     (cut_short watch now before c.args.reader.now (g.F.Files.tells c.args.files.now) (g.O.Sink.tells c.args.out.now) c.args.session.now going c.requires
     c.next_piece.new.reader (g.F.Files.tells c.next_piece.new.files) c.next_piece.new.session c.in_ok-text.ensures.same c.in_ok-text.ensures.only
     c.in_ok-text.text.items c.in_ok-text.ensures.says (g.O.Sink.tells c.write_all.new.sink) c.write_all.ensures.counts c.in_ok-text.ensures.goes_on
-    (subst (λ (l : List ℕ). WritesFront (g.O.Sink.tells c.args.out.now) (g.O.Sink.tells c.write_all.new.sink) l) c.deref.ensures.value c.write_all.ensures.front) c.in_err-write_all.ensures.failed)
+    (subst (λ (l : List ℕ). WritesPrefix (g.O.Sink.tells c.args.out.now) (g.O.Sink.tells c.write_all.new.sink) l) c.deref.ensures.value c.write_all.ensures.prefix) c.in_err-write_all.ensures.failed)
 
 pub returns-clause-tells : goal.returns-clause-tells
 returns-clause-tells g c =

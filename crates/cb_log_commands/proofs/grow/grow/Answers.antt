@@ -1,5 +1,5 @@
 use Rattle.std.proofs.Common.{ℕ, List, ap, refl, inl}
-use Rattle.cb_io.proofs.Told.{ReadsEach-nil}
+use Rattle.cb_io.proofs.Reported.{ReadsEach-nil}
 use Rattle.cb_outcome.specs.Judged.{nothing}
 use Rattle.cb_outcome.specs.Outcome.{done}
 use Rattle.cb_topo.specs.Numbered.{topology_of}

@@ -37,8 +37,8 @@ pub returns-in_err-session-clause-steps : goal.returns-in_err-session-clause-ste
 returns-in_err-session-clause-steps g c =
     let t = topology_of c.args.topology in
     let log = log_text c.args.sites c.args.start in
-    log_counts t log c.args.steps.now c.opened.new.steps c.opened.new.steps c.opened.ensures.cost
-    (none_counts t (log_lines log) c.opened.new.steps c.opened.new.steps refl)
+    log_counts t log c.args.steps.now c.open_session.new.steps c.open_session.new.steps c.open_session.ensures.cost
+    (none_counts t (log_lines log) c.open_session.new.steps c.open_session.new.steps refl)
 
 pub returns-in_err-end-clause-steps : goal.returns-in_err-end-clause-steps
 returns-in_err-end-clause-steps g c =
@@ -49,7 +49,7 @@ returns-in_err-end-clause-steps g c =
     let none = none_summed t session c.new-summary.result c.in_ok-session.ensures.stands c.new-summary.ensures.none (ap (λ (s : Summary). s.records) made) in
     let counts = c.sum_up-end.ensures.counts t 2 c.in_ok-session.ensures.regular c.in_ok-session.ensures.mode none in
     subst (λ (l : List ℕ). CountsLog t l c.args.steps.now c.sum_up-end.new.steps) log
-    (log_counts t c.deref.result.now c.args.steps.now c.opened.new.steps c.sum_up-end.new.steps c.opened.ensures.cost counts)
+    (log_counts t c.deref.result.now c.args.steps.now c.open_session.new.steps c.sum_up-end.new.steps c.open_session.ensures.cost counts)
 
 pub returns-clause-steps : goal.returns-clause-steps
 returns-clause-steps g c =
@@ -60,4 +60,4 @@ returns-clause-steps g c =
     let none = none_summed t session c.new-summary.result c.in_ok-session.ensures.stands c.new-summary.ensures.none (ap (λ (s : Summary). s.records) made) in
     let counts = c.sum_up-end.ensures.counts t 2 c.in_ok-session.ensures.regular c.in_ok-session.ensures.mode none in
     subst (λ (l : List ℕ). CountsLog t l c.args.steps.now c.sum_up-end.new.steps) log
-    (log_counts t c.deref.result.now c.args.steps.now c.opened.new.steps c.sum_up-end.new.steps c.opened.ensures.cost counts)
+    (log_counts t c.deref.result.now c.args.steps.now c.open_session.new.steps c.sum_up-end.new.steps c.open_session.ensures.cost counts)

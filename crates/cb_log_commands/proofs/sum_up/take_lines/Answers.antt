@@ -4,7 +4,7 @@ use Rattle.cb_text.proofs.LinesRead.{ReadTo, read_all, read_more, number_within}
 use Rattle.cb_session.specs.State.{network_of}
 use Rattle.cb_log_commands.specs.Counting.{CountsLine}
 use Rattle.cb_log_commands.specs.Summing.{HasSummedUp}
-use Rattle.cb_log_commands.proofs.Counted.{StepsSoFar, steps_more, steps_front, steps_all}
+use Rattle.cb_log_commands.proofs.Counted.{StepsSoFar, steps_more, steps_prefix, steps_all}
 use Rattle.cb_log_commands.proofs.Summing.{SumsSoFar, so_far_more}
 use Rattle.cb_log_commands.proofs.sum_up.take_lines.Goals as goal
 
@@ -46,7 +46,7 @@ returns-in_err-take_line-clause-counts g c =
     let more = steps_more old mid c.args.summary.now c.loop-line.summary c.args.steps.now c.loop-line.steps c.take_line.new.steps read.before line so.1 so.0.mode
     so.0.takes counts in
     let whole = ap (λ (ls : List (List ℕ)). read.before ++ ls) (sym c.in-Some.ensures.steps) ∙ read.whole in
-    steps_front old c.args.summary.now c.args.steps.now c.take_line.new.steps c.args.log.now (read.before ++ line ∷ []) _
+    steps_prefix old c.args.summary.now c.args.steps.now c.take_line.new.steps c.args.log.now (read.before ++ line ∷ []) _
     (append_assoc read.before (line ∷ []) _ ∙ whole) more
 
 pub returns-clause-counts : goal.returns-clause-counts

@@ -25,8 +25,8 @@ of-requires-clause-places_fit g c =
 pub of-requires-clause-columns_fit : goal.of-requires-clause-columns_fit
 of-requires-clause-columns_fit g c = let few = c.in_ok-matrix.ensures.few_columns in let wide = c.codes.ensures.width in omega arith
 
-pub listed-requires-clause-fitted : goal.listed-requires-clause-fitted
-listed-requires-clause-fitted g c =
+pub listing-requires-clause-fitted : goal.listing-requires-clause-fitted
+listing-requires-clause-fitted g c =
     let made = c.in_ok-matrix.matrix in
     let few = c.in-Ok.ensures.few in
     let same = ap length c.codes.ensures.rows in
@@ -42,9 +42,9 @@ listed-requires-clause-fitted g c =
 pub returns-in-Ok-clause-gives : goal.returns-in-Ok-clause-gives
 returns-in-Ok-clause-gives g c =
     let made = c.in_ok-matrix.matrix in
-    if_ok_more c.listed.result _ _ (λ output is. λ whole.
+    if_ok_more c.listing.result _ _ (λ output is. λ whole.
     fitted_gives (topology_of c.args.topology) made.columns made.groups c.in_ok-matrix.ensures.matrix c.args.raised.now (bytes_of_text output.text) output.fault is whole)
-    c.listed.ensures
+    c.listing.ensures
 
 pub returns-clause-gives : goal.returns-clause-gives
 returns-clause-gives g c =

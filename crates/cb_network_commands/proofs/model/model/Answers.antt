@@ -7,7 +7,7 @@ use Rattle.cb_report.specs.declared.fault.Fault.TheVariants.{Memory}
 use Rattle.cb_outcome.specs.Outcome.{done}
 use Rattle.cb_outcome.specs.Judged.{Known, nothing, parsed, PassFrom}
 use Rattle.cb_outcome.specs.Contents.{files_from}
-use Rattle.cb_outcome.specs.Reading.{Told}
+use Rattle.cb_outcome.specs.Reading.{WhereReported}
 use Rattle.cb_file_kinds.proofs.Chain.{passed_none, passed_next, stops_there, err_is, reads_all}
 use Rattle.cb_network_commands.proofs.model.model.Goals as goal
 
@@ -37,7 +37,7 @@ returns g c =
     let passed = passed_next [] Role.model c.args.model nothing old old new (passed_none old) c.in_ok-tree.ensures.only said.text known said.read says in
     record {
       known = parsed c.in_ok-tree.tree;
-      said = subst (λ (k : Known). Told old (λ left. PassFrom nothing (files_from left (reads_of (model c.args.model))) k)) is passed.said;
+      said = subst (λ (k : Known). WhereReported old (λ left. PassFrom nothing (files_from left (reads_of (model c.args.model))) k)) is passed.said;
       gives = λ left whole. ap (λ (bytes : List ℕ). done bytes whole) c.in_ok-print.ensures;
       read = passed.read;
       alone = refl;

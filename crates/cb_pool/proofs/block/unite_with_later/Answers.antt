@@ -1,6 +1,6 @@
 use Rattle.std.proofs.Common.{◌≡◌, ◌+◌, ◌-◌, ℕ, List, ◌++◌, length, take, drop, bit_or, sym, ap, ◌∙◌, arith}
 use Rattle.std.specs.Simd.Lanes.{put_chunk, zip2}
-use Rattle.cb_pool.proofs.Rows.{mid_is_chunk, put_front, take_within, united_length}
+use Rattle.cb_pool.proofs.Rows.{mid_is_chunk, put_prefix, take_within, united_length}
 use Rattle.cb_pool.proofs.block.unite_with_later.Goals as goal
 
 pub returns : goal.returns
@@ -23,6 +23,6 @@ returns c =
     let wide : length c.or_into.new.a ≡ width = ap length is ∙ united_length at later width words (omega arith) fits in
     let long = parts.front_len in
     ap (λ (l : List ℕ). l ++ back) (mid_is_chunk at width (at + width - at) front c.or_into.new.a (omega arith) wide (omega arith))
-    ∙ sym (put_front at front back c.or_into.new.a (omega arith))
+    ∙ sym (put_prefix at front back c.or_into.new.a (omega arith))
     ∙ ap (λ (w : List ℕ). put_chunk at w c.or_into.new.a) (sym parts.value)
     ∙ ap (put_chunk at words) is

@@ -9,8 +9,8 @@ use Rattle.cb_session.proofs.ByOne.{fixed_tells, fixed_stands}
 use Rattle.cb_session.proofs.Stepping.{due_rise}
 use Rattle.cb_session.proofs.fixed.go_on_fixed.Goals as goal
 
-pub told_in_use-events-requires-clause-rise : goal.told_in_use-events-requires-clause-rise
-told_in_use-events-requires-clause-rise c = due_rise c.args.windows.now c.args.next.now c.in_ok-closing.closing c.requires.over c.in_ok-closing.ensures
+pub reported_in_use-events-requires-clause-rise : goal.reported_in_use-events-requires-clause-rise
+reported_in_use-events-requires-clause-rise c = due_rise c.args.windows.now c.args.next.now c.in_ok-closing.closing c.requires.over c.in_ok-closing.ensures
 
 pub returns-clause-gives : goal.returns-clause-gives
 returns-clause-gives c = λ cache is.

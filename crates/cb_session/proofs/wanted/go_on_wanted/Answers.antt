@@ -10,8 +10,8 @@ use Rattle.cb_session.specs.Steps.{EntryTells, EntryStands}
 use Rattle.cb_session.proofs.Stepping.{due_rise, Goes, settled_still, record_tells, record_stands}
 use Rattle.cb_session.proofs.wanted.go_on_wanted.Goals as goal
 
-pub tell-told-requires-clause-rise : goal.tell-told-requires-clause-rise
-tell-told-requires-clause-rise g c =
+pub tell-reported-requires-clause-rise : goal.tell-reported-requires-clause-rise
+tell-reported-requires-clause-rise g c =
     due_rise c.args.windows.now c.args.next.now c.in_ok-closing.closing c.requires.settled.over c.in_ok-closing.ensures
 
 pub returns-clause-settled : goal.returns-clause-settled
@@ -22,17 +22,17 @@ returns-clause-settled g c =
     let windows = c.args.windows.now in
     let later = c.act.new.windows in
     let ready = c.args.ready.now in
-    let told = c.in_ok-told.told in
+    let reported = c.in_ok-reported.reported in
     let acts = c.in_ok-changed.ensures.acts in
-    let goes : Goes d c.args.number c.args.next.now cache fresh windows later ready c.in_ok-closing.closing told c.in_ok-changed.changed acts.0 = record {
+    let goes : Goes d c.args.number c.args.next.now cache fresh windows later ready c.in_ok-closing.closing reported c.in_ok-changed.changed acts.0 = record {
       closes = c.in_ok-closing.ensures;
-      tells = c.in_ok-told.ensures;
+      tells = c.in_ok-reported.ensures;
       acts = acts.1;
       on = c.in_ok-changed.ensures.goes_on;
       same_length = c.in_ok-changed.ensures.length;
       settled = c.requires.settled;
     } in
-    subst (IsSettled (topology_of fresh.graph) d later) (sym c.keep.ensures) (settled_still d c.args.number c.args.next.now cache fresh windows later ready c.in_ok-closing.closing told c.in_ok-changed.changed acts.0 goes)
+    subst (IsSettled (topology_of fresh.graph) d later) (sym c.keep.ensures) (settled_still d c.args.number c.args.next.now cache fresh windows later ready c.in_ok-closing.closing reported c.in_ok-changed.changed acts.0 goes)
 
 pub returns-clause-gives : goal.returns-clause-gives
 returns-clause-gives g c =
@@ -42,11 +42,11 @@ returns-clause-gives g c =
     let windows = c.args.windows.now in
     let later = c.act.new.windows in
     let ready = c.args.ready.now in
-    let told = c.in_ok-told.told in
+    let reported = c.in_ok-reported.reported in
     let acts = c.in_ok-changed.ensures.acts in
-    let goes : Goes d c.args.number c.args.next.now cache fresh windows later ready c.in_ok-closing.closing told c.in_ok-changed.changed acts.0 = record {
+    let goes : Goes d c.args.number c.args.next.now cache fresh windows later ready c.in_ok-closing.closing reported c.in_ok-changed.changed acts.0 = record {
       closes = c.in_ok-closing.ensures;
-      tells = c.in_ok-told.ensures;
+      tells = c.in_ok-reported.ensures;
       acts = acts.1;
       on = c.in_ok-changed.ensures.goes_on;
       same_length = c.in_ok-changed.ensures.length;
@@ -54,7 +54,7 @@ returns-clause-gives g c =
     } in
     let entry = said c.args.number c.args.next.now in
     subst (λ (es : List Event). EntryTells (wanted_state cache d windows ready) entry es) (sym acts.2)
-    (record_tells d c.args.number c.args.next.now cache fresh windows later ready c.in_ok-closing.closing told c.in_ok-changed.changed acts.0 goes)
+    (record_tells d c.args.number c.args.next.now cache fresh windows later ready c.in_ok-closing.closing reported c.in_ok-changed.changed acts.0 goes)
 
 pub returns-clause-stands : goal.returns-clause-stands
 returns-clause-stands g c =
@@ -64,11 +64,11 @@ returns-clause-stands g c =
     let windows = c.args.windows.now in
     let later = c.act.new.windows in
     let ready = c.args.ready.now in
-    let told = c.in_ok-told.told in
+    let reported = c.in_ok-reported.reported in
     let acts = c.in_ok-changed.ensures.acts in
-    let goes : Goes d c.args.number c.args.next.now cache fresh windows later ready c.in_ok-closing.closing told c.in_ok-changed.changed acts.0 = record {
+    let goes : Goes d c.args.number c.args.next.now cache fresh windows later ready c.in_ok-closing.closing reported c.in_ok-changed.changed acts.0 = record {
       closes = c.in_ok-closing.ensures;
-      tells = c.in_ok-told.ensures;
+      tells = c.in_ok-reported.ensures;
       acts = acts.1;
       on = c.in_ok-changed.ensures.goes_on;
       same_length = c.in_ok-changed.ensures.length;
@@ -76,4 +76,4 @@ returns-clause-stands g c =
     } in
     let entry = said c.args.number c.args.next.now in
     subst (λ (kept : Option Ready). EntryStands (wanted_state cache d windows ready) (wanted_state fresh d later kept) entry) (sym c.keep.ensures)
-    (record_stands d c.args.number c.args.next.now cache fresh windows later ready c.in_ok-closing.closing told c.in_ok-changed.changed acts.0 goes)
+    (record_stands d c.args.number c.args.next.now cache fresh windows later ready c.in_ok-closing.closing reported c.in_ok-changed.changed acts.0 goes)

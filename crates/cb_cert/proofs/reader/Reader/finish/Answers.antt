@@ -1,5 +1,5 @@
 use Rattle.std.proofs.Common.{◌≡◌, ◌≢◌, sym, subst}
-use Rattle.cb_cert.specs.Fronts.{IsFault}
+use Rattle.cb_cert.specs.Prefixes.{IsFault}
 use Rattle.cb_cert.specs.Lines.{line_text}
 use Rattle.cb_cert.specs.Steps.{EndsWell}
 use Rattle.cb_cert.specs.declared.line.CertificateLine.TheVariants as line

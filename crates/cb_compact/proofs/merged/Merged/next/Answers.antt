@@ -1,6 +1,6 @@
 use Rattle.std.proofs.Common.{◌≡◌, ◌<◌, ◌+◌, ◌⊎◌, List, ℕ, length, subst, inl, inr, arith}
 use Rattle.cb_compact.specs.Compact.{ones_of}
-use Rattle.cb_compact.proofs.Fronts.{none_further}
+use Rattle.cb_compact.proofs.Cursors.{none_further}
 use Rattle.cb_compact.proofs.Merging.{head_of, step_apart, step_together, none_after, next_at, none_through}
 use Rattle.cb_compact.proofs.merged.Merged.next.Goals.{then-self, else-self+then-self-2}
 use Rattle.cb_compact.proofs.merged.Merged.next.Goals as goal

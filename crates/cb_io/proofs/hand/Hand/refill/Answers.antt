@@ -7,9 +7,9 @@ pub returns-clause-bytes : goal.returns-clause-bytes
 returns-clause-bytes g c =
     let inside = c.self.inside in
     let items = inside.buffer.items in
-    let now = c.read_behind.new.buffer in
+    let now = c.read_beyond.new.buffer in
     let read = c.in_ok-count.ensures in
     let room = rw (← c.self.view_is) at c.requires in
     rw (← c.self.view_is) (refilled items now.items (slice_range items inside.text_from inside.text_to) inside.kept_from inside.kept_to c.in_ok-count.count _ _
-    (g.F.Files.tells c.args.files.now) (g.F.Files.tells c.read_behind.new.files) c.args.name.now (omega (arith, inside.buffer.ok.0)) c.self.invariant.1
-    _ c.copy_within.ensures.items read.front (omega (arith, read.within, now.ok.0)) (omega (arith, room, part_length items inside.buffer.len inside.kept_from inside.kept_to (omega (arith, inside.buffer.ok.0)) c.self.invariant.1, read.size, c.copy_within.ensures.len, now.ok.0)) read.few read.bytes.0 read.bytes.1)
+    (g.F.Files.tells c.args.files.now) (g.F.Files.tells c.read_beyond.new.files) c.args.name.now (omega (arith, inside.buffer.ok.0)) c.self.invariant.1
+    _ c.copy_within.ensures.items read.prefix (omega (arith, read.within, now.ok.0)) (omega (arith, room, part_length items inside.buffer.len inside.kept_from inside.kept_to (omega (arith, inside.buffer.ok.0)) c.self.invariant.1, read.size, c.copy_within.ensures.len, now.ok.0)) read.few read.bytes.0 read.bytes.1)

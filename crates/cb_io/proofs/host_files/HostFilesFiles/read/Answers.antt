@@ -1,6 +1,6 @@
 use Rattle.std.proofs.Common.{◌∙◌}
 use Rattle.std.proofs.lemmas.Result.{IfErr-at_err}
-use Rattle.cb_io.specs.Host.{host_told}
+use Rattle.cb_io.specs.Host.{host_report}
 use Rattle.cb_io.proofs.Pairs.{at_place}
 use Rattle.cb_io.proofs.Host.{NoCountFalls-set, ReadFailed-set, SameFaults-on_ok, OneMoreFault-set}
 use Rattle.cb_io.proofs.host_files.HostFilesFiles.read.Goals as goal
@@ -27,4 +27,4 @@ pub returns-in-Ok-clause-ok : goal.returns-in-Ok-clause-ok
 returns-in-Ok-clause-ok g c =
     let at = at_place c.index_mut-opened.result.now c.in-Ok.ensures.place c.index_mut-opened.ensures.value in
     rw (← c.self.view_is)
-    (SameFaults-on_ok at c.read.new.self c.read.ensures.name c.read.result (host_told c.self.inside.opened.items) c.read.ensures.ok c.in-Ok.ensures.faults)
+    (SameFaults-on_ok at c.read.new.self c.read.ensures.name c.read.result (host_report c.self.inside.opened.items) c.read.ensures.ok c.in-Ok.ensures.faults)

@@ -3,7 +3,7 @@ use Rattle.cb_io.specs.declared.outside.FileStop.{FileStop}
 use Rattle.cb_io.specs.Pairs.{look_up}
 use Rattle.std.specs.Io.KnownBytes.{Keeps}
 use Rattle.cb_io.specs.Outside.{left_of, ReadsBytes, KeepsOthers, NoCountFalls, ReadFailed}
-use Rattle.cb_io.specs.Memory.{files_told, file_of}
+use Rattle.cb_io.specs.Memory.{files_report, file_of}
 use Rattle.cb_io.proofs.Pairs.{at_place, look_up-at, look_up-absent}
 use Rattle.cb_io.proofs.Memory.{given, blamed, blamed-unknown, moved_none, KeepsOthers-with, NoCountFalls-with, Reads-after, Keeps-after_fault, NoCountFalls-after_fault, ReadFailed-after_fault}
 use Rattle.cb_io.proofs.mem_files.MemFilesFiles.read.Goals as goal
@@ -19,7 +19,7 @@ returns-in_default-clause-err c =
 
 pub returns-in_default-clause-failed : goal.returns-in_default-clause-failed
 returns-in_default-clause-failed c =
-    λ _. subst (λ state. ReadFailed (files_told c.args.self.now) (files_told state) c.args.name.now)
+    λ _. subst (λ state. ReadFailed (files_report c.args.self.now) (files_report state) c.args.name.now)
     (sym (returns-in_default-clause-err c)) (ReadFailed-after_fault c.args.self.now c.args.name.now)
 
 pub returns-in_default-clause-fails : goal.returns-in_default-clause-fails
@@ -38,13 +38,13 @@ returns-then-due-clause-err c =
 
 pub returns-then-due-clause-bytes : goal.returns-then-due-clause-bytes
 returns-then-due-clause-bytes c =
-    subst (λ state. Keeps (left_of (files_told c.args.self.now) c.args.name.now)
-    (left_of (files_told state) c.args.name.now)) (sym
+    subst (λ state. Keeps (left_of (files_report c.args.self.now) c.args.name.now)
+    (left_of (files_report state) c.args.name.now)) (sym
     (returns-then-due-clause-err c)) (Keeps-after_fault c.args.self.now c.args.name.now c.args.name.now)
 
 pub returns-then-due-clause-others : goal.returns-then-due-clause-others
 returns-then-due-clause-others c =
-    subst (λ state. KeepsOthers (files_told c.args.self.now) (files_told state) c.args.name.now)
+    subst (λ state. KeepsOthers (files_report c.args.self.now) (files_report state) c.args.name.now)
     (sym (returns-then-due-clause-err c)) (λ other _. Keeps-after_fault c.args.self.now c.args.name.now other)
 
 pub returns-then-due-clause-counts : goal.returns-then-due-clause-counts
@@ -53,14 +53,14 @@ returns-then-due-clause-counts c =
     (rw c.deref.ensures.value at (sym c.in-Some.ensures)) c.index_mut-entry.ensures.value in
     let found : look_up c.args.self.now.files c.args.name.now ≡ Some c.index_mut-entry.result.now.1 = rw
     (← c.self.view_is) (look_up-at at) in
-    subst (λ state. NoCountFalls (files_told c.args.self.now) (files_told state))
+    subst (λ state. NoCountFalls (files_report c.args.self.now) (files_report state))
     (sym (returns-then-due-clause-err c))
     (NoCountFalls-after_fault c.args.self.now c.args.name.now _ found
     (rw c.add_fault.ensures.counted at c.add_fault.ensures.later))
 
 pub returns-then-due-clause-failed : goal.returns-then-due-clause-failed
 returns-then-due-clause-failed c =
-    λ _. subst (λ state. ReadFailed (files_told c.args.self.now) (files_told state) c.args.name.now)
+    λ _. subst (λ state. ReadFailed (files_report c.args.self.now) (files_report state) c.args.name.now)
     (sym (returns-then-due-clause-err c)) (ReadFailed-after_fault c.args.self.now c.args.name.now)
 
 -- ---- bytes that are moved
@@ -96,7 +96,7 @@ returns-clause-bytes c =
     (rw c.deref.ensures.value at (sym c.in-Some.ensures)) c.index_mut-entry.ensures.value in
     let moved : (file_of c.args.self.now c.args.name.now).left ≡ take c.give.result c.give.new.buf ++ drop c.give.result (file_of c.args.self.now c.args.name.now).left =
     rw (← c.self.view_is, look_up-at at) (rw c.give.ensures.left at c.give.ensures.given) in
-    subst (λ state. ReadsBytes {E = FileStop} (files_told c.args.self.now) (files_told state) c.args.name.now
+    subst (λ state. ReadsBytes {E = FileStop} (files_report c.args.self.now) (files_report state) c.args.name.now
     (Ok c.give.result) c.give.new.buf) (sym (returns-clause-ok c))
     (Reads-after c.args.self.now c.args.name.now c.give.new.buf c.give.result moved
     (λ zero room. moved_none (file_of c.args.self.now c.args.name.now).left c.give.result c.args.self.now.piece
@@ -104,10 +104,10 @@ returns-clause-bytes c =
 
 pub returns-clause-others : goal.returns-clause-others
 returns-clause-others c =
-    subst (λ state. KeepsOthers (files_told c.args.self.now) (files_told state) c.args.name.now)
+    subst (λ state. KeepsOthers (files_report c.args.self.now) (files_report state) c.args.name.now)
     (sym (returns-clause-ok c)) (KeepsOthers-with c.args.self.now c.args.name.now _)
 
 pub returns-clause-counts : goal.returns-clause-counts
 returns-clause-counts c =
-    subst (λ state. NoCountFalls (files_told c.args.self.now) (files_told state)) (sym (returns-clause-ok c))
+    subst (λ state. NoCountFalls (files_report c.args.self.now) (files_report state)) (sym (returns-clause-ok c))
     (NoCountFalls-with c.args.self.now c.args.name.now _ (omega arith))

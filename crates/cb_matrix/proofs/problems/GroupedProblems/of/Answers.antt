@@ -16,13 +16,13 @@ names_of-requires c =
     let columns = c.in_ok-column_nodes.ensures in
     all_live c.topology-topology.result.now c.in_ok-column_nodes.column_nodes columns.0 columns.2
 
-pub indexed-requires-clause-once : goal.indexed-requires-clause-once
-indexed-requires-clause-once c =
+pub column_index-requires-clause-once : goal.column_index-requires-clause-once
+column_index-requires-clause-once c =
     let columns = c.in_ok-column_nodes.ensures in
     once_of c.topology-topology.result.now c.in_ok-column_nodes.column_nodes columns.0 columns.1.rise columns.2
 
-pub indexed-requires-clause-below : goal.indexed-requires-clause-below
-indexed-requires-clause-below c =
+pub column_index-requires-clause-below : goal.column_index-requires-clause-below
+column_index-requires-clause-below c =
     let n = c.args.cache.now.graph in
     let columns = c.in_ok-column_nodes.ensures in
     let wide : c.width.result ≡ words_for (length n.nodes) = c.width.ensures ∙ c.pool.ensures.same_width ∙ c.pool.ensures.width in
@@ -30,8 +30,8 @@ indexed-requires-clause-below c =
     all_below c.topology-topology.result.now (64 * c.width.result) c.in_ok-column_nodes.column_nodes columns.0
     (λ id live. let low = c.node_room-room.ensures.above id live in omega arith) columns.2
 
-pub grouped-requires-clause-problems : goal.grouped-requires-clause-problems
-grouped-requires-clause-problems c =
+pub grouping_of-requires-clause-problems : goal.grouping_of-requires-clause-problems
+grouping_of-requires-clause-problems c =
     let nodes = c.in_ok-problem_nodes.problem_nodes in
     let problems = c.in_ok-problem_nodes.ensures in
     subst (λ (n : Numbered). All (IsProblemNumber n) nodes) (c.topology-topology.ensures ∙ c.graph.ensures)

@@ -30,8 +30,8 @@ returns c =
     let view_is = read_at views views c.args.class.0 view refl (omega (arith, are.all, c.requires.class)) c.index.ensures in
     let set = btree_set_contains_iff nat_cmp_total nat_cmp-IsAntisymmetric view.blocked c.args.rule in
     let blocked = (are.each c.args.class view view_is).blocked c.args.rule in
-    let told : IsTrue c.contains.result ↔ IsBlockedFrom t c.args.class c.args.rule = (
+    let reported : IsTrue c.contains.result ↔ IsBlockedFrom t c.args.class c.args.rule = (
       λ yes. blocked.0 (set.0 (sym c.contains.ensures ∙ yes)),
       λ blocks. c.contains.ensures ∙ set.1 (blocked.1 blocks),
     ) in
-    rule_is t typed c.args.class c.args.rule row is (c.is_a.ensures.0 c.if-not-is_a.false) c.contains.result told
+    rule_is t typed c.args.class c.args.rule row is (c.is_a.ensures.0 c.if-not-is_a.false) c.contains.result reported

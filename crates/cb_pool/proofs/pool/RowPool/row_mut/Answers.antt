@@ -21,7 +21,7 @@ slice_mut-requires-clause-in_bounds c =
     let long = c.self.inside.words.ok.0 in
     omega arith
 
--- what the caller leaves behind the reference is put into the words
+-- what the caller leaves at the reference is put into the words
 pub written : (c : goal.After-self-2-1) (w : List ℕ) → (with_items_from c.self.inside.words (c.self.inside.width * c.args.slot.0) w).items ≡ put_chunk (c.self.inside.width * c.args.slot.0) c.self.inside.words.items w
 written c w =
     let items = c.self.inside.words.items in

@@ -13,7 +13,7 @@ returns-then-not-self g c =
     let failed : Bool = c.is_err-self-inside.result in
     let no_fault : c.flush.new.self.failed ≡ false = ap (λ (t : Gathered). t.failed) (sym c.self.view_is) ∙ c.if-not-self.true in
     let no_bytes : waiting ≡ [] = ap (λ (t : Gathered). t.waiting) c.self.view_is ∙ c.flush.ensures.none no_fault in
-    let now = written_now c.write_all.result flushed written waiting bytes no_bytes c.write_all.ensures.all c.write_all.ensures.front
+    let now = written_now c.write_all.result flushed written waiting bytes no_bytes c.write_all.ensures.all c.write_all.ensures.prefix
     c.write_all.ensures.counts c.write_all.ensures.failed
     in
     gathers_more (g.O.Sink.tells c.args.out.now) flushed written c.args.self.now c.flush.new.self (record { waiting = waiting; failed = failed }) [] bytes

@@ -32,13 +32,13 @@ returns c = λ network mode basis has.
     let pushed = c.in_ok-push-2.ensures.ok in
     elim c.match-first_thin.branch [
       | in-Some+in_ok-thin+in_ok-push w ↦
-          let told = w.in_ok-thin.field-0 in
-          let before : c.match-first_thin.events ≡ told ∷ [] = w.events-is ∙ (w.in_ok-push.ensures.ok ∙ ap (λ (es : List Event). es ++ told ∷ []) c.new-events.ensures) in
-          let are : c.push-2.new.self ≡ told ∷ book_made basis ∷ [] =
-          pushed ∙ (ap (λ (es : List Event). es ++ made ∷ []) before ∙ ap (λ (e : Event). told ∷ e ∷ []) made_is) in
+          let reported = w.in_ok-thin.field-0 in
+          let before : c.match-first_thin.events ≡ reported ∷ [] = w.events-is ∙ (w.in_ok-push.ensures.ok ∙ ap (λ (es : List Event). es ++ reported ∷ []) c.new-events.ensures) in
+          let are : c.push-2.new.self ≡ reported ∷ book_made basis ∷ [] =
+          pushed ∙ (ap (λ (es : List Event). es ++ made ∷ []) before ∙ ap (λ (e : Event). reported ∷ e ∷ []) made_is) in
           let close = w.in-Some.ensures.pair in
           let names = rw w.coded_groups.ensures.groups at w.in_ok-thin.ensures in
-          subst (λ (es : List Event). IsAnnounced basis d es) (sym are) (announced_thin basis ready has d w.in-Some.pair told close names)
+          subst (λ (es : List Event). IsAnnounced basis d es) (sym are) (announced_thin basis ready has d w.in-Some.pair reported close names)
       | in_default w ↦
           let before : c.match-first_thin.events ≡ [] = w.events-is ∙ c.new-events.ensures in
           let are : c.push-2.new.self ≡ book_made basis ∷ [] =

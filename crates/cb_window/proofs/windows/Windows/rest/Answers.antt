@@ -5,16 +5,16 @@ use Rattle.cb_log.specs.Closing.{AreClosing}
 use Rattle.cb_log.specs.Kept.{Kept, StandsFor}
 use Rattle.cb_log.specs.Passing.{AreOpen}
 use Rattle.cb_log.proofs.Due.{open_are_closing}
-use Rattle.cb_window.specs.Kept.{AreToldAll}
+use Rattle.cb_window.specs.Kept.{AreReportedAll}
 use Rattle.cb_window.proofs.Dues.{if_ok, all_are_open}
 use Rattle.cb_window.proofs.windows.Windows.rest.Goals as goal
 
 pub returns : goal.returns
 returns c =
-    if_ok (λ (closing : List Closed). AreToldAll c.self.inside.live c.self.inside.queue c.self.inside.time closing)
+    if_ok (λ (closing : List Closed). AreReportedAll c.self.inside.live c.self.inside.queue c.self.inside.time closing)
     (λ (closing : List Closed). (records : List Record) → StandsFor c.args.self.now records → AreClosing records c.args.self.now.length (length records) closing)
-    c.told_all.result
+    c.close_all.result
     (λ closing all records stands. open_are_closing c.args.self.now records closing stands
     (subst (λ (k : Kept). AreOpen k closing) c.self.view_is
     (all_are_open c.self.inside.length c.self.inside.time c.self.inside.live c.self.inside.queue c.self.invariant.1 closing all)))
-    c.told_all.ensures
+    c.close_all.ensures

@@ -1,5 +1,0 @@
-use Rattle.cb_group.specs.Close.{AreAllFar}
-use Rattle.cb_group.proofs.close.close_behind.Given as goal
-
-abbrev pub invariant-loop-second : goal.invariant-loop-second
-invariant-loop-second l = AreAllFar l.codes l.first l.distance l.second

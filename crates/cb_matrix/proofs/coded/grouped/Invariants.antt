@@ -1,5 +1,0 @@
-use Rattle.cb_matrix.proofs.Held.{AreHeld}
-use Rattle.cb_matrix.proofs.coded.grouped.Given as goal
-
-abbrev pub invariant-loop-node : goal.invariant-loop-node
-invariant-loop-node l = AreHeld l.cache.graph l.columns.nodes l.nodes l.node-index l.grouping

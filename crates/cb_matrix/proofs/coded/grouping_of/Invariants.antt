@@ -1,0 +1,5 @@
+use Rattle.cb_matrix.proofs.Held.{AreHeld}
+use Rattle.cb_matrix.proofs.coded.grouping_of.Given as goal
+
+abbrev pub invariant-loop-node : goal.invariant-loop-node
+invariant-loop-node l = AreHeld l.cache.graph l.columns.nodes l.nodes l.node-index l.grouping

@@ -1,0 +1,39 @@
+-- What is reported of windows that close, and by which codebook.
+use Rattle.std.specs.Prelude.{◌≡◌, ◌++◌, ℕ, List, [], ◌∷◌, Bool, true, false, Option, None, Some}
+use Rattle.std.specs.List.{AllZip}
+use Rattle.cb_network.specs.Topology.{Topology}
+use Rattle.cb_log.specs.declared.closed.Closed.{Closed}
+use Rattle.cb_log.specs.declared.event.Event.{Event}
+use Rattle.cb_log.specs.Basis.{Mode, wanted, Basis, IsDiagnosis, IsAnnounced}
+use Rattle.cb_session.specs.declared.basis.Ready.{Ready}
+use Rattle.cb_session.specs.declared.reported.Reported.{Reported}
+use Rattle.cb_session.specs.Ready.{HasBasis, IsReady}
+
+-- by a codebook in use, the diagnoses alone
+pub record TellsInUse (network : Topology) (mode : Mode) (ready : Ready) (closing : List Closed) (events : List Event) : Type 0 where
+  pub basis : Basis network mode
+  pub has : HasBasis basis ready
+  pub each : AllZip (IsDiagnosis basis) closing events
+
+-- by a codebook that is made for them, what is reported of it, and then the diagnoses
+pub record TellsMade (network : Topology) (d : ℕ) (ready : Ready) (closing : List Closed) (events : List Event) : Type 0 where
+  pub basis : Basis network (wanted d)
+  pub has : HasBasis basis ready
+  pub announced : List Event
+  pub is_announced : IsAnnounced basis d announced
+  pub diagnoses : List Event
+  pub each : AllZip (IsDiagnosis basis) closing diagnoses
+  pub events_are : events ≡ announced ++ diagnoses
+
+-- what is reported of windows that close, by what is ready; where nothing is, by what is made ready for the topology
+abbrev pub ReportsWindows : Topology → ℕ → Option Ready → List Closed → Reported → Type 0
+ReportsWindows network d ready [] reported = (reported.events ≡ []) × (reported.made ≡ None)
+ReportsWindows network d (Some ready) (c ∷ closing) reported = TellsInUse network (wanted d) ready (c ∷ closing) reported.events × (reported.made ≡ None)
+ReportsWindows network d None (c ∷ closing) reported =
+    (made : Ready) × (reported.made ≡ Some made) × IsReady network (wanted d) made × TellsMade network d made (c ∷ closing) reported.events
+
+-- what stays ready: nothing once the topology has changed, else what was made, and else what was there
+abbrev pub kept_of : Bool → Option Ready → Option Ready → Option Ready
+kept_of true old made = None
+kept_of false old None = old
+kept_of false old (Some made) = Some made

@@ -1,0 +1,103 @@
+//! What is reported of windows that close.
+ghost use Rattle.std.specs.Prelude.{◌≡◌, IfOk, IfSome};
+ghost use Rattle.std.specs.List.{All};
+ghost use Rattle.cb_cert.specs.Format.{IsWanted};
+ghost use Rattle.cb_log.specs.Basis.{Mode, wanted as for_wanted};
+ghost use Rattle.cb_model.specs.NodeOrder.{node_cmp};
+ghost use Rattle.cb_model.specs.Order.{Rises};
+ghost use Rattle.cb_network.specs.Topology.{Topology};
+ghost use Rattle.cb_topo.specs.Numbered.{topology_of};
+ghost use Rattle.cb_session.specs.Ready.{IsReady, IsReadyFor, IsSomewhereReady};
+ghost use Rattle.cb_session.specs.Reported.{TellsInUse, TellsMade, ReportsWindows, kept_of};
+
+use crate::basis::{Ready, diagnose};
+use cb_cache::Cache;
+use cb_log::{Closed, Event};
+use cb_model::List;
+use std::alloc::{AllocError, Global};
+
+/// The events that windows bring as they close, and what was made ready for them, if nothing was ready.
+#[derive(Drop)]
+pub(crate) struct Reported {
+    pub events: List<Event>,
+    pub made: Option<Ready>,
+}
+
+/// The events of the closing windows, by the codebook at hand or one made now. Where no window closes, nothing is made ready.
+pub(crate) fn tell(
+    alloc: Global,
+    cache: &Cache,
+    ready: &Option<Ready>,
+    wanted: u32,
+    closing: &List<Closed>,
+) -> Result<Reported, AllocError>
+    requires wanted { IsWanted wanted }
+    requires ready { IfSome ready.now (IsReady (topology_of cache.now.graph) (for_wanted wanted)) }
+    requires rise { All (λ c. Rises node_cmp c.nodes) closing.now }
+    ensures { IfOk result (ReportsWindows (topology_of cache.now.graph) wanted ready.now closing.now) }
+{
+    if closing.len() == 0 {
+        return Ok(Reported {
+            events: List::new(alloc),
+            made: None,
+        });
+    }
+    match ready {
+        Some(ready) => Ok(Reported {
+            events: reported_in_use(alloc, ready, closing)?,
+            made: None,
+        }),
+        None => {
+            let made = Ready::of(alloc, cache, wanted)?;
+            let events = reported_made(alloc, &made, wanted, closing)?;
+            Ok(Reported {
+                events,
+                made: Some(made),
+            })
+        }
+    }
+}
+
+/// The diagnoses, by what is ready.
+pub(crate) fn reported_in_use(
+    alloc: Global,
+    ready: &Ready,
+    closing: &List<Closed>,
+) -> Result<List<Event>, AllocError>
+    requires ready { IsSomewhereReady ready.now }
+    requires rise { All (λ c. Rises node_cmp c.nodes) closing.now }
+    ensures { IfOk result (λ events. (network : Topology) (mode : Mode) → IsReady network mode ready.now
+        → TellsInUse network mode ready.now closing.now events) }
+{
+    let mut events = List::new(alloc);
+    diagnose(alloc, ready, closing, &mut events)?;
+    Ok(events)
+}
+
+// What is reported of a codebook that is made for them, and the diagnoses.
+fn reported_made(
+    alloc: Global,
+    ready: &Ready,
+    wanted: u32,
+    closing: &List<Closed>,
+) -> Result<List<Event>, AllocError>
+    requires ready { IsReadyFor wanted ready.now }
+    requires rise { All (λ c. Rises node_cmp c.nodes) closing.now }
+    ensures { IfOk result (λ events. (network : Topology) → IsReady network (for_wanted wanted) ready.now
+        → TellsMade network wanted ready.now closing.now events) }
+{
+    let mut events = ready.announce(alloc, wanted)?;
+    diagnose(alloc, ready, closing, &mut events)?;
+    Ok(events)
+}
+
+/// What stays ready once a record has acted.
+pub(crate) fn keep(ready: &mut Option<Ready>, made: Option<Ready>, changed: bool)
+    ensures { ready.new ≡ kept_of changed ready.old made }
+{
+    if changed {
+        *ready = None;
+    } else if made.is_some() {
+        *ready = made;
+    }
+}

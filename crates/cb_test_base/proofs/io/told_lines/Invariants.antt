@@ -1,5 +1,0 @@
-use Rattle.std.proofs.Common.{◌≡◌, false}
-use Rattle.cb_test_base.proofs.io.told_lines.Given as goal
-
-abbrev pub invariant-answers : goal.invariant-answers
-invariant-answers l = l.reader.refused ≡ false
