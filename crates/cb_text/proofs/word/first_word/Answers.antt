@@ -19,6 +19,6 @@ returns-clause-some c =
     let whole = take_rest line start in
     let first = words_of-first line rest (ap (λ n. drop n line) c.blank_prefix-start.ensures.value) (omega (arith, length-drop start line)) in
     let end_is : c.word_prefix.result ≡ position_or_len is_blank rest = c.word_prefix.ensures.value ∙ ap (position_or_len is_blank) whole in
-    let word_is : c.split_at.result.0.now ≡ take (position_or_len is_blank rest) rest = c.split_at.ensures.prefix ∙ (ap (take c.word_prefix.result) whole ∙ ap (λ n. take n rest) end_is) in
+    let word_is : c.split_at.result.0.now ≡ take (position_or_len is_blank rest) rest = c.split_at.ensures.front ∙ (ap (take c.word_prefix.result) whole ∙ ap (λ n. take n rest) end_is) in
     let later_is : c.split_at.result.1.now ≡ drop (position_or_len is_blank rest) rest = c.split_at.ensures.back ∙ (ap (drop c.word_prefix.result) whole ∙ ap (λ n. drop n rest) end_is) in
     rw (word_is, later_is) first
