@@ -17,10 +17,10 @@ use Rattle.cb_instances.proofs.Showing.{HaveOwnNames, shows_instances}
 
 -- the slots after the first
 later : (slots : Slots) (o : Option Instance) → HaveOwnNames (o ∷ slots) → HaveOwnNames slots
-later slots o reported i j name a b =
+later slots o own_names i j name a b =
     let i' : InstanceId = record { 0 = suc i.0 } in
     let j' : InstanceId = record { 0 = suc j.0 } in
-    let e : i' ≡ j' = reported i' j' name a b in
+    let e : i' ≡ j' = own_names i' j' name a b in
     let n : suc i.0 ≡ suc j.0 = ap (λ (k : InstanceId). k.0) e in
     let m : i.0 ≡ j.0 = omega arith in
     λ k. record { 0 = m k }
@@ -30,18 +30,18 @@ abbrev passes : Option Instance → ℕ
 passes o = cond (is_some o) 1 0
 
 pub counted : (tables : Tables) (slots : Slots) → HaveOwnNames slots → fin_map.len (fin_map.from_entries {R = name_cmp} (flat_map entries_in slots)) ≡ count_by is_some slots
-counted tables [] reported = fin_map.len-empty name_cmp ClassId
-counted tables (None ∷ slots) reported = counted tables slots (later slots None reported) ∙ (let e : count_by is_some slots ≡ 0 + count_by is_some slots = omega arith in e ∙ sym (sum_by-cons passes None slots))
-counted tables (Some x ∷ slots) reported =
-    let rest = counted tables slots (later slots (Some x) reported) in
+counted tables [] own_names = fin_map.len-empty name_cmp ClassId
+counted tables (None ∷ slots) own_names = counted tables slots (later slots None own_names) ∙ (let e : count_by is_some slots ≡ 0 + count_by is_some slots = omega arith in e ∙ sym (sum_by-cons passes None slots))
+counted tables (Some x ∷ slots) own_names =
+    let rest = counted tables slots (later slots (Some x) own_names) in
     let m : fin_map.FinMap name_cmp ClassId = fin_map.from_entries (flat_map entries_in slots) in
     let fresh : fin_map.contains_key m x.name ≡ false = elim (cases_Bool (fin_map.contains_key m x.name)) [
       | inl has ↦
           let class = class_of (topology_of tables slots) x.name has in
-          let h = (shows_instances slots (later slots (Some x) reported) x.name class.0).0 class.1 in
+          let h = (shows_instances slots (later slots (Some x) own_names) x.name class.0).0 class.1 in
           let here : InstanceId = record { 0 = 0 } in
           let there : InstanceId = record { 0 = suc h.at.0 } in
-          let e : here ≡ there = reported here there x.name (x, refl, refl) (h.instance, h.is, h.named) in
+          let e : here ≡ there = own_names here there x.name (x, refl, refl) (h.instance, h.is, h.named) in
           let n : 0 ≡ suc h.at.0 = ap (λ (k : InstanceId). k.0) e in
           absurd (omega arith)
       | inr off ↦ off

@@ -20,7 +20,7 @@ use Rattle.cb_instances.specs.Rows.{row_of}
 use Rattle.cb_instances.specs.Shown.{topology_of, name_in, Shows}
 use Rattle.cb_instances.specs.Slots.{head_of, Slots, At, ListsInstance}
 use Rattle.cb_instances.specs.Sound.{IsNetOf, IsTidy, StandBothWays, FitsMutes}
-use Rattle.cb_instances.proofs.Placing.{reported, stays, either, indexed_more, named_only, same_id}
+use Rattle.cb_instances.proofs.Placing.{own_names, stays, either, indexed_more, named_only, same_id}
 use Rattle.cb_instances.proofs.Showing.{one_at, shows_made, shown_once}
 
 -- who is listed is there
@@ -31,7 +31,7 @@ pub nothing_twice : {X : Type 0} (xs : List X) → xs ≡ [] → Once xs
 nothing_twice xs e = subst Once (sym e) (λ i j d lt le. absurd (omega arith))
 
 pub shown_of : (tables : Tables) (slots : Slots) (entries : Entries) (room : ℕ) → IsNetOf tables slots entries room → Shows slots (topology_of tables slots)
-shown_of tables slots entries room sound = shows_made tables slots (reported slots entries sound.indexed) (λ i x at. (sound.tidy i x at).apart)
+shown_of tables slots entries room sound = shows_made tables slots (own_names slots entries sound.indexed) (λ i x at. (sound.tidy i x at).apart)
 
 module _ (tables : Tables) (old new : Slots) (id : InstanceId) (x : Instance) (free : slot old id.0 ≡ None) (sets : SetsOnly old new id (Some x))
     (bare : x.links.rows.items ≡ []) (unmuted : x.muted.items ≡ []) (both : StandBothWays tables old)

@@ -27,7 +27,7 @@ use Rattle.cb_instances.specs.Slots.{Head, head_of, Slots, At, NamedAt, ListsIns
 use Rattle.cb_instances.specs.Sound.{IsNetOf, FitsMutes}
 use Rattle.cb_instances.proofs.Creating.{shown_of}
 use Rattle.cb_instances.proofs.Linking.{inverse_twice, same_names}
-use Rattle.cb_instances.proofs.Placing.{reported, at_seen, same_id, decide_id}
+use Rattle.cb_instances.proofs.Placing.{own_names, at_seen, same_id, decide_id}
 use Rattle.cb_instances.proofs.Rewiring.{same_head}
 use Rattle.cb_instances.proofs.RowLemmas.{row_listed}
 use Rattle.cb_instances.proofs.Showing.{one_at, shown_once, slot_within}
@@ -110,7 +110,7 @@ module _ (tables : Tables) (old new : Slots) (entries entries' : Entries) (room 
 
   -- the number of the name that is gone is its own
   own_number : (i : InstanceId) → NamedAt old i x.name → i ≡ id
-  own_number i named = reported old entries sound.indexed i id x.name named (x, at, refl)
+  own_number i named = own_names old entries sound.indexed i id x.name named (x, at, refl)
 
   other_name : (i : InstanceId) (name : List ℕ) → i ≢ id → NamedAt old i name → name ≢ x.name
   other_name i name ne named e = ne (own_number i (subst (NamedAt old i) e named))

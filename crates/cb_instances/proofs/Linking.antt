@@ -19,7 +19,7 @@ use Rattle.cb_instances.specs.Shown.{topology_of, seen, name_in, Shows, HoldsLin
 use Rattle.cb_instances.specs.Slots.{Head, head_of, Slots, At, NamedAt, ListsInstance}
 use Rattle.cb_instances.specs.Sound.{IsNetOf, StandBothWays, FitsMutes}
 use Rattle.cb_instances.proofs.Creating.{shown_of}
-use Rattle.cb_instances.proofs.Placing.{at_seen, reported}
+use Rattle.cb_instances.proofs.Placing.{at_seen, own_names}
 use Rattle.cb_instances.proofs.Rewiring.{same_head}
 use Rattle.cb_instances.proofs.Showing.{one_at, shown_once}
 
@@ -286,7 +286,7 @@ module _ (tables : Tables) (old new : Slots) (entries : Entries) (room : ℕ) (f
               let x_at = before g.from x g.from_is in
               let y_at = before g.to y g.to_is in
               let has = shows.1 (record { from = g.from; to = g.to; from_is = x_at; to_is = y_at; lists = l.0 }) in
-              let same : (i k : InstanceId) (m n : List ℕ) → NamedAt old i m → NamedAt old k n → m ≡ n → i ≡ k = λ i k m n at_i at_k e. reported old entries sound.indexed i k m at_i (subst (NamedAt old k) (sym e) at_k) in
+              let same : (i k : InstanceId) (m n : List ℕ) → NamedAt old i m → NamedAt old k n → m ≡ n → i ≡ k = λ i k m n at_i at_k e. own_names old entries sound.indexed i k m at_i (subst (NamedAt old k) (sym e) at_k) in
               let not_p : link_of x r y ≢ p = λ e.
               l.1 (inl (same g.from from x a x_at from_is (ap (λ (m : Link). m.from) e), ap (λ (m : Link). m.rel) e, same g.to to y b y_at to_is (ap (λ (m : Link). m.to) e))) in
               let not_q : link_of x r y ≢ q = λ e.

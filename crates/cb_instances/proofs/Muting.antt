@@ -32,7 +32,7 @@ use Rattle.cb_instances.specs.Shown.{topology_of, seen, name_in, Shows, HoldsMut
 use Rattle.cb_instances.specs.Slots.{Slots, At, NamedAt, ListsInstance, head_of}
 use Rattle.cb_instances.specs.Sound.{IsNetOf, IsTidy, FitsMutes}
 use Rattle.cb_instances.proofs.Creating.{shown_of}
-use Rattle.cb_instances.proofs.Placing.{reported, at_seen, same_id, decide_id}
+use Rattle.cb_instances.proofs.Placing.{own_names, at_seen, same_id, decide_id}
 use Rattle.cb_instances.proofs.Rewiring.{once_more}
 use Rattle.cb_instances.proofs.Showing.{one_at, shown_once, slot_within}
 
@@ -235,7 +235,7 @@ module _ (tables : Tables) (old new : Slots) (entries : Entries) (room : ℕ) (i
   elsewhere : (e : EventId) (n : NodeName) (h : HoldsMute tables old n) → h.at ≢ id → n ≢ node e
   elsewhere e n h ne is =
       let name : h.instance.name ≡ x.name = h.named ∙ ap (λ (k : NodeName). k.instance) is in
-      ne (reported old entries sound.indexed h.at id x.name (h.instance, h.is, name) (x, at, refl))
+      ne (own_names old entries sound.indexed h.at id x.name (h.instance, h.is, name) (x, at, refl))
 
   capacity : vec_capacity m ≡ vec_capacity x.muted
   capacity = (w.this x at).2
@@ -259,7 +259,7 @@ module _ (tables : Tables) (old new : Slots) (entries : Entries) (room : ℕ) (i
       elsewhere_old : (e : EventId) (h : HoldsMute tables new (node e)) → h.at ≢ id → ⊥
       elsewhere_old e h ne =
           let name = named_was h.at x.name (h.instance, h.is, h.named) in
-          ne (reported old entries sound.indexed h.at id x.name name (x, at, refl))
+          ne (own_names old entries sound.indexed h.at id x.name name (x, at, refl))
 
 -- one event more
 module _ (tables : Tables) (old new : Slots) (entries : Entries) (room : ℕ) (id : InstanceId) (x : Instance) (at : At old id x) (e : EventId)
@@ -371,7 +371,7 @@ module _ (tables : Tables) (slots : Slots) (entries : Entries) (room next : ℕ)
       let h : HasEventAt (seen tables slots room next) id e = subst (λ (k : Net). HasEventAt k id e) (sym is) has in
       let name : name_at (seen tables slots room next) id ≡ x.name = ap name_or (at_seen slots id x.name (x, at, refl)) in
       let held = ((shown_of tables slots entries room sound).instances (name_at (seen tables slots room next) id) h.0).0 h.1 in
-      let i = reported slots entries sound.indexed held.at id x.name (held.instance, held.is, held.named ∙ name) (x, at, refl) in
+      let i = own_names slots entries sound.indexed held.at id x.name (held.instance, held.is, held.named ∙ name) (x, at, refl) in
       let same = one_at slots id held.instance x (subst (λ k. At slots k held.instance) i held.is) at in
       subst (λ c. HasEvent tables c e) (sym held.of_class ∙ ap (λ (z : Instance). z.class) same) h.2
 

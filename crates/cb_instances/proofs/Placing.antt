@@ -21,8 +21,8 @@ decide_id i j = decide_same (i.0 ≡ j.0) (i ≡ j) (same_id i j) (λ e. ap (λ 
 same_bytes : (a b : List ℕ) → a ≡ b → bytes_eq a b ≡ true
 same_bytes a b e = (bytes_eq-Decides a b).1 e
 
-pub reported : (slots : Slots) (entries : Entries) → IsIndexed slots entries → HaveOwnNames slots
-reported slots entries indexed i j name (x, at_i, x_is) (y, at_j, y_is) =
+pub own_names : (slots : Slots) (entries : Entries) → IsIndexed slots entries → HaveOwnNames slots
+own_names slots entries indexed i j name (x, at_i, x_is) (y, at_j, y_is) =
     let a : place_of entries name ≡ Some i.0 = subst (λ n. place_of entries n ≡ Some i.0) x_is (indexed.listed i x at_i) in
     let b : place_of entries name ≡ Some j.0 = subst (λ n. place_of entries n ≡ Some j.0) y_is (indexed.listed j y at_j) in
     same_id i j (same_inside i.0 j.0 (sym a ∙ b))

@@ -16,7 +16,7 @@ use Rattle.cb_instances.specs.Sound.{IsNetOf}
 use Rattle.cb_instances.proofs.Creating.{listed_live, shown_of}
 use Rattle.cb_model.specs.WellTyped.{IsRelation}
 use Rattle.cb_instances.proofs.Linking.{inverse_twice}
-use Rattle.cb_instances.proofs.Placing.{reported, seen_at, at_seen}
+use Rattle.cb_instances.proofs.Placing.{own_names, seen_at, at_seen}
 use Rattle.cb_instances.proofs.Showing.{one_at}
 
 pub occupied : (slots : Slots) (i : InstanceId) (name : List ℕ) → NamedAt slots i name → IsSome (slot slots i.0)
@@ -72,8 +72,8 @@ module _ (tables : Tables) (slots : Slots) (entries : Entries) (room : ℕ) (sou
       back : LinkAt (seen tables slots room next) i r j → Contains (row_of x.links.rows.items r) j
       back l =
           let h = (shown.links l.from r l.to).0 l.linked in
-          let from : h.from ≡ i = reported slots entries sound.indexed h.from i l.from h.from_is (seen_at slots i l.from l.from_is) in
-          let to : h.to ≡ j = reported slots entries sound.indexed h.to j l.to h.to_is (seen_at slots j l.to l.to_is) in
+          let from : h.from ≡ i = own_names slots entries sound.indexed h.from i l.from h.from_is (seen_at slots i l.from l.from_is) in
+          let to : h.to ≡ j = own_names slots entries sound.indexed h.to j l.to h.to_is (seen_at slots j l.to l.to_is) in
           let same : h.lists.lister ≡ x = one_at slots i h.lists.lister x (subst (λ k. At slots k h.lists.lister) from h.lists.is) at in
           subst (λ k. Contains (row_of x.links.rows.items r) k) to (subst (λ (z : Instance). Contains (row_of z.links.rows.items r) h.to) same h.lists.listed)
 
@@ -83,7 +83,7 @@ module _ (tables : Tables) (slots : Slots) (entries : Entries) (room : ℕ) (sou
 
   pub whole : (next : ℕ) → IsWhole (seen tables slots room next)
   whole next = record {
-    one = λ i j name a b. reported slots entries sound.indexed i j name (seen_at slots i name a) (seen_at slots j name b);
+    one = λ i j name a b. own_names slots entries sound.indexed i j name (seen_at slots i name a) (seen_at slots j name b);
     named = λ name live. let at = live_name name live in (at.0, at_seen slots at.0 name at.1);
     live = λ i name is.
         let at = seen_at slots i name is in

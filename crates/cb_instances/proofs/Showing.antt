@@ -48,7 +48,7 @@ at_slot slots x has = (record { 0 = has.0 }, get_or_default slots has.0 None (So
 abbrev pub HaveOwnNames : Slots → Type 0
 HaveOwnNames slots = (i j : InstanceId) (name : List ℕ) → NamedAt slots i name → NamedAt slots j name → i ≡ j
 
-module _ (slots : Slots) (reported : HaveOwnNames slots) where
+module _ (slots : Slots) (own_names : HaveOwnNames slots) where
   entry_at : (name : List ℕ) (c : ClassId) → Contains (flat_map entries_in slots) (name, c) → HoldsInstance slots name c
   entry_at name c has = go (from_flat entries_in slots (name, c) has)
     where
@@ -61,7 +61,7 @@ module _ (slots : Slots) (reported : HaveOwnNames slots) where
 
   holds_one : (name : List ℕ) (c d : ClassId) → HoldsInstance slots name c → HoldsInstance slots name d → c ≡ d
   holds_one name c d a b =
-      let i = reported a.at b.at name (a.instance, a.is, a.named) (b.instance, b.is, b.named) in
+      let i = own_names a.at b.at name (a.instance, a.is, a.named) (b.instance, b.is, b.named) in
       let same = one_at slots b.at a.instance b.instance (subst (λ k. At slots k a.instance) i a.is) b.is in
       sym a.of_class ∙ (ap (λ (x : Instance). x.class) same ∙ b.of_class)
 
@@ -166,8 +166,8 @@ module _ (tables : Tables) (slots : Slots) where
 
 pub shows_made : (tables : Tables) (slots : Slots) → HaveOwnNames slots → ((i : InstanceId) (x : Instance) → At slots i x → OneRowEach x.links.rows.items)
     → Shows slots (topology_of tables slots)
-shows_made tables slots distinguished = record {
-  instances = shows_instances slots reported;
+shows_made tables slots own_names apart = record {
+  instances = shows_instances slots own_names;
   links = shows_links slots apart;
   mutes = shows_mutes tables slots;
 }
