@@ -22,7 +22,7 @@ loop-turn-preserved c =
     let is : c.loop-turn.turn-iterator ≡ c.in-Some.turn.now ∷ c.next.new.self = search rules in
     subst (λ (closing : List Closed). ReportedSome c.args.live.now c.args.queue.now c.args.time closing c.next.new.self) (sym c.in_ok-push.ensures.ok)
     (some_step c.args.live.now c.args.queue.now c.args.time c.loop-turn.closing c.loop-turn.turn-iterator c.in-Some.turn.now c.next.new.self c.loop-turn.invariant is
-    c.in_ok-reported.field-0 c.in_ok-reported.ensures)
+    c.in_ok-closing_of.field-0 c.in_ok-closing_of.ensures)
 
 pub returns : goal.returns
 returns c =
