@@ -20,7 +20,7 @@ ghost use Rattle.cb_topo.specs.Numbered.{topology_of};
 use cb_cache::Cache;
 use cb_codes::{Codes, Groups};
 use cb_coding::{Book, Pair};
-use cb_decode::{Decoder, called, find_by};
+use cb_decode::{Decoder, find_by, group_name};
 use cb_log::{Closed, Event};
 use cb_matrix::Matrix;
 use cb_model::{List, Name};
@@ -182,8 +182,8 @@ fn thin(alloc: Global, groups: &Groups, pair: Pair, wanted: u32) -> Result<Event
     requires second { HasName groups.now.groups pair.second }
     ensures { IfOk result (NamesPair groups.now.groups wanted pair) }
 {
-    let first = called(alloc, groups, pair.first)?;
-    let second = called(alloc, groups, pair.second)?;
+    let first = group_name(alloc, groups, pair.first)?;
+    let second = group_name(alloc, groups, pair.second)?;
     Ok(Event::Thin {
         wanted,
         first,
