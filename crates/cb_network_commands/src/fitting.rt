@@ -45,7 +45,7 @@ pub(crate) fn fitting<'w, L: Ledger>(
 }
 
 // The lines of the fits.
-fn listed<'w>(
+fn listing<'w>(
     alloc: Global,
     matrix: &Matrix,
     pairs: &Pairs<'_>,
