@@ -1,11 +1,10 @@
 -- Words that are no command.
-use Rattle.std.proofs.Common.{◌≡◌, ◌≢◌, ℕ, List, Bool, true, false, refl}
+use Rattle.std.proofs.Common.{◌≡◌, ◌≢◌, ◌∙◌, ℕ, List, [], length, Bool, true, false, refl, sym, String, Global}
+use Rattle.std.proofs.lemmas.List.{length-map}
 use Rattle.std.proofs.lemmas.Slice.Eq.{bytes_eq-Decides}
-use Rattle.std.specs.Prelude.{codes, None}
+use Rattle.std.specs.Prelude.{◌∷◌, codes, None, string_bytes}
 use Rattle.std.specs.Str.{bytes_eq}
-use Rattle.std.proofs.Common.{sym}
-use Rattle.cb_request.specs.Commands.{request_of}
-use Rattle.std.specs.Prelude.{◌∷◌}
+use Rattle.cb_request.specs.Commands.{request_of, levels_of, texts}
 
 differs : (one other : List ℕ) → other ≢ one → bytes_eq one other ≡ false
 differs one other ne = by_test (bytes_eq one other) refl
@@ -25,6 +24,9 @@ pub record IsOther (command : List ℕ) : Type 0 where
   pub correlate : command ≢ codes "correlate"
   pub grow : command ≢ codes "grow"
   pub pairs : command ≢ codes "pairs"
+  pub explain : command ≢ codes "explain"
+  pub levels : command ≢ codes "levels"
+  pub prove : command ≢ codes "prove"
 
 pub other_asks_for_nothing : (command : List ℕ) (words : List (List ℕ)) → IsOther command → None ≡ request_of (command ∷ words)
 other_asks_for_nothing command words is =
@@ -38,4 +40,18 @@ other_asks_for_nothing command words is =
       differs (codes "correlate") command is.correlate,
       differs (codes "grow") command is.grow,
       differs (codes "pairs") command is.pairs,
+      differs (codes "explain") command is.explain,
+      differs (codes "levels") command is.levels,
+      differs (codes "prove") command is.prove,
     ) refl
+
+-- `levels` has three words after it
+not_three : (words : List (List ℕ)) → length words ≢ 3 → None ≡ levels_of words
+not_three [] other = refl
+not_three (one ∷ []) other = refl
+not_three (one ∷ two ∷ []) other = refl
+not_three (one ∷ two ∷ node ∷ []) other = absurd (other refl)
+not_three (one ∷ two ∷ node ∷ more ∷ words) other = refl
+
+pub other_number_of_words : (words : List (String Global)) → length words ≢ 3 → None ≡ levels_of (texts words)
+other_number_of_words words other = not_three (texts words) (λ e. other (sym (length-map words string_bytes) ∙ e))

@@ -22,10 +22,10 @@ is_true : (b : Bool) → T b → b ≡ true
 is_true true t = refl
 is_true false t = absurd t
 
-le_of : (a b : ℕ) → nat_le a b ≡ true → a ≤ b
+pub le_of : (a b : ℕ) → nat_le a b ≡ true → a ≤ b
 le_of a b e = leb_yes (subst T (sym e) tt)
 
-of_le : (a b : ℕ) → a ≤ b → nat_le a b ≡ true
+pub of_le : (a b : ℕ) → a ≤ b → nat_le a b ≡ true
 of_le a b h = is_true (nat_le a b) (yes_leb h)
 
 module _ (least most : ℕ) (word : List ℕ) (number : ℕ) (small : most < 2 ^ 64) where

@@ -1,8 +1,9 @@
 -- The table of commands: which words ask for what.
-use Rattle.std.specs.Prelude.{◌≡◌, ℕ, List, [], ◌∷◌, codes, map, Option, None, Some, String, string_bytes}
+use Rattle.std.specs.Prelude.{ℕ, List, [], ◌∷◌, codes, map, Option, None, Some, String, string_bytes}
 use Rattle.std.specs.declared.alloc.Global.{Global}
 use Rattle.std.specs.Option.{option_map, option_and_then}
 use Rattle.cb_io.specs.Pairs.{look_up}
+use Rattle.cb_request.specs.NodeWords.{node_in}
 use Rattle.cb_request.specs.Numbers.{distance_in, window_in, sites_in, start_in}
 use Rattle.cb_request.specs.declared.request.Request.{Request}
 use Rattle.cb_request.specs.declared.request.Request.TheVariants as requests
@@ -49,12 +50,24 @@ abbrev pub pairs_of : List (List ℕ) → Option Request
 pairs_of (one ∷ two ∷ three ∷ []) = Some (requests.Pairs one two three)
 pairs_of words = None
 
+abbrev pub explain_of : List (List ℕ) → Option Request
+explain_of (one ∷ two ∷ three ∷ []) = Some (requests.Explain one two three)
+explain_of words = None
+
+abbrev pub levels_of : List (List ℕ) → Option Request
+levels_of (one ∷ two ∷ node ∷ []) = option_map (requests.Levels one two) (node_in node)
+levels_of words = None
+
+abbrev pub prove_of : List (List ℕ) → Option Request
+prove_of (one ∷ two ∷ three ∷ []) = Some (requests.Prove one two three)
+prove_of words = None
+
 -- the commands, each with what the words after it ask for
 abbrev pub commands : List (List ℕ × (List (List ℕ) → Option Request))
 commands =
     (codes "burst", burst_of) ∷ (codes "model", model_of) ∷ (codes "matrix", matrix_of) ∷ (codes "codebook", codebook_of)
     ∷ (codes "verify", verify_of) ∷ (codes "decode", decode_of) ∷ (codes "correlate", correlate_of) ∷ (codes "grow", grow_of)
-    ∷ (codes "pairs", pairs_of) ∷ []
+    ∷ (codes "pairs", pairs_of) ∷ (codes "explain", explain_of) ∷ (codes "levels", levels_of) ∷ (codes "prove", prove_of) ∷ []
 
 -- what the words of the command line ask for, if they ask for something
 abbrev pub request_of : List (List ℕ) → Option Request

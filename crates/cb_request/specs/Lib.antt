@@ -1,3 +1,4 @@
 pub mod Numbers
+pub mod NodeWords
 pub mod Commands
 pub mod Laws

@@ -1,7 +1,8 @@
 //! What may be asked for.
 use crate::file_name::FileName;
+use crate::node_word::NodeWord;
 
-/// A command with the names of its files and with its numbers, in the order of its words.
+/// A command with the names of its files, with its node and with its numbers, in the order of its words.
 #[derive(Drop)]
 pub enum Request<'w> {
     /// What causes the symptoms of a file.
@@ -52,6 +53,24 @@ pub enum Request<'w> {
         model: FileName<'w>,
         topology: FileName<'w>,
         symptoms: FileName<'w>,
+    },
+    /// What causes the symptoms of a file, with the shortest chains to them.
+    Explain {
+        model: FileName<'w>,
+        topology: FileName<'w>,
+        symptoms: FileName<'w>,
+    },
+    /// The levels of all that a problem causes.
+    Levels {
+        model: FileName<'w>,
+        topology: FileName<'w>,
+        node: NodeWord<'w>,
+    },
+    /// What levels show.
+    Prove {
+        model: FileName<'w>,
+        topology: FileName<'w>,
+        levels: FileName<'w>,
     },
     /// A summary of a generated log.
     Grow {

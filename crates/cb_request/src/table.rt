@@ -1,8 +1,9 @@
 //! The table of commands.
 ghost use Rattle.std.specs.Prelude.{◌≡◌, ◌∷◌};
-ghost use Rattle.cb_request.specs.Commands.{asked, texts, request_of, burst_of, model_of, matrix_of, codebook_of, verify_of, decode_of, correlate_of, grow_of, pairs_of};
+ghost use Rattle.cb_request.specs.Commands.{asked, texts, request_of, burst_of, model_of, matrix_of, codebook_of, verify_of, decode_of, correlate_of, grow_of, pairs_of, explain_of, levels_of, prove_of};
 
 use crate::file_name::FileName;
+use crate::node_word::NodeWord;
 use crate::numbers::{distance_in, sites_in, start_in, window_in};
 use crate::request::Request;
 
@@ -32,6 +33,9 @@ fn read<'w>(command: &str, words: &'w [String]) -> Option<Request<'w>>
         "correlate" => correlate(words),
         "grow" => grow(words),
         "pairs" => pairs(words),
+        "explain" => explain(words),
+        "levels" => levels(words),
+        "prove" => prove(words),
         _ => None,
     }
 }
@@ -148,6 +152,45 @@ fn pairs<'w>(words: &'w [String]) -> Option<Request<'w>>
             model: FileName(model.as_str()),
             topology: FileName(topology.as_str()),
             symptoms: FileName(symptoms.as_str()),
+        }),
+        _ => None,
+    }
+}
+
+fn explain<'w>(words: &'w [String]) -> Option<Request<'w>>
+    ensures { result ≡ explain_of (texts words.now) }
+{
+    match words {
+        [model, topology, symptoms] => Some(Request::Explain {
+            model: FileName(model.as_str()),
+            topology: FileName(topology.as_str()),
+            symptoms: FileName(symptoms.as_str()),
+        }),
+        _ => None,
+    }
+}
+
+fn levels<'w>(words: &'w [String]) -> Option<Request<'w>>
+    ensures { result ≡ levels_of (texts words.now) }
+{
+    match words {
+        [model, topology, node] => Some(Request::Levels {
+            model: FileName(model.as_str()),
+            topology: FileName(topology.as_str()),
+            node: NodeWord::of(node.as_str())?,
+        }),
+        _ => None,
+    }
+}
+
+fn prove<'w>(words: &'w [String]) -> Option<Request<'w>>
+    ensures { result ≡ prove_of (texts words.now) }
+{
+    match words {
+        [model, topology, levels] => Some(Request::Prove {
+            model: FileName(model.as_str()),
+            topology: FileName(topology.as_str()),
+            levels: FileName(levels.as_str()),
         }),
         _ => None,
     }

@@ -1,4 +1,4 @@
-use Rattle.std.proofs.Common.{◌≡◌, ◌≤◌, ℕ, sym, subst, ◌∙◌, arith, List}
+use Rattle.std.proofs.Common.{◌≡◌, ℕ, sym, ◌∙◌, arith, List}
 use Rattle.std.proofs.lemmas.Fmt.{decimal_injective}
 use Rattle.cb_text.specs.Decimals.{IsDecimal}
 use Rattle.cb_request.proofs.NumberWords.{number_is_read, no_number_is_read}

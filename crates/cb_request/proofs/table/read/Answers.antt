@@ -15,4 +15,7 @@ returns-in_default c =
       correlate = is.not-correlate;
       grow = is.not-grow;
       pairs = is.not-pairs;
+      explain = is.not-explain;
+      levels = is.not-levels;
+      prove = is.not-prove;
     })

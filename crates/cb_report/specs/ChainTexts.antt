@@ -1,0 +1,26 @@
+-- What `explain` prints.
+use Rattle.std.specs.Prelude.{ℕ, ◌-◌, List, ◌++◌, length, codes, decimal}
+use Rattle.std.specs.List.{flat_map, zip}
+use Rattle.cb_model.specs.declared.node.NamedGroup.{NamedGroup}
+use Rattle.cb_model.specs.declared.node.NodeName.{NodeName}
+use Rattle.cb_finding.specs.declared.finding.Finding.{Finding}
+use Rattle.cb_report.specs.Lines.{group_line, numbers_line, spaced_text}
+
+-- a chain: its number of edges, which is one less than that of its nodes, and the nodes
+abbrev pub chain_start : List NodeName → List ℕ
+chain_start chain = codes "    chain " ++ decimal (length chain - 1)
+
+abbrev pub chain_line : List NodeName → List ℕ
+chain_line chain = chain_start chain ++ flat_map spaced_text chain ++ codes "\n"
+
+-- a group, and its chains
+abbrev pub explained_group : NamedGroup × List (List NodeName) → List ℕ
+explained_group (group, chains) = group_line group ++ flat_map chain_line chains
+
+-- groups, each with its list of chains
+abbrev pub explained_groups : List NamedGroup → List (List (List NodeName)) → List ℕ
+explained_groups groups chains = flat_map explained_group (zip groups chains)
+
+-- the numbers of a finding, and then the groups with their chains
+abbrev pub explained_text : Finding → List (List (List NodeName)) → List ℕ
+explained_text f chains = codes "explain " ++ (numbers_line f ++ explained_groups f.groups chains)
