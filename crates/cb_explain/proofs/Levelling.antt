@@ -111,7 +111,7 @@ module _ (n : Numbered) (order : Order) (ord : IsOrderOf n order) where
           edge = e.edge;
         }
 
-    are_ranks : AreRanks (topology_of n) (Follows (EdgeAt n) nodes) At
+    pub are_ranks : AreRanks (topology_of n) (Follows (EdgeAt n) nodes) At
     are_ranks = record { one = at_one n order; rise = ord.rise; leads = leads_at; led = led_from }
 
     pub levels_made : (id : NodeId) (rank : ℕ) (visits : List LevelVisit) (levels : Levels) → Sound (topology_of n) → WellTyped (topology_of n).model

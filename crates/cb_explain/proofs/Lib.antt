@@ -1,3 +1,12 @@
 pub mod Made
 pub mod Using
 pub mod Levelling
+pub mod Chains
+pub mod Trailing
+pub mod Positions
+pub mod Explaining
+pub mod Rejecting
+pub mod Listing
+pub mod Leading
+pub mod Lacking
+pub mod Judging

@@ -71,7 +71,7 @@ number_below nodes rise i j m n a b less =
 
 module _ (t : Topology) (edge : ℕ → ℕ → Type 0) (At : ℕ → NodeName → Type 0) (ranks : AreRanks t edge At) where
   -- a node has one rank
-  one_rank : (a b : ℕ) (x : NodeName) → At a x → At b x → a ≡ b
+  pub one_rank : (a b : ℕ) (x : NodeName) → At a x → At b x → a ≡ b
   one_rank a b x at_a at_b = elim (cases_order a b) [
     | inl same ↦ same
     | inr (inl below) ↦ let less = ranks.rise a b x x below at_a at_b in absurd (node_strict x x less less)
@@ -91,7 +91,7 @@ module _ (t : Topology) (edge : ℕ → ℕ → Type 0) (At : ℕ → NodeName �
 
   module _ (root : ℕ) (p : NodeName) (at_root : At root p) (visits : List LevelVisit) (tree : IsLevelTree edge root visits) where
     -- a chain of as many edges as its level leads to each visited node
-    chain_below : (bound position : ℕ) (v : LevelVisit) (n : NodeName) → position < bound → slice_get visits position ≡ Some v → At v.node n
+    pub chain_below : (bound position : ℕ) (v : LevelVisit) (n : NodeName) → position < bound → slice_get visits position ≡ Some v → At v.node n
         → (between : List NodeName) × Chain t p between n × (length between ≡ v.level)
     chain_below zero position v n low is at = absurd (omega arith)
     chain_below (suc bound) zero v n low is at =
@@ -124,7 +124,7 @@ module _ (t : Topology) (edge : ℕ → ℕ → Type 0) (At : ℕ → NodeName �
         let within = far.4 in
         (far.0, far.1, far.2, far.3, omega arith)
 
-    from_root : (s : NodeName) (between : List NodeName) → Chain t p between s
+    pub from_root : (s : NodeName) (between : List NodeName) → Chain t p between s
         → (k : ℕ) × (w : LevelVisit) × (slice_get visits k ≡ Some w) × At w.node s × (w.level ≤ length between)
     from_root s between chain =
         let far = along p between s 0 (level_visit root 0 0) tree.begins at_root chain in
@@ -152,7 +152,7 @@ module _ (t : Topology) (edge : ℕ → ℕ → Type 0) (At : ℕ → NodeName �
         }
 
     -- the parent's node is the previous one
-    previous_at : (position : ℕ) (v : LevelVisit) (n : NodeName) → 0 < position → slice_get visits position ≡ Some v → At v.node n → (has : HasEdgeBelow edge visits v)
+    pub previous_at : (position : ℕ) (v : LevelVisit) (n : NodeName) → 0 < position → slice_get visits position ≡ Some v → At v.node n → (has : HasEdgeBelow edge visits v)
         → (x : NodeName) → At has.from.node x → Edge t x n → IsPrevious t p n x
     previous_at position v n later is at has x at_x to_n =
         let above = has.above in

@@ -1,2 +1,6 @@
 pub mod Made
 pub mod Levelled
+pub mod Chained
+pub mod Explained
+pub mod Checking
+pub mod Surveyed

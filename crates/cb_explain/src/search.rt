@@ -34,7 +34,7 @@ pub fn levels_of<L: Ledger>(
 }
 
 // The rank of a node that has one.
-fn rank_of(order: &Order, node: NodeId) -> u32
+pub(crate) fn rank_of(order: &Order, node: NodeId) -> u32
     requires { (rank : ℕ) × IsRank order.now node rank }
     ensures { IsRank order.now node result }
 {

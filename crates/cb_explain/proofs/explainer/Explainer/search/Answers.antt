@@ -1,0 +1,38 @@
+use Rattle.std.proofs.Common.{length, sym, subst, arith}
+use Rattle.std.proofs.lemmas.Option.{slice_get_within}
+use Rattle.cb_breadth.specs.Orders.{Follows}
+use Rattle.cb_graph.specs.Edges.{EdgeAt}
+use Rattle.cb_span.specs.Orders.{IsAtRank}
+use Rattle.cb_topo.specs.Numbered.{topology_of}
+use Rattle.cb_explain.specs.Levelled.{AreRanksBelow}
+use Rattle.cb_explain.proofs.Levelling.{ranks_below, live_rank, are_ranks}
+use Rattle.cb_explain.proofs.Chains.{visits_few}
+use Rattle.cb_explain.proofs.explainer.Explainer.search.Goals as goal
+
+pub rank_of-root-requires : goal.rank_of-root-requires
+rank_of-root-requires g c =
+    live_rank c.args.graph.now c.args.self.now.order c.requires.explainer.order c.args.problem (c.requires.problem.name, c.requires.problem.named)
+
+pub level_tree-requires-clause-few : goal.level_tree-requires-clause-few
+level_tree-requires-clause-few g c = let low = c.requires.explainer.order.few in omega arith
+
+pub level_tree-requires-clause-root : goal.level_tree-requires-clause-root
+level_tree-requires-clause-root g c = slice_get_within c.args.self.now.order.nodes.items c.rank_of-root.result c.args.problem.0 c.rank_of-root.ensures.node_is
+
+pub set_positions-requires-clause-below : goal.set_positions-requires-clause-below
+set_positions-requires-clause-below g c =
+    let nodes = c.args.self.now.order.nodes.items in
+    let low = slice_get_within nodes c.rank_of-root.result c.args.problem.0 c.rank_of-root.ensures.node_is in
+    let below = ranks_below (EdgeAt c.args.graph.now) nodes c.rank_of-root.result c.in_ok-self.field-0.items c.in_ok-self.ensures.tree low in
+    let sized = subst (λ k. AreRanksBelow k c.in_ok-self.field-0.items) (sym c.requires.explainer.size) below in
+    subst (AreRanksBelow (length c.args.self.now.positions.items)) (sym c.deref.ensures.value) sized
+
+pub returns-clause-asked : goal.returns-clause-asked
+returns-clause-asked g c = λ name count named all.
+    let n = c.args.graph.now in
+    let order = c.args.self.now.order in
+    let at_root : IsAtRank n order c.rank_of-root.result name = record { node = c.args.problem.0; at = c.rank_of-root.ensures.node_is; named = named } in
+    let few = visits_few (topology_of n) (Follows (EdgeAt n) order.nodes.items) (IsAtRank n order) (are_ranks n order c.requires.explainer.order c.requires.explainer.whole)
+    c.rank_of-root.result name at_root c.in_ok-self.field-0.items c.in_ok-self.ensures.tree count all in
+    let asked = c.in_ok-self.ensures.asked in
+    omega arith
