@@ -22,7 +22,7 @@ use Rattle.cb_log.specs.Events.{IsNetwork}
 use Rattle.cb_log.specs.Whole.{KeepsApart}
 use Rattle.cb_log.proofs.Alone.{wanted_keeps_apart}
 use Rattle.cb_outcome.specs.Roles.{Wanted, Role}
-use Rattle.cb_outcome.specs.Judged.{Known, nothing, parsed, network, raised, certified, Means}
+use Rattle.cb_outcome.specs.Judged.{Known, nothing, parsed, network, raised, certified, levelled, Means}
 use Rattle.cb_outcome.specs.LogJobs.{States}
 
 -- over any codebook by which a log is followed the groups are far enough apart
@@ -66,6 +66,7 @@ known_is_valid nothing text next t c means e = absurd means
 known_is_valid (parsed tree) text next t c means e = absurd means
 known_is_valid (raised u nodes) text next t c means e = absurd means
 known_is_valid (certified u d) text next t c means e = absurd means
+known_is_valid (levelled u ls) text next t c means e = absurd means
 known_is_valid (network u) text next t c (d, is, kind, next_is) e =
     let same : u ≡ t = cc in
     let one : d ≡ c = cc in

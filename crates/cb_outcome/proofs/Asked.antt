@@ -2,7 +2,7 @@
 use Rattle.std.proofs.Common.{refl}
 use Rattle.std.specs.Prelude.{Option, None, Some}
 use Rattle.cb_request.specs.declared.request.Request.{Request}
-use Rattle.cb_request.specs.declared.request.Request.TheVariants.{Burst, Model, Matrix, Codebook, Verify, Decode, Correlate, Grow, Pairs}
+use Rattle.cb_request.specs.declared.request.Request.TheVariants.{Burst, Model, Matrix, Codebook, Verify, Decode, Correlate, Grow, Pairs, Explain, Levels, Prove}
 use Rattle.cb_outcome.specs.Asked.{command_of, command_for}
 use Rattle.cb_outcome.proofs.Lawful.{IsLawful}
 use Rattle.cb_outcome.proofs.Commands.Burst as burst
@@ -14,6 +14,9 @@ use Rattle.cb_outcome.proofs.Commands.Decode as decode
 use Rattle.cb_outcome.proofs.Commands.Correlate as correlate
 use Rattle.cb_outcome.proofs.Commands.Grow as grow
 use Rattle.cb_outcome.proofs.Commands.Pairs as pairs
+use Rattle.cb_outcome.proofs.Commands.Explain as explain
+use Rattle.cb_outcome.proofs.Commands.Levels as levels
+use Rattle.cb_outcome.proofs.Commands.Prove as prove
 
 pub request_lawful : (request : Request) → IsLawful (command_of request)
 request_lawful (Burst one two three) = burst.lawful one two three
@@ -25,6 +28,9 @@ request_lawful (Decode one two three log window) = decode.lawful one two three l
 request_lawful (Correlate one two log distance window) = correlate.lawful one two log distance window
 request_lawful (Grow sites start) = grow.lawful sites start
 request_lawful (Pairs one two three) = pairs.lawful one two three
+request_lawful (Explain one two three) = explain.lawful one two three
+request_lawful (Levels one two node) = levels.lawful one two node
+request_lawful (Prove one two three) = prove.lawful one two three
 
 pub lawful : (asked : Option Request) → IsLawful (command_for asked)
 lawful None = (refl, refl)

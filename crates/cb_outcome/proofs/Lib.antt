@@ -2,6 +2,9 @@ pub mod FirstLines
 pub mod Once
 pub mod FitsOne
 pub mod JobsOne
+pub mod ChainsOne
+pub mod LevelTexts
+pub mod LevelsAccepted
 pub mod LogPrefixes
 pub mod LogsOne
 pub mod GrownOne

@@ -28,12 +28,20 @@ use Rattle.cb_validity.specs.declared.verdict.Rejected.{Rejected}
 use Rattle.cb_validity.specs.Checks.{IsFirstFail}
 use Rattle.cb_validity.proofs.Firsts.{first_fail_is_one}
 use Rattle.cb_validity.proofs.Passing.{valid_is_not_rejected}
+use Rattle.cb_levels.specs.declared.fault.LevelText.{LevelText}
+use Rattle.cb_levels.specs.declared.levels.Levels.{Levels}
+use Rattle.cb_levels.specs.declared.verdict.LevelFault.{LevelFault}
+use Rattle.cb_levels.specs.Checks.{IsRejectedFor}
+use Rattle.cb_levels.specs.Faults.{IsLevelFault}
+use Rattle.cb_levels.specs.Format.{SpellsLevels}
+use Rattle.cb_levels.proofs.Firsts.{first_fail_is_one as first_level_fail_is_one, valid_is_not_rejected as valid_levels_are_not_rejected}
+use Rattle.cb_levels.proofs.OneReading.{level_reading_is_one}
 use Rattle.cb_outcome.specs.Roles.{Wanted, Role}
 use Rattle.cb_report.specs.declared.fault.Fault.{Fault}
 use Rattle.cb_report.specs.declared.fault.Fault.TheVariants as faults
-use Rattle.cb_report.specs.FaultSources.{fault_of_syntax, fault_of_text, fault_of_rejected}
-use Rattle.cb_outcome.specs.Texts.{IsTreeText, IsTopologyText, IsValidText, IsWantedKind}
-use Rattle.cb_outcome.specs.Judged.{File, Known, nothing, parsed, network, raised, certified, Means, Says, IsModelFault, IsWrongLine, IsTopologyFault, IsSymptomFault, IsCertificateFault, IsFaultFor, HasFault, Refuses, PassFrom}
+use Rattle.cb_report.specs.FaultSources.{fault_of_syntax, fault_of_text, fault_of_rejected, fault_of_level_text, fault_of_levels}
+use Rattle.cb_outcome.specs.Texts.{IsTreeText, IsTopologyText, IsValidText, IsWantedKind, IsLevelText}
+use Rattle.cb_outcome.specs.Judged.{File, Known, nothing, parsed, network, raised, certified, levelled, Means, Says, IsModelFault, IsWrongLine, IsTopologyFault, IsSymptomFault, IsCertificateFault, IsFaultFor, AreLevelsFaulty, HasFault, Refuses, PassFrom}
 use Rattle.cb_outcome.proofs.FirstLines.{long_is_one, long_or_short, bad_is_one, bad_or_listed, nodes_are_one, topology_is_one, made_of, wrong_is_one, wrong_or_makes}
 use Rattle.cb_network.proofs.Typed.{typed_is_regular}
 
@@ -169,6 +177,35 @@ module _ (t : Topology) (text : List ℕ) where
   for_or_valid wanted f c (inr a) valid kind =
       a.other (subst (IsWantedKind wanted) (same_certificate text c a.certificate valid.spelled a.valid.spelled) kind)
 
+-- ---- levels
+
+-- a text spells one list of levels
+same_levels : (text : List ℕ) (a b : Levels) → SpellsLevels text a → SpellsLevels text b → a ≡ b
+same_levels text a b s s' = let e = level_reading_is_one text (Ok a) (Ok b) s s' in cc
+
+-- a text that spells levels has no fault
+no_levels : (text : List ℕ) (levels : Levels) (fault : LevelText) → SpellsLevels text levels → IsLevelFault text fault → ⊥
+no_levels text levels fault s f = let e = level_reading_is_one text (Ok levels) (Err fault) s f in cc
+
+module _ (t : Topology) (text : List ℕ) where
+  one_level_fault : (f g : Fault) → AreLevelsFaulty t text f → AreLevelsFaulty t text g → f ≡ g
+  one_level_fault f g (inl a) (inl b) =
+      let one = level_reading_is_one text (Err a.why) (Err b.why) a.has b.has in
+      let same : a.why ≡ b.why = cc in
+      a.is ∙ (ap fault_of_level_text same ∙ sym b.is)
+  one_level_fault f g (inl a) (inr (levels, spells, b)) = absurd (no_levels text levels a.why spells a.has)
+  one_level_fault f g (inr (levels, spells, a)) (inl b) = absurd (no_levels text levels b.why spells b.has)
+  one_level_fault f g (inr (levels, spells, a)) (inr (others, spells', b)) =
+      let same = same_levels text others levels spells' spells in
+      let one = first_level_fail_is_one t levels a.why b.why a.fails (subst (λ (x : Levels). IsRejectedFor t x b.why) same b.fails) in
+      a.is ∙ (ap fault_of_levels one ∙ sym b.is)
+
+  faulty_or_valid : (f : Fault) (levels : Levels) → AreLevelsFaulty t text f → IsLevelText t text levels → ⊥
+  faulty_or_valid f levels (inl a) valid = no_levels text levels a.why valid.spelled a.has
+  faulty_or_valid f levels (inr (others, spells, a)) valid =
+      valid_levels_are_not_rejected t levels a.why valid.valid
+      (subst (λ (x : Levels). IsRejectedFor t x a.why) (same_levels text others levels spells valid.spelled) a.fails)
+
 -- ---- a file
 
 -- what is known came from texts: a tree from one that keeps the rules, and a topology is of a checked model
@@ -178,6 +215,7 @@ IsSound (parsed tree) = (text : List ℕ) × IsTreeText text tree
 IsSound (network t) = IsRegular t.model
 IsSound (raised t nodes) = IsRegular t.model
 IsSound (certified t c) = IsRegular t.model
+IsSound (levelled t levels) = IsRegular t.model
 
 pub means_one : (role : Role) (known : Known) (text : List ℕ) → IsSound known → (a b : Known) → Means role known text a → Means role known text b → a ≡ b
 means_one Role.model nothing text sound a b (t, is, e) (u, is', h) = e ∙ (ap (λ (x : Tree). parsed x) (same_tree text t u is.spelled is'.spelled) ∙ sym h)
@@ -187,6 +225,8 @@ means_one Role.symptoms (network t) text sound a b (xs, is, e) (ys, is', h) =
     e ∙ (ap (λ (x : List NodeName). raised t x) (nodes_are_one text xs ys is is') ∙ sym h)
 means_one (Role.certificate wanted) (network t) text sound a b (c, is, kind, e) (d, is', kind', h) =
     e ∙ (ap (λ (x : Certificate). certified t x) (same_certificate text c d is.spelled is'.spelled) ∙ sym h)
+means_one Role.levels (network t) text sound a b (xs, is, e) (ys, is', h) =
+    e ∙ (ap (λ (x : Levels). levelled t x) (same_levels text xs ys is.spelled is'.spelled) ∙ sym h)
 means_one role known text sound a b p q = absurd p
 
 pub fault_one : (role : Role) (known : Known) (text : List ℕ) → IsSound known → (f g : Fault) → HasFault role known text f → HasFault role known text g → f ≡ g
@@ -195,6 +235,7 @@ fault_one Role.topology (parsed tree) text (from, says) f g a b =
     one_wrong_line from tree says text f g (line_of from tree says text f a) (line_of from tree says text g b)
 fault_one Role.symptoms (network t) text sound f g a b = one_bad_line text f g a b
 fault_one (Role.certificate wanted) (network t) text sound f g a b = one_for t text wanted f g a b
+fault_one Role.levels (network t) text sound f g a b = one_level_fault t text f g a b
 fault_one role known text sound f g a b = absurd a
 
 pub means_or_fault : (role : Role) (known : Known) (text : List ℕ) → IsSound known → (a : Known) (f : Fault) → Means role known text a → HasFault role known text f → ⊥
@@ -202,6 +243,7 @@ means_or_fault Role.model nothing text sound a f (t, is, e) h = kept_or_broken t
 means_or_fault Role.topology (parsed tree) text (from, says) a f (t, is, e) h = wrong_or_topology from tree says text f t (line_of from tree says text f h) is
 means_or_fault Role.symptoms (network t) text sound a f (xs, is, e) h = bad_or_nodes text f xs h is
 means_or_fault (Role.certificate wanted) (network t) text sound a f (c, is, kind, e) h = for_or_valid t text wanted f c h is kind
+means_or_fault Role.levels (network t) text sound a f (levels, is, e) h = faulty_or_valid t text f levels h is
 means_or_fault role known text sound a f p h = p
 
 pub means_sound : (role : Role) (known : Known) (text : List ℕ) (next : Known) → IsSound known → Means role known text next → IsSound next
@@ -209,6 +251,7 @@ means_sound Role.model nothing text next sound (t, is, e) = subst IsSound (sym e
 means_sound Role.topology (parsed tree) text next (from, says) (t, is, e) = subst IsSound (sym e) (topology_regular from tree says text t is)
 means_sound Role.symptoms (network t) text next sound (xs, is, e) = subst IsSound (sym e) sound
 means_sound (Role.certificate wanted) (network t) text next sound (c, is, kind, e) = subst IsSound (sym e) sound
+means_sound Role.levels (network t) text next sound (levels, is, e) = subst IsSound (sym e) sound
 means_sound role known text next sound p = absurd p
 
 -- what a file says is sound

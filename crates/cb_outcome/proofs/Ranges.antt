@@ -4,7 +4,8 @@ use Rattle.std.specs.Prelude.{Option, None, if◌then◌else◌, codes}
 use Rattle.std.specs.Str.{bytes_eq}
 use Rattle.std.specs.Option.{option_map, option_and_then}
 use Rattle.cb_io.specs.Pairs.{look_up}
-use Rattle.cb_request.specs.Commands.{burst_of, model_of, matrix_of, codebook_of, verify_of, decode_of, correlate_of, grow_of, pairs_of, commands, request_of}
+use Rattle.cb_request.specs.Commands.{burst_of, model_of, matrix_of, codebook_of, verify_of, decode_of, correlate_of, grow_of, pairs_of, explain_of, levels_of, prove_of, commands, request_of}
+use Rattle.cb_request.specs.NodeWords.{node_in}
 use Rattle.cb_request.specs.Numbers.{number_in, distance_in, window_in, sites_in, start_in}
 use Rattle.cb_request.specs.declared.request.Request.{Request}
 use Rattle.cb_request.specs.declared.request.Request.TheVariants as requests
@@ -107,6 +108,27 @@ pairs_keeps (one ∷ two ∷ []) request e = cc
 pairs_keeps (one ∷ two ∷ three ∷ []) request e = let same : requests.Pairs one two three ≡ request = cc in subst IsInRange same tt
 pairs_keeps (one ∷ two ∷ three ∷ more ∷ rest) request e = cc
 
+explain_keeps : Keeps explain_of
+explain_keeps [] request e = cc
+explain_keeps (one ∷ []) request e = cc
+explain_keeps (one ∷ two ∷ []) request e = cc
+explain_keeps (one ∷ two ∷ three ∷ []) request e = let same : requests.Explain one two three ≡ request = cc in subst IsInRange same tt
+explain_keeps (one ∷ two ∷ three ∷ more ∷ rest) request e = cc
+
+levels_keeps : Keeps levels_of
+levels_keeps [] request e = cc
+levels_keeps (one ∷ []) request e = cc
+levels_keeps (one ∷ two ∷ []) request e = cc
+levels_keeps (one ∷ two ∷ three ∷ []) request e = mapped (requests.Levels one two) (λ (word : List ℕ). Unit {0}) (λ word is. tt) (node_in three) (λ word is. tt) request e
+levels_keeps (one ∷ two ∷ three ∷ more ∷ rest) request e = cc
+
+prove_keeps : Keeps prove_of
+prove_keeps [] request e = cc
+prove_keeps (one ∷ []) request e = cc
+prove_keeps (one ∷ two ∷ []) request e = cc
+prove_keeps (one ∷ two ∷ three ∷ []) request e = let same : requests.Prove one two three ≡ request = cc in subst IsInRange same tt
+prove_keeps (one ∷ two ∷ three ∷ more ∷ rest) request e = cc
+
 -- a command of a table whose commands all keep their ranges keeps them
 abbrev KeepsAll : List (List ℕ × (List (List ℕ) → Option Request)) → Type 0
 KeepsAll [] = Unit {0}
@@ -125,7 +147,7 @@ request_in_range : (words : List (List ℕ)) (request : Request) → request_of 
 request_in_range [] request e = cc
 request_in_range (command ∷ words) request e =
     found_keeps commands
-    (burst_keeps, (model_keeps, (matrix_keeps, (codebook_keeps, (verify_keeps, (decode_keeps, (correlate_keeps, (grow_keeps, (pairs_keeps, tt)))))))))
+    (burst_keeps, (model_keeps, (matrix_keeps, (codebook_keeps, (verify_keeps, (decode_keeps, (correlate_keeps, (grow_keeps, (pairs_keeps, (explain_keeps, (levels_keeps, (prove_keeps, tt))))))))))))
     command words request e
 
 pub asked_is_in_range : AskedIsInRange

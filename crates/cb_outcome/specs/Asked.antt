@@ -3,7 +3,7 @@ use Rattle.std.specs.Prelude.{ℕ, List, Option, None, Some, String}
 use Rattle.std.specs.declared.alloc.Global.{Global}
 use Rattle.cb_request.specs.Commands.{asked}
 use Rattle.cb_request.specs.declared.request.Request.{Request}
-use Rattle.cb_request.specs.declared.request.Request.TheVariants.{Burst, Model, Matrix, Codebook, Verify, Decode, Correlate, Grow, Pairs}
+use Rattle.cb_request.specs.declared.request.Request.TheVariants.{Burst, Model, Matrix, Codebook, Verify, Decode, Correlate, Grow, Pairs, Explain, Levels, Prove}
 use Rattle.cb_outcome.specs.Command.{Command}
 use Rattle.cb_outcome.specs.Commands.Burst.{burst}
 use Rattle.cb_outcome.specs.Commands.Model.{model}
@@ -14,6 +14,9 @@ use Rattle.cb_outcome.specs.Commands.Decode.{decode}
 use Rattle.cb_outcome.specs.Commands.Correlate.{correlate}
 use Rattle.cb_outcome.specs.Commands.Grow.{grow}
 use Rattle.cb_outcome.specs.Commands.Pairs.{pairs}
+use Rattle.cb_outcome.specs.Commands.Explain.{explain}
+use Rattle.cb_outcome.specs.Commands.Levels.{levels}
+use Rattle.cb_outcome.specs.Commands.Prove.{prove}
 use Rattle.cb_outcome.specs.Commands.Usage.{usage}
 
 -- the command of a request
@@ -27,6 +30,9 @@ command_of (Decode one two three log window) = decode one two three log window
 command_of (Correlate one two log distance window) = correlate one two log distance window
 command_of (Grow sites start) = grow sites start
 command_of (Pairs one two three) = pairs one two three
+command_of (Explain one two three) = explain one two three
+command_of (Levels one two node) = levels one two node
+command_of (Prove one two three) = prove one two three
 
 -- of what words ask for, if they ask for something
 abbrev pub command_for : Option Request → Command

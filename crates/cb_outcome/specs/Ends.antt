@@ -14,12 +14,13 @@ FilesMayEnd reads statuses.Done = Unit {0}
 FilesMayEnd reads statuses.Usage = ⊥
 FilesMayEnd reads statuses.Model = HasRole reads Role.model
 FilesMayEnd reads statuses.Topology = HasRole reads Role.topology ⊎ HasRole reads Role.symptoms
-FilesMayEnd reads statuses.Certificate = (wanted : Wanted) × HasRole reads (Role.certificate wanted)
+FilesMayEnd reads statuses.Certificate = ((wanted : Wanted) × HasRole reads (Role.certificate wanted)) ⊎ HasRole reads Role.levels
 FilesMayEnd reads statuses.Distance = ⊥
 FilesMayEnd reads statuses.Limit = names_of reads ≢ []
 FilesMayEnd reads statuses.ReadFault = names_of reads ≢ []
 FilesMayEnd reads statuses.WriteFault = Unit {0}
 FilesMayEnd reads statuses.Memory = Unit {0}
+FilesMayEnd reads statuses.NoProblem = ⊥
 FilesMayEnd reads statuses.Groups = ⊥
 
 -- by its task: with the status of a fault that it may end with

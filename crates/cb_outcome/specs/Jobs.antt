@@ -20,12 +20,24 @@ use Rattle.cb_validity.specs.Codebooks.{AreBookColumns, AreFirstClose, least_of}
 use Rattle.cb_validity.specs.Totals.{HasFewEntries, HasManyEntries}
 use Rattle.cb_validity.specs.Verdicts.{Shows}
 use Rattle.cb_pairs.specs.Fits.{group_limit}
+use Rattle.cb_levels.specs.declared.levels.Levels.{Levels}
+use Rattle.cb_levels.specs.declared.verdict.Proved.{Proved}
+use Rattle.cb_levels.specs.Canonical.{AreCanonicalLevels}
+use Rattle.cb_levels.specs.Checks.{ShowsReach}
+use Rattle.cb_levels.specs.Format.{IsLevels}
+use Rattle.cb_levels.specs.Text.{levels_text}
+use Rattle.cb_levels.specs.Valid.{AreLevelsOf}
+use Rattle.cb_network.specs.Nodes.{IsProblem}
+use Rattle.cb_text.specs.Names.{IsNode}
 use Rattle.cb_report.specs.declared.fits.FoundFits.{FoundFits}
 use Rattle.cb_report.specs.declared.fault.Fault.TheVariants as faults
 use Rattle.cb_report.specs.CertificateTexts.{accepted_text}
 use Rattle.cb_report.specs.FitsText.{fits_text}
 use Rattle.cb_report.specs.Lines.{burst_text}
+use Rattle.cb_report.specs.ChainTexts.{explained_text}
+use Rattle.cb_report.specs.LevelTexts.{proved_text}
 use Rattle.cb_report.specs.MatrixText.{matrix_text}
+use Rattle.cb_outcome.specs.Explained.{ExplainsGroups}
 use Rattle.cb_outcome.specs.Fits.{IsFoundFor}
 use Rattle.cb_outcome.specs.Outcome.{Outcome, done, done_with, refused}
 
@@ -100,3 +112,41 @@ pub record RefusesGroups (t : Topology) (whole : ℕ) (outcome : Outcome) : Type
 -- `pairs`: which group, or which two at once, fit the nodes
 abbrev pub PairsGives : Topology → List NodeName → ℕ → Outcome → Type 0
 PairsGives t nodes whole outcome = ListsFits t nodes whole outcome ⊎ RefusesGroups t whole outcome
+
+-- `explain`: what is found for the nodes, and of each listed group the chains from its members to the columns that they cause
+pub record ExplainGives (t : Topology) (nodes : List NodeName) (whole : ℕ) (outcome : Outcome) : Type 0 where
+  pub finding : Finding
+  pub burst : IsBurst t nodes finding
+  pub chains : List (List (List NodeName))
+  pub explains : ExplainsGroups t burst.columns finding.groups chains
+  pub gives : outcome ≡ done (explained_text finding chains) whole
+
+-- the word is the text of the node
+abbrev pub NamesNode : List ℕ → NodeName → Type 0
+NamesNode word node = IsNode word node.event node.instance
+
+-- the canonical levels of the problem that the word names are written
+pub record WritesLevels (t : Topology) (word : List ℕ) (whole : ℕ) (outcome : Outcome) : Type 0 where
+  pub problem : NodeName
+  pub named : NamesNode word problem
+  pub is : IsProblem t problem
+  pub levels : Levels
+  pub canonical : AreCanonicalLevels t problem levels
+  pub of_format : IsLevels levels
+  pub gives : outcome ≡ done (levels_text levels) whole
+
+-- the word names no problem, and nothing is written
+pub record RefusesProblem (t : Topology) (word : List ℕ) (whole : ℕ) (outcome : Outcome) : Type 0 where
+  pub none : (problem : NodeName) → NamesNode word problem → ¬ IsProblem t problem
+  pub gives : outcome ≡ refused (faults.NoProblem word) whole
+
+-- `levels`: how far each node is from the problem that the word names
+abbrev pub LevelsGives : Topology → List ℕ → ℕ → Outcome → Type 0
+LevelsGives t word whole outcome = WritesLevels t word whole outcome ⊎ RefusesProblem t word whole outcome
+
+-- `prove`: what the levels show, which are those of their problem
+pub record ProveGives (t : Topology) (levels : Levels) (whole : ℕ) (outcome : Outcome) : Type 0 where
+  pub proved : Proved
+  pub valid : AreLevelsOf t proved.root levels
+  pub shows : ShowsReach t levels proved
+  pub gives : outcome ≡ done (proved_text proved) whole

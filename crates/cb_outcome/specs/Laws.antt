@@ -20,6 +20,8 @@ use Rattle.cb_outcome.specs.Contents.{Left, Reads, files_from, log_from}
 use Rattle.cb_outcome.specs.Command.{Command, reads_of, file_words, TaskFaults, JobGives}
 use Rattle.cb_outcome.specs.Commands.Codebook.{codebook}
 use Rattle.cb_outcome.specs.Commands.Verify.{verify}
+use Rattle.cb_outcome.specs.Commands.Levels.{levels}
+use Rattle.cb_outcome.specs.Commands.Prove.{prove}
 use Rattle.cb_outcome.specs.Asked.{command_of, command_for}
 use Rattle.cb_outcome.specs.Grown.{SumsUpLog}
 use Rattle.cb_outcome.specs.LogJobs.{Watch, PrefixTells, log_limit}
@@ -109,4 +111,11 @@ abbrev pub WrittenIsAccepted : Type 0
 WrittenIsAccepted = (left left' : Left) (model topology certificate : List ℕ) (distance : ℕ) (a b : Outcome)
     → HaveSameNetwork left left' model topology → IsOutcome (codebook model topology distance) left a → a.out ≢ []
     → contents left' (model ∷ topology ∷ []) certificate ≡ a.out → IsOutcome (verify model topology certificate) left' b
+    → b.fault ≡ None
+
+-- what `levels` writes of a network, `prove` accepts for the same files
+abbrev pub LevelsAreAccepted : Type 0
+LevelsAreAccepted = (left left' : Left) (model topology word name : List ℕ) (a b : Outcome)
+    → HaveSameNetwork left left' model topology → IsOutcome (levels model topology word) left a → a.out ≢ []
+    → contents left' (model ∷ topology ∷ []) name ≡ a.out → IsOutcome (prove model topology name) left' b
     → b.fault ≡ None

@@ -8,6 +8,7 @@ pub mod Reading
 pub mod LogJobs
 pub mod Grown
 pub mod Fits
+pub mod Explained
 pub mod Jobs
 pub mod Prints
 pub mod Costs

@@ -15,6 +15,11 @@ use Rattle.cb_finding.specs.declared.finding.Finding.{Finding}
 use Rattle.cb_finding.specs.Finding.{IsBurst, named_groups, word_of}
 use Rattle.cb_finding.specs.Matrix.{IsMatrix}
 use Rattle.cb_network.specs.Topology.{Topology}
+use Rattle.cb_levels.specs.declared.levels.Levels.{Levels}
+use Rattle.cb_levels.specs.declared.verdict.Proved.{Proved}
+use Rattle.cb_levels.specs.Canonical.{ListsLevels}
+use Rattle.cb_levels.specs.Checks.{ShowsReach}
+use Rattle.cb_network.specs.Nodes.{IsProblem}
 use Rattle.cb_pairs.specs.declared.guess.Guess.{Guess}
 use Rattle.cb_pairs.specs.Fits.{from_guess}
 use Rattle.cb_pairs.specs.Guesses.{IsGuess, guess_code}
@@ -28,13 +33,17 @@ use Rattle.cb_log.specs.Whole.{Explains, OneForEach, is_thin, TellsThin}
 use Rattle.cb_alarm.specs.Lines.{LogGives, log_lines}
 use Rattle.cb_alarm.specs.Quiet.{LinesAlone}
 use Rattle.cb_report.specs.FitsText.{fits_text}
+use Rattle.cb_report.specs.ChainTexts.{explained_text}
+use Rattle.cb_report.specs.LevelTexts.{proved_text}
 use Rattle.cb_report.specs.Lines.{burst_text}
 use Rattle.cb_report.specs.declared.fits.FoundFits.{FoundFits}
 use Rattle.cb_report.specs.declared.fault.Fault.TheVariants as faults
 use Rattle.cb_report.specs.EventTexts.{events_text}
 use Rattle.cb_outcome.specs.Roles.{Wanted, Role}
-use Rattle.cb_outcome.specs.Texts.{IsValidText}
+use Rattle.cb_outcome.specs.Texts.{IsValidText, IsLevelText}
+use Rattle.cb_outcome.specs.Explained.{ExplainsGroups}
 use Rattle.cb_outcome.specs.Fits.{IsFoundFor}
+use Rattle.cb_outcome.specs.Jobs.{NamesNode}
 use Rattle.cb_outcome.specs.Judged.{IsShortFor}
 use Rattle.cb_outcome.specs.LogJobs.{Watch}
 use Rattle.cb_outcome.specs.Seen.{Seen, SaysFault}
@@ -114,3 +123,32 @@ pub record RefusesDistance (t : Topology) (wanted : ℕ) (s : Seen) : Type 0 whe
   pub canonical : IsCanonicalThin t (least_of first) second wanted distance prints.certificate
   pub not_good : ¬ Good (codes_of close.groups) (all_columns (length close.columns)) wanted
   pub more_than_one : 1 < wanted
+
+-- `explain` printed exactly the groups nearest to the nodes, and of each the short chains from its members to the columns that they cause
+pub record PrintsChains (t : Topology) (nodes : List NodeName) (out out' : SinkReport) : Type 0 where
+  pub finding : Finding
+  pub burst : IsBurst t nodes finding
+  pub lists : ListsTheNearest burst.groups (far_from (all_columns (length burst.columns)) burst.columns burst.groups nodes) finding
+  pub chains : List (List (List NodeName))
+  pub explains : ExplainsGroups t burst.columns finding.groups chains
+  pub printed : WritesAll out out' (explained_text finding chains)
+
+-- what was printed is a text that a file of levels may have: it spells valid levels, which list exactly what the problem that the word names
+-- causes, each node with its level
+pub record PrintsLevels (t : Topology) (word : List ℕ) (out out' : SinkReport) : Type 0 where
+  pub problem : NodeName
+  pub named : NamesNode word problem
+  pub is : IsProblem t problem
+  pub levels : Levels
+  pub lists : ListsLevels t problem levels
+  pub text : List ℕ
+  pub valid : IsLevelText t text levels
+  pub short : IsShortFor Role.levels text
+  pub printed : WritesAll out out' text
+
+-- the levels list exactly what the printed problem causes, each node with its level, and the printed numbers are theirs
+pub record PrintsProof (t : Topology) (levels : Levels) (out out' : SinkReport) : Type 0 where
+  pub proved : Proved
+  pub lists : ListsLevels t proved.root levels
+  pub shows : ShowsReach t levels proved
+  pub printed : WritesAll out out' (proved_text proved)

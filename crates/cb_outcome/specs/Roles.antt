@@ -12,6 +12,7 @@ pub data Role : Type 0 where
   topology : Role
   symptoms : Role
   certificate : Wanted → Role
+  levels : Role
 
 -- the most bytes that a file of this role may have
 abbrev pub byte_limit : Role → ℕ
@@ -19,6 +20,7 @@ byte_limit Role.model = 16777216
 byte_limit Role.topology = 16777216
 byte_limit Role.symptoms = 16777216
 byte_limit (Role.certificate wanted) = 33554432
+byte_limit Role.levels = 33554432
 
 -- the lines of a file have a limit, but for those of a model
 abbrev pub HasLineLimit : Role → Type 0
@@ -26,3 +28,4 @@ HasLineLimit Role.model = ⊥
 HasLineLimit Role.topology = Unit {0}
 HasLineLimit Role.symptoms = Unit {0}
 HasLineLimit (Role.certificate wanted) = Unit {0}
+HasLineLimit Role.levels = Unit {0}

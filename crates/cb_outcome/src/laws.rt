@@ -1,5 +1,5 @@
 //! What holds of outcomes.
-ghost use Rattle.cb_outcome.specs.Laws.{OutcomeIsOne, OutcomeGoesByBytes, PrefixGivesPrefix, DueIsPrefix, PrefixThinsAreClose, SummedThinsAreClose, PassedGoToJob, PassedEndWell, DoneReadsAll, AskedIsInRange, FileWordsAreRead, WrittenIsAccepted};
+ghost use Rattle.cb_outcome.specs.Laws.{OutcomeIsOne, OutcomeGoesByBytes, PrefixGivesPrefix, DueIsPrefix, PrefixThinsAreClose, SummedThinsAreClose, PassedGoToJob, PassedEndWell, DoneReadsAll, AskedIsInRange, FileWordsAreRead, WrittenIsAccepted, LevelsAreAccepted};
 
 /// The words of the command line and the bytes of the files have one outcome: in how large pieces the files give their
 /// bytes makes no difference.
@@ -62,4 +62,9 @@ pub fn file_words_are_read()
 /// What `codebook` writes of a network, be it of its codebook or that there is none, `verify` accepts for the same files.
 pub fn written_is_accepted()
     ensures { WrittenIsAccepted }
+{}
+
+/// What `levels` writes of a network, `prove` accepts for the same files.
+pub fn levels_are_accepted()
+    ensures { LevelsAreAccepted }
 {}
