@@ -41,7 +41,3 @@ pub record IsGroupsRefusal (count : ℕ) (bytes : List ℕ) (fault : Option Faul
   pub many : group_limit < count
   pub none : bytes ≡ []
   pub is : fault ≡ Some (faults.Groups count)
-
--- the outcome of an output, once the files were read
-abbrev pub outcome_of : Output → ℕ → Outcome
-outcome_of output whole = record { out = bytes_of_text output.text; fault = output.fault; whole = whole }

@@ -11,9 +11,10 @@ ghost use Rattle.cb_pairs.specs.Fits.{IsRefused};
 ghost use Rattle.cb_pairs.specs.Guesses.{IsOfGroups, IsSecondBelow};
 ghost use Rattle.cb_report.specs.Text.{bytes_of_text};
 ghost use Rattle.cb_topo.specs.Numbered.{topology_of};
-ghost use Rattle.cb_network_commands.specs.Fitted.{AreFitted, HaveNames, IsFittedOutput, IsGroupsRefusal, outcome_of};
+ghost use Rattle.cb_network_commands.specs.Fitted.{AreFitted, HaveNames, IsFittedOutput, IsGroupsRefusal};
+ghost use Rattle.cb_file_kinds.specs.Ending.{outcome_of};
 
-use crate::judge::matrix_of;
+use cb_burst::matrix_of;
 use cb_codes::Groups;
 use cb_decode::{group_name, unknown_among, word_of};
 use cb_file_kinds::Output;

@@ -1,23 +1,18 @@
-//! From a topology to its matrix, and to what is found for raised nodes.
-ghost use Rattle.std.specs.Prelude.{◌≡◌, ◌≤◌, ◌+◌, ℕ, length, IfOk};
+//! The lines of a matrix, and of what is found for raised nodes.
+ghost use Rattle.std.specs.Prelude.{◌≡◌, ◌≤◌, ◌+◌, ℕ, IfOk};
 ghost use Rattle.cb_model.specs.Order.{Rises};
 ghost use Rattle.cb_model.specs.NodeOrder.{node_cmp};
-ghost use Rattle.cb_network.specs.Sound.{problem_limit, symptom_limit};
 ghost use Rattle.cb_change.specs.Costs.{IsOpenCost};
 ghost use Rattle.cb_finding.specs.declared.finding.Finding.{Finding};
-ghost use Rattle.cb_finding.specs.Matrix.{IsMatrix};
 ghost use Rattle.cb_finding.specs.Finding.{IsBurst};
 ghost use Rattle.cb_topo.specs.Numbered.{topology_of};
 ghost use Rattle.cb_report.specs.Lines.{burst_text as text_of_burst};
 ghost use Rattle.cb_outcome.specs.Jobs.{MatrixGives};
 ghost use Rattle.cb_outcome.specs.Outcome.{done};
 
-use cb_cache::Cache;
-use cb_decode::find;
-use cb_graph::Graph;
-use cb_matrix::Matrix;
+use cb_burst::{found_in, matrix_of};
 use cb_model::{List, NodeName};
-use cb_reduce::{least, whole_book};
+use cb_reduce::least;
 use cb_report::{MatrixLines, burst_text};
 use cb_steps::Steps;
 use cb_topo::Topology;
@@ -36,14 +31,7 @@ pub(crate) fn lines_of_burst<L: Ledger>(
     ensures cost { (cost : ℕ) → IsOpenCost (topology_of topology) cost → steps.new ≤ steps.old + cost }
 {
     let matrix = matrix_of(alloc, topology, steps)?;
-    let book = whole_book(alloc, matrix.codes())?;
-    let finding = find(
-        alloc,
-        matrix.columns(),
-        matrix.coded_groups(),
-        &book,
-        raised,
-    )?;
+    let finding = found_in(alloc, &matrix, raised)?;
     burst_text(alloc, &finding)
 }
 
@@ -60,20 +48,4 @@ pub(crate) fn lines_of_matrix<L: Ledger>(
     let least = least(matrix.codes());
     let (columns, groups) = matrix.into_parts();
     MatrixLines::of(alloc, columns, groups, least)
-}
-
-/// The matrix of the topology. The memory of the rows that it is taken from is given back.
-pub(crate) fn matrix_of<L: Ledger>(
-    alloc: Global,
-    topology: Topology,
-    steps: &mut Steps<L>,
-) -> Result<Matrix, AllocError>
-    ensures matrix { IfOk result (λ matrix. IsMatrix (topology_of topology) matrix.columns matrix.groups) }
-    ensures few_columns { IfOk result (λ matrix. length matrix.columns ≤ symptom_limit) }
-    ensures few_groups { IfOk result (λ matrix. length matrix.groups ≤ problem_limit + 1) }
-    ensures cost { (cost : ℕ) → IsOpenCost (topology_of topology) cost → steps.new ≤ steps.old + cost }
-{
-    let graph = Graph::new(alloc, topology)?;
-    let cache = Cache::open(alloc, graph, steps)?;
-    Matrix::of(alloc, &cache)
 }

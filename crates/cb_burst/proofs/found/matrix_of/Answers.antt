@@ -4,7 +4,7 @@ use Rattle.cb_change.proofs.Totals.{every_open_cost}
 use Rattle.cb_finding.specs.Matrix.{IsMatrix}
 use Rattle.cb_topo.specs.Numbered.{Numbered, topology_of}
 use Rattle.cb_matrix.specs.declared.matrix.Matrix.{Matrix}
-use Rattle.cb_network_commands.proofs.judge.matrix_of.Goals as goal
+use Rattle.cb_burst.proofs.found.matrix_of.Goals as goal
 
 pub returns-in_err-cache-clause-cost : goal.returns-in_err-cache-clause-cost
 returns-in_err-cache-clause-cost g c = λ cost is. let same = c.in_err-cache.ensures.steps in omega (arith, same)
