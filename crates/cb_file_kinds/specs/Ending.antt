@@ -5,6 +5,7 @@ use Rattle.cb_outcome.specs.Roles.{Role}
 use Rattle.cb_report.specs.declared.fault.Fault.{Fault}
 use Rattle.cb_report.specs.declared.fault.Fault.TheVariants as faults
 use Rattle.cb_report.specs.Text.{bytes_of_text}
+use Rattle.cb_outcome.specs.Outcome.{Outcome}
 use Rattle.cb_outcome.specs.Judged.{Known, nothing, Refuses, PassFrom}
 use Rattle.cb_outcome.specs.Contents.{Left, Reads, names_of, with_texts, files_from}
 use Rattle.cb_outcome.specs.Command.{Command, reads_of, JobGives}
@@ -61,6 +62,10 @@ pub record StopsAt (reads : Reads) (old new : FilesReport) (fault : Fault) : Typ
 abbrev pub StopsWithin : List (Role × List ℕ) → FilesReport → FilesReport → Fault → Type 0
 StopsWithin files old new fault = (reads : Reads) (later : List (Role × List ℕ)) → reads.judged ≡ files ++ later
     → WantsMemory reads old new fault ⊎ StopsAt reads old new fault
+
+-- the outcome of an output, once the files were read
+abbrev pub outcome_of : Output → ℕ → Outcome
+outcome_of output whole = record { out = bytes_of_text output.text; fault = output.fault; whole = whole }
 
 -- what results from a command
 abbrev pub Comes : Command → FilesReport → FilesReport → Result Output Fault → Type 0

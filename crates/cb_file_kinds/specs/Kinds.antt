@@ -6,6 +6,10 @@ use Rattle.cb_cert.specs.declared.certificate.Certificate.{Certificate}
 use Rattle.cb_validity.specs.declared.verdict.Accepted.{Accepted}
 use Rattle.cb_validity.specs.Valid.{IsValid}
 use Rattle.cb_validity.specs.Verdicts.{Shows}
+use Rattle.cb_levels.specs.declared.levels.Levels.{Levels}
+use Rattle.cb_levels.specs.declared.verdict.Proved.{Proved}
+use Rattle.cb_levels.specs.Checks.{ShowsReach}
+use Rattle.cb_levels.specs.Valid.{AreLevelsOf}
 use Rattle.cb_outcome.specs.Roles.{Role}
 use Rattle.cb_report.specs.declared.fault.Fault.{Fault}
 use Rattle.cb_report.specs.declared.fault.Fault.TheVariants as faults
@@ -68,3 +72,8 @@ StopsReading role name Before old new fault = IsWant fault ⊎ (FailsToRead name
 pub record IsAccepted (t : Topology) (c : Certificate) (accepted : Accepted) : Type 0 where
   pub valid : IsValid t c
   pub shows : Shows t c accepted
+
+-- the levels are those of the problem that is shown, and show this
+pub record AreProved (t : Topology) (levels : Levels) (proved : Proved) : Type 0 where
+  pub valid : AreLevelsOf t proved.root levels
+  pub shows : ShowsReach t levels proved

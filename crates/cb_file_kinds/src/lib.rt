@@ -4,6 +4,7 @@
 mod book_file;
 mod certificate_file;
 mod kind;
+mod levels_file;
 mod model_file;
 mod network;
 mod output;
@@ -13,6 +14,7 @@ mod topology_file;
 pub use book_file::{BookFile, GivenBook, ShownBook};
 pub use certificate_file::CertificateFile;
 pub use kind::{FileKind, read_as};
+pub use levels_file::{LevelsFile, ProvedLevels};
 pub use model_file::{ModelFile, TreeFile};
 pub use network::read_network;
 pub use output::{Output, deliver};
