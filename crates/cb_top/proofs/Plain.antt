@@ -37,7 +37,8 @@ role_ends : (reads : Reads) (role : Role) (status : Status) → HasRole reads ro
 role_ends reads Role.model status has e = subst (FilesMayEnd reads) (sym e) has
 role_ends reads Role.topology status has e = subst (FilesMayEnd reads) (sym e) (inl has)
 role_ends reads Role.symptoms status has e = subst (FilesMayEnd reads) (sym e) (inr has)
-role_ends reads (Role.certificate wanted) status has e = subst (FilesMayEnd reads) (sym e) (wanted, has)
+role_ends reads (Role.certificate wanted) status has e = subst (FilesMayEnd reads) (sym e) (inl (wanted, has))
+role_ends reads Role.levels status has e = subst (FilesMayEnd reads) (sym e) (inr has)
 
 module _ (c : Command) (s : Seen) where
   nameless : (fault : Fault) → NamesNoFile fault → NamesFileWord c (Some fault)

@@ -5,6 +5,9 @@ ghost use Rattle.cb_outcome.specs.Command.{file_words};
 ghost use Rattle.cb_log_commands.specs.Ways.{Ends};
 ghost use Rattle.cb_file_kinds.specs.Ending.{wrong};
 
+use cb_chain_commands::explain::explain;
+use cb_chain_commands::levels::levels;
+use cb_chain_commands::prove::prove;
 use cb_file_kinds::deliver;
 use cb_io::{Files, Sink};
 use cb_log_commands::correlate::{Correlation, correlate};
@@ -91,6 +94,21 @@ pub(crate) fn perform<'w, F: Files, O: Sink, L: Ledger>(
             topology,
             symptoms,
         } => deliver(pairs(alloc, files, model, topology, symptoms, steps), out),
+        Request::Explain {
+            model,
+            topology,
+            symptoms,
+        } => deliver(explain(alloc, files, model, topology, symptoms, steps), out),
+        Request::Levels {
+            model,
+            topology,
+            node,
+        } => deliver(levels(alloc, files, model, topology, node, steps), out),
+        Request::Prove {
+            model,
+            topology,
+            levels: name,
+        } => deliver(prove(alloc, files, model, topology, name, steps), out),
         Request::Grow { sites, start } => deliver(grow(alloc, sites, start, steps), out),
     }
 }

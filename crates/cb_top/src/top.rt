@@ -37,8 +37,8 @@ pub fn run<F: Files, O: Sink, E: Sink, L: Ledger>(
     // The line is that of a fault of this status, which names no file but a file word; at 0 there is none.
     ensures line { SaysStatus (command_in words.now) result (seen F.tells O.tells E.tells files.old files.new out.old out.new err.old err.new) }
 
-    // Which words end how, whatever the files have: 2 comes exactly where they are none of the table, 4 only for commands with a topology, and 13 only for
-    // `pairs`.
+    // Which words end how, whatever the files have: 2 comes exactly where they are none of the table, 4 only for commands with a topology, 12 only for
+    // `levels`, and 13 only for `pairs`.
     ensures ends { MayEnd (command_in words.now) result }
     // Nothing is read where no word names a file.
     ensures unread { file_words (command_in words.now) ≡ [] → files.new ≡ files.old }
@@ -57,8 +57,10 @@ pub fn run<F: Files, O: Sink, E: Sink, L: Ledger>(
     // where no more symptoms of one group are lost or spurious than the radius says, that group alone, and it is sure. What
     // `codebook` prints at 0 and at 6 is a valid certificate, and at 6 its line names two groups that are closer than wanted, with their
     // distance. What `pairs` prints at 0 are exactly the nearest guesses, of one group or of two, and within the radius of one exactly those with
-    // its code. Of each window of a log that `correlate` or `decode` follows to 0 the same as of `burst` is said, over the codebook in use, and
-    // each thin line names two groups that are closer than wanted, too. No distance of 1 is refused so.
+    // its code. What `explain` prints at 0 are the groups as those of `burst`, and of each exactly the short chains from its members to the
+    // columns that they cause. What `levels` prints at 0 spells valid levels, and those that `prove` accepts are valid: they list exactly what their
+    // problem causes, each node with its least number of edges. Of each window of a log that `correlate` or `decode` follows to 0 the same as of
+    // `burst` is said, over the codebook in use, and each thin line names two groups that are closer than wanted, too. No distance of 1 is refused so.
     ensures finds { Finds (command_in words.now) result (seen F.tells O.tells E.tells files.old files.new out.old out.new err.old err.new) }
     // No step is counted by `model`, nor where no topology results from the files; by `burst`, `matrix` and `pairs` no more than it costs to search
     // from each problem of the topology; by `correlate` and `grow` no more than that, and again after each edit of the log for the problems that it makes dirty or new, of

@@ -1,0 +1,4 @@
+pub mod Adding
+pub mod Explainable
+pub mod Finding
+pub mod Levelling
