@@ -20,19 +20,19 @@ use std::marker::Brand;
 use std::process::Abort;
 use std::sync::ledger::{Blank, Ledger};
 
-const LINK: &[u8] =
+pub(crate) const LINK: &[u8] =
     b"class Link { problem Cut; symptom Loss; relation ends to Port many inverse on; rule here: Cut => Loss; rule far: Cut => ends.NoSignal; } class Port { problem Fail; symptom NoSignal; relation on to Link one inverse ends; rule down: Fail => NoSignal; }";
 
-const CYCLE: &[u8] =
+pub(crate) const CYCLE: &[u8] =
     b"class Node { problem symptom Sick; relation near to Node many inverse near; rule spread: Sick => near.Sick; }";
 
 const PATH: &[u8] =
     b"class A { problem P; relation mid to B many inverse top; rule r: P => mid.low.S; } class B { relation top to A many inverse mid; relation low to C many inverse up; } class C { symptom S; relation up to B many inverse low; }";
 
-const SITES: &[u8] =
+pub(crate) const SITES: &[u8] =
     b"class Site { problem Power; symptom Dark; relation feeds to Site many inverse fed; relation fed to Site one inverse feeds; rule all: Power => feeds+.Dark; }";
 
-const TWO_PORTS: [&[u8]; 5] = [
+pub(crate) const TWO_PORTS: [&[u8]; 5] = [
     b"create L1 Link",
     b"create a Port",
     b"create b Port",
@@ -40,7 +40,7 @@ const TWO_PORTS: [&[u8]; 5] = [
     b"link b on L1",
 ];
 
-const THREE_NODES: [&[u8]; 5] = [
+pub(crate) const THREE_NODES: [&[u8]; 5] = [
     b"create n1 Node",
     b"create n2 Node",
     b"create n3 Node",

@@ -8,6 +8,10 @@ mod cert;
 #[cfg(test)]
 mod certificates;
 #[cfg(test)]
+mod chains;
+#[cfg(test)]
+mod explained;
+#[cfg(test)]
 mod logs;
 #[cfg(test)]
 mod made_up;

@@ -363,7 +363,7 @@ fn each_call_fails_in_turn(rt: HostRuntime) -> Result<(), Fail> {
 #[test]
 fn words_are_a_command_or_not(rt: HostRuntime) -> Result<(), Fail> {
     const USAGE: (u8, &str) = (2, "error 2 usage\n");
-    let cases: [(&[&str], (u8, &str)); 14] = [
+    let cases: [(&[&str], (u8, &str)); 19] = [
         (&[], USAGE),
         (&["burst", "m", "t"], USAGE),
         (&["Burst", "m", "t", "s"], USAGE),
@@ -378,6 +378,11 @@ fn words_are_a_command_or_not(rt: HostRuntime) -> Result<(), Fail> {
         (&["grow", "257", "0"], USAGE),
         (&["grow", "0", "7"], USAGE),
         (&["grow", "4", "18446744073709551616"], USAGE),
+        (&["explain", "m", "t"], USAGE),
+        (&["levels", "m", "t", "Sick"], USAGE),
+        (&["levels", "m", "t", "Sick@n1@n2"], USAGE),
+        (&["levels", "m", "t", "rule@n1"], USAGE),
+        (&["prove", "m", "t"], USAGE),
     ];
     for (words, (code, err)) in cases {
         let case = Case {
