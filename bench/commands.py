@@ -18,8 +18,11 @@ import tempfile
 import measure
 from model import full_model, long_model
 
-# Which commands are measured on which networks. A codebook is asked for at the distance that stands with it, and its certificate is verified.
+# Which commands are measured on which networks. A codebook is asked for at the distance that stands with it, and its certificate is verified. What is explained are the
+# alarms of the problem that stands with the network, so that few problems are listed; and the levels of that problem are written and proved.
 ANSWERED = (("ring", 2048), ("limits", 2048), ("random", 8192), ("dense", 8192), ("chain", 8192), ("mesh", 8192))
+EXPLAINED = (("ring", 2048, "Dead@b0"), ("random", 8192, "P@c0"), ("chain", 8192, "Power@s8000"))
+LEVELLED = (("ring", 2048, "Dead@b0"), ("random", 8192, "P@c0"), ("chain", 8192, "Power@s0"), ("mesh", 8192, "Sick@n0"))
 CERTIFIED = (("ring", 2048, 1), ("random", 4000, 1), ("dense", 2000, 4), ("dense", 4000, 4), ("chain", 1000, 1), ("mesh", 1024, 1))
 
 # Sites that feed one another, in a row or in a cycle, the first of which alone has a problem, by a rule with a plus. Reading taken off, twice the sites are to take twice
@@ -119,6 +122,22 @@ def paired(words, folder, causes, signs, share):
     line(words, ["pairs", "m", "t", "s"], f"{causes} problems, {share} of 1,000 of {signs:,} symptoms", folder)
 
 
+def problem_levels(words, folder, node):
+    return least(words.peer, ["levels", "m", "t", node], folder)[1]
+
+
+def explained(words, folder, kind, sites, node):
+    make(words, folder, kind, sites)
+    (folder / "s").write_text("".join(f"{text.split()[1]}\n" for text in problem_levels(words, folder, node).decode().splitlines() if text.startswith("node ")))
+    line(words, ["explain", "m", "t", "s"], f"{kind} {sites:,}, the alarms of {node}", folder)
+
+
+def levelled(words, folder, kind, sites, node):
+    make(words, folder, kind, sites)
+    (folder / "v").write_bytes(line(words, ["levels", "m", "t", node], f"{kind} {sites:,}, {node}", folder))
+    line(words, ["prove", "m", "t", "v"], f"{kind} {sites:,}, {node}", folder)
+
+
 def repeated(words, folder, kind, sites):
     links = sites if kind == "cycle" else sites - 1
     made = ["create s0 Source\n", *(f"create s{k} Site\n" for k in range(1, sites))]
@@ -160,7 +179,7 @@ def main():
         return
     models = (("1,024 classes", full_model()), ("16 MiB of classes", long_model(False)))
     print("| Command | Network | Seconds | Other | Ratio | MiB | Other | Ratio | Million instructions | Other | Ratio |\n|---|---|---|---|---|---|---|---|---|---|---|")
-    for measured, inputs in ((answered, ANSWERED), (paired, PAIRED), (repeated, RUNS), (certified, CERTIFIED), (followed, LOGS), (grown, GROWN), (checked, models)):
+    for measured, inputs in ((answered, ANSWERED), (paired, PAIRED), (explained, EXPLAINED), (levelled, LEVELLED), (repeated, RUNS), (certified, CERTIFIED), (followed, LOGS), (grown, GROWN), (checked, models)):
         for asked in inputs:
             with tempfile.TemporaryDirectory() as name:
                 measured(words, pathlib.Path(name), *asked)

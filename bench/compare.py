@@ -1,11 +1,12 @@
 #!/usr/bin/env python3
 """Compares answers on random inputs, good and faulty, with another program that has the same command line.
 
-    bench/compare.py --peer PROGRAM [--program PROGRAM] [--seed N] [--lines N] [--plus] [RUNS]
+    bench/compare.py --peer PROGRAM [--program PROGRAM] [--seed N] [--lines N] [--plus] [--only COMMAND] [RUNS]
 
 Each run makes a model text (some of them with a fault in their spelling or in their types), a topology with edits of all
-six kinds, some of them refused, a symptom file, a certificate (of the other program, mostly damaged, and now and then of another topology) and a log, hands them to both
-programs by one command line or by as many as are asked for, and compares the status, the output and the line on standard error. The seeds are N and those behind it, one a run: space two calls by their RUNS. With --plus each model has a place with a plus, or would have one but for its fault. It ends with status 1 where two answers differ, and says
+six kinds, some of them refused, a symptom file, a certificate and levels (of the other program, mostly damaged, and now and then of another topology) and a log, hands them to both
+programs by one command line or by as many as are asked for, and compares the status, the output and the line on standard error. The seeds are N and those behind it, one a run: space two calls by their RUNS. With --plus each model has a place with a plus, or would have one but for its fault, and with --only
+all command lines are of that command. It ends with status 1 where two answers differ, and says
 nothing but a word where the other program isn't there. The program is built by the gate, or by `rt run` in crates/cb_cli, which leave it
 in out/.
 """
@@ -179,6 +180,13 @@ class Network:
             return f"{self.rng.choice(events)}@{name}"
         return f"e{self.rng.randrange(12)}@{name}"
 
+    def problem(self):
+        """A problem of an instance, mostly; else any node, or a word that is none."""
+        found = [f"{m[1]}@{name}" for name, one in self.live.items() for c in one.line() for m in c.members if m[0] == "event" and "problem" in m[2]]
+        if found and self.rng.random() < 0.9:
+            return self.rng.choice(found)
+        return self.node() if self.rng.random() < 0.8 else self.rng.choice(("", "e0", "e0@", "@i0", "e0@i0@i1", "class@i0", "e0@i0 ", "m", "-"))
+
     def create(self):
         one = self.rng.choice(self.classes) if self.classes else None
         name = f"i{self.rng.randrange(12)}"
@@ -291,7 +299,7 @@ def accepted_only(rng, peer, folder, text):
     return "\n".join(lines)
 
 
-def words_of(rng):
+def words_of(rng, network):
     if rng.random() < 0.02:
         return rng.choice(
             (
@@ -299,6 +307,9 @@ def words_of(rng):
                 ["model"],
                 ["burst", "m", "t"],
                 ["pairs", "m", "t"],
+                ["explain", "m", "t"],
+                ["levels", "m", "t"],
+                ["prove", "m", "t"],
                 ["matrix", "m"],
                 ["nothing", "m"],
                 ["codebook", "m", "t", "0"],
@@ -323,12 +334,19 @@ def words_of(rng):
             ["burst", "m", "t", "s"],
             ["pairs", "m", "t", "s"],
             ["pairs", "m", "t", "s"],
+            ["explain", "m", "t", "s"],
+            ["explain", "m", "t", "s"],
+            ["levels", "m", "t", network.problem()],
+            ["levels", "m", "t", network.problem()],
+            ["prove", "m", "t", "v"],
+            ["prove", "m", "t", "v"],
+            ["prove", "m", "t", "v"],
         )
     )
 
 
 def damaged(rng, text):
-    """The lines of a certificate with one of them changed, left out, doubled or moved, or a number in it."""
+    """The lines of a certificate, or of levels, with one of them changed, left out, doubled or moved, or a number in it."""
     lines = text.split("\n")
     at = rng.randrange(len(lines))
     match rng.randrange(6):
@@ -343,8 +361,10 @@ def damaged(rng, text):
         case _:
             words = lines[at].split(" ")
             # The other program knows a second form of certificates, whose header has another number.
-            if words[-1].isdecimal() and at > 0:
-                words[-1] = str(max(0, int(words[-1]) + rng.choice((-1, 1, 1, 2, 70000))))
+            numbers = [place for place, word in enumerate(words) if word.isdecimal() and at > 0]
+            if numbers:
+                place = rng.choice(numbers)
+                words[place] = str(max(0, int(words[place]) + rng.choice((-1, 1, 1, 2, 70000))))
             else:
                 words[-1] += rng.choice(("", " ", "x", "\r"))
             lines[at] = " ".join(words)
@@ -354,6 +374,15 @@ def damaged(rng, text):
 def certificate_text(rng, peer, folder):
     """A certificate of the network, by the other program, now and then damaged."""
     _, out, _ = answer(peer, ["codebook", "m", "t", str(rng.choice((1, 1, 2, 3)))], folder)
+    text = out.decode()
+    for _ in range(rng.choice((0, 1, 1, 1, 2))):
+        text = damaged(rng, text)
+    return text
+
+
+def levels_text(rng, network, peer, folder):
+    """The levels of a problem, by the other program, mostly damaged."""
+    _, out, _ = answer(peer, ["levels", "m", "t", network.problem()], folder)
     text = out.decode()
     for _ in range(rng.choice((0, 1, 1, 1, 2))):
         text = damaged(rng, text)
@@ -391,11 +420,14 @@ def compare(program, peer, rng, folder, words):
         topology = accepted_only(rng, peer, folder, topology)
     (folder / "t").write_text(topology, newline="")
     (folder / "c").write_text(certificate_text(rng, peer, folder), newline="")
+    (folder / "v").write_text(levels_text(rng, network, peer, folder), newline="")
     if rng.random() < 0.2:
         (folder / "t").write_text(edited_since(rng, network, peer, folder, topology), newline="")
     (folder / "l").write_bytes(log_text(rng, network).encode("latin-1"))
     for _ in range(words.lines):
-        command = words_of(rng)
+        command = words_of(rng, network)
+        while words.only and command[:1] != [words.only]:
+            command = words_of(rng, network)
         yield command, answer(program, command, folder), answer(peer, command, folder)
 
 
@@ -406,6 +438,7 @@ def main():
     parser.add_argument("--seed", type=int, default=1)
     parser.add_argument("--lines", type=int, default=1, help="how many command lines are tried on each network")
     parser.add_argument("--plus", action="store_true", help="only models with a plus in a path")
+    parser.add_argument("--only", help="the command of all command lines")
     parser.add_argument("runs", type=int, nargs="?", default=1000)
     words = parser.parse_args()
     if words.peer is None or not words.peer.exists():

@@ -23,7 +23,7 @@ import termios
 import time
 
 ROOT = pathlib.Path(__file__).resolve().parent.parent
-COMMANDS = "burst codebook correlate decode grow matrix model pairs verify".split()
+COMMANDS = "burst codebook correlate decode explain grow levels matrix model pairs prove verify".split()
 FILES = ["a:b.model", "folder", "ring.model", "ring.topology", "two words.log"]
 RING = ["ring.model", "ring.topology"]
 CASES = (
@@ -42,6 +42,16 @@ CASES = (
     ("jeknaule matrix - ", FILES),
     ("jeknaule pairs ring.model ring.topology ", [*FILES, "-"]),
     ("jeknaule pairs ring.model ring.topology - ", []),
+    ("jeknaule explain ring.model ring.topology ", [*FILES, "-"]),
+    ("jeknaule explain ring.model ring.topology - ", []),
+    ("jeknaule ex", ["explain"]),
+    ("jeknaule levels ring.model ", [*FILES, "-"]),
+    ("jeknaule levels ring.model ring.topology ", []),
+    ("jeknaule levels ring.model ring.topology ri", []),
+    ("jeknaule levels ring.model ring.topology Cut@x ", []),
+    ("jeknaule prove ring.model ring.topology ri", RING),
+    ("jeknaule prove ring.model - ", FILES),
+    ("jeknaule prove ring.model ring.topology - ", []),
     ("jeknaule matrix ring.model ring.topology ", []),
     ("jeknaule codebook ring.model ", [*FILES, "-"]),
     ("jeknaule codebook ring.model ring.topology ", []),

@@ -43,6 +43,12 @@ COMMANDS = [
     ["burst"],
     ["matrix", "link.model", "link.topology"],
     ["pairs", "row.model", "row.topology", "row.symptoms"],
+    ["explain", "row.model", "row.topology", "row.symptoms"],
+    ["explain", PUMPS / "pump.model", PUMPS / "plant.topology", PUMPS / "night.symptoms"],
+    ["levels", "link.model", "link.topology", "Cut@L1"],
+    ["levels", "link.model", "link.topology", "Loss@L1"],
+    ["prove", "link.model", "link.topology", "link.levels"],
+    ["prove", "link.model", "link.topology", "fixed.log"],
     ["codebook", "link.model", "link.topology", "1"],
     ["codebook", "link.model", "link.topology", "2"],
     ["verify", "link.model", "link.topology", "link.certificate"],
@@ -151,7 +157,7 @@ FILES = {
 }
 
 # Files that the program writes itself before it is disturbed.
-WRITTEN = {"link.certificate": "1", "thin.certificate": "2"}
+WRITTEN = {"link.certificate": ("codebook", "1"), "thin.certificate": ("codebook", "2"), "link.levels": ("levels", "Cut@L1")}
 
 # What `correlate` is to print for some of the logs.
 ANSWERS = {
@@ -263,8 +269,8 @@ def main():
         subprocess.run(["gcc", "-shared", "-fPIC", "-O1", "-o", shim, ROOT / "bench" / "failing.c"], check=True)
         for file, lines in FILES.items():
             (folder / file).write_text("".join(f"{line}\n" for line in lines))
-        for file, distance in WRITTEN.items():
-            made = subprocess.run([program, "codebook", "link.model", "link.topology", distance], cwd=folder, capture_output=True, check=False)
+        for file, (asked, word) in WRITTEN.items():
+            made = subprocess.run([program, asked, "link.model", "link.topology", word], cwd=folder, capture_output=True, check=False)
             (folder / file).write_bytes(made.stdout)
         all_tried = all_wrong = 0
         for command in COMMANDS:

@@ -3,8 +3,8 @@
 
     bench/fuzz.py --peer PROGRAM [--program PROGRAM] [--runs N] [--seed N] [--jobs N] [--keep FOLDER]
 
-The valid files are those of examples/, small ones of its own, and what is made of both: a log of each network's alarms and edits, and its certificates,
-by the other program. Each run takes a command with its files, and changes one or two of these by one to four steps: bits, bytes and ranges of bytes, lines
+The valid files are those of examples/, small ones of its own, and what is made of both: a log of each network's alarms and edits, and its certificates
+and levels, by the other program. Each run takes a command with its files, and changes one or two of these by one to four steps: bits, bytes and ranges of bytes, lines
 and tokens are changed, removed, repeated, moved or exchanged; a line, or the rest of a file, is taken over from another file of its kind; a number becomes
 one at a limit; a line or a name gets as long as it may be and one longer; NUL, bytes that are no UTF-8, CR and CRLF are put in; a log gets odd JSON. Now and
 then a word is odd, or names another file, or none that is there. Both programs run on these files. Wanted are the same status, of those that the program
@@ -30,16 +30,19 @@ import tempfile
 from failing import FILES
 
 ROOT = pathlib.Path(__file__).resolve().parent.parent
-STATUSES = (0, 2, 3, 4, 5, 6, 7, 8)
+STATUSES = (0, 2, 3, 4, 5, 6, 7, 8, 12, 13)
 CHUNK = 100
 
-# The words of each command. A word of one letter in KINDS is a file of that kind.
-KINDS = {"m": "model", "t": "topology", "s": "symptoms", "c": "certificate", "l": "log"}
+# The words of each command. A word of one letter in KINDS is a file of that kind, and NODE is a problem of the network.
+KINDS = {"m": "model", "t": "topology", "s": "symptoms", "c": "certificate", "v": "levels", "l": "log"}
 COMMANDS = (
     ("model", "m"),
     ("burst", "m", "t", "s"),
     ("matrix", "m", "t"),
     ("pairs", "m", "t", "s"),
+    ("explain", "m", "t", "s"),
+    ("levels", "m", "t", "NODE"),
+    ("prove", "m", "t", "v"),
     ("codebook", "m", "t", "DISTANCE"),
     ("verify", "m", "t", "c"),
     ("correlate", "m", "t", "l", "DISTANCE", "WINDOW"),
@@ -47,7 +50,8 @@ COMMANDS = (
 )
 DISTANCES = ("1", "1", "1", "2", "3", "9999")
 WINDOWS = ("10", "10", "60", "1", "1000000000000")
-ODD_FILES = ("m", "t", "s", "c", "l", "./m", "./t", "-", ".", "nothing", "")
+ODD_FILES = ("m", "t", "s", "c", "v", "l", "./m", "./t", "-", ".", "nothing", "")
+ODD_NODES = ("", "@", "e@", "@i", "e@i", "e@i@i", "class@i", "e @i", "-", "m", "e" * 64 + "@i", "e" * 63 + "@" + "i" * 63)
 ODD_WORDS = ("0", "01", "", "-1", "+1", "1 ", "10000", "1000000000001", "18446744073709551616", "\N{DIGIT ONE}\N{COMBINING ENCLOSING KEYCAP}", "x")
 
 ODD_BYTES = [bytes([byte]) for byte in b"\0\n\r\t #@{};:.=>+-_/\"\\[],'0aZ\x7f\x80\xc0\xff"] + [b"\r\n", b"\n\n", b"\xc3\xa9", b"\xed\xa0\x80", b"\xef\xbb\xbf"]
@@ -224,7 +228,7 @@ ON_ANY = (
     *(with_lines(change) for change in (remove_line, repeat_line, move_line, move_line, cut_lines, borrow_line, borrow_line, splice, lengthen_line, comment_line)),
     *(remove_token, repeat_token, exchange_tokens, exchange_tokens, borrow_token, borrow_token, borrow_token, lengthen_token, put_number, put_number),
 )
-CHANGES = {kind: ON_ANY + (put_value,) * 4 * (kind == "l") + (put_number,) * 4 * (kind == "c") for kind in KINDS}
+CHANGES = {kind: ON_ANY + (put_value,) * 4 * (kind == "l") + (put_number,) * 4 * (kind in ("c", "v")) for kind in KINDS}
 
 
 def lines_of(lines):
@@ -277,6 +281,9 @@ class Fuzzer:
         self.networks = networks()
         for files in self.networks:
             files["c"] += self.certificates(files) or [b"codebook certificate 1\nkind book\ndistance 3\nnodes 0\ncolumns 0\nspans 0\nend\n"]
+            files["NODE"] = self.problems() or ["P@n1"]
+            made = (self.answer(self.peer, ["levels", "m", "t", node])[1] for node in files["NODE"])
+            files["v"] += [out for out in made if out] or [b"codebook levels 1\nnodes 1\nnode P@n1\nentries 1\nentry 1 0 0\nend\n"]
 
     def answer(self, program, words):
         done = subprocess.run([program, *words], cwd=self.folder, stdin=subprocess.DEVNULL, capture_output=True, timeout=120, check=False)
@@ -289,6 +296,12 @@ class Fuzzer:
         made = (self.answer(self.peer, ["codebook", "m", "t", distance]) for distance in "123")
         return [out for status, out, _ in made if status in (0, 6)]
 
+    def problems(self):
+        """Some problems of the network whose files were written last."""
+        groups = [line.split()[2:] for line in self.answer(self.peer, ["matrix", "m", "t"])[1].decode().splitlines() if line.startswith("  group ")]
+        found = [word for members in groups for word in members if word != "quiet"]
+        return found[:: max(1, len(found) // 8)]
+
     def words(self, rng):
         """A command line."""
         if rng.random() < 0.005:
@@ -299,11 +312,14 @@ class Fuzzer:
         words = [rng.choice(ODD_WORDS if odd else numbers[word]) if word in numbers else word for word in words]
         if rng.random() < 0.01:
             words[rng.randrange(1, len(words))] = rng.choice(ODD_FILES)
+        if words[-1] == "NODE" and rng.random() < 0.1:
+            words[-1] = rng.choice(ODD_NODES)
         return words
 
     def prepare(self, rng, words):
-        """Writes the files of a run: those of one network, some of them changed. Whether one was changed."""
+        """Writes the files of a run: those of one network, some of them changed, and puts a problem of it for NODE. Whether one was changed."""
         files = {kind: rng.choice(texts) for kind, texts in rng.choice(self.networks).items()}
+        words[:] = [files["NODE"] if word == "NODE" else word for word in words]
         needed = [word.removeprefix("./") for word in words[1:] if word.removeprefix("./") in KINDS]
         valid = dict(files)
         # A fault of an earlier file hides the later ones, so these are changed more often.

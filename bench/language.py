@@ -40,6 +40,7 @@ link uplink ends port-a
 link port-b on uplink
 """
 CHAIN = "class N {\n  problem P;\n  relation next to N one inverse back;\n  relation back to N one inverse next;\n  rule r: P => next.P;\n}\n"
+NEAR = "class N {\n  problem symptom Sick;\n  relation near to N many inverse near;\n  rule spread: Sick => near.Sick;\n}\n"
 BOOK = "book columns 2 of 3 distance 1 radius 0 groups 4"
 ACCEPTED = "accepted book distance 1 radius 0 groups 4 columns 2"
 SURE = "unknown 0 distance 0 radius 0 sure groups 1"
@@ -106,7 +107,8 @@ SKIPPED = (
     ('{"at":1,"edit":"remove uplink"}', "bad-edit"), ("x" * 65537, "long"),
     (" \t\r", None), ('{"at":1,"tick":true,"other":[1]}', None), ('{"at":"x","at":1,"tick":true}', None),
 )
-WORDS = (["burst", "m", "t"], ["pairs", "m", "t"], ["codebook", "m", "t", "0"], ["codebook", "m", "t", "03"], ["codebook", "m", "t", "10000"],
+WORDS = (["burst", "m", "t"], ["pairs", "m", "t"], ["explain", "m", "t"], ["levels", "m", "t"], ["prove", "m", "t"], ["levels", "m", "t", "-"],
+         ["levels", "missing", "t", "Cut"], ["levels", "m", "t", "one@uplink"], ["codebook", "m", "t", "0"], ["codebook", "m", "t", "03"], ["codebook", "m", "t", "10000"],
          ["codebook", "missing", "t", "0"], ["correlate", "m", "t", "empty", "1", str(10**12 + 1)], ["grow", "257", "1"],
          ["grow", "1", str(2**64)], ["--help"], [])
 
@@ -284,6 +286,73 @@ def try_certificates(trial):
     trial.fails(["decode", "m", "t", "thin", "empty", "5"], "", 5, "certificate not-book")
 
 
+def try_chains(trial):
+    """What `explain` prints below its groups."""
+    trial.gives(["explain", "m", "t", "-"], "Loss@uplink\nNoSignal@port-a\nNoSignal@port-b\n",
+                [f"explain raised 3 {SURE}", "  group Cut@uplink", "    chain 1 Cut@uplink NoSignal@port-a",
+                 "    chain 1 Cut@uplink NoSignal@port-b", "    chain 1 Cut@uplink Loss@uplink"])
+    trial.gives(["explain", "m", "t", "empty"], "", [f"explain raised 0 {SURE}", "  group quiet"])
+    # Chains lead through a muted node and end at columns; a problem that is a column is a chain by itself.
+    trial.write("near", NEAR)
+    row = [*(f"create n{i} N" for i in range(3)), "link n0 near n1", "link n1 near n2"]
+    trial.gives(["explain", "near", "-", "empty"], "\n".join([*row, "mute Sick@n1"]), [f"explain raised 0 {SURE}", "  group quiet"])
+    trial.write("raised", "Sick@n0\nSick@n2\n")
+    trial.gives(["explain", "near", "-", "raised"], "\n".join([*row, "mute Sick@n1"]),
+                [f"explain raised 2 {SURE}", "  group Sick@n0 Sick@n1 Sick@n2", "    chain 0 Sick@n0", "    chain 2 Sick@n0 Sick@n1 Sick@n2",
+                 "    chain 1 Sick@n1 Sick@n0", "    chain 1 Sick@n1 Sick@n2", "    chain 2 Sick@n2 Sick@n1 Sick@n0", "    chain 0 Sick@n2"])
+    # A run of links is one edge.
+    trial.write("runs", "class S { problem p; symptom d; relation peer to S one inverse back; relation back to S one inverse peer; rule r: p => peer+.d; }")
+    trial.gives(["explain", "runs", "-", "empty"], "", [f"explain raised 0 {SURE}", "  group quiet"])
+    trial.write("raised", "d@b\nd@c\n")
+    trial.gives(["explain", "runs", "-", "raised"], "create a S\ncreate b S\ncreate c S\nlink a peer b\nlink b peer c\n",
+                [f"explain raised 2 {SURE}", "  group p@a", "    chain 1 p@a d@b", "    chain 1 p@a d@c"])
+
+
+def try_levels(trial):
+    """Levels of a problem, and each fault of them, as a text and as a claim."""
+    trial.gives(["levels", "m", "t", "Cut@uplink"], "",
+                ["codebook levels 1", "nodes 4", "node NoSignal@port-a", "node NoSignal@port-b", "node Cut@uplink", "node Loss@uplink",
+                 "entries 4", "entry 3 0 0", "entry 1 1 1", "entry 2 1 1", "entry 4 1 1", "end"])
+    for node in ("NoSignal@port-a", "Cut@gone", "Gone@uplink"):
+        trial.fails(["levels", "m", "t", node], "", 12, f"problem {node}")
+    trial.fails(["levels", "m", "missing", "Cut@gone"], "", 8, "read missing")
+    trial.fails(["levels", "m", "-", "Cut@gone"], "bad", 4, "topology line 1 bad-words")
+    trial.write("row", "create n0 N\ncreate n1 N\ncreate n2 N\nlink n0 near n1\nlink n1 near n2\n")
+    trial.write("cycle", "create n0 N\ncreate n1 N\ncreate n2 N\nlink n0 near n1\nlink n1 near n2\nlink n2 near n0\n")
+    # Of the two that are as near, the lesser one is the parent.
+    square = "".join(f"create {name} N\n" for name in "abcd") + "link a near b\nlink a near c\nlink d near c\nlink d near b\n"
+    trial.gives(["levels", "near", "-", "Sick@a"], square,
+                ["codebook levels 1", "nodes 4", *(f"node Sick@{name}" for name in "abcd"), "entries 4", "entry 1 0 0", "entry 2 1 1", "entry 3 1 1",
+                 "entry 4 2 2", "end"])
+    row = trial.run(["levels", "near", "row", "Sick@n0"])[1]
+    head, spare = row[: row.index("entries")], row.replace("nodes 3\n", "nodes 4\nnode Sick@m\n")
+
+    def levels(*entries):
+        return f"{head}entries {len(entries)}\n" + "".join(f"entry {entry}\n" for entry in entries) + "end\n"
+
+    trial.wants("levels", row, levels("1 0 0", "2 1 1", "3 2 2"))
+    for text in (row, row[:-1]):
+        trial.gives(["prove", "near", "row", "-"], text, ["accepted levels Sick@n0 reached 3 deepest 2"])
+    for text, fault in (
+        ("codebook certificate 1\n", "bad-header"), ("", "truncated"), (row[:-5], "truncated"), (row + "x", f"extra line {row.count(chr(10)) + 1}"),
+        (row.replace("entries 3", "entries 03"), "bad-line line 6"), (row.replace("\nentry 1 0 0", "\nentry 1 0"), "bad-line line 7"),
+        (row.replace("nodes 3", "nodes 65537"), "bad-line line 2"), (row.replace("entry 3 2 2", "entry 4 2 2"), "bad-line line 9"),
+        (spare, "bad-node place 1"), (row.replace("node Sick@n1", "node Sick@n0"), "bad-node place 2"),
+        (levels("1 1 0", "2 1 1", "3 2 2"), "bad-root entry 1"), (levels("1 0 1", "2 1 1", "3 2 2"), "bad-root entry 1"),
+        (levels("1 0 0", "2 1 2", "3 2 2"), "bad-parent entry 2"), (levels("1 0 0", "2 1 0", "3 2 2"), "bad-parent entry 2"),
+        (levels("1 0 0", "2 1 1", "3 1 1"), "no-edge entry 3"), (levels("1 0 0", "2 1 1", "1 2 2"), "repeated entry 3"),
+        (levels("1 0 0", "2 1 1", "3 1 2"), "bad-level entry 3"), (levels("1 0 0", "2 1 1"), "not-closed entry 2 successor Sick@n2"),
+        # The first fault is that of the earlier entry, though a later one breaks an earlier check.
+        (levels("1 0 0", "2 2 1", "3 2 3"), "bad-level entry 2"),
+    ):
+        trial.fails(["prove", "near", "row", "-"], text, 5, f"levels {fault}")
+    trial.fails(["prove", "near", "cycle", "-"], row, 5, "levels not-short entry 1 successor Sick@n2")
+    trial.fails(["verify", "near", "row", "-"], row, 5, "certificate bad-header")
+    trial.fails(["prove", "m", "t", "c"], "", 5, "levels bad-header")
+    trial.fails(["prove", "m", "t", "-"], "x" * 33554433, 7, "limit bytes -")
+    trial.fails(["prove", "m", "t", "-"], "x" * 4097, 7, "limit line - 1")
+
+
 def try_logs(trial):
     """Records, windows, diagnoses and codebooks."""
     correlate, decode = ["correlate", "m", "t", "-", "1", "10"], ["decode", "m", "t", "c", "-", "10"]
@@ -331,7 +400,7 @@ def main():
         trial = Trial(program, pathlib.Path(folder))
         for name, text in (("m", MODEL), ("t", TOPOLOGY), ("empty", "")):
             trial.write(name, text)
-        for part in (try_texts, try_statuses, try_certificates, try_logs):
+        for part in (try_texts, try_statuses, try_certificates, try_chains, try_levels, try_logs):
             part(trial)
     page, printed = (ROOT / "docs" / "language.md").read_text(), "\n".join(trial.printed)
     patterns = dict(lines_of(page))

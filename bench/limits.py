@@ -27,6 +27,10 @@ ALIVE = "class Alive { problem P; symptom S; rule r: P => S; }\n"
 SITE = """class Site { symptom Dark; relation feeds to Site many inverse fed; relation fed to Site one inverse feeds; }
 class Source extends Site { problem Power; rule all: Power => feeds+.Dark; }
 """
+PASSED = """class Site { symptom Dark; event Low; relation feeds to Site many inverse fed; relation fed to Site one inverse feeds;
+  rule passes: Low => feeds.Low; rule dark: Low => Dark; }
+class Source extends Site { problem Power; rule own: Power => Low; }
+"""
 PATH = "class Long { problem P; symptom S; relation a to Long one inverse b; relation b to Long one inverse a; rule r: P => %sS; }\n"
 
 MEBI = 1 << 20
@@ -57,6 +61,11 @@ def book(spans, entries):
     """The lines of a certificate with so many spans of so many entries each."""
     head = "codebook certificate 1\nkind book\ndistance 1\nnodes 1\nnode P@n0\ncolumns 0\n"
     return head + f"spans {spans}\n" + (f"span {entries}\nentry 1 0\n" + "entry 1 1\n" * (entries - 1)) * spans + "end\n"
+
+
+def levels(entries):
+    """The lines of levels with so many entries of one node."""
+    return f"codebook levels 1\nnodes 1\nnode P@n0\nentries {entries}\nentry 1 0 0\n" + "entry 1 1 1\n" * (entries - 1) + "end\n"
 
 
 def cases():
@@ -92,6 +101,16 @@ def cases():
     yield "1,050,625 entries", codebook, {"m": NODE, "t": circle(1025)}, 7, "error 7 limit entries"
     yield "certificate with 1,048,576 entries", verify, {**alive, "c": book(16, 65_536)}, 5, "error 5 certificate no-edge entry 2"
     yield "certificate with 17 spans of 65,536", verify, {**alive, "c": book(17, 65_536)}, 5, f"error 5 certificate too-many-entries line {7 + 16 * 65_537 + 1}"
+    prove = ["prove", "m", "t", "v"]
+    yield "levels of 32 MiB", prove, {**alive, "v": "x\n" * (16 * MEBI)}, 5, "error 5 levels bad-header"
+    yield "levels of a byte more", prove, {**alive, "v": "x\n" * (16 * MEBI) + "x"}, 7, "error 7 limit bytes v"
+    yield "levels with a line of 4,097 bytes", prove, {**alive, "v": "x" * 4097 + "\n"}, 7, "error 7 limit line v 1"
+    yield "levels with 65,536 entries", prove, {**alive, "v": levels(65_536)}, 5, "error 5 levels no-edge entry 2"
+    yield "levels with 65,537 entries", prove, {**alive, "v": levels(65_537)}, 5, "error 5 levels bad-line line 4"
+    yield "levels of 8,192 nodes", ["levels", "m", "t", "Sick@n0"], {"m": NODE, "t": circle(8_192)}, 0, "entries 8192"
+    raised = "".join(f"Dark@n{k}\n" for k in range(1_024))
+    longest = "    chain 1025 Power@n0 " + " ".join(f"Low@n{k}" for k in range(1_024)) + " Dark@n1023"
+    yield "chains of 4 MB", ["explain", "m", "t", "s"], {"m": PASSED, "t": row(1_024, False), "s": raised}, 0, longest
     for groups, due, line in ((128, 0, "  fit P@n0"), (129, 13, "error 13 groups 129")):
         files = {"m": ALIVE, "t": created(groups - 1, "Alive"), "s": "S@n0\n"}
         yield f"pairs of {groups} groups", ["pairs", "m", "t", "s"], files, due, line

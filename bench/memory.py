@@ -35,6 +35,9 @@ COMMANDS = [
     ["burst", "m", "t", "s"],
     ["matrix", "m", "t"],
     ["pairs", "m", "t", "s"],
+    ["explain", "m", "t", "s"],
+    ["levels", "m", "t", "Cut@L0"],
+    ["prove", "m", "t", "v"],
     ["codebook", "m", "t", "1"],
     ["codebook", "m", "t", "2"],
     ["verify", "m", "t", "c"],
@@ -143,6 +146,7 @@ def main():
         write(folder, "s", [f"NoSignal@a{k}" for k in range(0, words.size, 3)])
         write(folder, "l", log(words.size))
         (folder / "c").write_bytes(run(program, ["codebook", "m", "t", "1"], folder).out)
+        (folder / "v").write_bytes(run(program, ["levels", "m", "t", "Cut@L0"], folder).out)
         least = least_limit(program, folder)
         print(f"the program is reached from {least >> 10:,} KiB on")
         counts = sum((tried(words, command, folder, least) for command in COMMANDS), collections.Counter())

@@ -51,6 +51,7 @@ SPOILT = {
     "uncaused": ("if (!(c in caused))", "if (c in caused)"),
     "unlinked": ("linked[$4, inverse($2, $3)]", ""),
     "webhook.jq": ("and $was[$alert.label] != $alert.since", ""),
+    "why": ("if (!($NF in up)) print", "if ($NF in up) print"),
     "window-alarms": (".at < $opened + $length", ".at <= $opened + $length"),
 }
 
