@@ -26,11 +26,11 @@ const LONG_WAY: &str =
     "codebook levels 1\nnodes 3\nnode Sick@n1\nnode Sick@n2\nnode Sick@n3\nentries 3\nentry 1 0 0\nentry 2 1 1\nentry 3 2 2\nend\n";
 
 // Asks with the model, the topology, and a third word, which names a file with the text, if it is `f`.
-fn asks(
+fn asks<'a>(
     rt: &(impl Abort + MayCount),
     alloc: Global,
-    (command, word, text): (&str, &str, &str),
-    (model, topology): (&str, &str),
+    (command, word, text): (&'a str, &'a str, &'a str),
+    (model, topology): (&'a str, &'a str),
     wanted: &Wanted<'_>,
 ) -> Result<(), AllocError> {
     let case = Case {
