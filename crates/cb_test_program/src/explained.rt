@@ -1,8 +1,5 @@
 //! The commands `explain`, `levels` and `prove`.
 use crate::top::{Case, Wanted, check};
-use cb_steps::MayCount;
-use std::alloc::{AllocError, Global};
-use std::process::Abort;
 use std::test::Fail;
 
 // A box that is dead shuts down its ports.
@@ -24,24 +21,6 @@ const RING: &str =
 // The levels of a chain that isn't the shortest.
 const LONG_WAY: &str =
     "codebook levels 1\nnodes 3\nnode Sick@n1\nnode Sick@n2\nnode Sick@n3\nentries 3\nentry 1 0 0\nentry 2 1 1\nentry 3 2 2\nend\n";
-
-// Asks with the model, the topology, and a third word, which names a file with the text, if it is `f`.
-fn asks<'a>(
-    rt: &(impl Abort + MayCount),
-    alloc: Global,
-    (command, word, text): (&'a str, &'a str, &'a str),
-    (model, topology): (&'a str, &'a str),
-    wanted: &Wanted<'_>,
-) -> Result<(), AllocError> {
-    let case = Case {
-        words: &[command, "m", "t", word],
-        files: &[("m", model), ("t", topology), ("f", text)],
-        piece: 0,
-        failing_read: 0,
-        failing_write: 0,
-    };
-    check(rt, alloc, &case, wanted)
-}
 
 #[test]
 fn chains_are_listed_below_their_group(rt: HostRuntime) -> Result<(), Fail> {
@@ -68,19 +47,20 @@ fn chains_are_listed_below_their_group(rt: HostRuntime) -> Result<(), Fail> {
             "explain raised 3 unknown 0 distance 0 radius 1 sure groups 1\n  group Sick@n1 Sick@n2 Sick@n3\n    chain 0 Sick@n1\n    chain 1 Sick@n1 Sick@n2\n    chain 1 Sick@n1 Sick@n3\n    chain 2 Sick@n2 Sick@n3 Sick@n1\n    chain 0 Sick@n2\n    chain 1 Sick@n2 Sick@n3\n    chain 1 Sick@n3 Sick@n1\n    chain 2 Sick@n3 Sick@n1 Sick@n2\n    chain 0 Sick@n3\n",
         ),
     ];
-    for (network, symptoms, out) in cases {
+    for ((model, topology), symptoms, out) in cases {
+        let case = Case {
+            words: &["explain", "m", "t", "s"],
+            files: &[("m", model), ("t", topology), ("s", symptoms)],
+            piece: 0,
+            failing_read: 0,
+            failing_write: 0,
+        };
         let wanted = Wanted {
             code: 0,
             out,
             err: "",
         };
-        asks(
-            &rt,
-            rt.alloc(),
-            ("explain", "f", symptoms),
-            network,
-            &wanted,
-        )?;
+        check(&rt, rt.alloc(), &case, &wanted)?;
     }
     Ok(())
 }
@@ -113,9 +93,15 @@ fn levels_are_of_a_problem(rt: HostRuntime) -> Result<(), Fail> {
         ),
         ((SICK, RING), "Sick", 2, "", "error 2 usage\n"),
     ];
-    for (network, node, code, out, err) in cases {
-        let wanted = Wanted { code, out, err };
-        asks(&rt, rt.alloc(), ("levels", node, ""), network, &wanted)?;
+    for ((model, topology), node, code, out, err) in cases {
+        let case = Case {
+            words: &["levels", "m", "t", node],
+            files: &[("m", model), ("t", topology)],
+            piece: 0,
+            failing_read: 0,
+            failing_write: 0,
+        };
+        check(&rt, rt.alloc(), &case, &Wanted { code, out, err })?;
     }
     Ok(())
 }
@@ -154,9 +140,15 @@ fn levels_are_proved_or_rejected(rt: HostRuntime) -> Result<(), Fail> {
         ),
         ((SICK, RING), "", 5, "", "error 5 levels truncated\n"),
     ];
-    for (network, text, code, out, err) in cases {
-        let wanted = Wanted { code, out, err };
-        asks(&rt, rt.alloc(), ("prove", "f", text), network, &wanted)?;
+    for ((model, topology), text, code, out, err) in cases {
+        let case = Case {
+            words: &["prove", "m", "t", "l"],
+            files: &[("m", model), ("t", topology), ("l", text)],
+            piece: 0,
+            failing_read: 0,
+            failing_write: 0,
+        };
+        check(&rt, rt.alloc(), &case, &Wanted { code, out, err })?;
     }
     Ok(())
 }
