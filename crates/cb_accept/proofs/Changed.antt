@@ -9,7 +9,7 @@ use Rattle.cb_model.specs.declared.tables.Tables.{Tables}
 use Rattle.cb_model.specs.Order.{name_cmp}
 use Rattle.cb_model.proofs.Rising.{name_cmp_total, name_cmp_exact}
 use Rattle.cb_network.specs.Topology.{Topology, empty_topology, IsLive, HasClass}
-use Rattle.cb_network.specs.Nodes.{IsNodeOf, IsProblem, IsSymptomNode, IsCount, IsWithin}
+use Rattle.cb_network.specs.Nodes.{IsNodeOf, IsProblem, IsSymptomNode, IsCount, IsCountWithin}
 use Rattle.cb_network.specs.Sound.{Sound, node_limit, problem_limit, symptom_limit}
 use Rattle.cb_network.specs.Edits.{with_instance, without_instance}
 use Rattle.cb_network.proofs.Sets.{got_insert, got_remove, decide_key}
@@ -186,5 +186,5 @@ within_of_sound t counts sound are = record {
   symptoms = small (IsSymptomNode t) symptom_limit counts.symptoms sound.few_symptoms are.symptoms;
 }
   where
-    small : (P : NodeName → Type 0) (limit k : ℕ) → IsWithin P limit → IsCount P k → k ≤ limit
+    small : (P : NodeName → Type 0) (limit k : ℕ) → IsCountWithin P limit → IsCount P k → k ≤ limit
     small P limit k (m, count, few) count' = let same = count_is_one P m k count count' in omega arith

@@ -17,23 +17,23 @@ use Rattle.cb_network.specs.declared.edit.EditRefusal.TheVariants.{NoClass, Exis
 use Rattle.cb_network.specs.Topology.{Topology, IsLive, HasLink, IsMuted}
 use Rattle.cb_network.specs.Nodes.{IsNodeOf, IsProblem, IsSymptomNode, IsCount, IsBeyond}
 use Rattle.cb_network.specs.Sound.{IsInverse, instance_limit, node_limit, problem_limit, symptom_limit}
-use Rattle.cb_network.specs.Edits.{number_of, with_instance, node_of, IsRelationAt, HasRelationAt, HasNamedLink, IsWrongKind, IsOneUsedUp, IsOccupied, ChangedIs, Refuses, IsAccepted, IsRefused}
+use Rattle.cb_network.specs.Edits.{refusal_number, with_instance, node_name_of, IsRelationAt, HasRelationAt, HasNamedLink, IsWrongKind, IsOneUsedUp, IsOccupied, ChangedIs, Refuses, IsAccepted, IsRefused}
 use Rattle.cb_network.proofs.Counts.{count_is_one}
 use Rattle.cb_network.proofs.Kept.{class_of}
 use Rattle.cb_network.proofs.Links.{one_inverse}
-use Rattle.cb_instances.specs.Net.{Net, LinkAt, IsMutedAt, IsWhole}
+use Rattle.cb_instances.specs.Net.{Net, LinkAt, IsMutedAt, IsWholeNet}
 use Rattle.cb_accept.specs.declared.counts.NodeCounts.{NodeCounts}
 use Rattle.cb_accept.specs.declared.link.Ends.{Ends}
 use Rattle.cb_accept.specs.declared.mute.Symptom.{Symptom}
 use Rattle.cb_accept.specs.Counts.{AreCounts, AreWithin}
-use Rattle.cb_accept.specs.Refusals.{IsFirstLimit, FitsTarget, AreEnds, IsSymptomNamed}
+use Rattle.cb_accept.specs.Refusals.{IsFirstLimit, FitsTarget, AreEnds, NamesSymptom}
 use Rattle.cb_accept.proofs.Changed.{one_class_of}
 use Rattle.cb_accept.proofs.Looked.{one_name}
 use Rattle.cb_accept.proofs.Members.{one_class, one_relation}
 
 -- no refusal with a number below this holds
 abbrev pub NoneBelow : Topology → Edit → ℕ → Type 0
-NoneBelow t edit k = (other : EditRefusal) → number_of other < k → ¬ Refuses t edit other
+NoneBelow t edit k = (other : EditRefusal) → refusal_number other < k → ¬ Refuses t edit other
 
 -- what has not to be shown since it comes later
 pub later : (P : Type 0) (m k : ℕ) → k ≤ m → m < k → P
@@ -61,14 +61,14 @@ module _ (t : Topology) (a rel b : List ℕ) (k : ℕ) where
   unlink_below live has linked why low holds = holds
 
 module _ (t : Topology) (event name : List ℕ) (k : ℕ) where
-  pub mute_below : (3 < k → IsLive t name) → (9 < k → IsSymptomNode t (node_of event name)) → (10 < k → ¬ IsMuted t (node_of event name))
+  pub mute_below : (3 < k → IsLive t name) → (9 < k → IsSymptomNode t (node_name_of event name)) → (10 < k → ¬ IsMuted t (node_name_of event name))
       → NoneBelow t (Mute event name) k
   mute_below live symptom heard NoInstance low dead = dead (live low)
   mute_below live symptom heard NoSymptom low none = none (symptom low)
   mute_below live symptom heard AlreadyMuted low holds = heard low holds
   mute_below live symptom heard why low holds = holds
 
-  pub unmute_below : (3 < k → IsLive t name) → (9 < k → IsSymptomNode t (node_of event name)) → (11 < k → IsMuted t (node_of event name))
+  pub unmute_below : (3 < k → IsLive t name) → (9 < k → IsSymptomNode t (node_name_of event name)) → (11 < k → IsMuted t (node_name_of event name))
       → NoneBelow t (Unmute event name) k
   unmute_below live symptom muted NoInstance low dead = dead (live low)
   unmute_below live symptom muted NoSymptom low none = none (symptom low)
@@ -81,7 +81,7 @@ at_most : (k limit : ℕ) → ¬ (limit < k) → k ≤ limit
 at_most k limit few = elim (cases_lt limit k) [ inl many ↦ absurd (few many) | inr low ↦ low ]
 
 -- none below the last is none at all
-few_refusals : (why : EditRefusal) → number_of why < 16
+few_refusals : (why : EditRefusal) → refusal_number why < 16
 few_refusals NoClass = omega arith
 few_refusals Exists = omega arith
 few_refusals NoInstance = omega arith
@@ -103,7 +103,7 @@ accepted t edit none why = none why (few_refusals why)
 
 -- links
 
-module _ (n : Net) (typed : WellTyped n.topology.model) (whole : IsWhole n) (a rel b : List ℕ) (ends : Ends) (are : AreEnds n a rel b ends) where
+module _ (n : Net) (typed : WellTyped n.topology.model) (whole : IsWholeNet n) (a rel b : List ℕ) (ends : Ends) (are : AreEnds n a rel b ends) where
   both_live : IsLive n.topology a × IsLive n.topology b
   both_live = (whole.live ends.from a are.from, whole.live ends.to b are.to)
 
@@ -240,7 +240,7 @@ module _ (t : Topology) (name class : List ℕ) where
                 (later _ 14 12 (omega arith)) (later _ 15 12 (omega arith)),
           )
 
-      module _ (room : map.len t.instances < instance_limit) (new : NodeCounts) (are : AreCounts (with_instance t name c) new) where
+      module _ (capacity : map.len t.instances < instance_limit) (new : NodeCounts) (are : AreCounts (with_instance t name c) new) where
         enough_instances : ¬ Refuses t (Create name class) InstanceLimit
         enough_instances many =
             let more = one_more in
@@ -306,20 +306,20 @@ module _ (t : Topology) (a rel b : List ℕ) (live_a : IsLive t a) (live_b : IsL
 -- mutes
 
 module _ (t : Topology) (event name : List ℕ) (live : IsLive t name) where
-  pub no_symptom_to_mute : ¬ IsSymptomNode t (node_of event name) → IsRefused t (Mute event name) NoSymptom
+  pub no_symptom_to_mute : ¬ IsSymptomNode t (node_name_of event name) → IsRefused t (Mute event name) NoSymptom
   no_symptom_to_mute none = (none, mute_below t event name 9 (λ _. live) (later _ 9 9 (omega arith)) (later _ 10 9 (omega arith)))
 
-  pub no_symptom_to_unmute : ¬ IsSymptomNode t (node_of event name) → IsRefused t (Unmute event name) NoSymptom
+  pub no_symptom_to_unmute : ¬ IsSymptomNode t (node_name_of event name) → IsRefused t (Unmute event name) NoSymptom
   no_symptom_to_unmute none = (none, unmute_below t event name 9 (λ _. live) (later _ 9 9 (omega arith)) (later _ 11 9 (omega arith)))
 
-module _ (n : Net) (whole : IsWhole n) (event name : List ℕ) (s : Symptom) (are : IsSymptomNamed n event name s) where
+module _ (n : Net) (whole : IsWholeNet n) (event name : List ℕ) (s : Symptom) (are : NamesSymptom n event name s) where
   lives : IsLive n.topology name
   lives = whole.live s.id name are.named
 
-  mutes : IsMutedAt n s.id s.event → IsMuted n.topology (node_of event name)
+  mutes : IsMutedAt n s.id s.event → IsMuted n.topology (node_name_of event name)
   mutes = subst (IsMuted n.topology) are.symptom.node
 
-  hears : ¬ IsMutedAt n s.id s.event → ¬ IsMuted n.topology (node_of event name)
+  hears : ¬ IsMutedAt n s.id s.event → ¬ IsMuted n.topology (node_name_of event name)
   hears heard is = heard (subst (IsMuted n.topology) (sym are.symptom.node) is)
 
   pub mute_allowed : ¬ IsMutedAt n s.id s.event → IsAccepted n.topology (Mute event name)

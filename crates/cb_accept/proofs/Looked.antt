@@ -16,9 +16,9 @@ use Rattle.cb_model.proofs.Numbers.{all_at}
 use Rattle.cb_model.proofs.Rising.{nothing_in_empty, contains_head}
 use Rattle.cb_network.specs.Topology.{HasClass, HasLink}
 use Rattle.cb_network.specs.Nodes.{IsSymptomNode}
-use Rattle.cb_network.specs.Edits.{node_of, IsRelationAt, HasRelationAt, IsOneUsedUp}
+use Rattle.cb_network.specs.Edits.{node_name_of, IsRelationAt, HasRelationAt, IsOneUsedUp}
 use Rattle.cb_instances.specs.declared.id.InstanceId.{InstanceId}
-use Rattle.cb_instances.specs.Net.{Net, IsNamed, LinkAt, IsWhole, name_at, name_or, name_in_row, event_name}
+use Rattle.cb_instances.specs.Net.{Net, IsNamed, LinkAt, IsWholeNet, name_at, name_or, name_in_row, event_name}
 use Rattle.cb_accept.specs.Refusals.{IsClassAt, FitsTarget, IsSymptomAt}
 use Rattle.cb_accept.proofs.Changed.{one_class_of}
 use Rattle.cb_accept.proofs.Members.{one_event}
@@ -103,17 +103,17 @@ module _ (n : Net) (id : InstanceId) where
         record {
           symptom = record { class = class; of_class = here; event = e; symptom = symptom; named = ap (λ (r : EventRow). r.name) row ∙ is };
           has = (class, subst (λ b. HasClass n.topology b class) (sym at_name) here, has);
-          node = λ i. node_of (at_event i) (at_name i);
+          node = λ i. node_name_of (at_event i) (at_name i);
         }
 
     pub no_event : (class : ClassId) → IsClassAt n id class → (name : List ℕ) → ((e : EventId) → ¬ NamesEvent tables class name e) → (a : List ℕ) → IsNamed n id a
-        → ¬ IsSymptomNode n.topology (node_of name a)
+        → ¬ IsSymptomNode n.topology (node_name_of name a)
     no_event class at name none a named s =
         none s.event (subst (λ (m : Tables). NamesEvent m class name s.event) (sym same)
         (subst (λ c. NamesEvent n.topology.model c name s.event) (one_class_at class a s.class at named s.of_class) (s.symptom.has, s.named)))
 
     pub no_symptom : WellTyped n.topology.model → (class : ClassId) → IsClassAt n id class → (name : List ℕ) (e : EventId) → NamesEvent tables class name e
-        → ¬ IsSymptomOf n.topology.model class e → (a : List ℕ) → IsNamed n id a → ¬ IsSymptomNode n.topology (node_of name a)
+        → ¬ IsSymptomOf n.topology.model class e → (a : List ℕ) → IsNamed n id a → ¬ IsSymptomNode n.topology (node_name_of name a)
     no_symptom typed class at name e names other a named s =
         let here = subst (λ (m : Tables). NamesEvent m class name e) same names in
         let own = one_class_at class a s.class at named s.of_class in
@@ -129,7 +129,7 @@ module _ (n : Net) (id : InstanceId) where
     pub lacks_relation : (name : List ℕ) → ¬ HasRelationAt n.topology a name
     lacks_relation name (rel, at) = lacking at.class at.of_class (class_with_relation n.topology.model typed at.class rel at.named.0)
 
-    pub lacks_symptom : (name : List ℕ) → ¬ IsSymptomNode n.topology (node_of name a)
+    pub lacks_symptom : (name : List ℕ) → ¬ IsSymptomNode n.topology (node_name_of name a)
     lacks_symptom name s = lacking s.class s.of_class (class_with_event n.topology.model typed s.class s.event s.symptom.has)
 
     pub lacks_kind : (rel : RelId) → ¬ FitsTarget n.topology a rel
@@ -147,7 +147,7 @@ module _ (n : Net) (id : InstanceId) where
   )
 
   -- one link is enough where one is allowed
-  pub taken_is : IsWhole n → (rel : RelId) (row : RelRow) → slice_get n.topology.model.relations rel.0 ≡ Some row → row.many ≡ false → (links : List InstanceId)
+  pub taken_is : IsWholeNet n → (rel : RelId) (row : RelRow) → slice_get n.topology.model.relations rel.0 ≡ Some row → row.many ≡ false → (links : List InstanceId)
       → ((to : InstanceId) → Contains links to ↔ LinkAt n id rel to) → (b : Bool) → b ≡ (length links == 0) → (a : List ℕ) → IsNamed n id a
       → IsTrue (not b) ↔ IsOneUsedUp n.topology a rel
   taken_is whole rel row is one [] exactly b empty a named = (

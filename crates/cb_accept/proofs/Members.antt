@@ -8,7 +8,7 @@ use Rattle.cb_model.specs.declared.id.RelId.{RelId}
 use Rattle.cb_model.specs.declared.tables.Tables.{Tables}
 use Rattle.cb_model.specs.declared.tables.ClassRow.{ClassRow}
 use Rattle.cb_model.specs.Classes.{IsA, NamesClass, NamesEvent, NamesRelation}
-use Rattle.cb_model.specs.WellTyped.{WellTyped, Member, Declares}
+use Rattle.cb_model.specs.WellTyped.{WellTyped, Member, ClassDeclares}
 use Rattle.cb_instances.specs.Net.{name_in_row}
 use Rattle.cb_instances.proofs.Muting.{event_reported}
 use Rattle.cb_model.proofs.Climb.{ancestor_add, class_is}
@@ -18,7 +18,7 @@ module _ (t : Tables) (typed : WellTyped t) where
   higher : (c a b : ClassId) (up_a : IsA t c a) (up_b : IsA t c b) (k : ℕ) → up_b.0 ≡ k + up_a.0 → IsA t a b
   higher c a b up_a up_b k more = (k, sym (ancestor_add t c a up_a.0 k up_b.0 more up_a.1) ∙ up_b.1)
 
-  one_member : (c a b : ClassId) (one other : Member) (name : List ℕ) → IsA t c a → IsA t c b → Declares t a one name → Declares t b other name
+  one_member : (c a b : ClassId) (one other : Member) (name : List ℕ) → IsA t c a → IsA t c b → ClassDeclares t a one name → ClassDeclares t b other name
       → one ≡ other
   one_member c a b one other name up_a up_b here there = elim (cases_order up_a.0 up_b.0) [
     | inl same ↦ typed.rules.member_names a b one other name (higher c a b up_a up_b 0 (omega arith)) here there

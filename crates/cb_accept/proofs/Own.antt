@@ -16,7 +16,7 @@ use Rattle.cb_model.specs.WellTyped.{WellTyped}
 use Rattle.cb_model.proofs.Fill.{take_whole}
 use Rattle.cb_model.proofs.Numbers.{take_contains}
 use Rattle.cb_model.proofs.Rising.{nothing_in_empty, contains_cases, contains_head, contains_tail}
-use Rattle.cb_network.specs.Edits.{node_of}
+use Rattle.cb_network.specs.Edits.{node_name_of}
 use Rattle.cb_network.specs.Nodes.{IsCount}
 use Rattle.cb_network.proofs.Counts.{Kind, of_nodes, of_problems, of_symptoms, same_count}
 use Rattle.cb_accept.proofs.Apart.{count_of_either, count_of_one, count_of_none}
@@ -26,7 +26,7 @@ use Rattle.cb_accept.proofs.Members.{one_event}
 abbrev pub IsOwnAmong : Kind → ClassId → List ℕ → List EventId → NodeName → Type 0
 IsOwnAmong M class name events n = (n.instance ≡ name) × ((e : EventId) × Contains events e × M class e n.event)
 
--- so many nodes has an instance by these events, whatever its name
+-- how many nodes an instance has by these events, whatever its name
 abbrev pub Tallies : Kind → ClassId → List EventId → ℕ → Type 0
 Tallies M class events k = (name : List ℕ) → IsCount (IsOwnAmong M class name events) k
 
@@ -44,7 +44,7 @@ module _ (M : Kind) (class : ClassId) where
       → ((f : EventId) → Contains events f → M class f event → IsTrue marked → ⊥)
       → Tallies M class events k → Tallies M class (events ++ e ∷ []) (k + cond marked 1 0)
   tally_more events e event k true is fresh so_far = λ name.
-      count_of_either (IsOwnAmong M class name events) (λ n. n ≡ node_of event name) (IsOwnAmong M class name (events ++ e ∷ [])) k 1
+      count_of_either (IsOwnAmong M class name events) (λ n. n ≡ node_name_of event name) (IsOwnAmong M class name (events ++ e ∷ [])) k 1
       (λ n. (
         λ (here, (f, among, m)). elim (Contains-push_cases events e f among) [
           | inl before ↦ inl (here, (f, before, m))
@@ -59,7 +59,7 @@ module _ (M : Kind) (class : ClassId) where
         ],
       ))
       (λ n (here, (f, before, m)) same. fresh f before (subst (M class f) (ap (λ (p : NodeName). p.event) same) m) refl)
-      (so_far name) (count_of_one (node_of event name))
+      (so_far name) (count_of_one (node_name_of event name))
   tally_more events e event k false is fresh so_far = λ name.
       let same : k + 0 ≡ k = omega arith in
       subst (IsCount (IsOwnAmong M class name (events ++ e ∷ []))) (sym same)
@@ -135,7 +135,7 @@ module _ (tables : Tables) (class : ClassId) where
       let same = ap (λ (e : EventId). e.0) (get_or_from_slice_get events j (get_or events i d) d is) in
       omega arith
 
-  -- so many nodes, problems and symptom nodes an instance has by the first events
+  -- how many nodes, problems and symptom nodes an instance has by the first events
   pub record HasTallied (events : List EventId) (i problems symptoms : ℕ) : Type 0 where
     pub nodes : Tallies (of_nodes tables) class (take i events) i
     pub problems_are : Tallies (of_problems tables) class (take i events) problems

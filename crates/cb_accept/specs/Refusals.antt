@@ -11,7 +11,7 @@ use Rattle.cb_network.specs.declared.edit.EditRefusal.TheVariants.{NodeLimit, Pr
 use Rattle.cb_network.specs.Topology.{Topology, HasClass}
 use Rattle.cb_network.specs.Nodes.{IsSymptomNode}
 use Rattle.cb_network.specs.Sound.{node_limit, problem_limit, symptom_limit}
-use Rattle.cb_network.specs.Edits.{number_of, node_of, IsRelationAt}
+use Rattle.cb_network.specs.Edits.{refusal_number, node_name_of, IsRelationAt}
 use Rattle.cb_instances.specs.declared.id.InstanceId.{InstanceId}
 use Rattle.cb_instances.specs.Net.{Net, IsNamed, HasEventAt, node_at}
 use Rattle.cb_accept.specs.declared.counts.NodeCounts.{NodeCounts}
@@ -20,16 +20,16 @@ use Rattle.cb_accept.specs.declared.mute.Symptom.{Symptom}
 use Rattle.cb_network.specs.Words.{InstanceName, Word}
 
 -- a number is above the limit that this refusal speaks of
-abbrev pub IsAbove : NodeCounts → EditRefusal → Type 0
-IsAbove counts NodeLimit = node_limit < counts.nodes
-IsAbove counts ProblemLimit = problem_limit < counts.problems
-IsAbove counts SymptomLimit = symptom_limit < counts.symptoms
-IsAbove counts why = ⊥
+abbrev pub IsAboveLimit : NodeCounts → EditRefusal → Type 0
+IsAboveLimit counts NodeLimit = node_limit < counts.nodes
+IsAboveLimit counts ProblemLimit = problem_limit < counts.problems
+IsAboveLimit counts SymptomLimit = symptom_limit < counts.symptoms
+IsAboveLimit counts why = ⊥
 
 -- a number is above this limit, and none is above a limit that comes before it
 pub record IsFirstLimit (counts : NodeCounts) (why : EditRefusal) : Type 0 where
-  pub above : IsAbove counts why
-  pub first : (other : EditRefusal) → number_of other < number_of why → ¬ IsAbove counts other
+  pub above : IsAboveLimit counts why
+  pub first : (other : EditRefusal) → refusal_number other < refusal_number why → ¬ IsAboveLimit counts other
 
 -- the instance is of this class, which is one of the model's
 pub record IsClassAt (n : Net) (id : InstanceId) (class : ClassId) : Type 0 where
@@ -54,11 +54,11 @@ pub record AreEnds (n : Net) (a : InstanceName) (rel : Word) (b : InstanceName) 
 
 -- the event, of this name, is a symptom of the instance
 pub record IsSymptomAt (n : Net) (id : InstanceId) (event : Word) (name : InstanceName) (e : EventId) : Type 0 where
-  pub symptom : IsSymptomNode n.topology (node_of event name)
+  pub symptom : IsSymptomNode n.topology (node_name_of event name)
   pub has : HasEventAt n id e
-  pub node : node_at n id e ≡ node_of event name
+  pub node : node_at n id e ≡ node_name_of event name
 
 -- these are the instance and the event of these names, and the event is a symptom of the instance
-pub record IsSymptomNamed (n : Net) (event : Word) (name : InstanceName) (s : Symptom) : Type 0 where
+pub record NamesSymptom (n : Net) (event : Word) (name : InstanceName) (s : Symptom) : Type 0 where
   pub named : IsNamed n s.id name
   pub symptom : IsSymptomAt n s.id event name s.event

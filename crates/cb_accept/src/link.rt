@@ -3,7 +3,7 @@ ghost use Rattle.std.specs.Prelude.{OnOk, IfOk, IfErr};
 ghost use Rattle.cb_network.specs.declared.edit.EditRefusal.{EditRefusal as Refusal};
 ghost use Rattle.cb_network.specs.declared.edit.Edit.TheVariants.{Link, Unlink};
 ghost use Rattle.cb_model.specs.WellTyped.{WellTyped};
-ghost use Rattle.cb_instances.specs.Net.{IsWhole};
+ghost use Rattle.cb_instances.specs.Net.{IsWholeNet};
 ghost use Rattle.cb_network.specs.Edits.{IsAccepted, IsRefused};
 ghost use Rattle.cb_accept.specs.Refusals.{AreEnds};
 ghost use Rattle.cb_accept.specs.Steps.{IsStepOf};
@@ -28,7 +28,7 @@ impl Ends {
         ensures found { IfOk result (AreEnds net.now a.now rel.now b.now) }
         ensures link { IfErr result (IsRefused net.now.topology (Link a.now rel.now b.now)) }
         ensures unlink { IfErr result (IsRefused net.now.topology (Unlink a.now rel.now b.now)) }
-        ensures whole { IsWhole net.now }
+        ensures whole { IsWholeNet net.now }
         ensures typed { WellTyped net.now.topology.model }
     {
         let _typed = net.model().tables();

@@ -5,8 +5,8 @@ ghost use Rattle.cb_model.specs.declared.id.EventId.{EventId as Event};
 ghost use Rattle.cb_model.specs.declared.id.RelId.{RelId as Relation};
 ghost use Rattle.cb_model.specs.WellTyped.{IsRelation, WellTyped};
 ghost use Rattle.cb_network.specs.Nodes.{IsSymptomNode};
-ghost use Rattle.cb_network.specs.Edits.{IsRelationAt, HasRelationAt, IsOneUsedUp, node_of};
-ghost use Rattle.cb_instances.specs.Net.{IsLive, IsNamed};
+ghost use Rattle.cb_network.specs.Edits.{IsRelationAt, HasRelationAt, IsOneUsedUp, node_name_of};
+ghost use Rattle.cb_instances.specs.Net.{IsLiveInstance, IsNamed};
 ghost use Rattle.cb_accept.specs.Refusals.{IsClassAt, FitsTarget, IsSymptomAt};
 
 use cb_instances::{InstanceId, Net};
@@ -14,7 +14,7 @@ use cb_model::{ClassId, EventId, RelId};
 
 // The instance's class, if it is one of the model's. A class that the model lacks would have nothing.
 fn class_at(net: &Net, id: InstanceId) -> Option<ClassId>
-    requires { IsLive net.now id }
+    requires { IsLiveInstance net.now id }
     ensures found { IfSome result (IsClassAt net.now id) }
     ensures absent { IfNone result ((class : Class) → ¬ IsClassAt net.now id class) }
     ensures typed { WellTyped net.now.topology.model }
@@ -29,7 +29,7 @@ fn class_at(net: &Net, id: InstanceId) -> Option<ClassId>
 
 /// The relation of this name that the instance's class has.
 pub(crate) fn relation_at(net: &Net, id: InstanceId, name: &[u8]) -> Option<RelId>
-    requires { IsLive net.now id }
+    requires { IsLiveInstance net.now id }
     ensures found { IfSome result (λ (rel : Relation). (a : List ℕ) → IsNamed net.now id a → IsRelationAt net.now.topology a name.now rel) }
     ensures absent { IfNone result ((a : List ℕ) → IsNamed net.now id a → ¬ HasRelationAt net.now.topology a name.now) }
 {
@@ -39,7 +39,7 @@ pub(crate) fn relation_at(net: &Net, id: InstanceId, name: &[u8]) -> Option<RelI
 
 /// Whether the instance's class is the target of the relation, or a descendant of that.
 pub(crate) fn is_of_kind(net: &Net, id: InstanceId, rel: RelId) -> bool
-    requires live { IsLive net.now id }
+    requires live { IsLiveInstance net.now id }
     requires rel { IsRelation net.now.topology.model rel }
     ensures { (b : List ℕ) → IsNamed net.now id b → IsTrue result ↔ FitsTarget net.now.topology b rel }
 {
@@ -52,7 +52,7 @@ pub(crate) fn is_of_kind(net: &Net, id: InstanceId, rel: RelId) -> bool
 
 /// Whether the instance may have one link alone by this relation, and has it.
 pub(crate) fn is_taken(net: &Net, id: InstanceId, rel: RelId) -> bool
-    requires live { IsLive net.now id }
+    requires live { IsLiveInstance net.now id }
     requires rel { IsRelation net.now.topology.model rel }
     ensures { (a : List ℕ) → IsNamed net.now id a → IsTrue result ↔ IsOneUsedUp net.now.topology a rel }
 {
@@ -62,9 +62,9 @@ pub(crate) fn is_taken(net: &Net, id: InstanceId, rel: RelId) -> bool
 
 /// The event of this name that is a symptom of the instance's class.
 pub(crate) fn symptom_at(net: &Net, id: InstanceId, name: &[u8]) -> Option<EventId>
-    requires { IsLive net.now id }
+    requires { IsLiveInstance net.now id }
     ensures found { IfSome result (λ (event : Event). (a : List ℕ) → IsNamed net.now id a → IsSymptomAt net.now id name.now a event) }
-    ensures absent { IfNone result ((a : List ℕ) → IsNamed net.now id a → ¬ IsSymptomNode net.now.topology (node_of name.now a)) }
+    ensures absent { IfNone result ((a : List ℕ) → IsNamed net.now id a → ¬ IsSymptomNode net.now.topology (node_name_of name.now a)) }
 {
     let class = class_at(net, id)?;
     let event = net.model().event_named(class, name)?;

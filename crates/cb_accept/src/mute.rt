@@ -2,8 +2,8 @@
 ghost use Rattle.std.specs.Prelude.{OnOk, IfOk, IfErr};
 ghost use Rattle.cb_network.specs.declared.edit.Edit.TheVariants.{Mute, Unmute};
 ghost use Rattle.cb_network.specs.Edits.{IsAccepted, IsRefused};
-ghost use Rattle.cb_instances.specs.Net.{IsWhole};
-ghost use Rattle.cb_accept.specs.Refusals.{IsSymptomNamed};
+ghost use Rattle.cb_instances.specs.Net.{IsWholeNet};
+ghost use Rattle.cb_accept.specs.Refusals.{NamesSymptom};
 ghost use Rattle.cb_accept.specs.Steps.{IsStepOf};
 
 use crate::lookup::symptom_at;
@@ -22,10 +22,10 @@ struct Symptom {
 impl Symptom {
     // The one that an edit names. What refuses one edit of a mute for want of it refuses the other.
     fn of(net: &Net, event: &[u8], name: &[u8]) -> Result<Symptom, EditRefusal>
-        ensures found { IfOk result (IsSymptomNamed net.now event.now name.now) }
+        ensures found { IfOk result (NamesSymptom net.now event.now name.now) }
         ensures mute { IfErr result (IsRefused net.now.topology (Mute event.now name.now)) }
         ensures unmute { IfErr result (IsRefused net.now.topology (Unmute event.now name.now)) }
-        ensures whole { IsWhole net.now }
+        ensures whole { IsWholeNet net.now }
     {
         let id = net.instance_named(name).ok_or(EditRefusal::NoInstance)?;
         let event = symptom_at(net, id, event).ok_or(EditRefusal::NoSymptom)?;

@@ -8,7 +8,7 @@ use Rattle.cb_log.specs.declared.event.SkipKind.TheVariants.{NotJson, NotObject,
 use Rattle.cb_alarm.specs.declared.skip.Skip.{Skip}
 use Rattle.cb_alarm.specs.declared.skip.Skip.TheVariants.{Bad, NoMemory}
 use Rattle.cb_alarm.specs.Faults.{OnBad, OnSkip, HasSource, IsAlarmFault, IsEditFault, IsFirstFault, IsValueFault}
-use Rattle.cb_alarm.specs.Skips.{number_of, Has, IsFaulty, Fails, IsSkipped}
+use Rattle.cb_alarm.specs.Skips.{skip_number, HasKey, IsFaulty, Fails, IsSkipped}
 use Rattle.cb_alarm.specs.Spelled.{ReadsJson, ReadsObject, time_of, kinds_in}
 use Rattle.cb_alarm.proofs.OneRecord.{value_is_one, object_is_one, has, has_text, kinds_apart, Apart}
 use Rattle.cb_alarm.proofs.OneSkip.{some_true}
@@ -29,7 +29,7 @@ module _ (ms : Members) (time : time_of ms ≢ None) where
   first_source : IsFaulty ms BadSource → IsFirstFault ms BadSource
   first_source fault = (fault, before)
     where
-      before : (other : SkipKind) → number_of other < number_of BadSource → ¬ IsFaulty ms other
+      before : (other : SkipKind) → skip_number other < skip_number BadSource → ¬ IsFaulty ms other
       before NotJson lt f = f
       before NotObject lt f = f
       before BadAt lt f = time f
@@ -41,7 +41,7 @@ module _ (ms : Members) (time : time_of ms ≢ None) where
   pub first_body : (¬ IsFaulty ms BadSource) → IsFaulty ms BadBody → IsFirstFault ms BadBody
   first_body source fault = (fault, before)
     where
-      before : (other : SkipKind) → number_of other < number_of BadBody → ¬ IsFaulty ms other
+      before : (other : SkipKind) → skip_number other < skip_number BadBody → ¬ IsFaulty ms other
       before NotJson lt f = f
       before NotObject lt f = f
       before BadAt lt f = time f
@@ -53,7 +53,7 @@ module _ (ms : Members) (time : time_of ms ≢ None) where
   first_name : (¬ IsFaulty ms BadSource) → (¬ IsFaulty ms BadBody) → IsFaulty ms BadName → IsFirstFault ms BadName
   first_name source body fault = (fault, before)
     where
-      before : (other : SkipKind) → number_of other < number_of BadName → ¬ IsFaulty ms other
+      before : (other : SkipKind) → skip_number other < skip_number BadName → ¬ IsFaulty ms other
       before NotJson lt f = f
       before NotObject lt f = f
       before BadAt lt f = time f
@@ -65,7 +65,7 @@ module _ (ms : Members) (time : time_of ms ≢ None) where
   first_edit : (¬ IsFaulty ms BadSource) → (¬ IsFaulty ms BadBody) → (¬ IsFaulty ms BadName) → IsFaulty ms BadEdit → IsFirstFault ms BadEdit
   first_edit source body name fault = (fault, before)
     where
-      before : (other : SkipKind) → number_of other < number_of BadEdit → ¬ IsFaulty ms other
+      before : (other : SkipKind) → skip_number other < skip_number BadEdit → ¬ IsFaulty ms other
       before NotJson lt f = f
       before NotObject lt f = f
       before BadAt lt f = time f
@@ -81,12 +81,12 @@ module _ (ms : Members) (time : time_of ms ≢ None) where
     apart : Apart (has ms (codes "raise")) (has ms (codes "clear")) (has ms (codes "edit")) (has ms (codes "tick"))
     apart = kinds_apart ms one
 
-    is_there : (name : List ℕ) → Has ms name → has ms name ≡ true
+    is_there : (name : List ℕ) → HasKey ms name → has ms name ≡ true
     is_there name h = some_true (get_member name ms) h
 
     -- the faults of an object that raises, clears, edits or ticks and does nothing else
 
-    pub raise_faults : Has ms (codes "raise") → (kind : SkipKind) → IsAlarmFault ms (codes "raise") kind → IsFirstFault ms kind
+    pub raise_faults : HasKey ms (codes "raise") → (kind : SkipKind) → IsAlarmFault ms (codes "raise") kind → IsFirstFault ms kind
     raise_faults h NotJson f = absurd f
     raise_faults h NotObject f = absurd f
     raise_faults h BadAt f = absurd f
@@ -102,7 +102,7 @@ module _ (ms : Members) (time : time_of ms ≢ None) where
         body (inr (inr (inr (inr (t, _))))) = apart.ad (is_there (codes "raise") h) (is_there (codes "tick") t)
     raise_faults h BadEdit f = absurd f
 
-    pub clear_faults : Has ms (codes "clear") → (kind : SkipKind) → IsAlarmFault ms (codes "clear") kind → IsFirstFault ms kind
+    pub clear_faults : HasKey ms (codes "clear") → (kind : SkipKind) → IsAlarmFault ms (codes "clear") kind → IsFirstFault ms kind
     clear_faults h NotJson f = absurd f
     clear_faults h NotObject f = absurd f
     clear_faults h BadAt f = absurd f
@@ -118,7 +118,7 @@ module _ (ms : Members) (time : time_of ms ≢ None) where
         body (inr (inr (inr (inr (t, _))))) = apart.bd (is_there (codes "clear") h) (is_there (codes "tick") t)
     clear_faults h BadEdit f = absurd f
 
-    pub edit_faults : Has ms (codes "edit") → (kind : SkipKind) → IsEditFault ms kind → IsFirstFault ms kind
+    pub edit_faults : HasKey ms (codes "edit") → (kind : SkipKind) → IsEditFault ms kind → IsFirstFault ms kind
     edit_faults h NotJson f = absurd f
     edit_faults h NotObject f = absurd f
     edit_faults h BadAt f = absurd f
@@ -146,7 +146,7 @@ module _ (ms : Members) (time : time_of ms ≢ None) where
         name (inl (s, is, _)) = apart.ac (has_text ms (codes "raise") s is) (is_there (codes "edit") h)
         name (inr (s, is, _)) = apart.bc (has_text ms (codes "clear") s is) (is_there (codes "edit") h)
 
-    pub tick_fault : Has ms (codes "tick") → get_member (codes "tick") ms ≢ Some (boolean true) → IsFirstFault ms BadBody
+    pub tick_fault : HasKey ms (codes "tick") → get_member (codes "tick") ms ≢ Some (boolean true) → IsFirstFault ms BadBody
     tick_fault h ne = first_body source (inr (inr (inr (inr (h, ne)))))
       where
         source : ¬ IsFaulty ms BadSource
@@ -162,10 +162,10 @@ module _ (line : List ℕ) (value : Data) (reads : ReadsJson line value) where
       → (IsFaulty ms kind → Fails line kind) → IsSkipped line kind
   object_skipped ms is kind first fails = (fails first.0, before)
     where
-      in_object : (other : SkipKind) → number_of other < number_of kind → (n : Members) → ReadsObject line n → ¬ IsFaulty n other
+      in_object : (other : SkipKind) → skip_number other < skip_number kind → (n : Members) → ReadsObject line n → ¬ IsFaulty n other
       in_object other lt n reading fault = first.1 other lt (subst (λ (m : Members). IsFaulty m other) (members_are ms n is reading) fault)
 
-      before : (other : SkipKind) → number_of other < number_of kind → ¬ Fails line other
+      before : (other : SkipKind) → skip_number other < skip_number kind → ¬ Fails line other
       before NotJson lt f = f value reads
       before NotObject lt (v, reading, ne) = ne ms (subst (λ (d : Data). v ≡ d) is (value_is_one line v value reading reads))
       before BadAt lt (n, reading, f) = in_object BadAt lt n reading f
@@ -178,7 +178,7 @@ module _ (line : List ℕ) (value : Data) (reads : ReadsJson line value) where
   value_skipped NotJson (ms, is, first) = absurd first.0
   value_skipped NotObject none = ((value, reads, none), before)
     where
-      before : (other : SkipKind) → number_of other < number_of NotObject → ¬ Fails line other
+      before : (other : SkipKind) → skip_number other < skip_number NotObject → ¬ Fails line other
       before NotJson lt f = f value reads
       before NotObject lt f = absurd (omega arith)
       before BadAt lt f = absurd (omega arith)

@@ -20,8 +20,8 @@ use Rattle.cb_log.specs.Events.{EntriesGive, EndGives}
 use Rattle.cb_log.proofs.EventsOne.{entries_give_one, closing_gives_one}
 use Rattle.cb_network.specs.Regular.{IsRegular}
 use Rattle.cb_network.specs.Topology.{Topology}
-use Rattle.cb_alarm.specs.Lines.{NumberedLine, text, long, IsTaken, ComesTo, ComeTo, log_lines, LogGives}
-use Rattle.cb_alarm.specs.Skips.{number_of, IsFaulty, Fails, IsSkipped}
+use Rattle.cb_alarm.specs.Lines.{NumberedLine, text, long, IsEntryOfText, ComesTo, ComeTo, log_lines, LogGives}
+use Rattle.cb_alarm.specs.Skips.{skip_number, IsFaulty, Fails, IsSkipped}
 use Rattle.cb_alarm.specs.Spelled.{ReadsObject, time_of, kinds_in, SaysBody, SpellsRecord}
 use Rattle.cb_alarm.proofs.OneRecord.{value_is_one, object_is_one, has, has_text, text_is_one, kinds_apart, Apart, record_is_one}
 
@@ -29,7 +29,7 @@ by_number : ℕ → SkipKind
 by_number n =
     if n == 1 then NotJson else (if n == 2 then NotObject else (if n == 3 then BadAt else (if n == 4 then BadSource else (if n == 5 then BadBody else (if n == 6 then BadName else BadEdit)))))
 
-found_by_number : (k : SkipKind) → by_number (number_of k) ≡ k
+found_by_number : (k : SkipKind) → by_number (skip_number k) ≡ k
 unfolding by_number
 found_by_number NotJson = refl
 found_by_number NotObject = refl
@@ -40,7 +40,7 @@ found_by_number BadName = refl
 found_by_number BadEdit = refl
 
 pub skip_is_one : (line : List ℕ) (j k : SkipKind) → IsSkipped line j → IsSkipped line k → j ≡ k
-skip_is_one line j k a b = elim (cases_order (number_of j) (number_of k)) [
+skip_is_one line j k a b = elim (cases_order (skip_number j) (skip_number k)) [
   | inl e ↦ sym (found_by_number j) ∙ (ap by_number e ∙ found_by_number k)
   | inr (inl below) ↦ absurd (b.1 j below a.0)
   | inr (inr above) ↦ absurd (a.1 k above b.0)
@@ -121,7 +121,7 @@ module _ (line : List ℕ) (r : Record) (spells : SpellsRecord line r) where
   spelled_passes BadName (n, reads, f) = at_fault n reads BadName f
   spelled_passes BadEdit (n, reads, f) = at_fault n reads BadEdit f
 
-taken_is_one : (number : ℕ) (bytes : List ℕ) (x y : LogEntry) → IsTaken number bytes x → IsTaken number bytes y → x ≡ y
+taken_is_one : (number : ℕ) (bytes : List ℕ) (x y : LogEntry) → IsEntryOfText number bytes x → IsEntryOfText number bytes y → x ≡ y
 taken_is_one number bytes x y (inl (r, p, e)) (inl (s, q, f)) = e ∙ (ap (said number) (record_is_one bytes r s p q) ∙ sym f)
 taken_is_one number bytes x y (inl (r, p, e)) (inr (k, q, f)) = absurd (spelled_passes bytes r p k q.0)
 taken_is_one number bytes x y (inr (k, q, f)) (inl (r, p, e)) = absurd (spelled_passes bytes r p k q.0)

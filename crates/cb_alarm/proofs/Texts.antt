@@ -3,7 +3,7 @@ use Rattle.std.proofs.Common.{◌≡◌, ℕ, List, sym, ap, subst, ◌∙◌, O
 use Rattle.std.specs.Prelude.{option_and_then}
 use Rattle.serde_json.specs.Data.{Data, null, boolean, number, string, array, object, Members}
 use Rattle.serde_json.specs.Find.{get, get_member, as_str}
-use Rattle.cb_text.specs.Names.{IsNode}
+use Rattle.cb_text.specs.Names.{IsNodeText}
 use Rattle.cb_model.specs.declared.node.NodeName.{NodeName}
 use Rattle.cb_alarm.specs.Spelled.{SaysText, IsNodeUnder}
 use Rattle.cb_alarm.proofs.OneRecord.{text_is_one}
@@ -34,6 +34,6 @@ module _ (value : Data) (ms : Members) (is : value ≡ object ms) (name : List �
 
 -- a string that is no node has no node under its name
 pub no_node_under : (ms : Members) (name text : List ℕ) → SaysText ms name text
-    → ((event instance : List ℕ) → IsNode text event instance → ⊥) → (node : NodeName) → IsNodeUnder ms name node → ⊥
+    → ((event instance : List ℕ) → IsNodeText text event instance → ⊥) → (node : NodeName) → IsNodeUnder ms name node → ⊥
 no_node_under ms name text says none node (t, said, is) =
-    none node.event node.instance (subst (λ (u : List ℕ). IsNode u node.event node.instance) (text_is_one ms name t text said says) is)
+    none node.event node.instance (subst (λ (u : List ℕ). IsNodeText u node.event node.instance) (text_is_one ms name t text said says) is)

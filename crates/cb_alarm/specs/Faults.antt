@@ -3,7 +3,7 @@ use Rattle.std.specs.Prelude.{◌≡◌, ◌≢◌, ◌<◌, ◌^◌, ℕ, List,
 use Rattle.serde_json.specs.Data.{Data, object, Members}
 use Rattle.cb_network.specs.declared.edit.Edit.{Edit}
 use Rattle.cb_edits.specs.declared.stop.EditText.{EditText}
-use Rattle.cb_edits.specs.declared.stop.EditText.TheVariants.{BadWords, NoMemory as NoRoomForEdit}
+use Rattle.cb_edits.specs.declared.stop.EditText.TheVariants.{BadWords, NoMemory as NoMemoryForEdit}
 use Rattle.cb_edits.specs.Spelled.{SpellsEdit}
 use Rattle.cb_log.specs.declared.event.SkipKind.{SkipKind}
 use Rattle.cb_log.specs.declared.event.SkipKind.TheVariants.{NotObject, BadSource, BadBody, BadName, BadEdit}
@@ -12,7 +12,7 @@ use Rattle.cb_alarm.specs.declared.body.BodyKind.{BodyKind}
 use Rattle.cb_alarm.specs.declared.body.BodyKind.TheVariants.{Raise, Clear, Edit as Change, Tick}
 use Rattle.cb_alarm.specs.declared.skip.Skip.{Skip}
 use Rattle.cb_alarm.specs.declared.skip.Skip.TheVariants.{Bad, NoMemory}
-use Rattle.cb_alarm.specs.Skips.{number_of, IsFaulty, HasNoNode}
+use Rattle.cb_alarm.specs.Skips.{skip_number, IsFaulty, HasNoNode}
 use Rattle.cb_alarm.specs.Spelled.{time_of, kinds_in, SaysText, IsSource, SaysBody}
 
 -- P holds of what is wrong with the line, if anything is
@@ -39,7 +39,7 @@ name_of Tick = codes "tick"
 -- why an edit isn't read, as a reason why there is no record
 abbrev pub skip_of : EditText → Skip
 skip_of BadWords = Bad BadEdit
-skip_of NoRoomForEdit = NoMemory
+skip_of NoMemoryForEdit = NoMemory
 
 -- an object names a source
 abbrev pub HasSource : Members → Type 0
@@ -68,7 +68,7 @@ IsEditFault ms kind = ⊥
 
 -- the first fault of an object
 abbrev pub IsFirstFault : Members → SkipKind → Type 0
-IsFirstFault ms kind = IsFaulty ms kind × ((other : SkipKind) → number_of other < number_of kind → ¬ IsFaulty ms other)
+IsFirstFault ms kind = IsFaulty ms kind × ((other : SkipKind) → skip_number other < skip_number kind → ¬ IsFaulty ms other)
 
 -- an object says this record
 pub record IsRecordOf (ms : Members) (r : Record) : Type 0 where

@@ -16,21 +16,21 @@ data_of (Whole n) = number (unsigned n)
 data_of (Truth truth) = boolean truth
 
 -- what is kept of the member of a name
-abbrev pub IsKept : List ℕ → Members → Option Said → Type 0
-IsKept name ms kept = option_map data_of kept ≡ get_member name ms
+abbrev pub IsMemberKept : List ℕ → Members → Option Said → Type 0
+IsMemberKept name ms kept = option_map data_of kept ≡ get_member name ms
 
 -- what is kept of an object's members
-pub record AreKept (ms : Members) (at source raise clear edit tick : Option Said) : Type 0 where
-  pub at_is : IsKept (codes "at") ms at
-  pub source_is : IsKept (codes "from") ms source
-  pub raise_is : IsKept (codes "raise") ms raise
-  pub clear_is : IsKept (codes "clear") ms clear
-  pub edit_is : IsKept (codes "edit") ms edit
-  pub tick_is : IsKept (codes "tick") ms tick
+pub record AreMembersKept (ms : Members) (at source raise clear edit tick : Option Said) : Type 0 where
+  pub at_is : IsMemberKept (codes "at") ms at
+  pub source_is : IsMemberKept (codes "from") ms source
+  pub raise_is : IsMemberKept (codes "raise") ms raise
+  pub clear_is : IsMemberKept (codes "clear") ms clear
+  pub edit_is : IsMemberKept (codes "edit") ms edit
+  pub tick_is : IsMemberKept (codes "tick") ms tick
 
 -- the fields have what is kept of an object's members
 abbrev pub HasFields : Members → Fields → Type 0
-HasFields ms fields = AreKept ms fields.at fields.from fields.raise fields.clear fields.edit fields.tick
+HasFields ms fields = AreMembersKept ms fields.at fields.from fields.raise fields.clear fields.edit fields.tick
 
 -- P holds of the members that the fields were kept of
 abbrev pub InFields : Fields → (Members → Type 0) → Type 0

@@ -3,7 +3,7 @@ ghost use Rattle.std.specs.Prelude.{◌≡◌, ◌≢◌, List, None, IfOk, IfSo
 ghost use Rattle.serde_json.specs.View.{view};
 ghost use Rattle.cb_edits.specs.Spelled.{SpellsEdit};
 ghost use Rattle.cb_alarm.specs.Faults.{OnSkip, InObject, name_of, IsAlarmFault, IsEditFault, IsFirstFault};
-ghost use Rattle.cb_alarm.specs.Skips.{Has, IsFaulty};
+ghost use Rattle.cb_alarm.specs.Skips.{HasKey, IsFaulty};
 ghost use Rattle.cb_alarm.specs.Spelled.{kinds_in, time_of, SaysText, IsSource, IsNodeUnder, SaysBody};
 
 use crate::parts::{has, is_tick, source_in, text_under};
@@ -35,7 +35,7 @@ pub(crate) struct Alarm {
 // The one thing that is said.
 fn kind_in(value: &Value) -> Option<BodyKind>
     ensures one { IfSome result (λ kind. InObject (view value.now) (λ ms. kinds_in ms ≡ 1)) }
-    ensures some { IfSome result (λ kind. InObject (view value.now) (λ ms. Has ms (name_of kind))) }
+    ensures some { IfSome result (λ kind. InObject (view value.now) (λ ms. HasKey ms (name_of kind))) }
     ensures none { IfNone result (InObject (view value.now) (λ ms. kinds_in ms ≢ 1)) }
 {
     let raise = has(value, "raise");

@@ -2,7 +2,7 @@
 ghost use Rattle.std.specs.Prelude.{◌≡◌, ◌<◌, ◌==◌, length, slice_index, Some, IfSome, false};
 ghost use Rattle.serde_json.specs.Data.{Members, unsigned, object, no_members, put};
 ghost use Rattle.serde_json.specs.Read.{number_of, number_from};
-ghost use Rattle.cb_alarm.specs.Plain.{data_of, IsKept, HasFields, next_value, next_members, whole_value};
+ghost use Rattle.cb_alarm.specs.Plain.{data_of, IsMemberKept, HasFields, next_value, next_members, whole_value};
 
 use fast_float::Numeral;
 use json::{Reader, Token};
@@ -75,17 +75,17 @@ fn nothing<'a>() -> Fields<'a>
 fn add<'a>(fields: &mut Fields<'a>, name: &str, said: Said<'a>)
     ensures { (ms : Members) → HasFields ms fields.old → HasFields (put name.now (data_of said.entry) ms) fields.new }
 {
-    keep(&mut fields.at, "at", name, said);
-    keep(&mut fields.from, "from", name, said);
-    keep(&mut fields.raise, "raise", name, said);
-    keep(&mut fields.clear, "clear", name, said);
-    keep(&mut fields.edit, "edit", name, said);
-    keep(&mut fields.tick, "tick", name, said);
+    store_named(&mut fields.at, "at", name, said);
+    store_named(&mut fields.from, "from", name, said);
+    store_named(&mut fields.raise, "raise", name, said);
+    store_named(&mut fields.clear, "clear", name, said);
+    store_named(&mut fields.edit, "edit", name, said);
+    store_named(&mut fields.tick, "tick", name, said);
 }
 
 // Keeps a member, if it has this name.
-fn keep<'a>(kept: &mut Option<Said<'a>>, own: &str, name: &str, said: Said<'a>)
-    ensures { (ms : Members) → IsKept own.now ms kept.old → IsKept own.now (put name.now (data_of said.entry) ms) kept.new }
+fn store_named<'a>(kept: &mut Option<Said<'a>>, own: &str, name: &str, said: Said<'a>)
+    ensures { (ms : Members) → IsMemberKept own.now ms kept.old → IsMemberKept own.now (put name.now (data_of said.entry) ms) kept.new }
 {
     // Most names have another length.
     if name.len() != own.len() {

@@ -2,7 +2,7 @@
 ghost use Rattle.std.specs.Prelude.{◌≡◌, ◌<◌, ◌^◌, Some, IfOk, IfSome, option_map};
 ghost use Rattle.serde_json.specs.Data.{number, unsigned};
 ghost use Rattle.cb_edits.specs.Spelled.{SpellsEdit};
-ghost use Rattle.cb_text.specs.Names.{IsNode};
+ghost use Rattle.cb_text.specs.Names.{IsNodeText};
 ghost use Rattle.cb_alarm.specs.Faults.{IsRecordOf};
 ghost use Rattle.cb_alarm.specs.Plain.{data_of, InFields};
 ghost use Rattle.cb_alarm.specs.Spelled.{kinds_in, time_of, IsSource, SaysBody, SpellsRecord};
@@ -106,7 +106,7 @@ fn body_of(alloc: Global, fields: &Fields<'_>) -> Result<Option<Body>, AllocErro
 
 // The source that the fields say, and the node of this text.
 fn alarm_of(alloc: Global, fields: &Fields<'_>, text: &str) -> Result<Option<Alarm>, AllocError>
-    ensures node { IfOk result (λ found. IfSome found (λ alarm. IsNode text.now alarm.node.event alarm.node.instance)) }
+    ensures node { IfOk result (λ found. IfSome found (λ alarm. IsNodeText text.now alarm.node.event alarm.node.instance)) }
     ensures source { IfOk result (λ found. IfSome found (λ alarm. InFields fields.now (λ ms. IsSource ms alarm.from))) }
 {
     let Some(Said::Text(source)) = fields.from else {

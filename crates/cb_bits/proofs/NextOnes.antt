@@ -9,7 +9,7 @@ use Rattle.std.proofs.lemmas.Nat.Bits.{bit_at_and, bit_at_not, bit_at-lt, bit_at
 use Rattle.cb_lanes.proofs.Digits.{each_digit}
 use Rattle.std.proofs.lemmas.Simd.{length-zip2, get_or-zip2}
 use Rattle.cb_lanes.specs.Words.{bit_of, in_not, IsNextBit}
-use Rattle.cb_bits.specs.Bits.{values, without, Holds, IsNextOne, HasNoneFrom}
+use Rattle.cb_bits.specs.Bits.{values, difference, Holds, IsNextOne, HasNoneFrom}
 use Rattle.cb_bits.proofs.Values.{row_len, row_bit}
 
 -- the bits are the values of a row, and those past its end are zero
@@ -38,13 +38,13 @@ module _ (row : List Bool) (words others : List ℕ) (same : (k : ℕ) → in_no
 
 -- of two rows of one length
 module _ (row other : List Bool) (same : length row ≡ length other) where
-  pub without_length : length (without row other) ≡ length row
+  pub without_length : length (difference row other) ≡ length row
   without_length = length-zip2 (λ one other. one && not other) row other same
 
-  pub without_at : (k : ℕ) → slice_index_or (without row other) k false ≡ (slice_index_or row k false && not (slice_index_or other k false))
+  pub without_at : (k : ℕ) → slice_index_or (difference row other) k false ≡ (slice_index_or row k false && not (slice_index_or other k false))
   without_at k = elim (cases_lt k (length row)) [
     | inl lt ↦ get_or-zip2 (λ one other. one && not other) row other k false false false lt (omega arith)
-    | inr le ↦ get_or_past (without row other) k false (let e = without_length in omega arith)
+    | inr le ↦ get_or_past (difference row other) k false (let e = without_length in omega arith)
         ∙ sym (ap (λ b. b && not (slice_index_or other k false)) (get_or_past row k false le))
   ]
 
@@ -67,7 +67,7 @@ module _ (words : List ℕ) (n : ℕ) (row : List Bool) (holds : Holds words n) 
   alone k = ap (λ b. bit_of words k && not (b == 1)) (bit_at-zero (k % 64)) ∙ and_true (bit_of words k) ∙ bit_is words n row holds is k
 
   pub in_one : (others : List ℕ) (m : ℕ) (other : List Bool) → Holds others m → values others m ≡ other → length row ≡ length other
-      → (k : ℕ) → in_not words others k ≡ slice_index_or (without row other) k false
+      → (k : ℕ) → in_not words others k ≡ slice_index_or (difference row other) k false
   in_one others m other also is_other same k =
       ap (λ b. b && not (bit_of others k)) (bit_is words n row holds is k)
       ∙ ap (λ b. slice_index_or row k false && not b) (bit_is others m other also is_other k)

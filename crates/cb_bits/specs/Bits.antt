@@ -31,8 +31,8 @@ abbrev pub differing : List Bool → List Bool → ℕ
 differing row other = count_by (λ k. not (beq (slice_index_or row k false) (slice_index_or other k false))) (range_with_len 0 (length row))
 
 -- what is true in the row and false in the other
-abbrev pub without : List Bool → List Bool → List Bool
-without row other = zip2 (λ one other. one && not other) row other
+abbrev pub difference : List Bool → List Bool → List Bool
+difference row other = zip2 (λ one other. one && not other) row other
 
 -- of the positions from one on, this is the first that is true
 pub record IsNextOne (row : List Bool) (from k : ℕ) : Type 0 where

@@ -1,7 +1,7 @@
 //! A row of truth values.
 ghost use Rattle.std.specs.Prelude.{◌≡◌, ◌<◌, ◌≤◌, ◌-◌, ◌++◌, ◌↔◌, ◌||◌, length, replicate, SomeIff, IfSome, IfNone, IfOk, OnOk, OnErr, IsTrue, true, false, slice_index_or, slice_set, count_by};
 ghost use Rattle.std.specs.Simd.Lanes.{zip2};
-ghost use Rattle.cb_bits.specs.Bits.{Packs, differing, without, IsNextOne, HasNoneFrom};
+ghost use Rattle.cb_bits.specs.Bits.{Packs, differing, difference, IsNextOne, HasNoneFrom};
 
 use crate::words::{
     as_words, clear_all, clear_bit, count_differing, count_differing_below, count_ones, is_set,
@@ -114,8 +114,8 @@ impl Row {
     /// The first position from a position on that is true here and false in `other`.
     pub fn next_not_in(&self, other: &Row, from: usize) -> Option<usize>
         requires { length self.now ≡ length other.now }
-        ensures next { IfSome result (IsNextOne (without self.now other.now) from) }
-        ensures none { IfNone result (HasNoneFrom (without self.now other.now) from) }
+        ensures next { IfSome result (IsNextOne (difference self.now other.now) from) }
+        ensures none { IfNone result (HasNoneFrom (difference self.now other.now) from) }
     {
         next_in_a_not_b(&self.words, &other.words, from)
     }

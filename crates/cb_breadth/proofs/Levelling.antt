@@ -11,7 +11,7 @@ use Rattle.std.proofs.lemmas.Option.{slice_get_within, slice_get-get_or, same_So
 use Rattle.cb_successors.specs.Rows.{Has}
 use Rattle.cb_successors.proofs.Marks.{has_set, set_cases, nothing}
 use Rattle.cb_breadth.specs.declared.visit.LevelVisit.{LevelVisit}
-use Rattle.cb_breadth.specs.Levels.{IsLevelTree, HasEdgeBelow, IsNear, StandsBefore, level_visit, IsFirstFrom, IsNext, IsTier, levelled}
+use Rattle.cb_breadth.specs.Levels.{IsLevelTree, HasEdgeBelow, IsNear, StandsBefore, level_visit, IsFirstFrom, IsNextNode, IsTier, levelled}
 use Rattle.cb_breadth.proofs.Lists.{only_item, has_or_lacks, never_both, has_below, kept_prefix}
 
 -- some visit is of the node
@@ -22,7 +22,7 @@ pub record IsSeen (visits : List LevelVisit) (node : ℕ) : Type 0 where
   pub of : visit.node ≡ node
 
 -- All that edges lead to from the visits before a place is visited; those from there on are of the last level.
-pub record IsLevelled (edge : ℕ → ℕ → Type 0) (root room from top : ℕ) (visits : List LevelVisit) (found : List Bool) : Type 0 where
+pub record IsLevelled (edge : ℕ → ℕ → Type 0) (root capacity from top : ℕ) (visits : List LevelVisit) (found : List Bool) : Type 0 where
   pub begins : slice_get visits 0 ≡ Some (level_visit root 0 0)
   pub earlier : (i : ℕ) (v : LevelVisit) → 0 < i → slice_get visits i ≡ Some v → (0 < v.parent) × (v.parent ≤ i)
   pub edges : (i : ℕ) (v : LevelVisit) → 0 < i → slice_get visits i ≡ Some v → HasEdgeBelow edge visits v
@@ -34,11 +34,11 @@ pub record IsLevelled (edge : ℕ → ℕ → Type 0) (root room from top : ℕ)
   pub found_are : (node : ℕ) → Has found node ↔ IsSeen visits node
   pub below : (i : ℕ) (v : LevelVisit) → i < from → slice_get visits i ≡ Some v → v.level < top
   pub last : (i : ℕ) (v : LevelVisit) → from ≤ i → slice_get visits i ≡ Some v → v.level ≡ top
-  pub roomy : length found ≡ room
+  pub full_length : length found ≡ capacity
   pub reached : from ≤ length visits
   pub low : top ≤ from
 
-module _ (edge : ℕ → ℕ → Type 0) (root room from top : ℕ) (visits : List LevelVisit) (found : List Bool) (is : IsLevelled edge root room from top visits found) where
+module _ (edge : ℕ → ℕ → Type 0) (root capacity from top : ℕ) (visits : List LevelVisit) (found : List Bool) (is : IsLevelled edge root capacity from top visits found) where
   -- where the last level is empty, the tree is whole
   pub levelled_whole : length visits ≤ from → IsLevelTree edge root visits
   levelled_whole all = record {
@@ -54,14 +54,14 @@ module _ (edge : ℕ → ℕ → Type 0) (root room from top : ℕ) (visits : Li
   seen_at : (i : ℕ) (v : LevelVisit) → slice_get visits i ≡ Some v → Has found v.node
   seen_at i v at = (is.found_are v.node).1 (record { place = i; visit = v; is = at; of = refl })
 
-  pub node_within : (i : ℕ) (v : LevelVisit) → slice_get visits i ≡ Some v → v.node < room
-  node_within i v at = let low = has_below found v.node (seen_at i v at) in let same = is.roomy in omega arith
+  pub node_within : (i : ℕ) (v : LevelVisit) → slice_get visits i ≡ Some v → v.node < capacity
+  node_within i v at = let low = has_below found v.node (seen_at i v at) in let same = is.full_length in omega arith
 
-  pub all_within : All (λ v. v.node < room) visits
+  pub all_within : All (λ v. v.node < capacity) visits
   all_within k d low = node_within k (get_or visits k d) (slice_get-get_or visits k d low)
 
   -- there are no more visits than nodes
-  pub visits_fit : length visits ≤ room
+  pub visits_fit : length visits ≤ capacity
   visits_fit =
       let nodes : List ℕ = map (λ (v : LevelVisit). v.node) visits in
       let long : length nodes ≡ length visits = length-map visits (λ (v : LevelVisit). v.node) in
@@ -80,7 +80,7 @@ module _ (edge : ℕ → ℕ → Type 0) (root room from top : ℕ) (visits : Li
       let distinct = IsDistinct-from_apart nat_eq nodes (λ i j d lt within.
       false_from_ne_true (nat_eq (get_or nodes i d) (get_or nodes j d)) (λ same. apart i j d lt within (eqb-true (get_or nodes i d) (get_or nodes j d) same)))
       in
-      let few = length-le_from_distinct_below nodes room distinct (λ q has.
+      let few = length-le_from_distinct_below nodes capacity distinct (λ q has.
       let there = Contains-from_any (λ x y is. eqb-true x y is) q nodes has in
       let low = there.1 in
       let e = there.2 in
@@ -134,10 +134,10 @@ module _ (edge : ℕ → ℕ → Type 0) (root room from top : ℕ) (visits : Li
     kept i v at = ap (λ vs. slice_get vs i) after_is ∙ kept_prefix visits (map (levelled (top + 1) parents) tier) i v at
 
     -- what is new is next
-    is_next : (i : ℕ) (v : LevelVisit) → IsAdded i v → IsNext edge visits from (length visits) found v.node
+    is_next : (i : ℕ) (v : LevelVisit) → IsAdded i v → IsNextNode edge visits from (length visits) found v.node
     is_next i v (far, node, at, same) =
         let node_is : node ≡ v.node = ap (λ (x : LevelVisit). x.node) (sym same) in
-        subst (IsNext edge visits from (length visits) found) node_is (((next.list).members node).0 (i - length visits, at))
+        subst (IsNextNode edge visits from (length visits) found) node_is (((next.list).members node).0 (i - length visits, at))
 
     added_level : (i : ℕ) (v : LevelVisit) → IsAdded i v → v.level ≡ top + 1
     added_level i v (far, node, at, same) = ap (λ (x : LevelVisit). x.level) same
@@ -167,7 +167,7 @@ module _ (edge : ℕ → ℕ → Type 0) (root room from top : ℕ) (visits : Li
         omega arith
 
     -- a node that is next is visited at the next level
-    next_seen : (node : ℕ) → IsNext edge visits from (length visits) found node → (place : ℕ) × (slice_get after place ≡ Some (levelled (top + 1) parents node))
+    next_seen : (node : ℕ) → IsNextNode edge visits from (length visits) found node → (place : ℕ) × (slice_get after place ≡ Some (levelled (top + 1) parents node))
     next_seen node nx =
         let among = ((next.list).members node).1 nx in (
           length visits + among.0,
@@ -175,7 +175,7 @@ module _ (edge : ℕ → ℕ → Type 0) (root room from top : ℕ) (visits : Li
               ∙ past visits (map (levelled (top + 1) parents) tier) among.0 (levelled (top + 1) parents node) (mapped_at tier among.0 node among.1),
         )
 
-    pub levelled_more : IsLevelled edge root room (length visits) (top + 1) after found'
+    pub levelled_more : IsLevelled edge root capacity (length visits) (top + 1) after found'
     levelled_more = record {
       begins = kept 0 (level_visit root 0 0) is.begins;
       earlier = λ i v pos a. elim (split i v a) [
@@ -228,7 +228,7 @@ module _ (edge : ℕ → ℕ → Type 0) (root room from top : ℕ) (visits : Li
                     let l = old_level seen.place seen.visit seen.is in
                     record { place = seen.place; visit = seen.visit; is = kept seen.place seen.visit seen.is; of = seen.of; near = omega arith }
                 | inr lacks ↦
-                    let nx : IsNext edge visits from (length visits) found node = record {
+                    let nx : IsNextNode edge visits from (length visits) found node = record {
                       lacks = lacks;
                       led = record { place = i; visit = v; low = late; high = lt; is = old; leads = e };
                     } in
@@ -278,7 +278,7 @@ module _ (edge : ℕ → ℕ → Type 0) (root room from top : ℕ) (visits : Li
           | inl old ↦ ((next.upto).found_are node).1 (inl ((is.found_are node).1 (record { place = seen.place; visit = seen.visit; is = old; of = seen.of })))
           | inr new ↦
               let nx = is_next seen.place seen.visit new in
-              ((next.upto).found_are node).1 (inr (subst (IsNext edge visits from (length visits) found) seen.of nx))
+              ((next.upto).found_are node).1 (inr (subst (IsNextNode edge visits from (length visits) found) seen.of nx))
         ],
       );
       below = λ i v lt a. elim (split i v a) [
@@ -289,20 +289,20 @@ module _ (edge : ℕ → ℕ → Type 0) (root room from top : ℕ) (visits : Li
         | inl old ↦ absurd (let within = slice_get_within visits i v old in omega arith)
         | inr new ↦ added_level i v new
       ];
-      roomy = (next.upto).room ∙ is.roomy;
+      full_length = (next.upto).capacity ∙ is.full_length;
       reached = let long = ap length after_is ∙ length-append visits (map (levelled (top + 1) parents) tier) in omega arith;
       low = let l = is.low in omega arith;
     }
 
 -- the root alone
-module _ (edge : ℕ → ℕ → Type 0) (root room : ℕ) (fits : root < room) where
+module _ (edge : ℕ → ℕ → Type 0) (root capacity : ℕ) (fits : root < capacity) where
   abbrev alone : List LevelVisit
   alone = level_visit root 0 0 ∷ []
 
   abbrev start : List Bool
-  start = slice_set (replicate room false) root true
+  start = slice_set (replicate capacity false) root true
 
-  pub levelled_root : IsLevelled edge root room 0 0 (level_visit root 0 0 ∷ []) (slice_set (replicate room false) root true)
+  pub levelled_root : IsLevelled edge root capacity 0 0 (level_visit root 0 0 ∷ []) (slice_set (replicate capacity false) root true)
   levelled_root = record {
     begins = refl;
     earlier = λ i v pos a. absurd (let o = (only_item (level_visit root 0 0) i v a).0 in omega arith);
@@ -312,18 +312,18 @@ module _ (edge : ℕ → ℕ → Type 0) (root room : ℕ) (fits : root < room) 
     order = λ i j v w lt a b. absurd (let p = (only_item (level_visit root 0 0) j w b).0 in omega arith);
     first = λ i j v w pos a b level e. absurd (let p = (only_item (level_visit root 0 0) j w b).0 in omega arith);
     found_are = λ node. (
-      λ has. elim (set_cases (replicate room false) root node has) [
+      λ has. elim (set_cases (replicate capacity false) root node has) [
         | inl same ↦ record { place = 0; visit = level_visit root 0 0; is = refl; of = sym same }
-        | inr had ↦ absurd (nothing room node had)
+        | inr had ↦ absurd (nothing capacity node had)
       ],
       λ seen.
           let is = (only_item (level_visit root 0 0) seen.place seen.visit seen.is).1 in
           let same : root ≡ node = ap (λ (x : LevelVisit). x.node) is ∙ seen.of in
-          subst (Has start) same (has_set (replicate room false) root (let e = length-replicate room false in omega arith)),
+          subst (Has start) same (has_set (replicate capacity false) root (let e = length-replicate capacity false in omega arith)),
     );
     below = λ i v lt a. absurd (omega arith);
     last = λ i v le a. sym (ap (λ (x : LevelVisit). x.level) (only_item (level_visit root 0 0) i v a).1);
-    roomy = length-set (replicate room false) root true ∙ length-replicate room false;
+    full_length = length-set (replicate capacity false) root true ∙ length-replicate capacity false;
     reached = omega arith;
     low = omega arith;
   }

@@ -8,21 +8,21 @@ use Rattle.std.proofs.lemmas.Option.{same_Some}
 use Rattle.cb_successors.specs.Rows.{Has}
 use Rattle.cb_successors.proofs.Marks.{has_set, set_cases}
 use Rattle.cb_breadth.specs.Visiting.{IsNew}
-use Rattle.cb_breadth.specs.Levels.{AreMarked}
+use Rattle.cb_breadth.specs.Levels.{MarksNewNodes}
 use Rattle.cb_breadth.proofs.Lists.{never_both, has_still}
 
 module _ (parent : ℕ) (next : List ℕ) (found : List Bool) (parents tier : List ℕ) where
-  pub marked_none : length parents ≡ length found → AreMarked parent next 0 found parents tier found parents tier
-  marked_none room = record {
+  pub marked_none : length parents ≡ length found → MarksNewNodes parent next 0 found parents tier found parents tier
+  marked_none capacity = record {
     found_are = λ node. (λ has. inl has, λ either. elim either [ inl has ↦ has | inr new ↦ absurd (let b = new.below in omega arith) ]);
     listed = λ node. (λ has. inl has, λ either. elim either [ inl has ↦ has | inr new ↦ absurd (let b = new.below in omega arith) ]);
     new_parent = λ node new. absurd (let b = new.below in omega arith);
     old_parent = λ node has. refl;
-    room = refl;
-    parents_room = room;
+    capacity = refl;
+    parents_capacity = capacity;
   }
 
-  module _ (place : ℕ) (found' : List Bool) (parents' tier' : List ℕ) (so_far : AreMarked parent next place found parents tier found' parents' tier')
+  module _ (place : ℕ) (found' : List Bool) (parents' tier' : List ℕ) (so_far : MarksNewNodes parent next place found parents tier found' parents' tier')
       (node : ℕ) (at : slice_get next place ≡ Some node) where
     wider : (n : ℕ) → IsNew next place found n → IsNew next (place + 1) found n
     wider n new = record { place = new.place; below = let b = new.below in omega arith; is = new.is; lacks = new.lacks }
@@ -37,7 +37,7 @@ module _ (parent : ℕ) (next : List ℕ) (found : List Bool) (parents tier : Li
     ]
 
     -- a node that is found already
-    pub marked_passed : Has found' node → AreMarked parent next (place + 1) found parents tier found' parents' tier'
+    pub marked_passed : Has found' node → MarksNewNodes parent next (place + 1) found parents tier found' parents' tier'
     marked_passed has =
         let before : (n : ℕ) → IsNew next (place + 1) found n → IsNew next place found n = λ n new. elim (split n new) [
           | inl early ↦ early
@@ -58,8 +58,8 @@ module _ (parent : ℕ) (next : List ℕ) (found : List Bool) (parents tier : Li
           );
           new_parent = λ n new. so_far.new_parent n (before n new);
           old_parent = so_far.old_parent;
-          room = so_far.room;
-          parents_room = so_far.parents_room;
+          capacity = so_far.capacity;
+          parents_capacity = so_far.parents_capacity;
         }
 
     -- one that is found now
@@ -76,9 +76,9 @@ module _ (parent : ℕ) (next : List ℕ) (found : List Bool) (parents tier : Li
       unlike : (n : ℕ) → IsNew next place found n → n ≡ node → ⊥
       unlike n new same = never_both found' node (subst (Has found') same ((so_far.found_are n).1 (inr new))) lacks
 
-      pub marked_found : AreMarked parent next (place + 1) found parents tier (slice_set found' node true) (slice_set parents' node parent) (tier' ++ node ∷ [])
+      pub marked_found : MarksNewNodes parent next (place + 1) found parents tier (slice_set found' node true) (slice_set parents' node parent) (tier' ++ node ∷ [])
       marked_found =
-          let size = so_far.parents_room in
+          let size = so_far.parents_capacity in
           record {
             found_are = λ n. (
               λ h. elim (set_cases found' node n h) [
@@ -111,6 +111,6 @@ module _ (parent : ℕ) (next : List ℕ) (found : List Bool) (parents tier : Li
               | inr same ↦ ap (λ k. slice_index_or (slice_set parents' node parent) k 0) same ∙ get_or-set_same parents' node parent 0 (omega arith)
             ];
             old_parent = λ n has. get_or-set_other parents' node n parent 0 (λ same. never_both found node (subst (Has found) same has) was_not) ∙ so_far.old_parent n has;
-            room = length-set found' node true ∙ so_far.room;
-            parents_room = let a = length-set found' node true in let b = length-set parents' node parent in omega arith;
+            capacity = length-set found' node true ∙ so_far.capacity;
+            parents_capacity = let a = length-set found' node true in let b = length-set parents' node parent in omega arith;
           }

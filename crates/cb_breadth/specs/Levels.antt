@@ -57,32 +57,32 @@ pub record IsFirstFrom (edge : ℕ → ℕ → Type 0) (visits : List LevelVisit
   pub first : (other : IsLedTo edge visits from to node) → led.place ≤ other.place
 
 -- a node that wasn't found, to which an edge leads from one of these visits
-pub record IsNext (edge : ℕ → ℕ → Type 0) (visits : List LevelVisit) (from to : ℕ) (found : List Bool) (node : ℕ) : Type 0 where
+pub record IsNextNode (edge : ℕ → ℕ → Type 0) (visits : List LevelVisit) (from to : ℕ) (found : List Bool) (node : ℕ) : Type 0 where
   pub lacks : slice_index_or found node false ≡ false
   pub led : IsLedTo edge visits from to node
 
 -- these are found now besides, and each has its parent
 pub record AreFoundUpto (edge : ℕ → ℕ → Type 0) (visits : List LevelVisit) (from to : ℕ) (before found : List Bool) (parents : List ℕ) : Type 0 where
-  pub found_are : (node : ℕ) → Has found node ↔ (Has before node ⊎ IsNext edge visits from to before node)
-  pub parents_are : (node : ℕ) → IsNext edge visits from to before node → IsFirstFrom edge visits from to node (slice_index_or parents node 0)
-  pub room : length found ≡ length before
-  pub parents_room : length parents ≡ length found
+  pub found_are : (node : ℕ) → Has found node ↔ (Has before node ⊎ IsNextNode edge visits from to before node)
+  pub parents_are : (node : ℕ) → IsNextNode edge visits from to before node → IsFirstFrom edge visits from to node (slice_index_or parents node 0)
+  pub capacity : length found ≡ length before
+  pub parents_capacity : length parents ≡ length found
 
 -- what edges lead to from the visits from a position on, and wasn't found before, in order
 pub record IsTier (edge : ℕ → ℕ → Type 0) (visits : List LevelVisit) (from : ℕ) (before found : List Bool) (parents tier : List ℕ) : Type 0 where
   pub upto : AreFoundUpto edge visits from (length visits) before found parents
-  pub list : IsListOf (IsNext edge visits from (length visits) before) tier
+  pub list : IsListOf (IsNextNode edge visits from (length visits) before) tier
 
 -- the visit of a node at a level from the parent that stands at its position
 abbrev pub levelled : ℕ → List ℕ → ℕ → LevelVisit
 levelled level parents node = level_visit node level (slice_index_or parents node 0)
 
 -- the nodes that the list has before the bound, and that weren't found, are found and listed, and have that parent; the others are as they were
-pub record AreMarked (parent : ℕ) (next : List ℕ) (bound : ℕ) (found : List Bool) (parents tier : List ℕ) (found' : List Bool) (parents' tier' : List ℕ) : Type 0
+pub record MarksNewNodes (parent : ℕ) (next : List ℕ) (bound : ℕ) (found : List Bool) (parents tier : List ℕ) (found' : List Bool) (parents' tier' : List ℕ) : Type 0
   where
     pub found_are : (node : ℕ) → Has found' node ↔ (Has found node ⊎ IsNew next bound found node)
     pub listed : (node : ℕ) → Contains tier' node ↔ (Contains tier node ⊎ IsNew next bound found node)
     pub new_parent : (node : ℕ) → IsNew next bound found node → slice_index_or parents' node 0 ≡ parent
     pub old_parent : (node : ℕ) → Has found node → slice_index_or parents' node 0 ≡ slice_index_or parents node 0
-    pub room : length found' ≡ length found
-    pub parents_room : length parents' ≡ length found'
+    pub capacity : length found' ≡ length found
+    pub parents_capacity : length parents' ≡ length found'

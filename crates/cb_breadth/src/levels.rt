@@ -3,8 +3,8 @@ ghost use Rattle.std.specs.Prelude.{◌≡◌, ◌<◌, ◌≤◌, ◌+◌, ◌-
 ghost use Rattle.cb_breadth.specs.declared.visit.LevelVisit.{LevelVisit as Visit_};
 ghost use Rattle.std.specs.List.{All};
 ghost use Rattle.cb_successors.specs.Rows.{Has};
-ghost use Rattle.cb_breadth.specs.Lists.{AreBelow, AreRising, IsListOf};
-ghost use Rattle.cb_breadth.specs.Levels.{IsLevelTree, IsLedTo, IsTier, levelled, AreMarked};
+ghost use Rattle.cb_breadth.specs.Lists.{AreBelow, AreRisingNumbers, IsListOf};
+ghost use Rattle.cb_breadth.specs.Levels.{IsLevelTree, IsLedTo, IsTier, levelled, MarksNewNodes};
 ghost use Rattle.cb_breadth.specs.Orders.{IsOrder, Follows};
 ghost use Rattle.cb_breadth.specs.Successors.{AreSuccessors};
 ghost use Rattle.cb_breadth.specs.Searches.{IsSearchOf};
@@ -36,7 +36,7 @@ pub(crate) fn grow_levels<L: Ledger, G: Edges>(
     ensures same { graph.new ≡ graph.old }
     ensures tree { IfOk result (λ visits. IsLevelTree (Follows (G.edge graph.old) order.now.nodes.items) root visits.items) }
     ensures known { OnOk result (AreSuccessors (G.edge graph.old) order.now successors.new) }
-    ensures room { OnOk result (length found.new ≡ length order.now.nodes.items) }
+    ensures capacity { OnOk result (length found.new ≡ length order.now.nodes.items) }
     ensures asked { IfOk result (λ visits. steps.new ≤ steps.old + length visits.items) }
 {
     found.set(root as usize);
@@ -128,9 +128,9 @@ fn mark(
     tier: &mut Vec<u32>,
 ) -> Result<(), AllocError>
     requires below { AreBelow (length found.old) next.now }
-    requires room { length parents.old.items ≡ length found.old }
-    ensures marked { OnOk result (AreMarked parent next.now (length next.now) found.old parents.old.items tier.old.items found.new parents.new.items tier.new.items) }
-    ensures room { length parents.new.items ≡ length found.new }
+    requires capacity { length parents.old.items ≡ length found.old }
+    ensures marked { OnOk result (MarksNewNodes parent next.now (length next.now) found.old parents.old.items tier.old.items found.new parents.new.items tier.new.items) }
+    ensures capacity { length parents.new.items ≡ length found.new }
     ensures long { length found.new ≡ length found.old }
 {
     for place in 0..next.len() {

@@ -1,7 +1,7 @@
 //! The search in breadth. The list of visits is its queue.
 ghost use Rattle.std.specs.Prelude.{◌≡◌, ◌<◌, ◌≤◌, ◌+◌, ◌^◌, ◌↔◌, ℕ, length, replicate, false, IfOk, OnOk};
 ghost use Rattle.cb_successors.specs.Rows.{Has};
-ghost use Rattle.cb_breadth.specs.Lists.{AreBelow, AreRising};
+ghost use Rattle.cb_breadth.specs.Lists.{AreBelow, AreRisingNumbers};
 ghost use Rattle.cb_breadth.specs.Trees.{IsTree, IsVisited};
 ghost use Rattle.cb_breadth.specs.Levels.{IsLevelTree};
 ghost use Rattle.cb_breadth.specs.Orders.{IsOrder, Follows};
@@ -119,7 +119,7 @@ fn grow<L: Ledger, G: Edges>(
     ensures tree { IfOk result (λ visits. IsTree (Follows (G.edge graph.old) order.now.nodes.items) root visits.items) }
     ensures known { OnOk result (AreSuccessors (G.edge graph.old) order.now successors.new) }
     ensures found { IfOk result (λ visits. (node : ℕ) → Has found.new node ↔ IsVisited visits.items node) }
-    ensures room { OnOk result (length found.new ≡ length order.now.nodes.items) }
+    ensures capacity { OnOk result (length found.new ≡ length order.now.nodes.items) }
     ensures asked { IfOk result (λ visits. steps.new ≤ steps.old + length visits.items) }
 {
     found.set(root as usize);
@@ -146,7 +146,7 @@ fn visit_all(
     parent: u32,
 ) -> Result<(), AllocError>
     requires below { AreBelow (length found.old) next.now }
-    requires rise { AreRising next.now }
+    requires rise { AreRisingNumbers next.now }
     ensures visits { OnOk result (AreVisited parent next.now (length next.now) visits.old.items found.old visits.new.items found.new) }
 {
     for place in 0..next.len() {

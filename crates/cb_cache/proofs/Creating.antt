@@ -40,8 +40,8 @@ use Rattle.cb_nodes.specs.Table.{IsNode, node_of}
 use Rattle.cb_nodes.proofs.Events.{one_count}
 use Rattle.cb_nodes.proofs.Listing.{one_node, not_before}
 use Rattle.cb_pool.specs.declared.slot.Slot.{Slot}
-use Rattle.cb_pool.specs.Pool.{Pool, HasRow, IsTaken, row_of}
-use Rattle.cb_topo.specs.Applied.{Applies, IsNodeRoomAfter}
+use Rattle.cb_pool.specs.Pool.{Pool, SlotHasRow, IsTaken, slot_row}
+use Rattle.cb_topo.specs.Applied.{Applies, IsNodeCapacityAfter}
 use Rattle.cb_topo.specs.Numbered.{Numbered, topology_of, IsNodeNamed, IsLiveNode, IsWhole}
 use Rattle.cb_graph.specs.Edges.{number}
 use Rattle.cb_graph.proofs.Chains.{named_once}
@@ -50,14 +50,14 @@ use Rattle.cb_cache.specs.declared.agenda.Agenda.{Agenda}
 use Rattle.cb_cache.specs.declared.create.Further.{Further}
 use Rattle.cb_cache.specs.declared.rows.Rows.{Rows}
 use Rattle.cb_cache.specs.declared.scratch.Scratch.{Scratch}
-use Rattle.cb_cache.specs.Created.{Creates, IsNewProblem, IsProblemAmong, IsPoolFor, IsFurtherFor, pool_or}
+use Rattle.cb_cache.specs.Created.{MakesInstance, IsNewProblem, IsProblemAmong, IsPoolFor, IsFurtherFor, pool_or}
 use Rattle.cb_cache.specs.Filled.{AddsRows, HaveNoSlots, CostAtMost}
 use Rattle.cb_cache.specs.Kept.{OwnSlots, AreOwned, AreRight, IsCacheOf}
 use Rattle.cb_cache.specs.Laws.{IsEdited}
 use Rattle.cb_cache.specs.Most.{HasEventsWithin}
 use Rattle.cb_cache.specs.Numbers.{AreOnce, IsProblemNumber}
 use Rattle.cb_cache.specs.Reached.{HasSlot}
-use Rattle.cb_cache.specs.Room.{HasRoomFor}
+use Rattle.cb_cache.specs.Capacity.{HasCapacityFor}
 use Rattle.cb_cache.specs.Spare.{AreButSpare}
 use Rattle.cb_cache.proofs.Cutting.{still_problem}
 use Rattle.cb_cache.proofs.Edited.{row_clean, old_number}
@@ -119,7 +119,7 @@ module _ (n : Numbered) (whole : IsWhole n) where
     )
 
 -- the edit brings an instance
-pub created : (edit : Edit) → Creates edit → (name : List ℕ) × (class : List ℕ) × (edit ≡ Create name class)
+pub created : (edit : Edit) → MakesInstance edit → (name : List ℕ) × (class : List ℕ) × (edit ≡ Create name class)
 created (Create name class) _ = (name, class, refl)
 created (Delete name) none = absurd none
 created (Link a rel b) none = absurd none
@@ -130,7 +130,7 @@ created (Unmute event name) none = absurd none
 -- what has a row had it in the old topology, and has it in the same slot, and no further slot is taken
 pub record AreMoved (slots new_slots : List (Option Slot)) (p new : Pool) : Type 0 where
   pub slots_are : (i : ℕ) (slot : Slot) → HasSlot new_slots i slot ↔ HasSlot slots i slot
-  pub rows : (slot : Slot) (row : List ℕ) → HasRow p slot row → (words : List ℕ) × HasRow new slot words × ((k : ℕ) → bit_of words k ≡ bit_of row k)
+  pub rows : (slot : Slot) (row : List ℕ) → SlotHasRow p slot row → (words : List ℕ) × SlotHasRow new slot words × ((k : ℕ) → bit_of words k ≡ bit_of row k)
   pub taken : (slot : Slot) → IsTaken new slot → IsTaken p slot
 
 module _ (old new : Numbered) (name class : List ℕ) (edited : IsEdited old (Create name class) new) where
@@ -297,22 +297,22 @@ zeros_after row n j = elim (cases_lt j (length row)) [
 bit_after : (row : List ℕ) (n k : ℕ) → bit_of (row ++ zeros n) k ≡ bit_of row k
 bit_after row n k = ap (λ (word : ℕ). bit_at word (k % 64) == 1) (zeros_after row n (k / 64))
 
-moved_pool : (width more : ℕ) (p : Pool) (pool : Option Pool) → IsPoolFor width more p pool → (slot : Slot) (row : List ℕ) → HasRow p slot row
-    → (words : List ℕ) × HasRow (pool_or p pool) slot words × ((k : ℕ) → bit_of words k ≡ bit_of row k)
+moved_pool : (width more : ℕ) (p : Pool) (pool : Option Pool) → IsPoolFor width more p pool → (slot : Slot) (row : List ℕ) → SlotHasRow p slot row
+    → (words : List ℕ) × SlotHasRow (pool_or p pool) slot words × ((k : ℕ) → bit_of words k ≡ bit_of row k)
 moved_pool width more p None is slot row has = (row, has, λ k. refl)
 moved_pool width more p (Some wider) (wide, rows, spare) slot row has =
-    let words = row_of p slot ++ zeros (wider.width - p.width) in
-    (words, (rows slot words).1 (has.0, refl), λ k. bit_after (row_of p slot) (wider.width - p.width) k ∙ ap (λ (r : List ℕ). bit_of r k) (sym has.1))
+    let words = slot_row p slot ++ zeros (wider.width - p.width) in
+    (words, (rows slot words).1 (has.0, refl), λ k. bit_after (slot_row p slot) (wider.width - p.width) k ∙ ap (λ (r : List ℕ). bit_of r k) (sym has.1))
 
 moved_taken : (width more : ℕ) (p : Pool) (pool : Option Pool) → IsPoolFor width more p pool → (slot : Slot) → IsTaken (pool_or p pool) slot → IsTaken p slot
 moved_taken width more p None is slot taken = taken
-moved_taken width more p (Some wider) (wide, rows, spare) slot taken = ((rows slot (row_of wider slot)).0 (taken, refl)).0
+moved_taken width more p (Some wider) (wide, rows, spare) slot taken = ((rows slot (slot_row wider slot)).0 (taken, refl)).0
 
-pub moved_for : (room more : ℕ) (rows : Rows) (further : Further) → IsFurtherFor room more rows further → AreMoved rows.slots.items further.slots.items rows.pool (pool_or rows.pool further.pool)
-moved_for room more rows further is = record {
-  slots_are = λ i slot. subst (λ (xs : List (Option Slot)). HasSlot xs i slot ↔ HasSlot rows.slots.items i slot) (sym is.slots) (more_slots rows.slots.items (room - length rows.slots.items) i slot);
-  rows = moved_pool (words_for room) more rows.pool further.pool is.pool;
-  taken = moved_taken (words_for room) more rows.pool further.pool is.pool;
+pub moved_for : (capacity more : ℕ) (rows : Rows) (further : Further) → IsFurtherFor capacity more rows further → AreMoved rows.slots.items further.slots.items rows.pool (pool_or rows.pool further.pool)
+moved_for capacity more rows further is = record {
+  slots_are = λ i slot. subst (λ (xs : List (Option Slot)). HasSlot xs i slot ↔ HasSlot rows.slots.items i slot) (sym is.slots) (more_slots rows.slots.items (capacity - length rows.slots.items) i slot);
+  rows = moved_pool (words_for capacity) more rows.pool further.pool is.pool;
+  taken = moved_taken (words_for capacity) more rows.pool further.pool is.pool;
 }
 
 pub wide_for : (width more : ℕ) (p : Pool) (pool : Option Pool) → IsPoolFor width more p pool → ((pool_or p pool).width ≡ width) × (more ≤ (pool_or p pool).spare)
@@ -320,24 +320,24 @@ wide_for width more p None is = is
 wide_for width more p (Some wider) (wide, rows, spare) = (wide, spare)
 
 -- no number goes when an instance comes
-pub room_grows : (old : Numbered) (edit : Edit) (room : ℕ) → Creates edit → IsNodeRoomAfter old edit room → length old.nodes ≤ room
-room_grows old (Create name class) room _ (c, events, names, are, is) = (let e = is in omega arith)
-room_grows old (Delete name) room none is = absurd none
-room_grows old (Link a rel b) room none is = absurd none
-room_grows old (Unlink a rel b) room none is = absurd none
-room_grows old (Mute event name) room none is = absurd none
-room_grows old (Unmute event name) room none is = absurd none
+pub capacity_grows : (old : Numbered) (edit : Edit) (capacity : ℕ) → MakesInstance edit → IsNodeCapacityAfter old edit capacity → length old.nodes ≤ capacity
+capacity_grows old (Create name class) capacity _ (c, events, names, are, is) = (let e = is in omega arith)
+capacity_grows old (Delete name) capacity none is = absurd none
+capacity_grows old (Link a rel b) capacity none is = absurd none
+capacity_grows old (Unlink a rel b) capacity none is = absurd none
+capacity_grows old (Mute event name) capacity none is = absurd none
+capacity_grows old (Unmute event name) capacity none is = absurd none
 
 -- and there is a number for each event of the instance
-pub events_fit : (old : Numbered) → WellTyped (topology_of old).model → (edit : Edit) (room : ℕ) → Creates edit → IsNodeRoomAfter old edit room → HasEventsWithin (topology_of old).model edit room
-events_fit old typed (Create name class) room _ (c, events, names, are, is) = λ d named.
+pub events_fit : (old : Numbered) → WellTyped (topology_of old).model → (edit : Edit) (capacity : ℕ) → MakesInstance edit → IsNodeCapacityAfter old edit capacity → HasEventsWithin (topology_of old).model edit capacity
+events_fit old typed (Create name class) capacity _ (c, events, names, are, is) = λ d named.
     let same : c ≡ d = named_class (topology_of old).model typed class c d names named in
     (events, subst (λ (k : ClassId). AreEventsOf (topology_of old).model k events) same are, (let e = is in omega arith))
-events_fit old typed (Delete name) room none is = absurd none
-events_fit old typed (Link a rel b) room none is = absurd none
-events_fit old typed (Unlink a rel b) room none is = absurd none
-events_fit old typed (Mute event name) room none is = absurd none
-events_fit old typed (Unmute event name) room none is = absurd none
+events_fit old typed (Delete name) capacity none is = absurd none
+events_fit old typed (Link a rel b) capacity none is = absurd none
+events_fit old typed (Unlink a rel b) capacity none is = absurd none
+events_fit old typed (Mute event name) capacity none is = absurd none
+events_fit old typed (Unmute event name) capacity none is = absurd none
 
 -- what is known of rows in their new places, with the list of new problems
 pub record FitsIn (old new : Numbered) (edit : Edit) (slots : List (Option Slot)) (mid : Pool) (ids : List NodeId) : Type 0 where
@@ -348,7 +348,7 @@ pub record FitsIn (old new : Numbered) (edit : Edit) (slots : List (Option Slot)
   pub right : (after_slots : List (Option Slot)) (after : Pool) → AddsRows new ids slots after_slots mid after → AreRight new after_slots after
   pub within : (steps new_steps : ℕ) → CostAtMost new ids steps new_steps → CountsAtMost (IsEditCost (topology_of old) edit (topology_of new)) steps new_steps
 
-pub fits_in : (old new : Numbered) (edit : Edit) → Creates edit → IsEdited old edit new → (slots new_slots : List (Option Slot)) (p mid : Pool) → AreRight old slots p → AreMoved slots new_slots p mid
+pub fits_in : (old new : Numbered) (edit : Edit) → MakesInstance edit → IsEdited old edit new → (slots new_slots : List (Option Slot)) (p mid : Pool) → AreRight old slots p → AreMoved slots new_slots p mid
     → (ids : List NodeId) → AreOnce ids → ((id : NodeId) → Contains ids id ↔ IsNewProblem new edit id) → FitsIn old new edit new_slots mid ids
 fits_in old new (Create name class) _ edited slots new_slots p mid right moved ids once listed = record {
   rows = moved_rows old new name class edited slots new_slots p mid right moved ids once listed;
@@ -387,10 +387,10 @@ kept_spared n rows now agenda same kept =
     record {
       whole = kept.whole;
       right = subst (λ (v : Vec (Option Slot) Global). AreRight n v.items now.pool) (sym same.slots) (right_spared n rows.slots.items rows.pool now.pool same.pool kept.right);
-      room = record {
-        slots = ap (λ (v : Vec (Option Slot) Global). length v.items) same.slots ∙ kept.room.slots;
-        width = ap (λ (q : Pool). q.width) same.pool ∙ kept.room.width;
-        scratch = subst (λ (s : Scratch). HasRoomFor (length n.nodes) s) (sym same.scratch) kept.room.scratch;
+      capacity = record {
+        slots = ap (λ (v : Vec (Option Slot) Global). length v.items) same.slots ∙ kept.capacity.slots;
+        width = ap (λ (q : Pool). q.width) same.pool ∙ kept.capacity.width;
+        scratch = subst (λ (s : Scratch). HasCapacityFor (length n.nodes) s) (sym same.scratch) kept.capacity.scratch;
       };
       agenda = kept.agenda;
     }

@@ -22,8 +22,8 @@ use Rattle.cb_change.proofs.Steps.{AreNear, near}
 use Rattle.cb_model.proofs.Rising.{name_cmp_total, name_cmp_exact}
 use Rattle.cb_nodes.specs.declared.id.NodeId.{NodeId}
 use Rattle.cb_pool.specs.declared.slot.Slot.{Slot}
-use Rattle.cb_pool.specs.Pool.{Pool, row_of}
-use Rattle.cb_topo.specs.Applied.{IsNodeRoomAfter}
+use Rattle.cb_pool.specs.Pool.{Pool, slot_row}
+use Rattle.cb_topo.specs.Applied.{IsNodeCapacityAfter}
 use Rattle.cb_topo.specs.Numbered.{Numbered, topology_of, IsNodeNamed, IsLiveNode}
 use Rattle.cb_graph.specs.Edges.{number}
 use Rattle.cb_graph.proofs.Chains.{lead_to_caused, named_once}
@@ -76,13 +76,13 @@ module _ (t u : Topology) where
   cut_cost (Delete name) _ steps new_steps counts = counts
   cut_cost (Unlink a rel b) _ steps new_steps counts = counts
 
-pub same_room : (n : Numbered) (edit : Edit) (room : ℕ) → TakesAway edit → IsNodeRoomAfter n edit room → room ≡ length n.nodes
-same_room n (Create name class) room none is = absurd none
-same_room n (Link a rel b) room none is = absurd none
-same_room n (Mute event name) room none is = absurd none
-same_room n (Unmute event name) room none is = absurd none
-same_room n (Delete name) room _ is = is
-same_room n (Unlink a rel b) room _ is = is
+pub same_capacity : (n : Numbered) (edit : Edit) (capacity : ℕ) → TakesAway edit → IsNodeCapacityAfter n edit capacity → capacity ≡ length n.nodes
+same_capacity n (Create name class) capacity none is = absurd none
+same_capacity n (Link a rel b) capacity none is = absurd none
+same_capacity n (Mute event name) capacity none is = absurd none
+same_capacity n (Unmute event name) capacity none is = absurd none
+same_capacity n (Delete name) capacity _ is = is
+same_capacity n (Unlink a rel b) capacity _ is = is
 
 -- a problem that stays a node stays a problem
 pub still_problem : (t u : Topology) → AreNear t u → (p : NodeName) → IsProblem t p → IsNodeOf u p → IsProblem u p
@@ -109,10 +109,10 @@ module _ (old : Numbered) (edit : Edit) (new : Numbered) (touched : List Bool) (
   edited = follows.edited
 
   -- a row has a touched node exactly where its problem causes one
-  pub touches : (i : ℕ) (slot : Slot) (name : NodeName) → HasSlot slots i slot → IsNodeNamed old (number i) name → HasTouched touched (row_of p slot) ↔ CausesTouched t u name
+  pub touches : (i : ℕ) (slot : Slot) (name : NodeName) → HasSlot slots i slot → IsNodeNamed old (number i) name → HasTouched touched (slot_row p slot) ↔ CausesTouched t u name
   touches i slot name has named =
       let row = follows.right.rows i slot has in
-      let reached : IsReachedRow old i (row_of p slot) = subst (IsReachedRow old i) row.1.1 row.2 in (
+      let reached : IsReachedRow old i (slot_row p slot) = subst (IsReachedRow old i) row.1.1 row.2 in (
         λ (k, mark, bit).
             let node = (follows.reported k).0 mark in
             (node.0, node.2, (lead_to_caused old edited.whole i k name node.0 named node.1).0 ((reached k).0 bit)),
@@ -154,7 +154,7 @@ module _ (old : Numbered) (edit : Edit) (new : Numbered) (touched : List Bool) (
       none_listed id slot has own =
           let (other, there, live, marked) = (takes.listed id).0 has in
           let was = takes.clean id.0 slot own in
-          was.1.1 (subst (λ (s : Slot). HasTouched touched (row_of p s)) (one_slot slots id.0 other slot there was.0) marked)
+          was.1.1 (subst (λ (s : Slot). HasTouched touched (slot_row p s)) (one_slot slots id.0 other slot there was.0) marked)
 
       -- a clean row is the right one
       kept_problem : (i : ℕ) (slot : Slot) → HasSlot kept_slots i slot → IsProblemNumber new (number i)

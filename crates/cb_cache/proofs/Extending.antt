@@ -15,25 +15,25 @@ use Rattle.cb_network.specs.Nodes.{IsCount}
 use Rattle.cb_network.specs.Topology.{Topology}
 use Rattle.cb_nodes.specs.declared.id.NodeId.{NodeId}
 use Rattle.cb_pool.specs.declared.slot.Slot.{Slot}
-use Rattle.cb_pool.specs.Pool.{Pool, IsTaken, SameOthers, row_of}
+use Rattle.cb_pool.specs.Pool.{Pool, IsTaken, SameOthers, slot_row}
 use Rattle.cb_successors.specs.Rows.{Has, ones}
 use Rattle.cb_topo.specs.Numbered.{Numbered, topology_of, IsNodeNamed, IsWhole}
 use Rattle.cb_graph.specs.Edges.{EdgeAt, number}
 use Rattle.cb_graph.proofs.Chains.{named_once}
-use Rattle.cb_cache.specs.Extended.{IsLinked, IsExpanded, HasLed, HasTouched, CountsExpanded}
+use Rattle.cb_cache.specs.Extended.{IsAfterLink, IsExpanded, HasLed, HasTouched, CountsExpanded}
 use Rattle.cb_cache.specs.Kept.{OwnSlots}
 use Rattle.cb_cache.specs.Reached.{HasSlot, CountsOnly}
 use Rattle.cb_cache.proofs.Linked.{link_cost, who_later, is_dirty, dirty_row, expanded_few, exactly_expanded}
 use Rattle.cb_cache.proofs.Slots.{one_slot, slot_low}
 
--- of the row of the node of this name so many nodes were expanded
+-- how many nodes of the row of the node of this name were expanded
 pub record HasExpanded (n : Numbered) (touched : List Bool) (slots : List (Option Slot)) (p : Pool) (name : NodeName) (size : ℕ) : Type 0 where
   pub place : ℕ
   pub named : IsNodeNamed n (number place) name
   pub slot : Slot
   pub has : HasSlot slots place slot
   pub nodes : List Bool
-  pub each : (k : ℕ) → Has nodes k → IsExpanded (EdgeAt n) touched (row_of p slot) k
+  pub each : (k : ℕ) → Has nodes k → IsExpanded (EdgeAt n) touched (slot_row p slot) k
   pub size_is : ones nodes ≡ size
 
 -- the row at such a place has a touched node
@@ -43,7 +43,7 @@ pub record IsStale (n : Numbered) (touched : List Bool) (slots : List (Option Sl
   pub named : IsNodeNamed n (number place) name
   pub slot : Slot
   pub has : HasSlot slots place slot
-  pub stale : HasTouched touched (row_of p slot)
+  pub stale : HasTouched touched (slot_row p slot)
 
 -- no more steps were made than nodes of stale rows before this place were expanded
 pub record CostsUpto (n : Numbered) (touched : List Bool) (slots : List (Option Slot)) (p : Pool) (end first now : ℕ) : Type 0 where
@@ -59,8 +59,8 @@ pub record IsExtended (n : Numbered) (touched : List Bool) (slots : List (Option
   pub width : after.width ≡ p.width
   pub taken : after.taken ≡ p.taken
   pub spare : after.spare ≡ p.spare
-  pub led : (i : ℕ) (slot : Slot) → i < end → HasSlot slots i slot → HasLed (EdgeAt n) after slot (row_of p slot)
-  pub left : (i : ℕ) (slot : Slot) → end ≤ i → HasSlot slots i slot → row_of after slot ≡ row_of p slot
+  pub led : (i : ℕ) (slot : Slot) → i < end → HasSlot slots i slot → HasLed (EdgeAt n) after slot (slot_row p slot)
+  pub left : (i : ℕ) (slot : Slot) → end ≤ i → HasSlot slots i slot → slot_row after slot ≡ slot_row p slot
   pub cost : CostsUpto n touched slots p end first now
 
 module _ (n : Numbered) (touched : List Bool) (slots : List (Option Slot)) (p : Pool) where
@@ -93,7 +93,7 @@ module _ (n : Numbered) (touched : List Bool) (slots : List (Option Slot)) (p : 
 
   -- the row at a place, if there is one, has no touched node
   abbrev IsQuiet : ℕ → Type 0
-  IsQuiet end = (slot : Slot) → HasSlot slots end slot → ¬ HasTouched touched (row_of p slot)
+  IsQuiet end = (slot : Slot) → HasSlot slots end slot → ¬ HasTouched touched (slot_row p slot)
 
   costs_past : (end first now : ℕ) → IsQuiet end → CostsUpto n touched slots p end first now → CostsUpto n touched slots p (end + 1) first now
   costs_past end first now quiet costs = record {
@@ -127,8 +127,8 @@ module _ (n : Numbered) (touched : List Bool) (slots : List (Option Slot)) (p : 
   }
 
   module _ (whole : IsWhole n) (apart : OwnSlots slots) (end : ℕ) (slot : Slot) (has : HasSlot slots end slot) (name : NodeName) (named : IsNodeNamed n (number end) name) where
-    costs_more : (first now next count : ℕ) → CostsUpto n touched slots p end first now → HasTouched touched (row_of p slot)
-        → CountsOnly (IsExpanded (EdgeAt n) touched (row_of p slot)) count now next → CostsUpto n touched slots p (end + 1) first next
+    costs_more : (first now next count : ℕ) → CostsUpto n touched slots p end first now → HasTouched touched (slot_row p slot)
+        → CountsOnly (IsExpanded (EdgeAt n) touched (slot_row p slot)) count now next → CostsUpto n touched slots p (end + 1) first next
     costs_more first now next count costs stale counts =
         let size = ones counts.row in
         let expanded : HasExpanded n touched slots p name size = record { place = end; named = named; slot = slot; has = has; nodes = counts.row; each = counts.each; size_is = refl } in
@@ -157,16 +157,16 @@ module _ (n : Numbered) (touched : List Bool) (slots : List (Option Slot)) (p : 
           few = (let e = sum_by_push (λ k. k) costs.sizes size in let f = costs.few in let g = counts.few in omega arith);
         }
 
-    costs_next : (first now next count : ℕ) → CostsUpto n touched slots p end first now → CountsExpanded (EdgeAt n) touched (row_of p slot) count now next
+    costs_next : (first now next count : ℕ) → CostsUpto n touched slots p end first now → CountsExpanded (EdgeAt n) touched (slot_row p slot) count now next
         → CostsUpto n touched slots p (end + 1) first next
     costs_next first now next count costs (inl (clean, still)) =
-        let quiet : IsQuiet end = λ other its. subst (λ s. ¬ HasTouched touched (row_of p s)) (one_slot slots end slot other has its) clean in
+        let quiet : IsQuiet end = λ other its. subst (λ s. ¬ HasTouched touched (slot_row p s)) (one_slot slots end slot other has its) clean in
         subst (CostsUpto n touched slots p (end + 1) first) (sym still) (costs_past end first now quiet costs)
     costs_next first now next count costs (inr (stale, counts)) = costs_more first now next count costs stale counts
 
     -- a place with a slot, whose row is extended
     pub extended_more : (after new : Pool) (first now next count : ℕ) → IsExtended n touched slots p after end first now → new.width ≡ after.width → new.taken ≡ after.taken → new.spare ≡ after.spare
-        → SameOthers after new slot → HasLed (EdgeAt n) new slot (row_of after slot) → CountsExpanded (EdgeAt n) touched (row_of after slot) count now next
+        → SameOthers after new slot → HasLed (EdgeAt n) new slot (slot_row after slot) → CountsExpanded (EdgeAt n) touched (slot_row after slot) count now next
         → ((i : ℕ) (other : Slot) → HasSlot slots i other → IsTaken p other) → IsExtended n touched slots p new (end + 1) first next
     extended_more after new first now next count old width taken spare others led counts out =
         let same = old.left end slot (omega arith) has in
@@ -179,7 +179,7 @@ module _ (n : Numbered) (touched : List Bool) (slots : List (Option Slot)) (p : 
           led = λ i other lt its. elim (cases_eq i end) [
             | inl here ↦
                 let one = one_slot slots end slot other has (subst (λ k. HasSlot slots k other) here its) in
-                subst (λ s. HasLed (EdgeAt n) new s (row_of p s)) one (subst (HasLed (EdgeAt n) new slot) same led)
+                subst (λ s. HasLed (EdgeAt n) new s (slot_row p s)) one (subst (HasLed (EdgeAt n) new slot) same led)
             | inr apart_from ↦
                 let (row, there, is) = old.led i other (omega arith) its in
                 (row, (others other (differs i other its apart_from) row).1 there, is)
@@ -187,7 +187,7 @@ module _ (n : Numbered) (touched : List Bool) (slots : List (Option Slot)) (p : 
           left = λ i other le its.
               let mine = old.left i other (omega arith) its in
               let held : IsTaken after other = ap (λ t. slice_index_or t other.0 false) old.taken ∙ out i other its in
-              let there = (others other (differs i other its (λ e. absurd (omega arith))) (row_of after other)).1 (held, refl) in
+              let there = (others other (differs i other its (λ e. absurd (omega arith))) (slot_row after other)).1 (held, refl) in
               sym there.1 ∙ mine;
           cost = costs_next first now next count old.cost (subst (λ words. CountsExpanded (EdgeAt n) touched words count now next) same counts);
         }
@@ -207,8 +207,8 @@ raised S T more (x ∷ xs) (m ∷ ms) zip =
     )
 
 -- once all rows are extended, what was expanded is no more than the edit costs
-module _ (old new : Numbered) (edit : Edit) (touched : List Bool) (slots : List (Option Slot)) (p : Pool) (linked : IsLinked old edit new touched slots p) (after : Pool)
-    (led : (i : ℕ) (slot : Slot) → HasSlot slots i slot → HasLed (EdgeAt new) after slot (row_of p slot)) where
+module _ (old new : Numbered) (edit : Edit) (touched : List Bool) (slots : List (Option Slot)) (p : Pool) (linked : IsAfterLink old edit new touched slots p) (after : Pool)
+    (led : (i : ℕ) (slot : Slot) → HasSlot slots i slot → HasLed (EdgeAt new) after slot (slot_row p slot)) where
   abbrev t : Topology
   t = topology_of old
 

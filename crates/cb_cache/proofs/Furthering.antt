@@ -57,9 +57,9 @@ has_low row k has = elim (cases_lt k (length row)) [
 ]
 
 -- what was added, where there was nothing before
-pub adds_first : (edge : ℕ → ℕ → Type 0) (touched : List Bool) (row words : List ℕ) (count room : ℕ) (first found : List Bool) → row ≡ words → first ≡ replicate room false → room ≡ count
+pub adds_first : (edge : ℕ → ℕ → Type 0) (touched : List Bool) (row words : List ℕ) (count capacity : ℕ) (first found : List Bool) → row ≡ words → first ≡ replicate capacity false → capacity ≡ count
     → AddsBelow edge touched row count first found → AddsBelow edge touched words count (replicate count false) found
-adds_first edge touched row words count room first found same none long adds =
+adds_first edge touched row words count capacity first found same none long adds =
     subst (λ (ws : List ℕ). AddsBelow edge touched ws count (replicate count false) found) same
     (subst (λ (begun : List Bool). AddsBelow edge touched row count begun found) (none ∙ ap (λ n. replicate n false) long) adds)
 

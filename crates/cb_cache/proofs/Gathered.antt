@@ -88,7 +88,7 @@ once_tail : (x : NodeId) (xs : List NodeId) → AreOnce (x ∷ xs) → AreOnce x
 once_tail x xs once = λ i j d lt within. once (suc i) (suc j) d (omega arith) (omega arith)
 
 module _ (n : Numbered) (whole : IsWhole n) where
-  -- so many numbers, so many names
+  -- as many numbers as names
   pub count_of_once : (ids : List NodeId) → AreOnce ids → ((id : NodeId) → Contains ids id → IsLiveNode n id) → IsCount (IsNamedIn n ids) (length ids)
   count_of_once [] once live = record {
     nodes = set.empty;
@@ -153,7 +153,7 @@ module _ (n : Numbered) (whole : IsWhole n) where
             (id, (are.each id).1 (q, named, problem), named),
       )) (length ids) count)
 
-  -- where a further one follows, it has room
+  -- where a further one follows, it has capacity
   pub next_within : (k : ℕ) (ids : List NodeId) (most : ℕ) (id : NodeId) → AreBelow n k ids → id.0 ≡ k → IsProblemNumber n id → Sound (topology_of n)
       → HasAtMost (topology_of n) most → length ids < most
   next_within k ids most id below here problem sound bound =

@@ -12,7 +12,7 @@ use Rattle.cb_model.specs.Classes.{HasEvent}
 use Rattle.cb_model.specs.NodeOrder.{node_cmp}
 use Rattle.cb_model.specs.Views.{AreEventsOf}
 use Rattle.cb_model.proofs.Rising.{name_cmp_total, name_cmp_exact, node_cmp_total, node_cmp_exact, contains_cases, contains_head, contains_tail, nothing_in_empty}
-use Rattle.cb_network.specs.Edits.{node_of, with_instance}
+use Rattle.cb_network.specs.Edits.{node_name_of, with_instance}
 use Rattle.cb_network.specs.Nodes.{IsProblem, IsCount}
 use Rattle.cb_network.specs.Topology.{Topology}
 use Rattle.cb_network.proofs.Sets.{in_insert, len_of_part, got_insert}
@@ -75,7 +75,7 @@ contains_map f (d ∷ events) e has = elim (contains_cases d events e has) [
 
 -- the name of an event of an instance
 abbrev called : Tables → List ℕ → EventId → NodeName
-called tables name e = node_of (event_name tables e) name
+called tables name e = node_name_of (event_name tables e) name
 
 -- a problem of a further instance is one of its class's events
 came_with : (t : Topology) (name : List ℕ) (c : ClassId) (events : List EventId) → AreEventsOf t.model c events → (q : NodeName) → IsProblem (with_instance t name c) q

@@ -3,7 +3,7 @@ use Rattle.std.proofs.Common.{◌≡◌, ◌↔◌, ℕ, List, [], ◌∷◌, Bo
 use Rattle.std.specs.Simd.Lanes.{zip2}
 use Rattle.cb_lanes.specs.Words.{bit_of, HaveCommonBit}
 use Rattle.cb_bits.specs.Bits.{Packs}
-use Rattle.cb_successors.specs.Graphs.{Chain}
+use Rattle.cb_successors.specs.Graphs.{EdgeChain}
 use Rattle.cb_cache.specs.Reached.{IsMet}
 use Rattle.cb_cache.specs.Extended.{IsLedByWords, IsSettledBut, HasTouched}
 use Rattle.cb_cache.proofs.United.{united_cases}
@@ -27,7 +27,7 @@ pub touched_common : (touched : List Bool) (row words marks : List ℕ) → Pack
 touched_common touched row words marks packs same (k, is, bit) = (k, subst (λ ws. bit_of ws k ≡ true) (sym same) bit, packed_bit touched marks packs k ∙ is)
 
 module _ (edge : ℕ → ℕ → Type 0) (touched : List Bool) (words : List ℕ) (settled : IsSettledBut edge touched words) (clean : ¬ HasTouched touched words) where
-  stays_within : (from : ℕ) (rest : List ℕ) (to : ℕ) → Chain edge from rest to → bit_of words from ≡ true → bit_of words to ≡ true
+  stays_within : (from : ℕ) (rest : List ℕ) (to : ℕ) → EdgeChain edge from rest to → bit_of words from ≡ true → bit_of words to ≡ true
   stays_within from [] to same bit = subst (λ k. bit_of words k ≡ true) same bit
   stays_within from (next ∷ rest) to chain bit = stays_within next rest to chain.1 (settled from next bit (λ is. clean (from, is, bit)) chain.0)
 

@@ -20,7 +20,7 @@ use Rattle.cb_change.proofs.Kept.{caused_is_node, chain_over}
 use Rattle.cb_change.proofs.Steps.{Grows, grows}
 use Rattle.cb_nodes.specs.declared.id.NodeId.{NodeId}
 use Rattle.cb_pool.specs.declared.slot.Slot.{Slot}
-use Rattle.cb_pool.specs.Pool.{Pool, row_of}
+use Rattle.cb_pool.specs.Pool.{Pool, slot_row}
 use Rattle.cb_successors.specs.Rows.{Has, ones}
 use Rattle.cb_successors.specs.Graphs.{LeadsTo}
 use Rattle.cb_successors.proofs.Chains.{chains_joined}
@@ -28,7 +28,7 @@ use Rattle.cb_topo.specs.Numbered.{Numbered, topology_of, IsNodeNamed}
 use Rattle.cb_graph.specs.Edges.{EdgeAt, number}
 use Rattle.cb_graph.proofs.Chains.{lead_to_caused, named_once}
 use Rattle.cb_cache.specs.Cached.{IsReachedRow}
-use Rattle.cb_cache.specs.Extended.{IsLinked, IsLedByWords, IsExpanded, IsSettledBut, HasLed, HasTouched, MakesLink}
+use Rattle.cb_cache.specs.Extended.{IsAfterLink, IsLedByWords, IsExpanded, IsSettledBut, HasLed, HasTouched, MakesLink}
 use Rattle.cb_cache.specs.Kept.{AreRight}
 use Rattle.cb_cache.specs.Reached.{HasSlot}
 use Rattle.cb_cache.proofs.Edited.{close, old_number, row_settled}
@@ -67,7 +67,7 @@ link_cost t u (Unlink a rel b) none steps new_steps counts = absurd none
 link_cost t u (Mute event name) none steps new_steps counts = absurd none
 link_cost t u (Unmute event name) none steps new_steps counts = absurd none
 
-module _ (old new : Numbered) (edit : Edit) (touched : List Bool) (slots : List (Option Slot)) (p : Pool) (linked : IsLinked old edit new touched slots p) where
+module _ (old new : Numbered) (edit : Edit) (touched : List Bool) (slots : List (Option Slot)) (p : Pool) (linked : IsAfterLink old edit new touched slots p) where
   abbrev t : Topology
   t = topology_of old
 
@@ -109,7 +109,7 @@ module _ (old new : Numbered) (edit : Edit) (touched : List Bool) (slots : List 
     who_later = (who.0, kept_number i who.0 who.1)
 
     abbrev row : List ℕ
-    row = row_of p slot
+    row = slot_row p slot
 
     was_reached : IsReachedRow old i row
     was_reached =
@@ -203,7 +203,7 @@ module _ (old new : Numbered) (edit : Edit) (touched : List Bool) (slots : List 
 
     expanded_low : (k : ℕ) → IsExpanded (EdgeAt new) touched row k → k < length new.nodes
     expanded_low k (inl (has, bit)) = elim (cases_lt k (length touched)) [
-      | inl lt ↦ let e = linked.room in omega arith
+      | inl lt ↦ let e = linked.capacity in omega arith
       | inr le ↦ absurd (let e = get_or_past touched k false le in cc)
     ]
     expanded_low k (inr (led, off)) = led_low new linked.edited.whole_after i who.0 who_later.1 k ((led_now k).0 led)
@@ -254,7 +254,7 @@ module _ (old new : Numbered) (edit : Edit) (touched : List Bool) (slots : List 
           )
 
   -- a dirty problem has a row, and a touched node is in it
-  pub dirty_row : (q : NodeName) → IsDirty t u q → (i : ℕ) × (slot : Slot) × IsNodeNamed new (number i) q × HasSlot slots i slot × HasTouched touched (row_of p slot)
+  pub dirty_row : (q : NodeName) → IsDirty t u q → (i : ℕ) × (slot : Slot) × IsNodeNamed new (number i) q × HasSlot slots i slot × HasTouched touched (slot_row p slot)
   dirty_row q dirty =
       let at = linked.edited.whole.named q (node_of_problem t q dirty.problem) in
       let own = linked.right.all at.0.0 (q, at.1, dirty.problem) in
@@ -265,7 +265,7 @@ module _ (old new : Numbered) (edit : Edit) (touched : List Bool) (slots : List 
       (at.0.0, own.0, kept_number at.0.0 q at.1, own.1, (there.0.0, marks, bit))
 
   -- rows that are extended are right
-  pub right_later : (after : Pool) → after.taken ≡ p.taken → ((i : ℕ) (slot : Slot) → HasSlot slots i slot → HasLed (EdgeAt new) after slot (row_of p slot)) → AreRight new slots after
+  pub right_later : (after : Pool) → after.taken ≡ p.taken → ((i : ℕ) (slot : Slot) → HasSlot slots i slot → HasLed (EdgeAt new) after slot (slot_row p slot)) → AreRight new slots after
   right_later after same_taken led = record {
     rows = λ i slot has.
         let (words, there, is) = led i slot has in

@@ -14,14 +14,14 @@ use Rattle.cb_change.proofs.Kept.{never_meets}
 use Rattle.cb_change.proofs.Steps.{links_kept}
 use Rattle.cb_pool.specs.declared.slot.Slot.{Slot}
 use Rattle.cb_pool.specs.Pool.{Pool}
-use Rattle.cb_topo.specs.Applied.{IsNodeRoomAfter}
+use Rattle.cb_topo.specs.Applied.{IsNodeCapacityAfter}
 use Rattle.cb_topo.specs.Numbered.{Numbered, topology_of}
 use Rattle.cb_graph.specs.Edges.{number}
 use Rattle.cb_cache.specs.declared.rows.Store.{Store}
 use Rattle.cb_cache.specs.Kept.{AreRight, IsCacheOf}
 use Rattle.cb_cache.specs.Laws.{IsEdited}
 use Rattle.cb_cache.specs.Marks.{ChangesMarks}
-use Rattle.cb_cache.specs.Room.{HasRoomFor, HasAgendaFor}
+use Rattle.cb_cache.specs.Capacity.{HasCapacityFor, HasAgendaFor}
 use Rattle.cb_cache.proofs.Edited.{row_clean, old_number}
 use Rattle.cb_cache.proofs.Opened.{node_of_problem}
 
@@ -61,13 +61,13 @@ pub counts_none : {X Y : Type 0} (result : Result X Y) (t u : Topology) (edit : 
 counts_none (Ok x) t u edit marks steps = record { cost = 0; is_cost = marks_cost t u edit marks; few = omega arith }
 counts_none (Err y) t u edit marks steps = tt
 
-same_room : (n : Numbered) (edit : Edit) (room : ℕ) → ChangesMarks edit → IsNodeRoomAfter n edit room → room ≡ length n.nodes
-same_room n (Create name class) room none is = absurd none
-same_room n (Delete name) room none is = absurd none
-same_room n (Link a rel b) room none is = absurd none
-same_room n (Unlink a rel b) room none is = absurd none
-same_room n (Mute event name) room _ is = is
-same_room n (Unmute event name) room _ is = is
+same_capacity : (n : Numbered) (edit : Edit) (capacity : ℕ) → ChangesMarks edit → IsNodeCapacityAfter n edit capacity → capacity ≡ length n.nodes
+same_capacity n (Create name class) capacity none is = absurd none
+same_capacity n (Delete name) capacity none is = absurd none
+same_capacity n (Link a rel b) capacity none is = absurd none
+same_capacity n (Unlink a rel b) capacity none is = absurd none
+same_capacity n (Mute event name) capacity _ is = is
+same_capacity n (Unmute event name) capacity _ is = is
 
 module _ (old new : Numbered) (edit : Edit) (edited : IsEdited old edit new) (marks : ChangesMarks edit) (slots : List (Option Slot)) (p : Pool) where
   clean : (name : NodeName) → ¬ CausesTouched (topology_of old) (topology_of new) name
@@ -98,14 +98,14 @@ module _ (old new : Numbered) (edit : Edit) (edited : IsEdited old edit new) (ma
 module _ (old new : Numbered) (edit : Edit) (edited : IsEdited old edit new) (marks : ChangesMarks edit) (store : Store) where
   pub kept_marked : IsCacheOf old store → IsCacheOf new store
   kept_marked kept =
-      let same = sym (same_room old edit (length new.nodes) marks edited.applies.node_room) in
+      let same = sym (same_capacity old edit (length new.nodes) marks edited.applies.node_capacity) in
       record {
         whole = edited.whole_after;
         right = right_marked old new edit edited marks store.rows.slots.items store.rows.pool kept.right;
-        room = record {
-          slots = kept.room.slots ∙ same;
-          width = kept.room.width ∙ ap words_for same;
-          scratch = subst (λ (room : ℕ). HasRoomFor room store.rows.scratch) same kept.room.scratch;
+        capacity = record {
+          slots = kept.capacity.slots ∙ same;
+          width = kept.capacity.width ∙ ap words_for same;
+          scratch = subst (λ (capacity : ℕ). HasCapacityFor capacity store.rows.scratch) same kept.capacity.scratch;
         };
-        agenda = subst (λ (room : ℕ). HasAgendaFor room store.agenda) same kept.agenda;
+        agenda = subst (λ (capacity : ℕ). HasAgendaFor capacity store.agenda) same kept.agenda;
       }

@@ -9,7 +9,7 @@ use Rattle.cb_model.specs.Order.{Rises}
 use Rattle.cb_model.specs.NodeOrder.{node_cmp}
 use Rattle.cb_network.specs.Causes.{Causes}
 use Rattle.cb_network.specs.Topology.{Topology}
-use Rattle.cb_network.specs.Nodes.{IsProblem, IsNodeOf, IsCount, IsWithin}
+use Rattle.cb_network.specs.Nodes.{IsProblem, IsNodeOf, IsCount, IsCountWithin}
 use Rattle.cb_network.proofs.Counts.{count_of_rising}
 use Rattle.cb_network.proofs.Sets.{len_of_part}
 use Rattle.cb_change.specs.Costs.{IsOpenCost, IsTotal, CountsAtMost}
@@ -52,18 +52,18 @@ at_place n (a ∷ ids) (x ∷ names) zip zero d e lt = (omega arith, zip.0)
 at_place n (a ∷ ids) (x ∷ names) zip (suc i) d e lt = let f = at_place n ids names zip.1 i d e (omega arith) in (omega (arith, f.0), f.1)
 
 -- no number has a slot where no place has one
-pub no_slot : (room : ℕ) (slots : List (Option Slot)) → slots ≡ replicate room None → (i : ℕ) (slot : Slot) → ¬ HasSlot slots i slot
-no_slot room slots is i slot has = let e = slice_get-replicate room i None (Some slot) (subst (λ xs. HasSlot xs i slot) is has) in cc
+pub no_slot : (capacity : ℕ) (slots : List (Option Slot)) → slots ≡ replicate capacity None → (i : ℕ) (slot : Slot) → ¬ HasSlot slots i slot
+no_slot capacity slots is i slot has = let e = slice_get-replicate capacity i None (Some slot) (subst (λ xs. HasSlot xs i slot) is has) in cc
 
-module _ (room : ℕ) (slots : List (Option Slot)) (is : slots ≡ replicate room None) where
+module _ (capacity : ℕ) (slots : List (Option Slot)) (is : slots ≡ replicate capacity None) where
   pub no_slots_for : (ids : List NodeId) → HaveNoSlots slots ids
-  no_slots_for ids id slot _ has = no_slot room slots is id.0 slot has
+  no_slots_for ids id slot _ has = no_slot capacity slots is id.0 slot has
 
   pub no_rows : (n : Numbered) (p : Pool) → AreRows n slots p
-  no_rows n p i slot has = absurd (no_slot room slots is i slot has)
+  no_rows n p i slot has = absurd (no_slot capacity slots is i slot has)
 
   pub none_apart : OwnSlots slots
-  none_apart i j slot has _ = absurd (no_slot room slots is i slot has)
+  none_apart i j slot has _ = absurd (no_slot capacity slots is i slot has)
 
 -- the names of numbers of nodes
 names_for : (n : Numbered) (ids : List NodeId) → All (IsLiveNode n) ids → (names : List NodeName) × AreNamed n ids names
@@ -75,7 +75,7 @@ names_for n (a ∷ ids) live =
 
 -- the problems are no more than there can be
 pub few_of_rising : (P Q : NodeName → Type 0) (xs : List NodeName) (limit : ℕ) → Rises node_cmp xs → ((q : NodeName) → Contains xs q ↔ Q q)
-    → ((q : NodeName) → Q q → P q) → IsWithin P limit → length xs ≤ limit
+    → ((q : NodeName) → Q q → P q) → IsCountWithin P limit → length xs ≤ limit
 few_of_rising P Q xs limit rise are part within =
     let count = count_of_rising Q xs rise are in
     let all = within.1 in

@@ -2,13 +2,13 @@
 use Rattle.std.proofs.Common.{◌≡◌, ◌≢◌, ◌≤◌, ℕ, List, Bool, [], length, slice_index_or, false, refl, sym, ap, ◌∙◌}
 use Rattle.std.proofs.lemmas.Bool.{false≢true}
 use Rattle.cb_pool.specs.declared.slot.Slot.{Slot}
-use Rattle.cb_pool.specs.Pool.{Pool, HasRow, IsTaken, SameOthers, row_of, with_row}
+use Rattle.cb_pool.specs.Pool.{Pool, SlotHasRow, IsTaken, SameOthers, slot_row, with_row}
 use Rattle.cb_pool.proofs.Rows.{put_leaves, put_there}
 use Rattle.cb_pool.proofs.Views.{slots_apart}
 
 -- a row in the place of another
 module _ (p : Pool) (slot : Slot) (row : List ℕ) where
-  pub row_written : IsTaken p slot → length row ≡ length (row_of p slot) → HasRow (with_row p slot row) slot row
+  pub row_written : IsTaken p slot → length row ≡ length (slot_row p slot) → SlotHasRow (with_row p slot row) slot row
   row_written taken same = (taken, sym (put_there p.width slot.0 p.words row same))
 
   pub others_unwritten : length row ≤ p.width → SameOthers p (with_row p slot row) slot
@@ -22,7 +22,7 @@ others_both p q r slot first second other apart row =
 
 -- another slot that is taken was taken
 pub was_taken : (p new : Pool) (slot other : Slot) → SameOthers p new slot → other ≢ slot → IsTaken new other → IsTaken p other
-was_taken p new slot other same apart taken = ((same other apart (row_of new other)).0 (taken, refl)).0
+was_taken p new slot other same apart taken = ((same other apart (slot_row new other)).0 (taken, refl)).0
 
 -- so is one where the same slots are taken
 pub as_taken : (p new : Pool) (slot : Slot) → new.taken ≡ p.taken → IsTaken new slot → IsTaken p slot

@@ -13,7 +13,7 @@ use Rattle.cb_change.proofs.Kept.{caused_is_node}
 use Rattle.cb_network.proofs.Sets.{in_insert}
 use Rattle.cb_nodes.specs.declared.id.NodeId.{NodeId}
 use Rattle.cb_successors.specs.Rows.{Has, ones}
-use Rattle.cb_successors.specs.Graphs.{Chain, LeadsTo}
+use Rattle.cb_successors.specs.Graphs.{EdgeChain, LeadsTo}
 use Rattle.cb_topo.specs.Numbered.{Numbered, topology_of, IsNodeNamed, IsWhole}
 use Rattle.cb_graph.specs.Edges.{EdgeAt, number}
 use Rattle.cb_graph.proofs.Chains.{lead_to_caused, named_once}
@@ -103,7 +103,7 @@ module _ (N : ℕ → NodeName → Type 0) (one : (i j : ℕ) (name : NodeName) 
 
 module _ (n : Numbered) (whole : IsWhole n) where
   -- what a node leads to has a name
-  pub led_named : (i : ℕ) (rest : List ℕ) (k : ℕ) → Chain (EdgeAt n) i rest k → (p : NodeName) → IsNodeNamed n (number i) p → (q : NodeName) × IsNodeNamed n (number k) q
+  pub led_named : (i : ℕ) (rest : List ℕ) (k : ℕ) → EdgeChain (EdgeAt n) i rest k → (p : NodeName) → IsNodeNamed n (number i) p → (q : NodeName) × IsNodeNamed n (number k) q
   led_named i [] k same p is = (p, subst (λ j. IsNodeNamed n (number j) p) same is)
   led_named i (m ∷ rest) k chain p is = led_named m rest k chain.1 chain.0.to chain.0.to_is
 

@@ -5,12 +5,12 @@ use Rattle.std.proofs.lemmas.List.{get_or_past, get_or-set_other, length-set, le
 use Rattle.cb_lanes.specs.Words.{bit_of}
 use Rattle.cb_bits.proofs.Zeros.{zero_bit}
 use Rattle.cb_successors.specs.Rows.{Has, IsLeft, HasAllOf, ones}
-use Rattle.cb_successors.specs.Graphs.{LeadsTo, Chain}
+use Rattle.cb_successors.specs.Graphs.{LeadsTo, EdgeChain}
 use Rattle.cb_successors.proofs.Chains.{chains_joined}
 use Rattle.cb_successors.proofs.Marks.{ones-set, ones_within, set_cases, has_set, nothing, no_ones}
 use Rattle.cb_cache.specs.Reached.{IsMet, AreFollowed, IsLedByMet, Visits, CountsOnly}
 
--- what a search keeps, which began with this row and these words and has made so many steps
+-- what a search keeps, which began with this row and these words, after a number of steps
 pub record IsSpread (edge : ℕ → ℕ → Type 0) (nodes : ℕ) (begun : List Bool) (words : List ℕ) (found done : List Bool) (joined : List ℕ) (steps0 steps : ℕ) : Type 0 where
   pub len_found : length found ≡ nodes
   pub len_done : length done ≡ nodes
@@ -129,7 +129,7 @@ module _ (edge : ℕ → ℕ → Type 0) (nodes : ℕ) (begun : List Bool) (word
   }
 
   -- where nothing is left, what is met has its successors among it
-  closed_along : HasAllOf done found → (k : ℕ) (rest : List ℕ) (to : ℕ) → Chain edge k rest to → IsMet found joined k → IsMet found joined to
+  closed_along : HasAllOf done found → (k : ℕ) (rest : List ℕ) (to : ℕ) → EdgeChain edge k rest to → IsMet found joined k → IsMet found joined to
   closed_along none k [] to same met = subst (IsMet found joined) same met
   closed_along none k (j ∷ rest) to chain (inl has) = closed_along none j rest to chain.1 (old.next k j (none k has) chain.0)
   closed_along none k (j ∷ rest) to chain (inr bit) = closed_along none j rest to chain.1 (old.followed k j bit chain.0)

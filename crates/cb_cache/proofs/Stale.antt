@@ -10,14 +10,14 @@ use Rattle.cb_model.proofs.Numbers.{slice_get-set_other, slice_get-set_same}
 use Rattle.cb_model.proofs.Rising.{nothing_in_empty}
 use Rattle.cb_nodes.specs.declared.id.NodeId.{NodeId}
 use Rattle.cb_pool.specs.declared.slot.Slot.{Slot}
-use Rattle.cb_pool.specs.Pool.{Pool, HasRow, IsTaken, row_of}
+use Rattle.cb_pool.specs.Pool.{Pool, SlotHasRow, IsTaken, slot_row}
 use Rattle.cb_topo.specs.Numbered.{Numbered, IsLiveNode}
 use Rattle.cb_graph.specs.Edges.{number}
 use Rattle.cb_cache.specs.Extended.{HasTouched}
 use Rattle.cb_cache.specs.Kept.{OwnSlots}
 use Rattle.cb_cache.specs.Numbers.{AreOnce}
 use Rattle.cb_cache.specs.Reached.{HasSlot}
-use Rattle.cb_cache.specs.Stale.{IsClean, IsStale, AreTaken, Leaves, GivesBack, TakesBackOne, TakesBack}
+use Rattle.cb_cache.specs.Stale.{IsClean, IsStale, AreTaken, LeavesRow, FreesSlot, TakesBackOne, TakesBack}
 use Rattle.cb_cache.proofs.Pooled.{was_taken}
 use Rattle.cb_cache.proofs.Slots.{one_slot}
 use Rattle.cb_cache.proofs.Written.{packed_bit}
@@ -34,7 +34,7 @@ module _ (touched : List Bool) (marks words row : List ℕ) (packs : Packs touch
 pub record BackUpTo (n : Numbered) (touched : List Bool) (place : ℕ) (first : List (Option Slot)) (p : Pool) (slots : List (Option Slot)) (new : Pool) (ids : List NodeId) : Type 0 where
   pub had : (i : ℕ) (slot : Slot) → HasSlot slots i slot → HasSlot first i slot
   pub clean : (i : ℕ) (slot : Slot) → HasSlot slots i slot → i < place → IsClean n touched p i slot
-  pub rows : (i : ℕ) (slot : Slot) → HasSlot slots i slot → (row : List ℕ) → HasRow new slot row ↔ HasRow p slot row
+  pub rows : (i : ℕ) (slot : Slot) → HasSlot slots i slot → (row : List ℕ) → SlotHasRow new slot row ↔ SlotHasRow p slot row
   pub taken : (slot : Slot) → IsTaken new slot → IsTaken p slot × ((i : ℕ) → HasSlot first i slot → HasSlot slots i slot)
   pub later : (i : ℕ) (slot : Slot) → HasSlot first i slot → place ≤ i → HasSlot slots i slot
   pub live : (i : ℕ) (slot : Slot) → HasSlot first i slot → i < place → IsLiveNode n (number i) → HasSlot slots i slot ⊎ Contains ids (number i)
@@ -57,19 +57,19 @@ same_id : (id other : NodeId) → id.0 ≡ other.0 → id ≡ other
 same_id id other e = λ k. record { 0 = e k }
 
 -- a row is as it was where another slot is given back
-same_row : (p new : Pool) (slot : Slot) (row : List ℕ) → ((r : List ℕ) → HasRow new slot r ↔ HasRow p slot r) → IsTaken new slot → row_of new slot ≡ row_of p slot
-same_row p new slot row same taken = let h = (same (row_of new slot)).0 (taken, refl) in h.1
+same_row : (p new : Pool) (slot : Slot) (row : List ℕ) → ((r : List ℕ) → SlotHasRow new slot r ↔ SlotHasRow p slot r) → IsTaken new slot → slot_row new slot ≡ slot_row p slot
+same_row p new slot row same taken = let h = (same (slot_row new slot)).0 (taken, refl) in h.1
 
 module _ (n : Numbered) (touched : List Bool) (place : ℕ) (id : NodeId) (here : id.0 ≡ place) (first : List (Option Slot)) (p : Pool) (apart : OwnSlots first) (taken : AreTaken first p)
     (slots : List (Option Slot)) (mid : Pool) (ids : List NodeId) (back : BackUpTo n touched place first p slots mid ids) where
   -- between a slot's row now and at first there's no difference
-  now_row : (i : ℕ) (slot : Slot) → HasSlot slots i slot → row_of mid slot ≡ row_of p slot
+  now_row : (i : ℕ) (slot : Slot) → HasSlot slots i slot → slot_row mid slot ≡ slot_row p slot
   now_row i slot has =
       let own = taken i slot (back.had i slot has) in
-      let h = (back.rows i slot has (row_of p slot)).1 (own, refl) in
+      let h = (back.rows i slot has (slot_row p slot)).1 (own, refl) in
       sym h.1
 
-  pub back_left : (new_slots : List (Option Slot)) (new : Pool) (new_ids : List NodeId) → Leaves n touched id slots mid new_slots new ids new_ids → BackUpTo n touched (place + 1) first p new_slots new new_ids
+  pub back_left : (new_slots : List (Option Slot)) (new : Pool) (new_ids : List NodeId) → LeavesRow n touched id slots mid new_slots new ids new_ids → BackUpTo n touched (place + 1) first p new_slots new new_ids
   back_left new_slots new new_ids leaves =
       subst (λ (xs : List (Option Slot)). BackUpTo n touched (place + 1) first p xs new new_ids) (sym leaves.same_slots)
       (subst (λ (q : Pool). BackUpTo n touched (place + 1) first p slots q new_ids) (sym leaves.same_pool)
@@ -96,7 +96,7 @@ module _ (n : Numbered) (touched : List Bool) (place : ℕ) (id : NodeId) (here 
         once = back.once;
       }))
 
-  module _ (new_slots : List (Option Slot)) (new : Pool) (new_ids : List NodeId) (gives : GivesBack n touched id slots mid new_slots new ids new_ids) where
+  module _ (new_slots : List (Option Slot)) (new : Pool) (new_ids : List NodeId) (gives : FreesSlot n touched id slots mid new_slots new ids new_ids) where
     -- what has a slot still is another number, and had it
     kept : (i : ℕ) (slot : Slot) → HasSlot new_slots i slot → (i ≢ place) × HasSlot slots i slot
     kept i slot has =

@@ -2,13 +2,13 @@
 use Rattle.std.proofs.Common.{◌≡◌, ◌↔◌, ◌⊎◌, inl, inr, ℕ, List, [], ◌∷◌, Bool, true, refl, sym, subst, ◌∙◌}
 use Rattle.cb_lanes.specs.Words.{bit_of}
 use Rattle.cb_pool.specs.declared.slot.Slot.{Slot}
-use Rattle.cb_pool.specs.Pool.{Pool, HasRow}
+use Rattle.cb_pool.specs.Pool.{Pool, SlotHasRow}
 use Rattle.cb_successors.specs.Rows.{Has}
 use Rattle.cb_successors.proofs.Chains.{chain_more}
 use Rattle.cb_cache.specs.Reached.{IsReached, HoldsReached, AreFollowed, Visits}
 
 -- a slot has one row
-pub row_reached : (edge : ℕ → ℕ → Type 0) (i : ℕ) (p : Pool) (slot : Slot) (words : List ℕ) → HasRow p slot words → HoldsReached edge i p slot → IsReached edge i words
+pub row_reached : (edge : ℕ → ℕ → Type 0) (i : ℕ) (p : Pool) (slot : Slot) (words : List ℕ) → SlotHasRow p slot words → HoldsReached edge i p slot → IsReached edge i words
 row_reached edge i p slot words has (own, there, reached) = subst (IsReached edge i) (there.1 ∙ sym has.1) reached
 
 -- the row of the node is taken over

@@ -18,12 +18,12 @@ use Rattle.cb_cache.specs.declared.create.Further.{Further}
 use Rattle.cb_cache.specs.declared.rows.Rows.{Rows}
 use Rattle.cb_cache.specs.Most.{HasEventsWithin}
 use Rattle.cb_cache.specs.Numbers.{IsProblemNumber}
-use Rattle.cb_cache.specs.Room.{HasRoomFor, HasAgendaFor}
+use Rattle.cb_cache.specs.Capacity.{HasCapacityFor, HasAgendaFor}
 
 -- the edit brings an instance
-abbrev pub Creates : Edit → Type 0
-Creates (Create name class) = Unit {0}
-Creates edit = ⊥
+abbrev pub MakesInstance : Edit → Type 0
+MakesInstance (Create name class) = Unit {0}
+MakesInstance edit = ⊥
 
 -- the number is that of one of these events of the instance, and that is a problem
 abbrev pub IsProblemAmong : Numbered → InstanceId → List EventId → NodeId → Type 0
@@ -39,16 +39,16 @@ abbrev pub IsPoolFor : ℕ → ℕ → Pool → Option Pool → Type 0
 IsPoolFor width more p None = (p.width ≡ width) × (more ≤ p.spare)
 IsPoolFor width more p (Some wider) = (wider.width ≡ width) × WiderRows p wider × (more ≤ wider.spare)
 
--- there are slots for `room` nodes, with those that numbers have, and rows for `more` further problems
-pub record IsFurtherFor (room more : ℕ) (rows : Rows) (further : Further) : Type 0 where
-  pub slots : further.slots.items ≡ rows.slots.items ++ replicate (room - length rows.slots.items) None
-  pub scratch : HasRoomFor room further.scratch
-  pub agenda : HasAgendaFor room further.agenda
-  pub pool : IsPoolFor (words_for room) more rows.pool further.pool
+-- there are slots for `capacity` nodes, with those that numbers have, and rows for `more` further problems
+pub record IsFurtherFor (capacity more : ℕ) (rows : Rows) (further : Further) : Type 0 where
+  pub slots : further.slots.items ≡ rows.slots.items ++ replicate (capacity - length rows.slots.items) None
+  pub scratch : HasCapacityFor capacity further.scratch
+  pub agenda : HasAgendaFor capacity further.agenda
+  pub pool : IsPoolFor (words_for capacity) more rows.pool further.pool
 
 -- so it is once the edit is made, with rows for all events of the instance that it brings; its class has one name
-abbrev pub IsRoomWith : Numbered → Edit → Rows → Further → Type 0
-IsRoomWith n edit rows further = WellTyped (topology_of n).model × (more : ℕ) × HasEventsWithin (topology_of n).model edit more × ((new : Numbered) → Applies n edit new → IsFurtherFor (length new.nodes) more rows further)
+abbrev pub IsCapacityWith : Numbered → Edit → Rows → Further → Type 0
+IsCapacityWith n edit rows further = WellTyped (topology_of n).model × (more : ℕ) × HasEventsWithin (topology_of n).model edit more × ((new : Numbered) → Applies n edit new → IsFurtherFor (length new.nodes) more rows further)
 
 -- the pool that takes another's position, if one does
 abbrev pub pool_or : Pool → Option Pool → Pool

@@ -4,7 +4,7 @@ use Rattle.cb_lanes.specs.Words.{bit_of}
 use Rattle.cb_network.specs.declared.edit.Edit.{Edit}
 use Rattle.cb_network.specs.declared.edit.Edit.TheVariants.{Link}
 use Rattle.cb_pool.specs.declared.slot.Slot.{Slot}
-use Rattle.cb_pool.specs.Pool.{Pool, HasRow}
+use Rattle.cb_pool.specs.Pool.{Pool, SlotHasRow}
 use Rattle.cb_successors.specs.Rows.{Has}
 use Rattle.cb_successors.specs.Graphs.{LeadsTo}
 use Rattle.cb_topo.specs.Numbered.{Numbered, topology_of}
@@ -36,7 +36,7 @@ HasTouched touched words = (k : ℕ) × Has touched k × (bit_of words k ≡ tru
 
 -- the slot has exactly the nodes that those of the words lead to
 abbrev pub HasLed : (ℕ → ℕ → Type 0) → Pool → Slot → List ℕ → Type 0
-HasLed edge p slot words = (row : List ℕ) × HasRow p slot row × ((k : ℕ) → (bit_of row k ≡ true) ↔ IsLedByWords edge words k)
+HasLed edge p slot words = (row : List ℕ) × SlotHasRow p slot row × ((k : ℕ) → (bit_of row k ≡ true) ↔ IsLedByWords edge words k)
 
 -- where none of the words is touched, no step is counted, and otherwise one for each node that is expanded, or fewer
 abbrev pub CountsExpanded : (ℕ → ℕ → Type 0) → List Bool → List ℕ → ℕ → ℕ → ℕ → Type 0
@@ -48,9 +48,9 @@ MakesLink (Link a rel b) = Unit {0}
 MakesLink edit = ⊥
 
 -- a link made the new topology of the old one, in which the rows were right, and exactly the numbers of touched nodes are marked
-pub record IsLinked (old : Numbered) (edit : Edit) (new : Numbered) (touched : List Bool) (slots : List (Option Slot)) (p : Pool) : Type 0 where
+pub record IsAfterLink (old : Numbered) (edit : Edit) (new : Numbered) (touched : List Bool) (slots : List (Option Slot)) (p : Pool) : Type 0 where
   pub link : MakesLink edit
   pub edited : IsEdited old edit new
   pub right : AreRight old slots p
   pub marked : (k : ℕ) → Has touched k ↔ IsTouchedNumber old (topology_of new) k
-  pub room : length touched ≡ length new.nodes
+  pub capacity : length touched ≡ length new.nodes

@@ -8,7 +8,7 @@ use Rattle.cb_graph.specs.Edges.{number}
 use Rattle.cb_cache.specs.declared.rows.Rows.{Rows}
 use Rattle.cb_cache.specs.declared.rows.Store.{Store}
 use Rattle.cb_cache.specs.declared.scratch.Scratch.{Scratch}
-use Rattle.cb_cache.specs.Room.{HasRoomFor, HasAgendaFor}
+use Rattle.cb_cache.specs.Capacity.{HasCapacityFor, HasAgendaFor}
 use Rattle.cb_cache.specs.Cached.{AreRows}
 use Rattle.cb_cache.specs.Numbers.{IsProblemNumber}
 use Rattle.cb_cache.specs.Reached.{HasSlot}
@@ -30,18 +30,18 @@ pub record AreRight (n : Numbered) (slots : List (Option Slot)) (p : Pool) : Typ
   pub owned : AreOwned slots p
 
 -- a search has positions for all numbers of nodes
-abbrev pub HasRoom : Numbered → Scratch → Type 0
-HasRoom n scratch = HasRoomFor (length n.nodes) scratch
+abbrev pub ScratchFits : Numbered → Scratch → Type 0
+ScratchFits n scratch = HasCapacityFor (length n.nodes) scratch
 
 -- there is a position for each number of a node, and the rows are as wide as the numbers need
-pub record HaveRoom (n : Numbered) (rows : Rows) : Type 0 where
+pub record HaveCapacity (n : Numbered) (rows : Rows) : Type 0 where
   pub slots : length rows.slots.items ≡ length n.nodes
   pub width : rows.pool.width ≡ words_for (length n.nodes)
-  pub scratch : HasRoom n rows.scratch
+  pub scratch : ScratchFits n rows.scratch
 
 -- the topology is whole, the rows are right, and the buffers are large enough for searches and edits
 pub record IsCacheOf (n : Numbered) (store : Store) : Type 0 where
   pub whole : IsWhole n
   pub right : AreRight n store.rows.slots.items store.rows.pool
-  pub room : HaveRoom n store.rows
+  pub capacity : HaveCapacity n store.rows
   pub agenda : HasAgendaFor (length n.nodes) store.agenda

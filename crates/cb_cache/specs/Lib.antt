@@ -2,7 +2,7 @@ pub mod Reached
 pub mod Numbers
 pub mod Cached
 pub mod Encoding
-pub mod Room
+pub mod Capacity
 pub mod Kept
 pub mod Filled
 pub mod Most

@@ -2,7 +2,7 @@
 use Rattle.std.specs.Prelude.{◌≡◌, ◌↔◌, ◌⊎◌, ◌+◌, ◌≤◌, ℕ, List, Bool, Option, Some, length, slice_get, true}
 use Rattle.cb_lanes.specs.Words.{bit_of}
 use Rattle.cb_pool.specs.declared.slot.Slot.{Slot}
-use Rattle.cb_pool.specs.Pool.{Pool, HasRow}
+use Rattle.cb_pool.specs.Pool.{Pool, SlotHasRow}
 use Rattle.cb_successors.specs.Rows.{Has, ones}
 use Rattle.cb_successors.specs.Graphs.{LeadsTo}
 
@@ -16,7 +16,7 @@ IsReached edge i words = (k : ℕ) → (bit_of words k ≡ true) ↔ LeadsTo edg
 
 -- the slot has the row of all that this number leads to
 abbrev pub HoldsReached : (ℕ → ℕ → Type 0) → ℕ → Pool → Slot → Type 0
-HoldsReached edge i p slot = (words : List ℕ) × HasRow p slot words × IsReached edge i words
+HoldsReached edge i p slot = (words : List ℕ) × SlotHasRow p slot words × IsReached edge i words
 
 -- each slot has the row of its number
 abbrev pub AreReached : (ℕ → ℕ → Type 0) → List (Option Slot) → Pool → Type 0

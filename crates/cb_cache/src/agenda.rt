@@ -1,6 +1,6 @@
 //! What is to be done about an edit.
 ghost use Rattle.std.specs.Prelude.{◌≡◌, [], IfOk};
-ghost use Rattle.cb_cache.specs.Room.{HasAgendaFor};
+ghost use Rattle.cb_cache.specs.Capacity.{HasAgendaFor};
 
 use cb_bits::Row;
 use cb_nodes::NodeId;
@@ -15,13 +15,13 @@ pub struct Agenda {
     pub problems: Vec<NodeId>,
 }
 
-/// An agenda for `room` nodes.
-pub(crate) fn agenda_for(alloc: Global, room: usize) -> Result<Agenda, AllocError>
-    ensures room { IfOk result (HasAgendaFor room) }
+/// An agenda for `capacity` nodes.
+pub(crate) fn agenda_for(alloc: Global, capacity: usize) -> Result<Agenda, AllocError>
+    ensures capacity { IfOk result (HasAgendaFor capacity) }
     ensures none { IfOk result (λ agenda. agenda.problems.items ≡ []) }
 {
     Ok(Agenda {
-        touched: Row::zeroed(alloc, room)?,
-        problems: Vec::with_capacity(alloc, room)?,
+        touched: Row::zeroed(alloc, capacity)?,
+        problems: Vec::with_capacity(alloc, capacity)?,
     })
 }

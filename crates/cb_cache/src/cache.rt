@@ -4,7 +4,7 @@ ghost use Rattle.cb_model.specs.declared.node.NodeName.{NodeName as Name};
 ghost use Rattle.cb_bits.specs.Bits.{words_for};
 ghost use Rattle.cb_change.specs.Costs.{IsOpenCost, IsEditCost, CountsAtMost};
 ghost use Rattle.cb_pool.specs.declared.slot.Slot.{Slot as SlotOf};
-ghost use Rattle.cb_pool.specs.Pool.{IsTaken, HasRow};
+ghost use Rattle.cb_pool.specs.Pool.{IsTaken, SlotHasRow};
 ghost use Rattle.cb_network.specs.Laws.{HasGoodName};
 ghost use Rattle.cb_topo.specs.Applied.{Applies, Prevents};
 ghost use Rattle.cb_topo.specs.Numbered.{topology_of, IsNodeNamed};
@@ -96,7 +96,7 @@ impl Cache {
         requires { IsProblemNumber self.now.graph problem }
         ensures reached { IsReachedRow self.now.graph problem.0 result.now }
         ensures caused { (name : Name) → IsNodeNamed self.now.graph problem name → IsCausedRow self.now.graph name result.now }
-        ensures slot { (slot : SlotOf) → HasSlot self.now.slots problem.0 slot → HasRow self.now.pool slot result.now }
+        ensures slot { (slot : SlotOf) → HasSlot self.now.slots problem.0 slot → SlotHasRow self.now.pool slot result.now }
         ensures width { length result.now ≡ self.now.pool.width }
         ensures bits { length self.now.graph.nodes ≤ 64 * length result.now }
     {

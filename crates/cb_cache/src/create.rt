@@ -4,14 +4,14 @@ ghost use Rattle.std.specs.List.{Contains};
 ghost use Rattle.cb_change.specs.Costs.{IsEditCost, CountsAtMost};
 ghost use Rattle.cb_network.specs.Edits.{IsAccepted};
 ghost use Rattle.cb_network.specs.Laws.{HasGoodName};
-ghost use Rattle.cb_instances.specs.Net.{IsLive, Once};
+ghost use Rattle.cb_instances.specs.Net.{IsLiveInstance, Once};
 ghost use Rattle.cb_nodes.specs.declared.id.NodeId.{NodeId as NodeNumber};
 ghost use Rattle.cb_nodes.specs.Table.{IsNode, node_of};
 ghost use Rattle.cb_topo.specs.Applied.{Applies, Prevents};
 ghost use Rattle.cb_topo.specs.Numbered.{Numbered, topology_of, IsWhole};
 ghost use Rattle.cb_cache.specs.Cached.{but_spare};
-ghost use Rattle.cb_cache.specs.Created.{Creates, IsNewProblem, IsPoolFor, IsProblemAmong, IsRoomWith, pool_or};
-ghost use Rattle.cb_cache.specs.Kept.{HaveRoom, IsCacheOf};
+ghost use Rattle.cb_cache.specs.Created.{MakesInstance, IsNewProblem, IsPoolFor, IsProblemAmong, IsCapacityWith, pool_or};
+ghost use Rattle.cb_cache.specs.Kept.{HaveCapacity, IsCacheOf};
 ghost use Rattle.cb_cache.specs.Most.{HasEventsWithin};
 ghost use Rattle.cb_cache.specs.Numbers.{AreOnce, IsProblemNumber};
 ghost use Rattle.cb_cache.specs.Spare.{AreButSpare, IsButSpare};
@@ -50,7 +50,7 @@ pub(crate) fn create<L: Ledger>(
     steps: &mut Steps<L>,
 ) -> Result<(), EditFault>
     requires name { HasGoodName edit.now }
-    requires creates { Creates edit.now }
+    requires creates { MakesInstance edit.now }
     requires kept { IsCacheOf graph.old store.old }
     ensures made { OnOk result (Applies graph.old edit.now graph.new) }
     ensures kept { IsCacheOf graph.new store.new }
@@ -75,9 +75,9 @@ fn create_in<L: Ledger>(
     steps: &mut Steps<L>,
 ) -> Result<(), EditFault>
     requires name { HasGoodName edit.now }
-    requires creates { Creates edit.now }
+    requires creates { MakesInstance edit.now }
     requires kept { IsCacheOf graph.old store.old }
-    requires further { IsRoomWith graph.old edit.now store.old.rows further.old }
+    requires further { IsCapacityWith graph.old edit.now store.old.rows further.old }
     ensures made { OnOk result (Applies graph.old edit.now graph.new) }
     ensures kept { IsCacheOf graph.new store.new }
     ensures cost { OnOk result (CountsAtMost (IsEditCost (topology_of graph.old) edit.now (topology_of graph.new)) steps.old steps.new) }
@@ -93,7 +93,7 @@ fn create_in<L: Ledger>(
     Ok(())
 }
 
-// Room for the nodes that there are once the edit is made, beside the rows as they are.
+// Capacity for the nodes that there are once the edit is made, beside the rows as they are.
 fn further_for(
     alloc: Global,
     topology: &Topology,
@@ -101,17 +101,17 @@ fn further_for(
     rows: &mut Rows,
 ) -> Result<Further, AllocError>
     requires accepted { IsAccepted (topology_of topology.now) edit.now }
-    requires room { HaveRoom topology.now rows.old }
-    ensures further { IfOk result (IsRoomWith topology.now edit.now rows.new) }
+    requires capacity { HaveCapacity topology.now rows.old }
+    ensures further { IfOk result (IsCapacityWith topology.now edit.now rows.new) }
     ensures rows { AreButSpare rows.old rows.new }
 {
-    let room = topology.node_room_after(edit);
+    let capacity = topology.node_capacity_after(edit);
     let more = events_within(topology.model(), edit);
-    let pool = pool_for(alloc, &mut rows.pool, room.div_ceil(64), more)?;
+    let pool = pool_for(alloc, &mut rows.pool, capacity.div_ceil(64), more)?;
     Ok(Further {
-        slots: slots_for(alloc, &rows.slots, room)?,
-        scratch: scratch_for(alloc, room)?,
-        agenda: agenda_for(alloc, room)?,
+        slots: slots_for(alloc, &rows.slots, capacity)?,
+        scratch: scratch_for(alloc, capacity)?,
+        agenda: agenda_for(alloc, capacity)?,
         pool,
     })
 }
@@ -124,7 +124,7 @@ fn pool_for(
     more: usize,
 ) -> Result<Option<RowPool>, AllocError>
     requires { pool.old.width ≤ width }
-    ensures room { IfOk result (IsPoolFor width more pool.new) }
+    ensures capacity { IfOk result (IsPoolFor width more pool.new) }
     ensures same { but_spare pool.new ≡ but_spare pool.old }
 {
     if width > pool.width() {
@@ -134,17 +134,17 @@ fn pool_for(
     Ok(None)
 }
 
-// A copy of the slots, for `room` numbers.
+// A copy of the slots, for `capacity` numbers.
 fn slots_for(
     alloc: Global,
     slots: &[Option<Slot>],
-    room: usize,
+    capacity: usize,
 ) -> Result<Vec<Option<Slot>>, AllocError>
-    ensures { IfOk result (λ made. made.items ≡ slots.now ++ replicate (room - length slots.now) None) }
+    ensures { IfOk result (λ made. made.items ≡ slots.now ++ replicate (capacity - length slots.now) None) }
 {
-    let mut made = Vec::with_capacity(alloc, room)?;
+    let mut made = Vec::with_capacity(alloc, capacity)?;
     made.extend_from_slice(slots)?;
-    made.resize(room.max(slots.len()), None)?;
+    made.resize(capacity.max(slots.len()), None)?;
     Ok(made)
 }
 
@@ -165,13 +165,13 @@ fn move_in(further: &mut Further, store: &mut Store)
 
 // Lists the problems of the instance that the edit has brought.
 fn list_new(topology: &Topology, edit: &Edit, list: &mut Vec<NodeId>)
-    requires creates { Creates edit.now }
+    requires creates { MakesInstance edit.now }
     requires made { (old : Numbered) × Applies old edit.now topology.now }
-    requires room { HasEventsWithin (topology_of topology.now).model edit.now (vec_capacity list.old) }
+    requires capacity { HasEventsWithin (topology_of topology.now).model edit.now (vec_capacity list.old) }
     ensures problems { (id : NodeNumber) → Contains list.new.items id ↔ IsNewProblem topology.now edit.now id }
     ensures once { AreOnce list.new.items }
     ensures few { (most : ℕ) → HasEventsWithin (topology_of topology.now).model edit.now most → length list.new.items ≤ most }
-    ensures room { vec_capacity list.new ≡ vec_capacity list.old }
+    ensures capacity { vec_capacity list.new ≡ vec_capacity list.old }
 {
     list.clear();
     let Edit::Create { name, class } = edit else {
@@ -194,14 +194,14 @@ fn list_problems_among(
     events: &[EventId],
     list: &mut Vec<NodeId>,
 )
-    requires live { IsLive topology.now.net instance }
+    requires live { IsLiveInstance topology.now.net instance }
     requires once { Once events.now }
     requires empty { list.old.items ≡ [] }
-    requires room { length events.now ≤ vec_capacity list.old }
+    requires capacity { length events.now ≤ vec_capacity list.old }
     ensures problems { (id : NodeNumber) → Contains list.new.items id ↔ IsProblemAmong topology.now instance events.now id }
     ensures once { AreOnce list.new.items }
     ensures few { length list.new.items ≤ length events.now }
-    ensures room { vec_capacity list.new ≡ vec_capacity list.old }
+    ensures capacity { vec_capacity list.new ≡ vec_capacity list.old }
 {
     for event in events {
         if let Some(node) = problem_at(topology, instance, *event) {
@@ -212,7 +212,7 @@ fn list_problems_among(
 
 // The node of the instance's event, where that is a problem.
 fn problem_at(topology: &Topology, instance: InstanceId, event: EventId) -> Option<NodeId>
-    requires { IsLive topology.now.net instance }
+    requires { IsLiveInstance topology.now.net instance }
     ensures problem { IfSome result (IsProblemNumber topology.now) }
     ensures event { IfSome result (λ id. IsNode topology.now.nodes id (node_of instance event)) }
     ensures none { IfNone result ((id : NodeNumber) → IsNode topology.now.nodes id (node_of instance event) → ¬ IsProblemNumber topology.now id) }

@@ -8,7 +8,7 @@ ghost use Rattle.cb_topo.specs.Applied.{Applies, Prevents};
 ghost use Rattle.cb_topo.specs.Numbered.{Numbered, topology_of};
 ghost use Rattle.cb_pool.specs.declared.slot.Slot.{Slot as SlotOf};
 ghost use Rattle.cb_pool.specs.Pool.{IsTaken};
-ghost use Rattle.cb_cache.specs.Kept.{IsCacheOf, HaveRoom, AreRight, OwnSlots};
+ghost use Rattle.cb_cache.specs.Kept.{IsCacheOf, HaveCapacity, AreRight, OwnSlots};
 ghost use Rattle.cb_cache.specs.Reached.{HasSlot};
 ghost use Rattle.cb_cache.specs.Stale.{TakesAway, FollowsEdit, AreTaken, TakesBack, TakesBackOne};
 
@@ -66,18 +66,18 @@ fn search_again<L: Ledger>(
     steps: &mut Steps<L>,
 )
     requires follows { (old : Numbered) × (edit : EditOf) × TakesAway edit × FollowsEdit old edit graph.old touched.now rows.old.slots.items rows.old.pool }
-    requires room { HaveRoom graph.old rows.old }
+    requires capacity { HaveCapacity graph.old rows.old }
     requires touched { length touched.now ≡ length graph.old.nodes }
     requires listed { length rows.old.slots.items ≤ vec_capacity problems.old }
     ensures same { graph.new ≡ graph.old }
     ensures right { AreRight graph.old rows.new.slots.items rows.new.pool }
-    ensures room { HaveRoom graph.old rows.new }
+    ensures capacity { HaveCapacity graph.old rows.new }
     ensures listed { vec_capacity problems.new ≡ vec_capacity problems.old }
     ensures cost { (old : Numbered) (edit : EditOf) → TakesAway edit → FollowsEdit old edit graph.old touched.now rows.old.slots.items rows.old.pool
         → CountsAtMost (IsEditCost (topology_of old) edit (topology_of graph.old)) steps.old steps.new }
 {
     // Numbers of nodes have 32 bits.
-    let _room = graph.topology().node_room();
+    let _capacity = graph.topology().node_capacity();
     take_back(graph.topology(), touched, rows, problems);
     scatter(problems);
     add_rows(graph, problems, rows, steps);
@@ -131,7 +131,7 @@ fn take_back_one(
         return;
     }
     rows.slots[node.0 as usize] = None;
-    rows.pool.give(slot);
+    rows.pool.give_back(slot);
     if live {
         problems.push_reserved(node);
     }

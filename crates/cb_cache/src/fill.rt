@@ -5,7 +5,7 @@ ghost use Rattle.std.specs.Simd.Lanes.{zip2};
 ghost use Rattle.cb_topo.specs.Numbered.{IsLiveNode, IsWhole};
 ghost use Rattle.cb_pool.specs.Pool.{IsTaken, with_row};
 ghost use Rattle.cb_cache.specs.Cached.{AreRows};
-ghost use Rattle.cb_cache.specs.Kept.{HaveRoom, OwnSlots};
+ghost use Rattle.cb_cache.specs.Kept.{HaveCapacity, OwnSlots};
 ghost use Rattle.cb_cache.specs.Filled.{AddsRow, AddsRows, HaveNoSlots, CostsAtMost, CostAtMost};
 ghost use Rattle.cb_cache.specs.Numbers.{AreOnce};
 
@@ -32,10 +32,10 @@ pub(crate) fn add_rows<L: Ledger>(
     requires none { HaveNoSlots rows.old.slots.items nodes.now }
     requires rows { AreRows graph.old rows.old.slots.items rows.old.pool }
     requires apart { OwnSlots rows.old.slots.items }
-    requires room { HaveRoom graph.old rows.old }
+    requires capacity { HaveCapacity graph.old rows.old }
     requires spare { length nodes.now ≤ rows.old.pool.spare }
     ensures same { graph.new ≡ graph.old }
-    ensures room { HaveRoom graph.old rows.new }
+    ensures capacity { HaveCapacity graph.old rows.new }
     ensures rows { AddsRows graph.old nodes.now rows.old.slots.items rows.new.slots.items rows.old.pool rows.new.pool }
     ensures cost { CostAtMost graph.old nodes.now steps.old steps.new }
 {
@@ -49,10 +49,10 @@ fn add_row<L: Ledger>(graph: &mut Graph, node: NodeId, rows: &mut Rows, steps: &
     requires live { IsLiveNode graph.old node }
     requires whole { IsWhole graph.old }
     requires rows { AreRows graph.old rows.old.slots.items rows.old.pool }
-    requires room { HaveRoom graph.old rows.old }
+    requires capacity { HaveCapacity graph.old rows.old }
     requires spare { 0 < rows.old.pool.spare }
     ensures same { graph.new ≡ graph.old }
-    ensures room { HaveRoom graph.old rows.new }
+    ensures capacity { HaveCapacity graph.old rows.new }
     ensures adds { AddsRow graph.old node.0 rows.old.slots.items rows.new.slots.items rows.old.pool rows.new.pool }
     ensures cost { CostsAtMost graph.old node steps.old steps.new }
 {

@@ -3,13 +3,13 @@ ghost use Rattle.std.specs.Prelude.{◌≡◌, ◌≤◌, ◌+◌, ℕ, length, 
 ghost use Rattle.cb_bits.specs.Bits.{words_for};
 ghost use Rattle.cb_change.specs.Costs.{IsEditCost, CountsAtMost};
 ghost use Rattle.cb_network.specs.declared.edit.Edit.{Edit as EditOf};
-ghost use Rattle.cb_pool.specs.Pool.{IsTaken, SameOthers, row_of};
+ghost use Rattle.cb_pool.specs.Pool.{IsTaken, SameOthers, slot_row};
 ghost use Rattle.cb_network.specs.Laws.{HasGoodName};
 ghost use Rattle.cb_topo.specs.Applied.{Applies, Prevents};
 ghost use Rattle.cb_topo.specs.Numbered.{Numbered, topology_of};
 ghost use Rattle.cb_graph.specs.Edges.{EdgeAt};
-ghost use Rattle.cb_cache.specs.Kept.{AreRight, HasRoom, IsCacheOf};
-ghost use Rattle.cb_cache.specs.Extended.{MakesLink, IsLinked, IsSettledBut, HasLed, CountsExpanded};
+ghost use Rattle.cb_cache.specs.Kept.{AreRight, ScratchFits, IsCacheOf};
+ghost use Rattle.cb_cache.specs.Extended.{MakesLink, IsAfterLink, IsSettledBut, HasLed, CountsExpanded};
 
 use crate::edits::edit_graph;
 use crate::fill::write_row;
@@ -67,16 +67,16 @@ fn extend_rows<L: Ledger>(
     scratch: &mut Scratch,
     steps: &mut Steps<L>,
 )
-    requires linked { (old : Numbered) × (edit : EditOf) × IsLinked old edit graph.old touched.now slots.now pool.old }
+    requires linked { (old : Numbered) × (edit : EditOf) × IsAfterLink old edit graph.old touched.now slots.now pool.old }
     requires width { pool.old.width ≡ words_for (length graph.old.nodes) }
-    requires room { HasRoom graph.old scratch.old }
+    requires capacity { ScratchFits graph.old scratch.old }
     ensures same { graph.new ≡ graph.old }
     ensures right { AreRight graph.old slots.now pool.new }
     ensures width { pool.new.width ≡ pool.old.width }
     ensures taken { pool.new.taken ≡ pool.old.taken }
     ensures spare { pool.new.spare ≡ pool.old.spare }
-    ensures room { HasRoom graph.old scratch.new }
-    ensures cost { (old : Numbered) (edit : EditOf) → IsLinked old edit graph.old touched.now slots.now pool.old
+    ensures capacity { ScratchFits graph.old scratch.new }
+    ensures cost { (old : Numbered) (edit : EditOf) → IsAfterLink old edit graph.old touched.now slots.now pool.old
         → CountsAtMost (IsEditCost (topology_of old) edit (topology_of graph.old)) steps.old steps.new }
 {
     for place in 0..slots.len() {
@@ -98,16 +98,16 @@ fn extend_row<L: Ledger>(
     requires taken { IsTaken pool.old slot }
     requires width { pool.old.width ≡ words_for (length graph.old.nodes) }
     requires touched { length touched.now ≡ length graph.old.nodes }
-    requires settled { IsSettledBut (EdgeAt graph.old) touched.now (row_of pool.old slot) }
-    requires room { HasRoom graph.old scratch.old }
+    requires settled { IsSettledBut (EdgeAt graph.old) touched.now (slot_row pool.old slot) }
+    requires capacity { ScratchFits graph.old scratch.old }
     ensures same { graph.new ≡ graph.old }
-    ensures room { HasRoom graph.old scratch.new }
+    ensures capacity { ScratchFits graph.old scratch.new }
     ensures width { pool.new.width ≡ pool.old.width }
     ensures taken { pool.new.taken ≡ pool.old.taken }
     ensures spare { pool.new.spare ≡ pool.old.spare }
     ensures others { SameOthers pool.old pool.new slot }
-    ensures row { HasLed (EdgeAt graph.old) pool.new slot (row_of pool.old slot) }
-    ensures cost { CountsExpanded (EdgeAt graph.old) touched.now (row_of pool.old slot) (length graph.old.nodes) steps.old steps.new }
+    ensures row { HasLed (EdgeAt graph.old) pool.new slot (slot_row pool.old slot) }
+    ensures cost { CountsExpanded (EdgeAt graph.old) touched.now (slot_row pool.old slot) (length graph.old.nodes) steps.old steps.new }
 {
     if !and_any(pool.row(slot), touched.words()) {
         return;

@@ -5,7 +5,7 @@ ghost use Rattle.std.specs.List.Sorted.{IsPermutation};
 /// Exchanges each two items whose positions are each other's bits reversed, where both are there.
 pub(crate) fn scatter<T: Copy>(items: &mut Vec<T>)
     ensures items { IsPermutation items.old.items items.new.items }
-    ensures room { vec_capacity items.new ≡ vec_capacity items.old }
+    ensures capacity { vec_capacity items.new ≡ vec_capacity items.old }
 {
     let idle = items.len().saturating_sub(1).leading_zeros();
     for place in 0..items.len() {
@@ -16,7 +16,7 @@ pub(crate) fn scatter<T: Copy>(items: &mut Vec<T>)
 // Lets two items change places, if both places are there.
 fn trade<T: Copy>(items: &mut Vec<T>, place: usize, other: usize)
     ensures items { IsPermutation items.old.items items.new.items }
-    ensures room { vec_capacity items.new ≡ vec_capacity items.old }
+    ensures capacity { vec_capacity items.new ≡ vec_capacity items.old }
 {
     if place < other && other < items.len() {
         items.swap(place, other);

@@ -19,7 +19,7 @@ pub(crate) fn problem_count(topology: &Topology) -> usize
     ensures few { result ≤ problem_limit }
 {
     let mut count = 0;
-    for place in 0..topology.node_room() {
+    for place in 0..topology.node_capacity() {
         if is_problem_number(topology, NodeId(place as u32)) {
             count += 1;
         }
@@ -46,10 +46,10 @@ pub(crate) fn events_within(model: &Model, edit: &Edit) -> usize
 /// was searched from before. It takes no memory.
 pub(crate) fn list_problems(topology: &Topology, list: &mut Vec<NodeId>)
     requires empty { list.old.items ≡ [] }
-    requires room { length topology.now.nodes ≤ vec_capacity list.old }
+    requires capacity { length topology.now.nodes ≤ vec_capacity list.old }
     ensures problems { AreProblemNumbers topology.now list.new.items }
     ensures whole { IsWhole topology.now }
-    ensures room { vec_capacity list.new ≡ vec_capacity list.old }
+    ensures capacity { vec_capacity list.new ≡ vec_capacity list.old }
 {
     push_problems(topology, list);
     scatter(list);
@@ -58,12 +58,12 @@ pub(crate) fn list_problems(topology: &Topology, list: &mut Vec<NodeId>)
 // Lists the numbers of all problems as they rise.
 fn push_problems(topology: &Topology, list: &mut Vec<NodeId>)
     requires empty { list.old.items ≡ [] }
-    requires room { length topology.now.nodes ≤ vec_capacity list.old }
+    requires capacity { length topology.now.nodes ≤ vec_capacity list.old }
     ensures problems { AreProblemNumbers topology.now list.new.items }
     ensures whole { IsWhole topology.now }
-    ensures room { vec_capacity list.new ≡ vec_capacity list.old }
+    ensures capacity { vec_capacity list.new ≡ vec_capacity list.old }
 {
-    for place in 0..topology.node_room() {
+    for place in 0..topology.node_capacity() {
         let node = NodeId(place as u32);
         if is_problem_number(topology, node) {
             list.push_reserved(node);

@@ -3,8 +3,8 @@ ghost use Rattle.std.specs.Prelude.{◌≡◌, ◌≤◌, ℕ, IfOk, OnOk, OnErr
 ghost use Rattle.cb_change.specs.Costs.{IsOpenCost, CountsAtMost};
 ghost use Rattle.cb_topo.specs.Numbered.{topology_of};
 ghost use Rattle.cb_cache.specs.Kept.{IsCacheOf};
-ghost use Rattle.cb_cache.specs.Prepared.{IsEmptyFor, IsRoomFor};
-ghost use Rattle.cb_cache.specs.Room.{HasRoomFor};
+ghost use Rattle.cb_cache.specs.Prepared.{IsEmptyFor, IsCapacityFor};
+ghost use Rattle.cb_cache.specs.Capacity.{HasCapacityFor};
 
 use crate::agenda::{Agenda, agenda_for};
 use crate::fill::add_rows;
@@ -44,14 +44,14 @@ pub(crate) fn search_all<L: Ledger>(
     ensures cost { OnOk result (CountsAtMost (IsOpenCost (topology_of graph.old)) steps.old steps.new) }
     ensures steps { OnErr result (steps.new ≡ steps.old) }
 {
-    let mut store = room_now(alloc, graph.topology())?;
+    let mut store = capacity_now(alloc, graph.topology())?;
     search_each(graph, &mut store, steps);
     Ok(store)
 }
 
 // Searches from each problem, into rows that were reserved for it.
 fn search_each<L: Ledger>(graph: &mut Graph, store: &mut Store, steps: &mut Steps<L>)
-    requires { IsRoomFor graph.old store.old }
+    requires { IsCapacityFor graph.old store.old }
     ensures same { graph.new ≡ graph.old }
     ensures kept { IsCacheOf graph.old store.new }
     ensures cost { CountsAtMost (IsOpenCost (topology_of graph.old)) steps.old steps.new }
@@ -60,44 +60,44 @@ fn search_each<L: Ledger>(graph: &mut Graph, store: &mut Store, steps: &mut Step
     add_rows(graph, &store.agenda.problems, &mut store.rows, steps);
 }
 
-// Room for the rows of the topology.
-fn room_now(alloc: Global, topology: &Topology) -> Result<Store, AllocError>
-    ensures { IfOk result (IsRoomFor topology.now) }
+// Capacity for the rows of the topology.
+fn capacity_now(alloc: Global, topology: &Topology) -> Result<Store, AllocError>
+    ensures { IfOk result (IsCapacityFor topology.now) }
 {
-    make_room(alloc, topology.node_room(), problem_count(topology))
+    make_capacity(alloc, topology.node_capacity(), problem_count(topology))
 }
 
-// Capacity for `count` rows of `room` nodes, none of which is there yet.
-fn make_room(alloc: Global, room: usize, count: usize) -> Result<Store, AllocError>
-    ensures { IfOk result (IsEmptyFor room count) }
+// Capacity for `count` rows of `capacity` nodes, none of which is there yet.
+fn make_capacity(alloc: Global, capacity: usize, count: usize) -> Result<Store, AllocError>
+    ensures { IfOk result (IsEmptyFor capacity count) }
 {
-    let mut pool = RowPool::new(alloc, room.div_ceil(64));
+    let mut pool = RowPool::new(alloc, capacity.div_ceil(64));
     pool.reserve(count)?;
     let rows = Rows {
-        slots: no_slots(alloc, room)?,
+        slots: no_slots(alloc, capacity)?,
         pool,
-        scratch: scratch_for(alloc, room)?,
+        scratch: scratch_for(alloc, capacity)?,
     };
     Ok(Store {
         rows,
-        agenda: agenda_for(alloc, room)?,
+        agenda: agenda_for(alloc, capacity)?,
     })
 }
 
-// `room` positions without a slot.
-fn no_slots(alloc: Global, room: usize) -> Result<Vec<Option<Slot>>, AllocError>
-    ensures { IfOk result (λ slots. slots.items ≡ replicate room None) }
+// `capacity` positions without a slot.
+fn no_slots(alloc: Global, capacity: usize) -> Result<Vec<Option<Slot>>, AllocError>
+    ensures { IfOk result (λ slots. slots.items ≡ replicate capacity None) }
 {
-    vec![in alloc; None; room]
+    vec![in alloc; None; capacity]
 }
 
-/// Buffers for searches among `room` nodes.
-pub(crate) fn scratch_for(alloc: Global, room: usize) -> Result<Scratch, AllocError>
-    ensures { IfOk result (HasRoomFor room) }
+/// Buffers for searches among `capacity` nodes.
+pub(crate) fn scratch_for(alloc: Global, capacity: usize) -> Result<Scratch, AllocError>
+    ensures { IfOk result (HasCapacityFor capacity) }
 {
     Ok(Scratch {
-        found: Row::zeroed(alloc, room)?,
-        done: Row::zeroed(alloc, room)?,
-        joined: vec![in alloc; 0; room.div_ceil(64)]?,
+        found: Row::zeroed(alloc, capacity)?,
+        done: Row::zeroed(alloc, capacity)?,
+        joined: vec![in alloc; 0; capacity.div_ceil(64)]?,
     })
 }

@@ -1,4 +1,4 @@
-//! Room for one search after the other.
+//! Capacity for one search after the other.
 use cb_bits::Row;
 
 /// What a search has met and done. No search begins with what an earlier one left here.

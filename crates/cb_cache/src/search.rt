@@ -3,8 +3,8 @@ ghost use Rattle.std.specs.Prelude.{◌≡◌, ◌<◌, ◌≤◌, ◌+◌, ◌*
 ghost use Rattle.cb_lanes.specs.Words.{bit_of};
 ghost use Rattle.cb_bits.specs.Bits.{words_for};
 ghost use Rattle.cb_successors.specs.Rows.{Has, HasAllOf, IsLeft, ones};
-ghost use Rattle.cb_pool.specs.Pool.{IsTaken, row_of};
-ghost use Rattle.cb_cache.specs.Room.{HasRoomFor};
+ghost use Rattle.cb_pool.specs.Pool.{IsTaken, slot_row};
+ghost use Rattle.cb_cache.specs.Capacity.{HasCapacityFor};
 ghost use Rattle.cb_cache.specs.Reached.{HasSlot, AreReached, AreFollowed, IsMet, IsLedByMet, Visits, IsAllMet, CountsOnly};
 ghost use Rattle.cb_cache.specs.Extended.{IsSettledBut, IsLedByWords, IsExpanded, AddsBelow};
 
@@ -29,9 +29,9 @@ pub(crate) fn search<L: Ledger, G: Edges>(
     requires node { node < G.count graph.old }
     requires rows { AreReached (G.edge graph.old) slots.now pool.now }
     requires width { pool.now.width ≡ words_for (G.count graph.old) }
-    requires room { HasRoomFor (G.count graph.old) scratch.old }
+    requires capacity { HasCapacityFor (G.count graph.old) scratch.old }
     ensures same { graph.new ≡ graph.old }
-    ensures room { HasRoomFor (G.count graph.old) scratch.new }
+    ensures capacity { HasCapacityFor (G.count graph.old) scratch.new }
     ensures met { IsAllMet (G.edge graph.old) node scratch.new.found scratch.new.joined.items }
     ensures within { (k : ℕ) → Has scratch.new.done k → IsMet scratch.new.found scratch.new.joined.items k }
     ensures cost { steps.new ≤ steps.old + ones scratch.new.done }
@@ -64,12 +64,12 @@ pub(crate) fn search_further<L: Ledger, G: Edges>(
     requires taken { IsTaken pool.now slot }
     requires width { pool.now.width ≡ words_for (G.count graph.old) }
     requires touched { length touched.now ≡ G.count graph.old }
-    requires settled { IsSettledBut (G.edge graph.old) touched.now (row_of pool.now slot) }
-    requires room { HasRoomFor (G.count graph.old) scratch.old }
+    requires settled { IsSettledBut (G.edge graph.old) touched.now (slot_row pool.now slot) }
+    requires capacity { HasCapacityFor (G.count graph.old) scratch.old }
     ensures same { graph.new ≡ graph.old }
-    ensures room { HasRoomFor (G.count graph.old) scratch.new }
-    ensures met { (k : ℕ) → IsMet scratch.new.found scratch.new.joined.items k ↔ IsLedByWords (G.edge graph.old) (row_of pool.now slot) k }
-    ensures cost { CountsOnly (IsExpanded (G.edge graph.old) touched.now (row_of pool.now slot)) (G.count graph.old) steps.old steps.new }
+    ensures capacity { HasCapacityFor (G.count graph.old) scratch.new }
+    ensures met { (k : ℕ) → IsMet scratch.new.found scratch.new.joined.items k ↔ IsLedByWords (G.edge graph.old) (slot_row pool.now slot) k }
+    ensures cost { CountsOnly (IsExpanded (G.edge graph.old) touched.now (slot_row pool.now slot)) (G.count graph.old) steps.old steps.new }
 {
     let row = pool.row(slot);
     forget(scratch);
@@ -114,7 +114,7 @@ fn expand<L: Ledger, G: Edges>(
     ensures cost { CountsOnly (λ k. Has nodes.now k × (bit_of words.now k ≡ true)) (G.count graph.old) steps.old steps.new }
 {
     // A length fits its type, and so does the position after a node.
-    let _room = nodes.len();
+    let _capacity = nodes.len();
     let mut from = 0;
     while let Some(node) = nodes.next_one(from) {
         expand_one(graph, node, words, found, steps);

@@ -10,7 +10,7 @@ use Rattle.cb_cert.specs.declared.certificate.Certificate.TheVariants as certifi
 use Rattle.cb_cert.specs.declared.line.CertificateLine.{CertificateLine}
 use Rattle.cb_cert.specs.declared.line.CertificateLine.TheVariants as line
 use Rattle.cb_cert.specs.Ahead.{TextPlace, at_kind, at_wanted, at_distance, at_thin_distance, at_nodes, at_node, at_columns, at_column, at_spans, at_span, at_side, at_entry, at_end, MayStand, MayCome, opened, nodes_after, all_places}
-use Rattle.cb_cert.specs.Format.{Fits, IsNode, IsEntry, IsWanted, nodes_of, node_limit, column_limit}
+use Rattle.cb_cert.specs.Format.{Fits, HasValidNames, IsEntry, IsWanted, nodes_of, certificate_node_limit, column_limit}
 use Rattle.cb_cert.specs.Prefixes.{Begins}
 use Rattle.cb_cert.specs.Lines.{certificate_lines, span_lines, node_lines, column_lines, all_span_lines, side_lines}
 use Rattle.cb_cert.proofs.Uniques.{three_parts}
@@ -18,11 +18,11 @@ use Rattle.cb_cert.proofs.Readings.{prefix_part}
 
 -- what fits after the number of nodes, in a certificate with n nodes
 abbrev Later : ℕ → CertificateLine → Type 0
-Later n (line.Node x) = IsNode x
+Later n (line.Node x) = HasValidNames x
 Later n (line.Columns m) = m ≤ column_limit
 Later n (line.Column i) = (0 < i) × (i ≤ n)
 Later n (line.Spans m) = m ≤ column_limit
-Later n (line.Span m) = (0 < m) × (m ≤ node_limit)
+Later n (line.Span m) = (0 < m) × (m ≤ certificate_node_limit)
 Later n (line.Entry e) = IsEntry n e
 Later n line.Quiet = Unit {0}
 Later n line.End = Unit {0}
@@ -178,7 +178,7 @@ record Parts {X : Type 0} (f : X → List CertificateLine) (T : List Certificate
   is : T rest
   whole_is : whole ≡ f of ++ rest
 
--- so many spans, and a whole after them
+-- a number of spans, and a whole after them
 record Spans (k : ℕ) (T : List CertificateLine → Type 0) (whole : List CertificateLine) : Type 0 where
   of : List Span
   rest : List CertificateLine
@@ -264,7 +264,7 @@ can_nodes n ahead T later k = can_items n at_node line.Node ahead T (record { ev
 fitting : (c : Certificate) (l : CertificateLine) (ls : List CertificateLine) → Fits c l → All (Fits c) ls → All (Fits c) (l ∷ ls)
 fitting c l ls = All-cons (Fits c) l ls
 
-book_goes_on : (d m : ℕ) → IsWanted d → m ≤ node_limit → (ls : List CertificateLine) → MayCome m (replicate m at_node ++ at_columns ∷ at_spans ∷ at_end ∷ []) ls
+book_goes_on : (d m : ℕ) → IsWanted d → m ≤ certificate_node_limit → (ls : List CertificateLine) → MayCome m (replicate m at_node ++ at_columns ∷ at_spans ∷ at_end ∷ []) ls
     → Begins (line.Header ∷ line.Book ∷ line.Distance d ∷ line.Nodes m ∷ ls)
 book_goes_on d m wanted low ls p =
     let spans = can_all_spans m (at_end ∷ []) Last (can_last m) in
@@ -293,7 +293,7 @@ book_goes_on d m wanted low ls p =
           (fitting c (line.Nodes m) ls low (All-weaker (Later m) (Fits c) (later_fits c m many) ls r.fit))));
     }
 
-thin_goes_on : (w d m : ℕ) → IsWanted w → d ≤ column_limit → m ≤ node_limit → (ls : List CertificateLine)
+thin_goes_on : (w d m : ℕ) → IsWanted w → d ≤ column_limit → m ≤ certificate_node_limit → (ls : List CertificateLine)
     → MayCome m (replicate m at_node ++ at_side ∷ at_span ∷ at_end ∷ []) ls
     → Begins (line.Header ∷ line.Thin ∷ line.Wanted w ∷ line.Distance d ∷ line.Nodes m ∷ ls)
 thin_goes_on w d m wanted far low ls p =

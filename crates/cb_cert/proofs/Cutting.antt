@@ -7,7 +7,7 @@ use Rattle.cb_text.proofs.Cuts.{Lacks}
 use Rattle.cb_cert.specs.declared.certificate.Entry.{Entry}
 use Rattle.cb_cert.specs.declared.line.CertificateLine.TheVariants as line
 use Rattle.cb_cert.specs.Lines.{line_text}
-use Rattle.cb_cert.specs.LineForms.{IsShort, IsNoPair, IsNoEntry, numbers_text}
+use Rattle.cb_cert.specs.LineForms.{IsShortEntry, IsNoPair, IsNoEntry, numbers_text}
 use Rattle.cb_cert.specs.Format.{IsBetween, IsEntry}
 use Rattle.cb_cert.proofs.LineTexts.{cut_once, digits_lack_space, same_entry}
 use Rattle.std.proofs.lemmas.List.{append_assoc, take_at, take_rest, drop_more, length-take, get_or-take, get_or_default, get_or_at, take-append-drop, length-append, append_cancel_left}
@@ -47,7 +47,7 @@ prefix_lacks_space bytes at first k d inside =
     ap (λ b. nat_eq b 32) here ∙ false_from_ne_true _ (first.0.before k (omega arith) below)
 
 -- an entry's numbers stand before and after the first space
-pub pair_parts : (bytes : List ℕ) (at : ℕ) (e : Entry) → IsFirstByte (is_byte 32) bytes (Some at) → IsShort e → bytes ≡ numbers_text e
+pub pair_parts : (bytes : List ℕ) (at : ℕ) (e : Entry) → IsFirstByte (is_byte 32) bytes (Some at) → IsShortEntry e → bytes ≡ numbers_text e
     → (take at bytes ≡ decimal e.node) × (drop (at + 1) bytes ≡ decimal e.parent)
 pair_parts bytes at e first short is =
     let node = short.0 in
@@ -98,7 +98,7 @@ other_number word met k least most small_k small_most is out x within e =
     out (subst (IsBetween least most) (decimal_injective x k (omega arith) (omega arith) (append_cancel_left word (decimal x) (decimal k) (sym e ∙ is))) within)
 
 -- the line is that of an entry, whose numbers are out of range
-pub other_entry : (met : List ℕ) (k : Entry) (nodes : ℕ) → IsShort k → nodes < 2 ^ 32 → met ≡ line_text (line.Entry k) → ¬ IsEntry nodes k
+pub other_entry : (met : List ℕ) (k : Entry) (nodes : ℕ) → IsShortEntry k → nodes < 2 ^ 32 → met ≡ line_text (line.Entry k) → ¬ IsEntry nodes k
     → (x : Entry) → IsEntry nodes x → met ≢ line_text (line.Entry x)
 other_entry met k nodes short small is out x within e =
     let node = within.0.1 in
@@ -108,5 +108,5 @@ other_entry met k nodes short small is out x within e =
     out (subst (IsEntry nodes) (same_entry x k ((omega arith), (omega arith)) ((omega arith), (omega arith)) (sym e ∙ is)) within)
 
 -- the numbers of an entry are short
-pub entry_is_short : (nodes : ℕ) → nodes < 2 ^ 32 → (x : Entry) → IsEntry nodes x → IsShort x
+pub entry_is_short : (nodes : ℕ) → nodes < 2 ^ 32 → (x : Entry) → IsEntry nodes x → IsShortEntry x
 entry_is_short nodes small x within = let node = within.0.1 in let parent = within.1 in ((omega arith), (omega arith))

@@ -16,7 +16,7 @@ use Rattle.cb_cert.specs.declared.certificate.Certificate.TheVariants as certifi
 use Rattle.cb_cert.specs.declared.line.CertificateLine.{CertificateLine}
 use Rattle.cb_cert.specs.declared.line.CertificateLine.TheVariants as line
 use Rattle.cb_cert.specs.Lines.{line_text}
-use Rattle.cb_cert.specs.Format.{Fits, IsDistance, nodes_of, node_limit}
+use Rattle.cb_cert.specs.Format.{Fits, IsDistance, nodes_of, certificate_node_limit}
 
 -- the prefix is what stands before the first of these bytes
 pub cut_once : (cut : ℕ) (prefix back other_prefix other_back : List ℕ) → Lacks cut prefix → Lacks cut other_prefix
@@ -55,7 +55,7 @@ small_distance : (c : Certificate) (d : ℕ) → IsDistance c d → d < 2 ^ 64
 small_distance (certificate.Book e nodes columns spans) d is = let most = is.1 in omega arith
 small_distance (certificate.Thin w e nodes first second) d is = omega arith
 
-pub fitting_is_small : (c : Certificate) → length (nodes_of c) ≤ node_limit → (l : CertificateLine) → Fits c l → IsSmall l
+pub fitting_is_small : (c : Certificate) → length (nodes_of c) ≤ certificate_node_limit → (l : CertificateLine) → Fits c l → IsSmall l
 fitting_is_small c few line.Header fits = tt
 fitting_is_small c few line.Book fits = tt
 fitting_is_small c few line.Thin fits = tt

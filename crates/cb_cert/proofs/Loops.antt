@@ -18,7 +18,7 @@ pub exit : {X : Type 0} (P : Result X CertText → Type 0) (result : Result X Ce
 exit P (Ok x) err is p = absurd is
 exit P (Err y) err is p = subst (λ e. P (Err e)) (sym is) p
 
--- of the items of a list so many are read
+-- how many items of a list are read
 pub record Looped {X : Type 0} (Given : List ℕ → List CertificateLine → List TextPlace → Type 0) (lines : List X → List CertificateLine) (place : TextPlace) (n count i : ℕ)
     (now : Reader) (xs : List X) : Type 0 where
   pub many : length xs ≡ i

@@ -12,7 +12,7 @@ use Rattle.cb_cert.specs.declared.line.CertificateLine.TheVariants as line
 use Rattle.cb_cert.specs.declared.reader.Reader.{Reader}
 use Rattle.cb_cert.specs.Ahead.{TextPlace, MayStand, opened, nodes_after}
 use Rattle.cb_cert.specs.Format.{entries_in, entry_limit}
-use Rattle.cb_cert.specs.Prefixes.{Begins, IsPrefix, IsWhole, IsFault}
+use Rattle.cb_cert.specs.Prefixes.{Begins, IsCertificatePrefix, AreCertificateLines, IsFault}
 use Rattle.cb_cert.specs.Lines.{claim_lines, line_text}
 use Rattle.cb_cert.specs.Steps.{HasRead, Moves, Misses}
 use Rattle.cb_cert.proofs.Readings.{all_last}
@@ -53,14 +53,14 @@ taken text old new before n place ahead l read next stands going =
     }
 
 -- what was read is as it should be
-pub prefix : (text : List ℕ) (reader : Reader) (before : List CertificateLine) (n : ℕ) (ahead : List TextPlace) → HasRead text reader before n ahead → IsPrefix before
+pub prefix : (text : List ℕ) (reader : Reader) (before : List CertificateLine) (n : ℕ) (ahead : List TextPlace) → HasRead text reader before n ahead → IsCertificatePrefix before
 prefix text reader before n ahead read = record {
   begins = subst Begins (append-nil before) (read.goes_on [] tt);
   few = omega (arith, read.few, read.entries_are);
 }
 
 -- and it isn't all
-pub going : (text : List ℕ) (reader : Reader) (before : List CertificateLine) (n : ℕ) (ahead : List TextPlace) → HasRead text reader before n ahead → ¬ IsWhole before
+pub going : (text : List ℕ) (reader : Reader) (before : List CertificateLine) (n : ℕ) (ahead : List TextPlace) → HasRead text reader before n ahead → ¬ AreCertificateLines before
 going text reader before n ahead read whole =
     let c = whole.0 in
     let over = subst (All (λ k. k ≢ line.End)) (whole.2) read.unended in

@@ -14,7 +14,7 @@ use Rattle.cb_cert.specs.declared.line.CertificateLine.{CertificateLine}
 use Rattle.cb_cert.specs.declared.line.CertificateLine.TheVariants as line
 use Rattle.cb_cert.specs.Lines.{certificate_lines, line_text, text_of}
 use Rattle.cb_cert.specs.Format.{Fits, IsCertificate, entries_in, entry_limit}
-use Rattle.cb_cert.specs.Prefixes.{Begins, IsPrefix, IsWhole, IsReading}
+use Rattle.cb_cert.specs.Prefixes.{Begins, IsCertificatePrefix, AreCertificateLines, IsReading}
 use Rattle.cb_cert.proofs.LineTexts.{IsSmall, fitting_is_small, line_text_one}
 use Rattle.cb_cert.proofs.TextLines.{few_nodes, text_spells}
 use Rattle.cb_cert.proofs.Uniques.{goes_on, lines_are_of_one}
@@ -40,21 +40,21 @@ prefix_part xs ys begins = record {
 }
 
 -- a prefix of a prefix is one
-prefix_of_prefix : (xs ys : List CertificateLine) → IsPrefix (xs ++ ys) → IsPrefix xs
+prefix_of_prefix : (xs ys : List CertificateLine) → IsCertificatePrefix (xs ++ ys) → IsCertificatePrefix xs
 prefix_of_prefix xs ys is = record {
   begins = prefix_part xs ys is.begins;
   few = let e = sum_by-append entries_in xs ys in let most = is.few in omega arith;
 }
 
 -- the lines of a certificate of the format are a prefix
-pub whole_is_prefix : (lines : List CertificateLine) → IsWhole lines → IsPrefix lines
+pub whole_is_prefix : (lines : List CertificateLine) → AreCertificateLines lines → IsCertificatePrefix lines
 whole_is_prefix lines (c, is, e) = record {
   begins = record { of = c; few = few_nodes c is; more = []; are = sym e ∙ sym (append-nil lines); fit = subst (All (Fits c)) (sym e) is.fit };
   few = subst (λ ls. sum_by entries_in ls ≤ entry_limit) (sym e) is.few;
 }
 
 -- nothing goes on from a whole certificate
-whole_ends : (lines : List CertificateLine) → IsWhole lines → (l : CertificateLine) → ¬ Begins (lines ++ l ∷ [])
+whole_ends : (lines : List CertificateLine) → AreCertificateLines lines → (l : CertificateLine) → ¬ Begins (lines ++ l ∷ [])
 whole_ends lines (c, is, e) l begins =
     let longer : certificate_lines begins.of ≡ certificate_lines c ++ l ∷ begins.more =
     begins.are ∙ (append_assoc lines (l ∷ []) begins.more ∙ ap (λ ls. ls ++ l ∷ begins.more) e)
@@ -66,7 +66,7 @@ whole_ends lines (c, is, e) l begins =
 begins_is_small : (lines : List CertificateLine) → Begins lines → All IsSmall lines
 begins_is_small lines begins = All-weaker (Fits begins.of) IsSmall (fitting_is_small begins.of begins.few) lines begins.fit
 
-prefix_is_small : (lines : List CertificateLine) → IsPrefix lines → All IsSmall lines
+prefix_is_small : (lines : List CertificateLine) → IsCertificatePrefix lines → All IsSmall lines
 prefix_is_small lines is = begins_is_small lines is.begins
 
 -- a prefix begins with the header
@@ -76,8 +76,8 @@ prefix_head l ls begins = let e = begins.are in cc
 -- a reading: the lines that are as they should be, what follows them, and that nothing that should be follows
 record Reads (text : List ℕ) (before : List CertificateLine) (rest : List (List ℕ)) : Type 0 where
   lines : lines_of text ≡ map line_text before ++ rest
-  prefix : IsPrefix before
-  stuck : (l : CertificateLine) (more : List (List ℕ)) → IsPrefix (before ++ l ∷ []) → rest ≡ line_text l ∷ more → ⊥
+  prefix : IsCertificatePrefix before
+  stuck : (l : CertificateLine) (more : List (List ℕ)) → IsCertificatePrefix (before ++ l ∷ []) → rest ≡ line_text l ∷ more → ⊥
 
 -- of two readings neither is longer
 no_longer : (text : List ℕ) (xs : List CertificateLine) (l : CertificateLine) (ls : List CertificateLine) (us vs : List (List ℕ)) → Reads text xs us → Reads text (xs ++ l ∷ ls) vs → ⊥
@@ -86,7 +86,7 @@ no_longer text xs l ls us vs a b =
     sym a.lines ∙ (b.lines ∙ (ap (λ ts. ts ++ vs) (map-append line_text xs (l ∷ ls)) ∙ append_assoc (map line_text xs) (map line_text (l ∷ ls)) vs))
     in
     let rest = append_cancel_left (map line_text xs) us (line_text l ∷ (map line_text ls ++ vs)) joined in
-    let longer : IsPrefix ((xs ++ l ∷ []) ++ ls) = subst IsPrefix (sym (append_assoc xs (l ∷ []) ls)) b.prefix in
+    let longer : IsCertificatePrefix ((xs ++ l ∷ []) ++ ls) = subst IsCertificatePrefix (sym (append_assoc xs (l ∷ []) ls)) b.prefix in
     a.stuck l (map line_text ls ++ vs) (prefix_of_prefix (xs ++ l ∷ []) ls longer) rest
 
 -- two lists of lines with texts that agree: they are one, or one is longer
@@ -120,11 +120,11 @@ Ended (Ok c) before rest = (rest ≡ []) × IsCertificate c × (before ≡ certi
 Ended (Err fault.BadHeader) before rest =
     (met : List ℕ) × (after : List (List ℕ)) × (rest ≡ met ∷ after) × (before ≡ []) × (met ≢ line_text line.Header)
 Ended (Err (fault.BadLine n)) before rest =
-    (met : List ℕ) × (after : List (List ℕ)) × (rest ≡ met ∷ after) × (n ≡ length before + 1) × (before ≢ []) × (IsWhole before → ⊥)
+    (met : List ℕ) × (after : List (List ℕ)) × (rest ≡ met ∷ after) × (n ≡ length before + 1) × (before ≢ []) × (AreCertificateLines before → ⊥)
     × ((l : CertificateLine) → met ≡ line_text l → ¬ Begins (before ++ l ∷ []))
-Ended (Err fault.Truncated) before rest = (rest ≡ []) × (IsWhole before → ⊥)
+Ended (Err fault.Truncated) before rest = (rest ≡ []) × (AreCertificateLines before → ⊥)
 Ended (Err (fault.Extra n)) before rest =
-    (met : List ℕ) × (after : List (List ℕ)) × (rest ≡ met ∷ after) × (n ≡ length before + 1) × IsWhole before
+    (met : List ℕ) × (after : List (List ℕ)) × (rest ≡ met ∷ after) × (n ≡ length before + 1) × AreCertificateLines before
 Ended (Err (fault.TooManyEntries n)) before rest =
     (k : ℕ) × (after : List (List ℕ)) × (rest ≡ line_text (line.Span k) ∷ after) × (n ≡ length before + 1) × Begins (before ++ line.Span k ∷ [])
     × (entry_limit < sum_by entries_in (before ++ line.Span k ∷ []))
@@ -138,7 +138,7 @@ record IsEnded (text : List ℕ) (a : Result Certificate CertText) : Type 0 wher
   ended : Ended a before rest
 
 -- nothing is a prefix
-pub nothing_is_prefix : IsPrefix []
+pub nothing_is_prefix : IsCertificatePrefix []
 nothing_is_prefix = record {
   begins = record { of = certificate.Book 1 [] [] []; few = omega arith; more = certificate_lines (certificate.Book 1 [] [] []); are = refl; fit = All-nil (Fits (certificate.Book 1 [] [] [])) };
   few = omega arith;
@@ -211,7 +211,7 @@ ended_of text (Err (fault.TooManyEntries n)) p = record {
 }
 ended_of text (Err fault.NoMemory) p = absurd p
 
-pub no_header : (before : List CertificateLine) → before ≡ [] → IsWhole before → ⊥
+pub no_header : (before : List CertificateLine) → before ≡ [] → AreCertificateLines before → ⊥
 no_header before none (c, is, e) = cc
 
 no_span : (before : List CertificateLine) (k : ℕ) → before ≡ [] → Begins (before ++ line.Span k ∷ []) → ⊥

@@ -17,7 +17,7 @@ use Rattle.cb_cert.specs.declared.certificate.Span.{Span}
 use Rattle.cb_cert.specs.declared.line.CertificateLine.{CertificateLine}
 use Rattle.cb_cert.specs.declared.line.CertificateLine.TheVariants as line
 use Rattle.cb_cert.specs.Lines.{certificate_lines, span_lines, node_lines, column_lines, all_span_lines, side_lines, line_text, ended, text_of}
-use Rattle.cb_cert.specs.Format.{Fits, IsCertificate, SpellsCertificate, IsDistance, IsNode, nodes_of, node_limit, entries_in}
+use Rattle.cb_cert.specs.Format.{Fits, IsCertificate, SpellsCertificate, IsDistance, HasValidNames, nodes_of, certificate_node_limit, entries_in}
 
 -- ---- lines
 
@@ -62,7 +62,7 @@ four_parts a b c d =
     let first = length-append a b in
     omega (arith, whole, prefix, first)
 
-node_line : (n : NodeName) → IsNode n → length (codes "node " ++ n.event ++ codes "@" ++ n.instance) ≤ 132
+node_line : (n : NodeName) → HasValidNames n → length (codes "node " ++ n.event ++ codes "@" ++ n.instance) ≤ 132
 node_line n is =
     let parts = four_parts (codes "node ") n.event (codes "@") n.instance in
     let event = is.0.short in
@@ -76,7 +76,7 @@ entry_line e low parent =
     let digits = length-decimal-le 5 e.parent (omega arith) parent (omega arith) in
     omega (arith, parts, node_digits, digits)
 
-module _ (c : Certificate) (few : length (nodes_of c) ≤ node_limit) where
+module _ (c : Certificate) (few : length (nodes_of c) ≤ certificate_node_limit) where
   short_line : (l : CertificateLine) → Fits c l → length (line_text l) ≤ most l
   unfolding most
   short_line line.Header fits = omega arith
@@ -153,7 +153,7 @@ one_span_entries span =
     let none = no_entries line.Entry (λ e. refl) span.entries in
     omega arith
 
-module _ (c : Certificate) (few : length (nodes_of c) ≤ node_limit) where
+module _ (c : Certificate) (few : length (nodes_of c) ≤ certificate_node_limit) where
   -- lines of at most 22 bytes
   small_lines : {X : Type 0} (f : X → CertificateLine) → ((x : X) → most (f x) ≡ 22) → (xs : List X) → All (Fits c) (map f xs) → bytes_of (map f xs) ≤ 23 * length xs
   small_lines f is [] fit = let none = bytes_none in omega arith
@@ -310,7 +310,7 @@ thin_bytes wanted far nodes first second is =
     omega arith
 
 -- how many nodes a certificate of the format has
-few_nodes_of : (c : Certificate) → IsCertificate c → length (nodes_of c) ≤ node_limit
+few_nodes_of : (c : Certificate) → IsCertificate c → length (nodes_of c) ≤ certificate_node_limit
 few_nodes_of (certificate.Book far nodes numbers spans) is =
     let c = certificate.Book far nodes numbers spans in
     let rest = column_lines numbers ++ all_span_lines spans in

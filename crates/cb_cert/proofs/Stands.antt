@@ -5,7 +5,7 @@ use Rattle.cb_cert.specs.declared.certificate.Entry.{Entry}
 use Rattle.cb_cert.specs.declared.line.CertificateLine.{CertificateLine}
 use Rattle.cb_cert.specs.declared.line.CertificateLine.TheVariants as line
 use Rattle.cb_cert.specs.Ahead.{at_wanted, at_distance, at_thin_distance, at_nodes, at_node, at_columns, at_column, at_spans, at_entry, MayStand}
-use Rattle.cb_cert.specs.Format.{IsBetween, IsNode, IsEntry, wanted_limit, node_limit, column_limit}
+use Rattle.cb_cert.specs.Format.{IsBetween, HasValidNames, IsEntry, wanted_limit, certificate_node_limit, column_limit}
 use Rattle.cb_cert.proofs.Moved.{Stand}
 
 only_wanted : (n : ℕ) (l : CertificateLine) → MayStand n at_wanted l → (x : ℕ) × (l ≡ line.Wanted x) × IsBetween 1 wanted_limit x
@@ -29,18 +29,18 @@ only_thin n l p = absurd p
 pub thin_distance : (n : ℕ) → Stand n at_thin_distance line.Distance (IsBetween 0 column_limit)
 thin_distance n = record { may = λ x p. p.1; only = only_thin n; light = λ x. refl; inside = λ x e. cc }
 
-only_nodes : (n : ℕ) (l : CertificateLine) → MayStand n at_nodes l → (x : ℕ) × (l ≡ line.Nodes x) × IsBetween 0 node_limit x
+only_nodes : (n : ℕ) (l : CertificateLine) → MayStand n at_nodes l → (x : ℕ) × (l ≡ line.Nodes x) × IsBetween 0 certificate_node_limit x
 only_nodes n (line.Nodes x) p = (x, refl, ((omega arith), p))
 only_nodes n l p = absurd p
 
-pub nodes : (n : ℕ) → Stand n at_nodes line.Nodes (IsBetween 0 node_limit)
+pub nodes : (n : ℕ) → Stand n at_nodes line.Nodes (IsBetween 0 certificate_node_limit)
 nodes n = record { may = λ x p. p.1; only = only_nodes n; light = λ x. refl; inside = λ x e. cc }
 
-only_node : (n : ℕ) (l : CertificateLine) → MayStand n at_node l → (x : NodeName) × (l ≡ line.Node x) × IsNode x
+only_node : (n : ℕ) (l : CertificateLine) → MayStand n at_node l → (x : NodeName) × (l ≡ line.Node x) × HasValidNames x
 only_node n (line.Node x) p = (x, refl, p)
 only_node n l p = absurd p
 
-pub one_node : (n : ℕ) → Stand n at_node line.Node IsNode
+pub one_node : (n : ℕ) → Stand n at_node line.Node HasValidNames
 one_node n = record { may = λ x p. p; only = only_node n; light = λ x. refl; inside = λ x e. cc }
 
 only_columns : (n : ℕ) (l : CertificateLine) → MayStand n at_columns l → (x : ℕ) × (l ≡ line.Columns x) × IsBetween 0 column_limit x

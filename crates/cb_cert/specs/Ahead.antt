@@ -2,7 +2,7 @@
 use Rattle.std.specs.Prelude.{⊤, ℕ, ◌<◌, ◌≤◌, List, [], ◌∷◌, ◌++◌, replicate}
 use Rattle.cb_cert.specs.declared.line.CertificateLine.{CertificateLine}
 use Rattle.cb_cert.specs.declared.line.CertificateLine.TheVariants as line
-use Rattle.cb_cert.specs.Format.{IsWanted, IsNode, IsEntry, column_limit, node_limit}
+use Rattle.cb_cert.specs.Format.{IsWanted, HasValidNames, IsEntry, column_limit, certificate_node_limit}
 
 -- a position, by what stands there; the distance of a thin certificate, which may be 0, has a position of its own
 pub data TextPlace : Type 0 where
@@ -29,14 +29,14 @@ MayStand n at_kind line.Thin = ⊤
 MayStand n at_wanted (line.Wanted w) = IsWanted w
 MayStand n at_distance (line.Distance d) = IsWanted d
 MayStand n at_thin_distance (line.Distance d) = d ≤ column_limit
-MayStand n at_nodes (line.Nodes m) = m ≤ node_limit
-MayStand n at_node (line.Node x) = IsNode x
+MayStand n at_nodes (line.Nodes m) = m ≤ certificate_node_limit
+MayStand n at_node (line.Node x) = HasValidNames x
 MayStand n at_columns (line.Columns m) = m ≤ column_limit
 MayStand n at_column (line.Column i) = (0 < i) × (i ≤ n)
 MayStand n at_spans (line.Spans m) = m ≤ column_limit
-MayStand n at_span (line.Span m) = (0 < m) × (m ≤ node_limit)
+MayStand n at_span (line.Span m) = (0 < m) × (m ≤ certificate_node_limit)
 MayStand n at_side line.Quiet = ⊤
-MayStand n at_side (line.Span m) = (0 < m) × (m ≤ node_limit)
+MayStand n at_side (line.Span m) = (0 < m) × (m ≤ certificate_node_limit)
 MayStand n at_entry (line.Entry e) = IsEntry n e
 MayStand n at_end line.End = ⊤
 MayStand n place l = ⊥

@@ -16,8 +16,8 @@ abbrev pub wanted_limit : ℕ
 wanted_limit = 9999
 
 -- at most this many nodes
-abbrev pub node_limit : ℕ
-node_limit = 65536
+abbrev pub certificate_node_limit : ℕ
+certificate_node_limit = 65536
 
 -- at most this many columns, and at most this many spans
 abbrev pub column_limit : ℕ
@@ -33,8 +33,8 @@ nodes_of (Book distance nodes columns spans) = nodes
 nodes_of (Thin wanted distance nodes first second) = nodes
 
 -- a number is that of a node of the certificate
-abbrev pub IsNumber : Certificate → ℕ → Type 0
-IsNumber c i = (0 < i) × (i ≤ length (nodes_of c))
+abbrev pub IsCertNodeNumber : Certificate → ℕ → Type 0
+IsCertNodeNumber c i = (0 < i) × (i ≤ length (nodes_of c))
 
 -- a number in a range
 abbrev pub IsBetween : ℕ → ℕ → ℕ → Type 0
@@ -50,23 +50,23 @@ IsDistance (Book distance nodes columns spans) d = IsWanted d
 IsDistance (Thin wanted distance nodes first second) d = d ≤ column_limit
 
 -- the names of a node are names
-abbrev pub IsNode : NodeName → Type 0
-IsNode n = IsName n.event × IsInstance n.instance
+abbrev pub HasValidNames : NodeName → Type 0
+HasValidNames n = IsName n.event × IsInstance n.instance
 
 -- an entry among that many nodes: its node is one of them, and its parent may be a position of a span, or 0
 abbrev pub IsEntry : ℕ → Entry → Type 0
-IsEntry nodes e = ((0 < e.node) × (e.node ≤ nodes)) × (e.parent ≤ node_limit)
+IsEntry nodes e = ((0 < e.node) × (e.node ≤ nodes)) × (e.parent ≤ certificate_node_limit)
 
 -- the numbers of a line of the certificate are in their ranges, and its names are names
 abbrev pub Fits : Certificate → CertificateLine → Type 0
 Fits c (line.Wanted w) = IsWanted w
 Fits c (line.Distance d) = IsDistance c d
-Fits c (line.Nodes n) = n ≤ node_limit
-Fits c (line.Node n) = IsNode n
+Fits c (line.Nodes n) = n ≤ certificate_node_limit
+Fits c (line.Node n) = HasValidNames n
 Fits c (line.Columns n) = n ≤ column_limit
-Fits c (line.Column i) = IsNumber c i
+Fits c (line.Column i) = IsCertNodeNumber c i
 Fits c (line.Spans n) = n ≤ column_limit
-Fits c (line.Span n) = (0 < n) × (n ≤ node_limit)
+Fits c (line.Span n) = (0 < n) × (n ≤ certificate_node_limit)
 Fits c (line.Entry e) = IsEntry (length (nodes_of c)) e
 Fits c l = ⊤
 

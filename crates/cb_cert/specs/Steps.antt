@@ -9,7 +9,7 @@ use Rattle.cb_cert.specs.declared.line.CertificateLine.{CertificateLine}
 use Rattle.cb_cert.specs.declared.line.CertificateLine.TheVariants as line
 use Rattle.cb_cert.specs.declared.reader.Reader.{Reader}
 use Rattle.cb_cert.specs.Ahead.{TextPlace, at_end, MayCome}
-use Rattle.cb_cert.specs.Format.{IsBetween, SpellsCertificate, entries_in, entry_limit, node_limit}
+use Rattle.cb_cert.specs.Format.{IsBetween, SpellsCertificate, entries_in, entry_limit, certificate_node_limit}
 use Rattle.cb_cert.specs.Prefixes.{Begins, IsFault}
 use Rattle.cb_cert.specs.Lines.{claim_lines, line_text}
 
@@ -32,7 +32,7 @@ pub record Moves (old new : Reader) (met : List ℕ) : Type 0 where
   pub entries_are : new.entries ≡ old.entries
 
 -- the next line is wrong
-pub record IsWrong (old : Reader) (number : ℕ) (Wrong : List ℕ → Type 0) : Type 0 where
+pub record IsNextLineWrong (old : Reader) (number : ℕ) (Wrong : List ℕ → Type 0) : Type 0 where
   pub met : List ℕ
   pub after : List (List ℕ)
   pub lines_are : old.lines ≡ met ∷ after
@@ -42,7 +42,7 @@ pub record IsWrong (old : Reader) (number : ℕ) (Wrong : List ℕ → Type 0) :
 -- why the next line isn't read: there is none, it is wrong, or there was no memory for it
 abbrev pub Misses : Reader → (List ℕ → Type 0) → CertText → Type 0
 Misses old Wrong fault.Truncated = old.lines ≡ []
-Misses old Wrong (fault.BadLine number) = IsWrong old number Wrong
+Misses old Wrong (fault.BadLine number) = IsNextLineWrong old number Wrong
 Misses old Wrong fault.NoMemory = ⊤
 Misses old Wrong why = ⊥
 
@@ -53,7 +53,7 @@ TakesForm {X} form P old new (Err why) = Misses old (λ met. (x : X) → P x →
 
 -- that many entries are not too many for one span
 abbrev pub IsLength : ℕ → Type 0
-IsLength = IsBetween 1 node_limit
+IsLength = IsBetween 1 certificate_node_limit
 
 -- the line is that of a span with `entries` entries
 pub record IsSpanLine (met : List ℕ) (entries : ℕ) : Type 0 where
@@ -69,28 +69,28 @@ CountsSpan met old new (Err (fault.TooManyEntries number)) = (number ≡ old.num
 CountsSpan met old new (Err why) = ⊥
 
 -- the lines of what was read were read too, or the text has this fault
-abbrev pub ComesTo : {X : Type 0} → List ℕ → Reader → List CertificateLine → List TextPlace → (X → List CertificateLine) → (X → ℕ) → Result X CertText → Type 0
-ComesTo text new before ahead lines nodes (Ok x) = HasRead text new (before ++ lines x) (nodes x) ahead
-ComesTo text new before ahead lines nodes (Err why) = (why ≡ fault.NoMemory) ⊎ IsFault text why
+abbrev pub ReadsOrFails : {X : Type 0} → List ℕ → Reader → List CertificateLine → List TextPlace → (X → List CertificateLine) → (X → ℕ) → Result X CertText → Type 0
+ReadsOrFails text new before ahead lines nodes (Ok x) = HasRead text new (before ++ lines x) (nodes x) ahead
+ReadsOrFails text new before ahead lines nodes (Err why) = (why ≡ fault.NoMemory) ⊎ IsFault text why
 
 -- wherever these positions are ahead, the lines of what is read there are read, or the text's first fault is met
 abbrev pub ReadsLines : {X : Type 0} → ℕ → List TextPlace → (X → List CertificateLine) → (X → ℕ) → Reader → Reader → Result X CertText → Type 0
 ReadsLines n places lines nodes old new result =
     (text : List ℕ) (before : List CertificateLine) (ahead : List TextPlace) → HasRead text old before n (places ++ ahead)
-    → ComesTo text new before ahead lines nodes result
+    → ReadsOrFails text new before ahead lines nodes result
 
 -- the same where the first of the lines was read before
 abbrev pub ReadsAfter : {X : Type 0} → CertificateLine → ℕ → List TextPlace → (X → List CertificateLine) → (X → ℕ) → Reader → Reader → Result X CertText → Type 0
 ReadsAfter first n places lines nodes old new result =
     (text : List ℕ) (before : List CertificateLine) (ahead : List TextPlace) → HasRead text old (before ++ first ∷ []) n (places ++ ahead)
-    → ComesTo text new before ahead lines nodes result
+    → ReadsOrFails text new before ahead lines nodes result
 
 -- the text spells the certificate, or it has this fault
-abbrev pub EndsWell : List ℕ → Certificate → Result (Unit {0}) CertText → Type 0
-EndsWell text c (Ok done) = SpellsCertificate text c
-EndsWell text c (Err why) = IsFault text why
+abbrev pub SpellsOrFails : List ℕ → Certificate → Result (Unit {0}) CertText → Type 0
+SpellsOrFails text c (Ok done) = SpellsCertificate text c
+SpellsOrFails text c (Err why) = IsFault text why
 
 -- once all that the certificate claims was read, the text ends as it should, or it has a fault
 abbrev pub Finishes : Reader → Result (Unit {0}) CertText → Type 0
 Finishes old result =
-    (text : List ℕ) (c : Certificate) (n : ℕ) → HasRead text old (line.Header ∷ claim_lines c) n (at_end ∷ []) → EndsWell text c result
+    (text : List ℕ) (c : Certificate) (n : ℕ) → HasRead text old (line.Header ∷ claim_lines c) n (at_end ∷ []) → SpellsOrFails text c result

@@ -2,7 +2,7 @@
 ghost use Rattle.std.specs.Prelude.{[], ◌∷◌, ◌≤◌, IfOk, length, replicate};
 ghost use Rattle.cb_cert.specs.declared.line.CertificateLine.TheVariants as line;
 ghost use Rattle.cb_cert.specs.Ahead.{at_nodes, at_columns, at_spans, at_span, at_side, at_entry};
-ghost use Rattle.cb_cert.specs.Format.{node_limit};
+ghost use Rattle.cb_cert.specs.Format.{certificate_node_limit};
 ghost use Rattle.cb_cert.specs.Lines.{node_lines, column_lines, all_span_lines, span_lines, side_lines};
 ghost use Rattle.cb_cert.specs.Steps.{ReadsLines, ReadsAfter};
 
@@ -18,7 +18,7 @@ impl<'a> Reader<'a> {
     /// The nodes.
     pub fn nodes(&mut self, alloc: Global) -> Result<List<NodeName>, CertText>
         ensures lines { ReadsLines 0 (at_nodes ∷ []) node_lines length self.old self.new result }
-        ensures few { IfOk result (λ nodes. length nodes ≤ node_limit) }
+        ensures few { IfOk result (λ nodes. length nodes ≤ certificate_node_limit) }
     {
         let count = self.number(b"nodes ", 0, MOST_NODES)?;
         let mut nodes = List::new(alloc);

@@ -3,7 +3,7 @@ ghost use Rattle.std.specs.Prelude.{◌≡◌, ◌≢◌, ◌<◌, ◌≤◌, �
 ghost use Rattle.cb_cert.specs.declared.fault.CertText.TheVariants.{BadLine, Truncated};
 ghost use Rattle.cb_cert.specs.declared.line.CertificateLine.TheVariants as line;
 ghost use Rattle.cb_cert.specs.Ahead.{at_kind, at_end};
-ghost use Rattle.cb_cert.specs.Format.{IsBetween, IsNode, IsEntry};
+ghost use Rattle.cb_cert.specs.Format.{IsBetween, HasValidNames, IsEntry};
 ghost use Rattle.cb_cert.specs.Prefixes.{IsFault};
 ghost use Rattle.cb_cert.specs.Lines.{line_text};
 ghost use Rattle.cb_cert.specs.Steps.{HasRead, Moves, TakesForm, CountsSpan, Finishes};
@@ -83,7 +83,7 @@ impl<'a> Reader<'a> {
 
     /// A node.
     pub fn node(&mut self, alloc: Global) -> Result<NodeName, CertText>
-        ensures { TakesForm (λ n. line_text (line.Node n)) IsNode self.old self.new result }
+        ensures { TakesForm (λ n. line_text (line.Node n)) HasValidNames self.old self.new result }
     {
         let line = self.next()?;
         let Some(node) = node_of(alloc, line)? else {

@@ -7,10 +7,10 @@ use Rattle.cb_model.proofs.Numbers.{take_more, zip_push, slice_get-push_before, 
 use Rattle.cb_model.proofs.Spread.{map_at, map_there}
 use Rattle.cb_coding.specs.declared.group.Problem.{Problem}
 use Rattle.cb_coding.specs.declared.group.Group.{Group}
-use Rattle.cb_coding.specs.Groups.{AreProblems, AreGroups, codes_of, zeros}
+use Rattle.cb_coding.specs.Groups.{AreCodedProblems, AreGroups, codes_of, zeros}
 use Rattle.cb_coding.proofs.Pushed.{pushed_cases, map_set_same}
 use Rattle.cb_codes.specs.declared.each_once.EachOnce.{EachOnce}
-use Rattle.cb_codes.specs.EachOnce.{AreKeysOf, IsThere, GoesLast, FindsPlace}
+use Rattle.cb_codes.specs.EachOnce.{AreKeysOf, IsCodeThere, GoesLast, FindsPlace}
 use Rattle.cb_codes.specs.Grouped.{group, AddsProblem}
 use Rattle.cb_codes.proofs.Grouped.{AreGrouped, quiet_grouped, one_more_grouped, all_grouped}
 use Rattle.cb_matrix.specs.Coded.{IsProblemAt, AreProblemsAt}
@@ -24,7 +24,7 @@ pub record AreAdded (n : Numbered) (columns ids : List NodeId) (i : ℕ) (codes 
   pub problems : List Problem
   pub coded : AreProblemsAt n columns (take i ids) problems
   pub groups : List Group
-  pub grouped : (all : List Problem) → AreProblems (length columns) all → take i all ≡ problems → AreGrouped (length columns) all i groups
+  pub grouped : (all : List Problem) → AreCodedProblems (length columns) all → take i all ≡ problems → AreGrouped (length columns) all i groups
   pub rows : codes ≡ codes_of groups
   pub least_are : AreLeast n groups least
 
@@ -69,7 +69,7 @@ module _ (n : Numbered) (columns ids : List NodeId) where
     size = ap length rows ∙ length-map groups code
 
     -- where its code is there
-    joins_one : IsThere p.code codes codes' place → Adds id p codes' least' groups
+    joins_one : IsCodeThere p.code codes codes' place → Adds id p codes' least' groups
     joins_one there =
         let (joined, at, same) = map_at code groups place p.code (subst (λ cs. slice_get cs place ≡ Some p.code) rows there.at) in
         let within = slice_get_within groups place joined at in
@@ -162,7 +162,7 @@ module _ (n : Numbered) (columns ids : List NodeId) (i : ℕ) (codes : List (Lis
   pub all_coded_are : AreProblemsAt n columns ids added.problems
   all_coded_are = subst (λ prefix. AreProblemsAt n columns prefix added.problems) whole added.coded
 
-  module _ (are : AreProblems (length columns) added.problems) where
+  module _ (are : AreCodedProblems (length columns) added.problems) where
     grouped_are : AreGrouped (length columns) added.problems i added.groups
     grouped_are =
         let count = length_zip (IsProblemAt n columns) ids added.problems all_coded_are in

@@ -49,7 +49,7 @@ module _ (nodes : List ℕ) (columns : List NodeId) (visits : List Visit) (to : 
         inr (same_Some node m (sym at ∙ subst (λ (w : Visit). slice_get nodes w.node ≡ Some m) (sym same) has.at))
   ]
 
-  module _ (room : ℕ) (places : List (Option ℕ)) (are : IsColumnIndex room columns places) where
+  module _ (capacity : ℕ) (places : List (Option ℕ)) (are : IsColumnIndex capacity columns places) where
     place_low : (place : ℕ) → slice_get places node ≡ Some (Some place) → place < length code
     place_low place there = let e = slice_get_within columns place (number node) (are.each node place there) in let f = old.width in omega arith
 

@@ -23,8 +23,8 @@ use Rattle.cb_nodes.specs.declared.id.NodeId.{NodeId}
 use Rattle.cb_topo.specs.Numbered.{Numbered, topology_of, IsNodeNamed, AreNamed}
 use Rattle.cb_topo.proofs.Naming.{one_name}
 use Rattle.cb_span.specs.Made.{IsSideAt, IsSideNamed, AreColumnsAt as AreSpanColumns}
-use Rattle.cb_certify.specs.Columns.{AreAt, HaveNames}
-use Rattle.cb_certify.specs.Members.{IsLeastMember, HasMember, IsCalledBy, IsSideLive}
+use Rattle.cb_certify.specs.Columns.{AreAt, HaveColumnPlaces}
+use Rattle.cb_certify.specs.Members.{IsLeastMember, HasLeastMember, IsCalledBy, IsSideLive}
 use Rattle.cb_validity.specs.Codebooks.{least_of}
 
 -- the group of a name at a place after the first
@@ -53,7 +53,7 @@ named_there (quiet ∷ groups) (suc i) g later at = map_there (named false) grou
 
 module _ (t : Topology) (columns : List NodeName) (groups : List Group) (matrix : IsMatrix t columns groups) where
   -- each group but the first has a member
-  pub has_member : (i : ℕ) → 0 < i → i < length groups → HasMember (named_of groups) i
+  pub has_member : (i : ℕ) → 0 < i → i < length groups → HasLeastMember (named_of groups) i
   has_member i later within =
       let none : Group = record { code = []; members = [] } in
       let group = get_or groups i none in
@@ -114,7 +114,7 @@ name_at n (i ∷ ids) (x ∷ names) zip (suc k) id at = name_at n ids names zip.
 
 -- the numbers at some places have the names at these places
 pub named_at : (n : Numbered) (all : List NodeId) (names : List NodeName) → AreNamed n all names → (places : List ℕ) (ids : List NodeId) → AreAt all places ids
-    → HaveNames n names places ids
+    → HaveColumnPlaces n names places ids
 named_at n all names named [] [] are = ([], tt, tt)
 named_at n all names named [] (id ∷ ids) are = absurd are
 named_at n all names named (place ∷ places) [] are = absurd are
@@ -141,7 +141,7 @@ each_column t all (c ∷ columns) (p ∷ places) are have =
     All-cons (IsColumn t) c columns (are.each c (contains_from_get all p c have.0)) (each_column t all columns places are have.1)
 
 pub columns_stand : (n : Numbered) (all : List NodeName) → AreColumns (topology_of n) all → (places : List ℕ) → IsStrictlyIncreasing places
-    → (ids : List NodeId) → HaveNames n all places ids → AreSpanColumns n ids
+    → (ids : List NodeId) → HaveColumnPlaces n all places ids → AreSpanColumns n ids
 columns_stand n all are places rise ids (columns, named, have) = record {
   columns = columns;
   named = named;

@@ -17,7 +17,7 @@ use Rattle.cb_model.proofs.Rising.{strict_of_total}
 use Rattle.cb_network.specs.Nodes.{IsSymptomNode, IsColumn, AreColumns}
 use Rattle.cb_network.specs.Sound.{Sound, symptom_limit}
 use Rattle.cb_network.specs.Topology.{Topology}
-use Rattle.cb_validity.specs.Reading.{IsPlaceOf, ArePlaces}
+use Rattle.cb_validity.specs.Reading.{IsColumnPlace, ArePlaces}
 use Rattle.cb_validity.specs.Spans.{StandsFor}
 use Rattle.cb_validity.specs.Valid.{AreColumnNumbers}
 use Rattle.cb_validity.proofs.Passing.{zip_lengths, zip_at}
@@ -87,9 +87,9 @@ module _ (all nodes : List NodeName) (numbers : List ℕ) (among : AreAmong all 
     pub one_more_place : (places : List ℕ) (place : ℕ) → ArePlaces nodes all (take k numbers) places → slice_get all place ≡ Some column
         → ArePlaces nodes all (take (k + 1) numbers) (places ++ place ∷ [])
     one_more_place places place so_far found =
-        let one : IsPlaceOf nodes all number place = record { column = column; names = record { counted = counted; is = is }; is = found } in
+        let one : IsColumnPlace nodes all number place = record { column = column; names = record { counted = counted; is = is }; is = found } in
         subst (λ (ns : List ℕ). ArePlaces nodes all ns (places ++ place ∷ [])) (sym (take_more numbers k number at))
-        (zip_push (IsPlaceOf nodes all) (take k numbers) places number place so_far one)
+        (zip_push (IsColumnPlace nodes all) (take k numbers) places number place so_far one)
 
 -- the names of all columns, copied, are all columns, and few
 pub copied_columns : (n : Numbered) (ids : List NodeId) (all : List NodeName)

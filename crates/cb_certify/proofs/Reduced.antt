@@ -25,7 +25,7 @@ use Rattle.cb_topo.specs.Numbered.{Numbered, topology_of, IsNodeNamed}
 use Rattle.cb_certify.specs.declared.shortfall.ClosePair.{ClosePair}
 use Rattle.cb_certify.specs.Groups.{AreGroupsOf, AreLeast, IsLeastAt}
 use Rattle.cb_certify.specs.Made.{IsBookOf, IsFirstPair, HasCodebook}
-use Rattle.cb_certify.specs.Members.{HasNode, IsCalledBy, IsMemberAt, IsPairOf}
+use Rattle.cb_certify.specs.Members.{HasLeastNode, IsCalledBy, IsMemberAt, IsPairOf}
 use Rattle.cb_certify.proofs.Named.{called_later, has_member, names_at}
 
 module _ (t : Topology) (made : Grouped) (are : AreGroupsOf t made) (codes : Coded) (width : codes.width ≡ made.width) (rows : codes.rows ≡ codes_of made.groups) where
@@ -108,7 +108,7 @@ pair_called P Q pair close one other is = record { first = one close.first is.fi
 
 -- each group but the first has a member, which is a node
 pub has_node : (n : Numbered) (columns : List NodeName) (groups : List Group) → IsMatrix (topology_of n) columns groups → (place : ℕ) → 0 < place → place < length groups
-    → HasNode n (named_of groups) place
+    → HasLeastNode n (named_of groups) place
 has_node n columns groups matrix place later within =
     let (node, least) = has_member (topology_of n) columns groups matrix place later within in
     let by = called_by (topology_of n) columns groups matrix place node (called_later groups place node later least) in

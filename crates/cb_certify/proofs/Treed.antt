@@ -6,7 +6,7 @@ use Rattle.cb_nodes.specs.declared.id.NodeId.{NodeId}
 use Rattle.cb_breadth.specs.declared.visit.Visit.{Visit}
 use Rattle.cb_breadth.specs.Lists.{AreBelow}
 use Rattle.cb_coding.specs.declared.group.Problem.{Problem}
-use Rattle.cb_coding.specs.Groups.{AreProblems, AreGroups}
+use Rattle.cb_coding.specs.Groups.{AreCodedProblems, AreGroups}
 use Rattle.cb_finding.proofs.Nearest.{coded_are_wide}
 use Rattle.cb_graph.specs.Edges.{EdgeAt}
 use Rattle.cb_network.specs.Sound.{Sound}
@@ -14,7 +14,7 @@ use Rattle.cb_topo.specs.Numbered.{Numbered, topology_of, IsNodeNamed, IsWhole}
 use Rattle.cb_matrix.specs.Coded.{IsCodeFrom, IsProblemAt}
 use Rattle.cb_matrix.proofs.Held.{length_zip}
 use Rattle.cb_matrix.proofs.Matched.{all_coded}
-use Rattle.cb_span.specs.Numberings.{AreBelow as AreVisitsBelow}
+use Rattle.cb_span.specs.Numberings.{HaveRanksBelow as AreVisitsBelow}
 use Rattle.cb_span.specs.Searched.{AreTreesOf, IsTreeOf}
 use Rattle.cb_span.specs.declared.problems.Trees.{Trees}
 use Rattle.cb_span.proofs.Led.{tree_has}
@@ -68,8 +68,8 @@ module _ (n : Numbered) (trees : Trees) (are : AreTreesOf n trees) where
       let at_all = all_coded_are n columns trees.problems i made.codes.rows made.least end added in
       let coded = all_coded n whole sound columns trees.problems all.names added.problems all.names are.names all.are all.named all.named are.problems are.named at_all in
       let size = length_zip (IsNodeNamed n) columns all.names all.named in
-      let problems_are : AreProblems (length columns) added.problems =
-      subst (λ width. AreProblems width added.problems) (sym size) (coded_are_wide t all.names added.problems coded.problems_are) in
+      let problems_are : AreCodedProblems (length columns) added.problems =
+      subst (λ width. AreCodedProblems width added.problems) (sym size) (coded_are_wide t all.names added.problems coded.problems_are) in
       let few = groups_few n columns trees.problems i made.codes.rows made.least end added problems_are in
       let few_problems = coded.few_problems in
       record {

@@ -28,8 +28,8 @@ abbrev pub AreAt : List NodeId → List ℕ → List NodeId → Type 0
 AreAt all places ids = AllZip (λ place id. slice_get all place ≡ Some id) places ids
 
 -- the columns of these numbers have these positions
-abbrev pub HaveNames : Numbered → List NodeName → List ℕ → List NodeId → Type 0
-HaveNames n all places ids = (columns : List NodeName) × AreNamed n ids columns × HavePlaces all columns places
+abbrev pub HaveColumnPlaces : Numbered → List NodeName → List ℕ → List NodeId → Type 0
+HaveColumnPlaces n all places ids = (columns : List NodeName) × AreNamed n ids columns × HavePlaces all columns places
 
 -- among all columns of the topology, the columns of these numbers have these positions
 abbrev pub ArePlacesFor : Topology → List NodeName → List ℕ → List ℕ → Type 0

@@ -17,11 +17,11 @@ pub record IsLeastMember (groups : List NamedGroup) (place : ℕ) (node : NodeNa
   pub at : slice_get groups place ≡ Some group
   pub first : slice_get group.members 0 ≡ Some node
 
-abbrev pub HasMember : List NamedGroup → ℕ → Type 0
-HasMember groups place = (node : NodeName) × IsLeastMember groups place node
+abbrev pub HasLeastMember : List NamedGroup → ℕ → Type 0
+HasLeastMember groups place = (node : NodeName) × IsLeastMember groups place node
 
 -- the group at a position has a least member, which is a node of the topology
-pub record HasNode (n : Numbered) (groups : List NamedGroup) (place : ℕ) : Type 0 where
+pub record HasLeastNode (n : Numbered) (groups : List NamedGroup) (place : ℕ) : Type 0 where
   pub node : NodeName
   pub least : IsLeastMember groups place node
   pub is_node : IsNodeOf (topology_of n) node

@@ -2,7 +2,7 @@
 ghost use Rattle.std.specs.Prelude.{◌≡◌, ◌<◌, ◌≤◌, ℕ, length, IfOk, OnOk, IfSome, Some, slice_get};
 ghost use Rattle.cb_breadth.specs.Lists.{AreBelow};
 ghost use Rattle.cb_matrix.specs.Codes.{IsColumnIndex};
-ghost use Rattle.cb_span.specs.Numberings.{AreBelow as AreVisitsBelow};
+ghost use Rattle.cb_span.specs.Numberings.{HaveRanksBelow as AreVisitsBelow};
 ghost use Rattle.cb_span.specs.Orders.{IsOrderOf};
 ghost use Rattle.cb_span.specs.Searched.{AreTreesOf};
 ghost use Rattle.cb_certify.specs.Columns.{AreColumnsIn};
@@ -30,9 +30,9 @@ pub(crate) fn all_columns(
     requires { IsOrderOf topology.now order.now }
     ensures { IfOk result (AreColumnsIn topology.now) }
 {
-    let room = topology.node_room();
+    let capacity = topology.node_capacity();
     let nodes = columns_in(alloc, topology, order)?;
-    let columns = column_index(alloc, nodes, room)?;
+    let columns = column_index(alloc, nodes, capacity)?;
     Ok(columns)
 }
 

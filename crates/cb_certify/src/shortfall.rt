@@ -6,7 +6,7 @@ ghost use Rattle.cb_network.specs.Nodes.{IsNodeOf};
 ghost use Rattle.cb_topo.specs.Numbered.{topology_of, IsNodeNamed};
 ghost use Rattle.cb_span.specs.Made.{IsSideNamed};
 ghost use Rattle.cb_certify.specs.Made.{IsFirstPair, IsMadeOf};
-ghost use Rattle.cb_certify.specs.Members.{HasMember, HasNode, IsLeastMember, IsMemberAt, IsPairOf, IsSideLive};
+ghost use Rattle.cb_certify.specs.Members.{HasLeastMember, HasLeastNode, IsLeastMember, IsMemberAt, IsPairOf, IsSideLive};
 
 use crate::codebook::Codebook;
 use cb_coding::Pair;
@@ -73,8 +73,8 @@ fn side_name(
 
 /// The two groups at the positions of a pair.
 pub(crate) fn close_named(topology: &Topology, groups: &List<NamedGroup>, pair: Pair) -> ClosePair
-    requires first { 0 < pair.first → HasNode topology.now groups.now pair.first }
-    requires second { HasNode topology.now groups.now pair.second }
+    requires first { 0 < pair.first → HasLeastNode topology.now groups.now pair.first }
+    requires second { HasLeastNode topology.now groups.now pair.second }
     requires later { 0 < pair.second }
     ensures { IsPairOf (IsMemberAt topology.now groups.now) pair result }
 {
@@ -87,7 +87,7 @@ pub(crate) fn close_named(topology: &Topology, groups: &List<NamedGroup>, pair: 
 
 // The number of the least member of the group at a position; the quiet one has none.
 fn number_at(topology: &Topology, groups: &List<NamedGroup>, place: u32) -> Option<NodeId>
-    requires { 0 < place → HasNode topology.now groups.now place }
+    requires { 0 < place → HasLeastNode topology.now groups.now place }
     ensures { IsMemberAt topology.now groups.now place result }
 {
     if place == 0 {
@@ -98,7 +98,7 @@ fn number_at(topology: &Topology, groups: &List<NamedGroup>, place: u32) -> Opti
 
 // The least member of the group at a position.
 fn least_member(groups: &List<NamedGroup>, place: u32) -> &NodeName
-    requires { HasMember groups.now place }
+    requires { HasLeastMember groups.now place }
     ensures { IsLeastMember groups.now place result.now }
 {
     groups.at(place as usize).members.at(0)

@@ -28,7 +28,7 @@ pub fn stated_book(
     ensures distance { IfOk result (λ book. book.distance ≡ distance) }
 {
     // The topology is sound, so that its columns are few.
-    let _room = topology.node_room();
+    let _capacity = topology.node_capacity();
     let ids = topology.columns(alloc)?;
     let all = names_of(alloc, topology, &ids)?;
     Ok(Book {

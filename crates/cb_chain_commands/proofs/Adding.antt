@@ -13,9 +13,9 @@ use Rattle.cb_network.specs.Topology.{Topology}
 use Rattle.cb_topo.specs.Numbered.{Numbered, AreNamed}
 use Rattle.cb_levels.specs.Level.{IsShortChain}
 use Rattle.cb_report.specs.ChainTexts.{chain_line, explained_group}
-use Rattle.cb_outcome.specs.Explained.{LeadsTo, ExplainsColumns, chains_in, ExplainsMembers, ExplainsGroups}
+use Rattle.cb_outcome.specs.Explained.{ExplainsColumn, ExplainsColumns, chains_in, ExplainsMembers, ExplainsGroups}
 use Rattle.cb_chain_commands.specs.declared.explanation.Explanation.{Explanation}
-use Rattle.cb_chain_commands.specs.Explaining.{IsExplanation, IsSameNetwork, AddsChains, AddsMembers, AddsGroup, AddsGroups}
+use Rattle.cb_chain_commands.specs.Explaining.{IsExplanation, IsSameNetwork, AddsChains, AddsMemberChains, AddsGroup, AddsGroups}
 
 -- what stands at a position of the first list has its partner there
 pub partner_at : {X Y : Type 0} (R : X → Y → Type 0) (xs : List X) (ys : List Y) → AllZip R xs ys → (i : ℕ) (x : X) → slice_get xs i ≡ Some x
@@ -40,7 +40,7 @@ chains_in_more (Some x ∷ xs) ys = ap (λ (l : List (List NodeName)). x ∷ l) 
 
 -- whether there is a chain, by the two facts of a search
 pub leads_to : (t : Topology) (problem column : NodeName) (found : Option (List NodeName)) → IfSome found (IsShortChain t problem column)
-    → IfNone found (¬ Causes t problem column) → LeadsTo t problem column found
+    → IfNone found (¬ Causes t problem column) → ExplainsColumn t problem column found
 leads_to t problem column None some none = none
 leads_to t problem column (Some chain) some none = some
 
@@ -49,21 +49,21 @@ module _ (t : Topology) where
   no_chains problem old = ([], tt, sym (append-nil old))
 
   pub chains_more : (columns : List NodeName) (problem column : NodeName) (x : Option (List NodeName)) (old now new : List ℕ)
-      → AddsChains t columns problem old now → LeadsTo t problem column x → new ≡ now ++ flat_map chain_line (chains_in (x ∷ []))
+      → AddsChains t columns problem old now → ExplainsColumn t problem column x → new ≡ now ++ flat_map chain_line (chains_in (x ∷ []))
       → AddsChains t (columns ++ column ∷ []) problem old new
   chains_more columns problem column x old now new (found, each, text) leads added = (
     found ++ x ∷ [],
-    zip_push (LeadsTo t problem) columns found column x each leads,
+    zip_push (ExplainsColumn t problem) columns found column x each leads,
     more_text chain_line old now new (chains_in found) (chains_in (x ∷ [])) text added
         ∙ ap (λ (cs : List (List NodeName)). old ++ flat_map chain_line cs) (sym (chains_in_more found (x ∷ []))),
   )
 
   module _ (columns : List NodeName) where
-    pub no_members : (old : List ℕ) → AddsMembers t columns [] old old
+    pub no_members : (old : List ℕ) → AddsMemberChains t columns [] old old
     no_members old = ([], record { found = []; each = tt; are = refl }, sym (append-nil old))
 
-    pub members_more : (members : List NodeName) (member : NodeName) (old now new : List ℕ) → AddsMembers t columns members old now
-        → AddsChains t columns member now new → AddsMembers t columns (members ++ member ∷ []) old new
+    pub members_more : (members : List NodeName) (member : NodeName) (old now new : List ℕ) → AddsMemberChains t columns members old now
+        → AddsChains t columns member now new → AddsMemberChains t columns (members ++ member ∷ []) old new
     members_more members member old now new (chains, explains, text) (found, each, added) =
         let one : flat_map chains_in (found ∷ []) ≡ chains_in found = append-nil (chains_in found) in (
           chains ++ chains_in found,

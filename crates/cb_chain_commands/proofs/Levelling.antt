@@ -1,6 +1,6 @@
 -- What `levels` gives, by the number of a problem.
 use Rattle.std.proofs.Common.{◌≡◌, ℕ, List, ap, subst, inl}
-use Rattle.cb_text.specs.Names.{IsNode}
+use Rattle.cb_text.specs.Names.{IsNodeText}
 use Rattle.cb_text.proofs.Cuts.{node_read_once}
 use Rattle.cb_model.specs.declared.node.NodeName.{NodeName}
 use Rattle.cb_network.specs.Nodes.{IsNodeOf, IsProblem}
@@ -33,7 +33,7 @@ module _ (n : Numbered) (word : List ℕ) where
   pub no_word : (¬ IsNodeWord word) → NamesNoProblem (topology_of n) word
   no_word none = λ problem named is. none (problem.event, problem.instance, named)
 
-  module _ (node : NodeName) (is_word : IsNode word node.event node.instance) where
+  module _ (node : NodeName) (is_word : IsNodeText word node.event node.instance) where
     -- what the word names is the node
     is_named : (problem : NodeName) → NamesNode word problem → problem ≡ node
     is_named problem named =

@@ -32,8 +32,8 @@ AddsChains t columns problem old new =
     (found : List (Option (List NodeName))) × ExplainsColumns t columns problem found × (new ≡ old ++ flat_map chain_line (chains_in found))
 
 -- the lines of the chains from each member were added
-abbrev pub AddsMembers : Topology → List NodeName → List NodeName → List ℕ → List ℕ → Type 0
-AddsMembers t columns members old new =
+abbrev pub AddsMemberChains : Topology → List NodeName → List NodeName → List ℕ → List ℕ → Type 0
+AddsMemberChains t columns members old new =
     (chains : List (List NodeName)) × ExplainsMembers t columns members chains × (new ≡ old ++ flat_map chain_line chains)
 
 -- the group was added, with its chains

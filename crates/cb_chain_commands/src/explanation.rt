@@ -7,7 +7,7 @@ ghost use Rattle.cb_topo.specs.Numbered.{topology_of, AreNamed, IsNodeNamed};
 ghost use Rattle.cb_explain.specs.Explained.{HasSearched};
 ghost use Rattle.cb_outcome.specs.Explained.{chains_in};
 ghost use Rattle.cb_report.specs.ChainTexts.{chain_line};
-ghost use Rattle.cb_chain_commands.specs.Explaining.{IsExplanation, IsSameNetwork, AddsChains, AddsMembers};
+ghost use Rattle.cb_chain_commands.specs.Explaining.{IsExplanation, IsSameNetwork, AddsChains, AddsMemberChains};
 
 use cb_explain::Explainer;
 use cb_graph::Graph;
@@ -55,7 +55,7 @@ impl Explanation {
         ensures network { OnOk result (IsExplanation self.old.graph self.new) }
         ensures same { OnOk result (IsSameNetwork self.old self.new) }
         ensures lines { OnOk result ((columns : List Name) → AreNamed self.old.graph self.old.columns columns
-            → AddsMembers (topology_of self.old.graph) columns members.now out.old.items out.new.items) }
+            → AddsMemberChains (topology_of self.old.graph) columns members.now out.old.items out.new.items) }
     {
         for at in 0..members.len() {
             self.push_chains(alloc, members.at(at), out, steps)?;

@@ -7,7 +7,7 @@ use Rattle.cb_network.specs.Topology.{Topology, HasLink}
 use Rattle.cb_network.specs.Edits.{link_of}
 use Rattle.cb_network.proofs.Runs.{other_ahead, ahead_or}
 use Rattle.cb_change.specs.Touched.{IsChanged, HasEither, MeetsChange}
-use Rattle.cb_change.specs.Before.{ComesTo}
+use Rattle.cb_change.specs.Before.{LeadsToChange}
 
 pub yes_or_no : (b : Bool) → (b ≡ true) ⊎ (¬ (b ≡ true))
 yes_or_no true = inl refl
@@ -22,7 +22,7 @@ module _ (t u : Topology) (moves : List ℕ → RelId → List ℕ → Type 0) (
     | inr new ↦ inr ((same a r b).0 (inr (later, new)))
   ]
 
-  pub comes : (path : List Place) (a : List ℕ) → MeetsChange t u a path → ComesTo t moves a path
+  pub comes : (path : List Place) (a : List ℕ) → MeetsChange t u a path → LeadsToChange t moves a path
   comes [] a none = none
   comes (place ∷ rest) a (last, ahead, next, meets) =
       elim (ahead_or (λ x y. HasEither t u x place.rel y) (λ x y. HasLink t x place.rel y) (λ x y. moves x place.rel y) (stands_or_moves place.rel) place.plus a last ahead) [
@@ -41,7 +41,7 @@ module _ (t u : Topology) (moves : List ℕ → RelId → List ℕ → Type 0) (
         )
       ]
 
-  pub meets : (path : List Place) (a : List ℕ) → ComesTo t moves a path → MeetsChange t u a path
+  pub meets : (path : List Place) (a : List ℕ) → LeadsToChange t moves a path → MeetsChange t u a path
   meets [] a none = none
   meets (place ∷ rest) a (last, ahead, next, comes) = (
     last,

@@ -21,7 +21,7 @@ MovesLink t (Delete name) x q y = HasLink t x q y × ((x ≡ name) ⊎ (y ≡ na
 MovesLink t edit x q y = ⊥
 
 -- links of the topology by the first of these places lead from a to a link that the edit adds or takes away; that link is by the next place
-abbrev pub ComesTo : Topology → (InstanceName → RelId → InstanceName → Type 0) → InstanceName → List Place → Type 0
-ComesTo t moves a [] = ⊥
-ComesTo t moves a (place ∷ rest) = (last : InstanceName) × Ahead (λ x y. HasLink t x place.rel y) place.plus a last
-    × (next : InstanceName) × (moves last place.rel next ⊎ (HasLink t last place.rel next × ComesTo t moves next rest))
+abbrev pub LeadsToChange : Topology → (InstanceName → RelId → InstanceName → Type 0) → InstanceName → List Place → Type 0
+LeadsToChange t moves a [] = ⊥
+LeadsToChange t moves a (place ∷ rest) = (last : InstanceName) × Ahead (λ x y. HasLink t x place.rel y) place.plus a last
+    × (next : InstanceName) × (moves last place.rel next ⊎ (HasLink t last place.rel next × LeadsToChange t moves next rest))

@@ -1,12 +1,12 @@
 //! What the names of a tree denote.
 ghost use Rattle.std.specs.Prelude.{◌≡◌, IfOk, map};
 ghost use Rattle.cb_grammar.specs.declared.tree.Member.{Member as TheMember};
-ghost use Rattle.cb_rules.specs.Classes.{IsNamed, MemberAt, Has, HasAt, Declares, IsRelation};
+ghost use Rattle.cb_rules.specs.Classes.{IsClassNamed, MemberAt, HasSomeMember, HasAt, Declares, IsRelationMember};
 ghost use Rattle.cb_rules.specs.Rules.{IsNoClass};
 ghost use Rattle.cb_rules.specs.Fault.{KeepsAll};
 ghost use Rattle.cb_check.specs.Denotes.{DenotesEvent, DenotesRule, DenotesOwn, DenotesPath};
 ghost use Rattle.cb_check.specs.Stands.{place_in};
-ghost use Rattle.cb_check.specs.Finder.{NeedsEvent, NeedsRelation, NeedsRule, NeedsOwn, NeedsPath, HasNumber, IsNumberAt, IsRelationInto, StepsTo};
+ghost use Rattle.cb_check.specs.Finder.{NeedsEvent, NeedsRelation, NeedsRule, NeedsOwn, NeedsPath, HasNumberedMember, IsNumberAt, IsRelationInto, StepsTo};
 
 use crate::numbers::numbers_of;
 use cb_grammar::{Member, PlaceToken, Token, Tree};
@@ -54,7 +54,7 @@ impl<'t> Finder<'t> {
     /// The class of this name.
     pub fn class(&self, name: &Token) -> ClassId
         requires { ¬ IsNoClass self.now name.now.name }
-        ensures { IsNamed self.now name.now.name result.0 }
+        ensures { IsClassNamed self.now name.now.name result.0 }
     {
         let class = self.directory.class_named(name.name.bytes()).unwrap();
         ClassId(class as u16)
@@ -120,7 +120,7 @@ impl<'t> Finder<'t> {
 
     // The target of the relation at this position.
     fn target_at(&self, place: MemberPosition) -> ClassId
-        requires { (member : TheMember) × MemberAt self.now place.class place.member member × IsRelation member }
+        requires { (member : TheMember) × MemberAt self.now place.class place.member member × IsRelationMember member }
         ensures { (member : TheMember) × MemberAt self.now place.class place.member member × IsRelationInto self.now member result.0 }
     {
         let decl = self.directory.tree().classes.at(place.class);
@@ -132,7 +132,7 @@ impl<'t> Finder<'t> {
 
     // Where what the class has under this name is declared.
     fn place(&self, class: ClassId, name: &Token) -> MemberPosition
-        requires { ¬ (¬ Has self.now class.0 (Declares name.now.name)) }
+        requires { ¬ (¬ HasSomeMember self.now class.0 (Declares name.now.name)) }
         ensures keeps { KeepsAll self.now }
         ensures place { HasAt self.now class.0 (Declares name.now.name) result.class result.member }
     {
@@ -143,7 +143,7 @@ impl<'t> Finder<'t> {
 
     // The number of the event, the relation or the rule at this position.
     fn number(&self, place: MemberPosition) -> u32
-        requires { HasNumber self.now place.class place.member }
+        requires { HasNumberedMember self.now place.class place.member }
         ensures { IsNumberAt self.now place.class place.member result }
     {
         *self.numbers.at(place.class).at(place.member)

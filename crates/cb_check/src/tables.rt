@@ -4,7 +4,7 @@ ghost use Rattle.cb_grammar.specs.declared.tree.Member.TheVariants.{Relation, Ru
 ghost use Rattle.cb_rules.specs.Classes.{ClassAt, MemberAt};
 ghost use Rattle.cb_rules.specs.Fault.{KeepsAll};
 ghost use Rattle.cb_check.specs.Stands.{relation_in, rule_in};
-ghost use Rattle.cb_check.specs.Rows.{GivesClass, GivesRelation, GivesRule, GivesBy, AddsMembers, AreRowsOf};
+ghost use Rattle.cb_check.specs.Rows.{GivesClass, GivesRelation, GivesRule, GivesBy, AddsMembers, AreTablesOf};
 
 use crate::finder::Finder;
 use cb_grammar::{ClassDecl, Member, PlaceToken, Token};
@@ -15,7 +15,7 @@ use std::alloc::{AllocError, Global};
 
 /// The tables of the finder's tree: the k-th declaration of a kind gives the k-th row.
 pub(crate) fn tables_of(alloc: Global, finder: &Finder) -> Result<Tables, AllocError>
-    ensures { IfOk result (AreRowsOf finder.now finder.now.classes) }
+    ensures { IfOk result (AreTablesOf finder.now finder.now.classes) }
 {
     let mut tables = Tables {
         classes: List::new(alloc),

@@ -23,18 +23,18 @@ use Rattle.cb_validity.specs.declared.verdict.Rejected.{Rejected}
 use Rattle.cb_validity.specs.declared.verdict.Rejected.TheVariants.{TooClose}
 use Rattle.cb_validity.specs.Checks.{Check, node_check, column_check, no_more_problems, no_more_spans, asked_of, span_checks, book_checks, places, Passes, Judges, claim_check, IsGoodNode, AreTooClose}
 use Rattle.cb_validity.specs.Reading.{MakeGroups, ArePlaces, AreApart}
-use Rattle.cb_validity.specs.Verdicts.{Shows, ShowsBook}
+use Rattle.cb_validity.specs.Verdicts.{CertificateShows, ShowsBook}
 use Rattle.cb_validity.proofs.Firsts.{made_is_one, places_found_once}
 use Rattle.cb_validity.proofs.Passing.{nodes_from_checks}
 use Rattle.cb_validity.proofs.Stages.{passed_go_on, failed_stop}
 use Rattle.cb_nodes.specs.declared.id.NodeId.{NodeId}
 use Rattle.cb_topo.specs.Numbered.{Numbered, topology_of, IsNodeNamed, IsWhole, AreNamed}
 use Rattle.cb_checker.specs.Firsts.{AreAll}
-use Rattle.cb_checker.specs.Known.{AreLive, IsKnown, ended}
+use Rattle.cb_checker.specs.Known.{AreLive, IsKnown, verdict_of}
 use Rattle.cb_checker.specs.declared.sides.Sides.{Sides}
 use Rattle.cb_checker.specs.Books.{AreReadTo}
 use Rattle.cb_checker.specs.Verdicts.{AreSidesOf, ShowsBookOver}
-use Rattle.cb_checker.specs.Claims.{IsTooClose, JudgesBook}
+use Rattle.cb_checker.specs.Claims.{ReportsTooClose, JudgesBook}
 use Rattle.cb_checker.specs.Places.{ArePlacesOf}
 use Rattle.cb_checker.proofs.Joined.{fails_here, pass_one}
 use Rattle.cb_checker.proofs.Naming.{zip_right}
@@ -95,7 +95,7 @@ module _ (t : Topology) (d : ℕ) (nodes : List NodeName) (numbers : List ℕ) (
       in
       pass_one t c claim_check apart_are
 
-  pub claim_fails : (pair : _) → IsFirstClose spots (codes_of groups) d pair → (why : Rejected) → IsTooClose groups pair why
+  pub claim_fails : (pair : _) → IsFirstClose spots (codes_of groups) d pair → (why : Rejected) → ReportsTooClose groups pair why
       → Judges t c (claim_check ∷ []) (Err why)
   claim_fails pair close why reported =
       let close_are : AreTooClose t nodes numbers spans d reported.first reported.second pair.distance = record {
@@ -192,7 +192,7 @@ module _ (n : Numbered) (ids : List NodeId) (d : ℕ) (nodes : List NodeName) (n
   spots_of spots spots_are = places_read n ids book known sides.columns are.column_names are.columns_are are.columns_named numbers spots spots_are
 
   pub claim_judged : (judged : Result Accepted Rejected) → JudgesBook sides.columns ids numbers coded d judged
-      → Judges (topology_of n) book (claim_check ∷ []) (ended judged)
+      → Judges (topology_of n) book (claim_check ∷ []) (verdict_of judged)
   claim_judged (Ok shown) good =
       claim_holds (topology_of n) d nodes numbers spans are.column_names good.groups good.places (made_of good.groups good.groups_are)
       (spots_of good.places good.places_are) good.good
@@ -211,5 +211,5 @@ module _ (n : Numbered) (ids : List NodeId) (d : ℕ) (nodes : List NodeName) (n
         groups_are = refl;
         columns_are = refl;
       } in
-      subst (Shows (topology_of n) book) (sym good.is) (refl, shows)
+      subst (CertificateShows (topology_of n) book) (sym good.is) (refl, shows)
   claim_shown (Err why) bad = tt

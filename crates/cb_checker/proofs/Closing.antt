@@ -11,7 +11,7 @@ use Rattle.std.proofs.lemmas.Option.{same_Some, slice_get_within}
 use Rattle.cb_model.specs.declared.node.NodeName.{NodeName}
 use Rattle.cb_model.specs.NodeOrder.{node_cmp}
 use Rattle.cb_model.proofs.Rising.{node_cmp_total, node_cmp_exact, node_strict}
-use Rattle.cb_bits.specs.Bits.{without, HasNoneFrom}
+use Rattle.cb_bits.specs.Bits.{difference, HasNoneFrom}
 use Rattle.cb_bits.proofs.NextOnes.{without_at}
 use Rattle.cb_network.specs.Causes.{Edge}
 use Rattle.cb_network.specs.Nodes.{IsNodeOf}
@@ -27,10 +27,10 @@ use Rattle.cb_topo.specs.Numbered.{Numbered, topology_of, IsNodeNamed}
 use Rattle.cb_graph.specs.Edges.{EdgeAt, number}
 use Rattle.cb_graph.proofs.Chains.{named_once}
 use Rattle.cb_checker.specs.Known.{IsKnown}
-use Rattle.cb_checker.specs.Listed.{ArePlaced, IsAmong, AreListed, AreMarked}
+use Rattle.cb_checker.specs.Listed.{ArePlaced, IsAmongPlaced, AreListed, AreMarked}
 use Rattle.cb_checker.specs.declared.marks.SpanNodes.{SpanNodes}
 use Rattle.cb_successors.proofs.Marks.{nothing, same_rows}
-use Rattle.cb_checker.specs.Missing.{AreClosed, AreClosedTo, HasSuccessorsTo, IsLeastOf, IsLeastIfAny, IsMissing, IsOutside, IsLesser}
+use Rattle.cb_checker.specs.Missing.{AreClosed, AreClosedTo, HasSuccessorsTo, IsLeastName, IsLeastIfAny, IsMissing, IsOutside, IsLesser}
 use Rattle.cb_checker.specs.Spans.{asked}
 use Rattle.cb_checker.proofs.Joined.{fails_here, place_fails, place_passes}
 use Rattle.cb_checker.proofs.Placing.{listed_by, placed_by, one_placed, placed_there}
@@ -67,7 +67,7 @@ not_below least name other not_less not_less' less =
 
 module _ (n : Numbered) (ids : List NodeId) (c : Certificate) (known : IsKnown n ids c) (before : ℕ) (root : Option NodeName) (span : Span)
     (placed : List NodeId) (are : ArePlaced ids span (length span.entries) placed) (listed : List Bool)
-    (each : (k : ℕ) → Has listed k ↔ IsAmong placed k) where
+    (each : (k : ℕ) → Has listed k ↔ IsAmongPlaced placed k) where
   -- what is listed by its name is listed by its number
   has_listed : (x : NodeName) (k : ℕ) → IsNodeNamed n (number k) x → ListsNode (nodes_of c) span x → Has listed k
   has_listed x k named l =
@@ -107,7 +107,7 @@ module _ (n : Numbered) (ids : List NodeId) (c : Certificate) (known : IsKnown n
       closed_here k there.0 there.1 (none k there.0 (omega arith) there.1))
 
   pub not_closed : (place : ℕ) (id : NodeId) (name : NodeName) → slice_get placed place ≡ Some id → AreClosedTo n placed listed place
-      → IsLeastOf n (IsMissing n id.0 listed) name
+      → IsLeastName n (IsMissing n id.0 listed) name
       → Judges (topology_of n) c (map (closed_check (asked before root span)) (places span.entries)) (Err (NotClosed (before + place + 1) name))
   not_closed place id name at earlier least =
       let t = topology_of n in
@@ -235,12 +235,12 @@ least_same n P Q to back (Some name) old = record {
 }
 
 -- what is left of the row is outside the other
-pub outside_at : (found listed : List Bool) → length found ≡ length listed → (k : ℕ) → slice_index_or (without found listed) k false ≡ true → IsOutside found listed k
+pub outside_at : (found listed : List Bool) → length found ≡ length listed → (k : ℕ) → slice_index_or (difference found listed) k false ≡ true → IsOutside found listed k
 outside_at found listed same k is =
     let e = sym (without_at found listed same k) ∙ is in
     outside_by (slice_index_or found k false) (slice_index_or listed k false) e
 
-pub inside_at : (found listed : List Bool) → length found ≡ length listed → (k : ℕ) → slice_index_or (without found listed) k false ≡ false → ¬ IsOutside found listed k
+pub inside_at : (found listed : List Bool) → length found ≡ length listed → (k : ℕ) → slice_index_or (difference found listed) k false ≡ false → ¬ IsOutside found listed k
 inside_at found listed same k is out =
     let e = sym (without_at found listed same k) ∙ is in
     inside_by (slice_index_or found k false) (slice_index_or listed k false) e out.0 out.1
@@ -263,7 +263,7 @@ least_moved m n i listed other least same rows is =
 pub forgot_marked : (n : Numbered) (old new : SpanNodes) → AreMarked n old → new.placed.items ≡ [] → new.listed ≡ replicate (length old.listed) false
     → new.found ≡ old.found → AreMarked n new
 forgot_marked n old new are none listed found = record {
-  room = ap length listed ∙ (length-replicate (length old.listed) false ∙ are.room);
+  capacity = ap length listed ∙ (length-replicate (length old.listed) false ∙ are.capacity);
   spare = ap length found ∙ are.spare;
   each = λ k. (
     λ has. absurd (nothing (length old.listed) k (subst (λ row. Has row k) listed has)),
@@ -286,7 +286,7 @@ added_more m n placed to id row more same old at added = λ place other low ther
 
 -- where the row has all successors, and nothing but what is listed, all of them are listed
 pub closed_by : (n : Numbered) (placed : List NodeId) (listed found : List Bool) → length found ≡ length listed → HasSuccessorsTo n placed (length placed) found
-    → HasNoneFrom (without found listed) 0 → AreClosed n placed listed
+    → HasNoneFrom (difference found listed) 0 → AreClosed n placed listed
 closed_by n placed listed found same has none = λ place id low at k missing.
     inside_at found listed same k (none k (omega arith)) (has place id low at k missing.0, missing.1)
 

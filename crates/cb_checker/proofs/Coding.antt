@@ -8,8 +8,8 @@ use Rattle.cb_nodes.specs.declared.id.NodeId.{NodeId}
 use Rattle.cb_successors.specs.Rows.{Has}
 use Rattle.cb_successors.proofs.Marks.{has_set, set_cases, nothing}
 use Rattle.cb_graph.specs.Edges.{number}
-use Rattle.cb_checker.specs.Codes.{IsCodeOf}
-use Rattle.cb_checker.specs.Listed.{IsAmong, AreListed}
+use Rattle.cb_checker.specs.Codes.{IsCodeOfListed}
+use Rattle.cb_checker.specs.Listed.{IsAmongPlaced, AreListed}
 
 -- one of the first placed nodes has this number
 abbrev pub IsAmongTo : List NodeId → ℕ → ℕ → Type 0
@@ -69,7 +69,7 @@ module _ (columns placed : List NodeId) (to : ℕ) (code : List Bool) (here : No
         );
       }
 
-  pub no_column_coded : ¬ IsAmong columns here.0 → IsCodeBy columns placed (to + 1) code
+  pub no_column_coded : ¬ IsAmongPlaced columns here.0 → IsCodeBy columns placed (to + 1) code
   no_column_coded none = record {
     width = old.width;
     each = λ place id at. (
@@ -90,7 +90,7 @@ alike false true to from = from refl
 alike false false to from = refl
 
 pub all_coded : (columns placed : List NodeId) (to : ℕ) (listed code : List Bool) → length placed ≤ to → AreListed listed placed → IsCodeBy columns placed to code
-    → IsCodeOf columns listed code
+    → IsCodeOfListed columns listed code
 all_coded columns placed to listed code end each old = record {
   width = old.width;
   each = λ place id at.

@@ -15,7 +15,7 @@ use Rattle.cb_cert.specs.declared.certificate.Span.{Span}
 use Rattle.cb_cert.specs.Format.{nodes_of}
 use Rattle.cb_validity.specs.declared.verdict.Rejected.TheVariants.{BadParent, NoEdge, Repeated}
 use Rattle.cb_validity.specs.Spans.{IsListedAt, HasEdge}
-use Rattle.cb_validity.specs.Checks.{Asked, parent_check, edge_check, new_check, entry_checks, Passes, Judges, EntryIs, IsNew}
+use Rattle.cb_validity.specs.Checks.{Asked, parent_check, edge_check, new_check, entry_checks, Passes, Judges, EntryIs, IsNewInSpan}
 use Rattle.cb_validity.proofs.Stages.{passed_go_on}
 use Rattle.cb_nodes.specs.declared.id.NodeId.{NodeId}
 use Rattle.cb_successors.specs.Rows.{Has}
@@ -116,7 +116,7 @@ module _ (n : Numbered) (ids : List NodeId) (c : Certificate) (known : IsKnown n
 
           pub good_entry : ¬ Has listed id.0 → All (Passes (topology_of n) c) (entry_checks a place)
           good_entry lacks =
-              let new : IsNew (nodes_of c) span place = λ k x low at_k at_place.
+              let new : IsNewInSpan (nodes_of c) span place = λ k x low at_k at_place.
               let p = placed_by n ids c known span k x at_k in
               let q = placed_by n ids c known span place x at_place in
               let there = placed_there ids span place placed are k low in
@@ -167,7 +167,7 @@ listed_more listed more placed id now are within is_placed is_listed = λ k. (
 pub marked_more : (n : Numbered) (old new : SpanNodes) (id : NodeId) → AreMarked n old → id.0 < length n.nodes
     → new.placed.items ≡ old.placed.items ++ (id ∷ []) → new.listed ≡ slice_set old.listed id.0 true → length new.found ≡ length n.nodes → AreMarked n new
 marked_more n old new id are low placed listed spare = record {
-  room = ap length listed ∙ (length-set old.listed id.0 true ∙ are.room);
+  capacity = ap length listed ∙ (length-set old.listed id.0 true ∙ are.capacity);
   spare = spare;
-  each = listed_more old.listed new.listed old.placed.items id new.placed.items are.each (let size = are.room in omega arith) placed listed;
+  each = listed_more old.listed new.listed old.placed.items id new.placed.items are.each (let size = are.capacity in omega arith) placed listed;
 }

@@ -9,7 +9,7 @@ use Rattle.cb_network.specs.Topology.{Topology}
 use Rattle.cb_cert.specs.declared.certificate.Certificate.{Certificate}
 use Rattle.cb_cert.specs.Format.{nodes_of}
 use Rattle.cb_validity.specs.declared.verdict.Rejected.TheVariants.{BadNode, BadColumn}
-use Rattle.cb_validity.specs.Checks.{node_check, column_check, columns_of, places, Passes, Judges, IsGoodNode, IsGoodColumn}
+use Rattle.cb_validity.specs.Checks.{node_check, column_check, certificate_columns, places, Passes, Judges, IsGoodNode, IsGoodColumn}
 use Rattle.cb_nodes.specs.declared.id.NodeId.{NodeId}
 use Rattle.cb_topo.specs.Numbered.{Numbered, topology_of}
 use Rattle.cb_graph.proofs.Chains.{named_once}
@@ -31,7 +31,7 @@ pub good_nodes : (t : Topology) (c : Certificate) (nodes : List NodeName) → no
     → All (Passes t c) (map node_check (places nodes))
 good_nodes t c nodes same good = place_passes t c node_check nodes (λ k low. subst (λ ns. IsGoodNode t ns k) (sym same) (good k low))
 
-module _ (n : Numbered) (ids : List NodeId) (c : Certificate) (known : IsKnown n ids c) (columns : List ℕ) (same : columns_of c ≡ columns) where
+module _ (n : Numbered) (ids : List NodeId) (c : Certificate) (known : IsKnown n ids c) (columns : List ℕ) (same : certificate_columns c ≡ columns) where
   good_column : (place : ℕ) → IsColumnAt n ids columns place → IsGoodColumn (topology_of n) (nodes_of c) columns place
   good_column place at =
       let s = stands n ids c known at.number at.id at.at in
@@ -64,10 +64,10 @@ module _ (n : Numbered) (ids : List NodeId) (c : Certificate) (known : IsKnown n
       → Judges (topology_of n) c (map column_check (places columns)) (Err (BadColumn (place + 1)))
   bad_column place first =
       let t = topology_of n in
-      let moved : (k : ℕ) → IsGoodColumn t (nodes_of c) columns k → IsGoodColumn t (nodes_of c) (columns_of c) k =
+      let moved : (k : ℕ) → IsGoodColumn t (nodes_of c) columns k → IsGoodColumn t (nodes_of c) (certificate_columns c) k =
       λ k good. subst (λ cs. IsGoodColumn t (nodes_of c) cs k) (sym same) good
       in
-      let back : IsGoodColumn t (nodes_of c) (columns_of c) place → IsGoodColumn t (nodes_of c) columns place =
+      let back : IsGoodColumn t (nodes_of c) (certificate_columns c) place → IsGoodColumn t (nodes_of c) columns place =
       λ good. subst (λ cs. IsGoodColumn t (nodes_of c) cs place) same good
       in
       place_fails t c column_check columns place first.within (λ k low. moved k (good_column k (first.before k low))) (BadColumn (place + 1))

@@ -12,12 +12,12 @@ use Rattle.cb_model.specs.NodeOrder.{node_cmp}
 use Rattle.cb_model.specs.Order.{Rises}
 use Rattle.cb_coding.specs.declared.group.Problem.{Problem}
 use Rattle.cb_coding.specs.declared.group.Group.{Group}
-use Rattle.cb_coding.specs.Groups.{AreProblems, AreGroups}
+use Rattle.cb_coding.specs.Groups.{AreCodedProblems, AreGroups}
 use Rattle.cb_network.specs.Nodes.{AreColumns, AreProblems as AreProblemNodes}
 use Rattle.cb_cert.specs.declared.certificate.Certificate.{Certificate}
 use Rattle.cb_cert.specs.declared.certificate.Span.{Span}
 use Rattle.cb_cert.specs.Format.{nodes_of}
-use Rattle.cb_validity.specs.Reading.{IsCodeOf as IsCodeRead, MakeGroups, ArePlaces}
+use Rattle.cb_validity.specs.Reading.{IsSpanCode as IsCodeRead, MakeGroups, ArePlaces}
 use Rattle.cb_validity.specs.Reading as reading
 use Rattle.cb_validity.specs.Spans.{ListsNode}
 use Rattle.cb_nodes.specs.declared.id.NodeId.{NodeId}
@@ -26,7 +26,7 @@ use Rattle.cb_graph.proofs.Chains.{named_once}
 use Rattle.cb_checker.specs.Known.{IsIdAt, AreLive, IsKnown}
 use Rattle.cb_checker.specs.Firsts.{AreAll}
 use Rattle.cb_checker.specs.Columns.{IsColumnAt}
-use Rattle.cb_checker.specs.Codes.{IsCodeOf}
+use Rattle.cb_checker.specs.Codes.{IsCodeOfListed}
 use Rattle.cb_checker.specs.Books.{IsListing, AreReadTo}
 use Rattle.cb_checker.specs.Places.{AreThere, ArePlacesOf}
 use Rattle.cb_checker.proofs.Naming.{zip_right, zip_left, zip_each, live_at, stands}
@@ -66,7 +66,7 @@ module _ (n : Numbered) (ids : List NodeId) (c : Certificate) (known : IsKnown n
   width_same = zip_lengths (IsNodeNamed n) columns names named
 
   -- a code that is read off by numbers is read off by names
-  pub code_read : (span : Span) (listed code : List Bool) → IsListing ids span listed → IsCodeOf columns listed code → IsCodeRead (nodes_of c) names span code
+  pub code_read : (span : Span) (listed code : List Bool) → IsListing ids span listed → IsCodeOfListed columns listed code → IsCodeRead (nodes_of c) names span code
   code_read span listed code lists coded = zip_each (λ column bit. IsTrue bit ↔ ListsNode (nodes_of c) span column) names code (coded.width ∙ width_same) (λ i column bit at_column at_bit.
       let id = zip_left (IsNodeNamed n) columns names named i column at_column in
       let is = listed_names n ids c known 0 None span lists.placed lists.are listed lists.each column id.0.0 id.2 in
@@ -75,7 +75,7 @@ module _ (n : Numbered) (ids : List NodeId) (c : Certificate) (known : IsKnown n
 
   -- the places of columns by their names
   pub places_read : (numbers places : List ℕ) → ArePlacesOf columns ids numbers places → ArePlaces (nodes_of c) names numbers places
-  places_read numbers places all = zip_weaker (λ i place. (id : NodeId) × IsIdAt ids i id × (slice_get columns place ≡ Some id)) (reading.IsPlaceOf (nodes_of c) names) (λ i place is.
+  places_read numbers places all = zip_weaker (λ i place. (id : NodeId) × IsIdAt ids i id × (slice_get columns place ≡ Some id)) (reading.IsColumnPlace (nodes_of c) names) (λ i place is.
       let s = stands n ids c known i is.0 is.1 in
       let z = zip_right (IsNodeNamed n) columns names named place is.0 is.2 in
       let same : z.0 ≡ s.0 = named_once n is.0 z.0 s.0 z.2 s.2 in
@@ -95,7 +95,7 @@ module _ (n : Numbered) (ids : List NodeId) (c : Certificate) (known : IsKnown n
         let same : e.0 ≡ id = same_Some e.0 id (sym e.2 ∙ at_id) in
         subst (λ (k : NodeId). IsNodeNamed n k x) same (subst (IsNodeNamed n e.0) p.2 e.4.coded.named))) problems_named
 
-    pub are_problems : AreProblems (length columns) coded
+    pub are_problems : AreCodedProblems (length columns) coded
     are_problems = record {
       rise = rises_on (λ (p : Problem). p.name) node_cmp coded (subst (Rises node_cmp) (sym names_read) problems_are.rise);
       wide = λ i d low. (let e = read.each i (get_or coded i d) (slice_get-get_or coded i d low) in e.4.coded.code.width);

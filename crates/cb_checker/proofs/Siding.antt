@@ -16,7 +16,7 @@ use Rattle.cb_validity.specs.Verdicts.{entries_of}
 use Rattle.cb_validity.proofs.Stages.{passed_go_on, failed_stop}
 use Rattle.cb_nodes.specs.declared.id.NodeId.{NodeId}
 use Rattle.cb_topo.specs.Numbered.{Numbered, topology_of}
-use Rattle.cb_checker.specs.Known.{ended}
+use Rattle.cb_checker.specs.Known.{verdict_of}
 use Rattle.cb_checker.specs.Pairs.{asked_side, JudgesSide, JudgesSides}
 use Rattle.cb_checker.specs.Spans.{asked, JudgesSpan}
 
@@ -44,7 +44,7 @@ pub of_span : (n : Numbered) (ids : List NodeId) (span : Span) (result : Result 
 of_span n ids span result judged = λ c known.
     subst (λ checks. Judges (topology_of n) c checks result) (sym (append-nil (span_checks (asked 0 None span)))) (judged c None known tt)
 
-pub of_quiet : {X : Type 0} (n : Numbered) (ids : List NodeId) (result : Result X Rejected) → IfErr result (λ why. why ≡ NoMemory) → JudgesSide n ids Quiet (ended result)
+pub of_quiet : {X : Type 0} (n : Numbered) (ids : List NodeId) (result : Result X Rejected) → IfErr result (λ why. why ≡ NoMemory) → JudgesSide n ids Quiet (verdict_of result)
 of_quiet n ids (Ok x) why = λ c known. All-nil (Passes (topology_of n) c)
 of_quiet n ids (Err e) why = λ c known. subst (λ w. Judges (topology_of n) c [] (Err w)) (sym why) tt
 

@@ -15,26 +15,26 @@ use Rattle.cb_nodes.specs.declared.id.NodeId.{NodeId}
 use Rattle.cb_topo.specs.Numbered.{Numbered, IsNodeNamed, AreNamed}
 use Rattle.cb_graph.specs.Edges.{number}
 use Rattle.cb_graph.proofs.Chains.{named_once}
-use Rattle.cb_checker.specs.Codes.{IsBelow}
-use Rattle.cb_checker.specs.Listed.{IsAmong}
-use Rattle.cb_checker.specs.Places.{IsOnce, IsTable}
+use Rattle.cb_checker.specs.Codes.{AreIdsBelow}
+use Rattle.cb_checker.specs.Listed.{IsAmongPlaced}
+use Rattle.cb_checker.specs.Places.{AreDistinctNodes, IsTable}
 use Rattle.cb_checker.proofs.Naming.{zip_right}
 
 -- for the number of each node its place among the first columns, if it is one
-pub record IsTableTo (room : ℕ) (columns : List NodeId) (to : ℕ) (places : List (Option ℕ)) : Type 0 where
-  pub size : length places ≡ room
+pub record IsTableTo (capacity : ℕ) (columns : List NodeId) (to : ℕ) (places : List (Option ℕ)) : Type 0 where
+  pub size : length places ≡ capacity
   pub each : (node place : ℕ) → slice_get places node ≡ Some (Some place) → slice_get columns place ≡ Some (number node)
   pub whole : (node place : ℕ) → place < to → slice_get columns place ≡ Some (number node) → slice_get places node ≡ Some (Some place)
 
-pub no_places : (room : ℕ) (columns : List NodeId) → IsTableTo room columns 0 (replicate room None)
-no_places room columns = record {
-  size = length-replicate room None;
-  each = λ node place is. absurd (let e = slice_get-replicate room node None (Some place) is in cc);
+pub no_places : (capacity : ℕ) (columns : List NodeId) → IsTableTo capacity columns 0 (replicate capacity None)
+no_places capacity columns = record {
+  size = length-replicate capacity None;
+  each = λ node place is. absurd (let e = slice_get-replicate capacity node None (Some place) is in cc);
   whole = λ node place low is. absurd (omega arith);
 }
 
-module _ (room : ℕ) (columns : List NodeId) (to : ℕ) (places : List (Option ℕ)) (id : NodeId) (once : IsOnce columns) (below : IsBelow room columns)
-    (old : IsTableTo room columns to places) (here : slice_get columns to ≡ Some id) where
+module _ (capacity : ℕ) (columns : List NodeId) (to : ℕ) (places : List (Option ℕ)) (id : NodeId) (once : AreDistinctNodes columns) (below : AreIdsBelow capacity columns)
+    (old : IsTableTo capacity columns to places) (here : slice_get columns to ≡ Some id) where
   earlier : (node place : ℕ) → place < to + 1 → slice_get columns place ≡ Some (number node) → (node ≡ id.0 → ⊥) → place < to
   earlier node place low is other = elim (cases_eq place to) [
     | inl same ↦
@@ -43,7 +43,7 @@ module _ (room : ℕ) (columns : List NodeId) (to : ℕ) (places : List (Option 
     | inr not_same ↦ elim (cases_lt place to) [ inl less ↦ less | inr high ↦ absurd (not_same (omega arith)) ]
   ]
 
-  pub place_more : IsTableTo room columns (to + 1) (slice_set places id.0 (Some to))
+  pub place_more : IsTableTo capacity columns (to + 1) (slice_set places id.0 (Some to))
   place_more = record {
     size = length-set places id.0 (Some to) ∙ old.size;
     each = λ node place is. elim (cases_eq node id.0) [
@@ -65,8 +65,8 @@ module _ (room : ℕ) (columns : List NodeId) (to : ℕ) (places : List (Option 
     ];
   }
 
-pub all_places : (room : ℕ) (columns : List NodeId) (to : ℕ) (places : List (Option ℕ)) → length columns ≤ to → IsTableTo room columns to places → IsTable columns places
-all_places room columns to places end old = record {
+pub all_places : (capacity : ℕ) (columns : List NodeId) (to : ℕ) (places : List (Option ℕ)) → length columns ≤ to → IsTableTo capacity columns to places → IsTable columns places
+all_places capacity columns to places end old = record {
   each = old.each;
   whole = λ node place is. old.whole node place (let e = slice_get_within columns place (number node) is in omega arith) is;
 }
@@ -83,13 +83,13 @@ module _ (all : List NodeId) (places : List (Option ℕ)) (are : IsTable all pla
       let both : Some (Some other) ≡ Some (Some place) = sym (are.whole id.0 other there) ∙ at in
       same_Some other place (same_Some (Some other) (Some place) both)
 
-  pub none_there : (found : Option ℕ) → slice_get places id.0 ≡ Some found → IfNone found (¬ IsAmong all id.0)
+  pub none_there : (found : Option ℕ) → slice_get places id.0 ≡ Some found → IfNone found (¬ IsAmongPlaced all id.0)
   none_there None at = λ among.
       let both : Some (Some among.0) ≡ Some None = sym (are.whole id.0 among.0 among.1) ∙ at in
       absurd (cc)
   none_there (Some place) at = tt
 
-  pub none_past : length places ≤ id.0 → ¬ IsAmong all id.0
+  pub none_past : length places ≤ id.0 → ¬ IsAmongPlaced all id.0
   none_past past among = let low = slice_get_within places id.0 (Some among.0) (are.whole id.0 among.0 among.1) in absurd (omega arith)
 
 -- in a list in order no name stands twice
@@ -103,7 +103,7 @@ apart names i j x rise at_i at_j low =
     node_strict x x less less
 
 -- and so no number of one of them
-pub once_named : (n : Numbered) (ids : List NodeId) (names : List NodeName) → Rises node_cmp names → AreNamed n ids names → IsOnce ids
+pub once_named : (n : Numbered) (ids : List NodeId) (names : List NodeName) → Rises node_cmp names → AreNamed n ids names → AreDistinctNodes ids
 once_named n ids names rise named i j id at_i at_j =
     let one = zip_right (IsNodeNamed n) ids names named i id at_i in
     let other = zip_right (IsNodeNamed n) ids names named j id at_j in

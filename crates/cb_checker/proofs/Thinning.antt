@@ -16,10 +16,10 @@ use Rattle.cb_cert.specs.Format.{nodes_of}
 use Rattle.cb_validity.specs.declared.verdict.Rejected.{Rejected}
 use Rattle.cb_validity.specs.declared.verdict.Rejected.TheVariants.{NotThin}
 use Rattle.cb_validity.specs.Checks.{Asked, Check, Passes, Judges, AreChecks, IsGoodRoot, asked_sides, span_checks, root_check, claim_check}
-use Rattle.cb_validity.specs.Reading.{IsCodeOf, IsSideCode, AreAt}
-use Rattle.cb_validity.specs.Spans.{BeginsWith, ListsNode}
+use Rattle.cb_validity.specs.Reading.{IsSpanCode, IsSideCode, AreSidesApart}
+use Rattle.cb_validity.specs.Spans.{BeginsWithRoot, ListsNode}
 use Rattle.cb_validity.specs.Valid.{IsValid, IsClose}
-use Rattle.cb_validity.specs.Verdicts.{TellsWhy, Shows}
+use Rattle.cb_validity.specs.Verdicts.{TellsWhy, CertificateShows}
 use Rattle.cb_validity.proofs.Passing.{all_split, valid_passes_all}
 use Rattle.cb_validity.proofs.Stages.{judged_is_first_fail}
 use Rattle.std.specs.Prelude.{not, slice_index_or}
@@ -36,14 +36,14 @@ use Rattle.cb_coding.specs.Groups.{zeros}
 use Rattle.cb_network.specs.Nodes.{AreColumns}
 use Rattle.cb_nodes.specs.declared.id.NodeId.{NodeId}
 use Rattle.cb_topo.specs.Numbered.{Numbered, topology_of, AreNamed}
-use Rattle.cb_checker.specs.Known.{ended, IsKnown}
+use Rattle.cb_checker.specs.Known.{verdict_of, IsKnown}
 use Rattle.cb_checker.specs.Pairs.{IsRead, IsSideRead}
 use Rattle.cb_checker.proofs.Reading.{width_same, code_read}
-use Rattle.cb_checker.specs.Thin.{IsBegun, IsShown}
+use Rattle.cb_checker.specs.Thin.{IsBegun, IsThinShown}
 use Rattle.cb_checker.proofs.Joined.{fails_here, pass_one}
 
 -- a span that passes its checks begins with some root
-begun : (t : Topology) (c : Certificate) (a : Asked) → All (Passes t c) (span_checks a) → (root : NodeName) × BeginsWith (nodes_of c) a.span root
+begun : (t : Topology) (c : Certificate) (a : Asked) → All (Passes t c) (span_checks a) → (root : NodeName) × BeginsWithRoot (nodes_of c) a.span root
 begun t c a all =
     let good : IsGoodRoot t (nodes_of c) a = all 0 (root_check a) (omega arith) in
     (good.node, record { entry = good.entry; first = good.is; names = good.names; alone = good.alone })
@@ -61,7 +61,7 @@ begun_sides t c (Root span) second all =
     (begun t c one (All-head P one (two ∷ []) each), begun t c two (All-head P two [] (All-tail P one (two ∷ []) each)))
 
 -- a span has one code over columns
-code_once : (nodes : List NodeName) (span : Span) (columns : List NodeName) (v w : List Bool) → IsCodeOf nodes columns span v → IsCodeOf nodes columns span w → v ≡ w
+code_once : (nodes : List NodeName) (span : Span) (columns : List NodeName) (v w : List Bool) → IsSpanCode nodes columns span v → IsSpanCode nodes columns span w → v ≡ w
 code_once nodes span [] [] [] a b = refl
 code_once nodes span [] [] (y ∷ w) a b = absurd b
 code_once nodes span [] (x ∷ v) w a b = absurd a
@@ -76,21 +76,21 @@ side_once : (nodes : List NodeName) (s : Side) (columns : List NodeName) (v w : 
 side_once nodes Quiet columns v w a b = a ∙ sym b
 side_once nodes (Root span) columns v w a b = code_once nodes span columns v w a b
 
-far_once : (t : Topology) (nodes : List NodeName) (first : Side) (second : Span) (m n : ℕ) → AreAt t nodes first second m → AreAt t nodes first second n → m ≡ n
+far_once : (t : Topology) (nodes : List NodeName) (first : Side) (second : Span) (m n : ℕ) → AreSidesApart t nodes first second m → AreSidesApart t nodes first second n → m ≡ n
 far_once t nodes first second m n a b =
     let columns = columns_are_one t a.columns b.columns a.columns_are b.columns_are in
     let v : a.v ≡ b.v = side_once nodes first a.columns a.v b.v a.first_is (subst (λ cs. IsSideCode nodes cs first b.v) (sym columns) b.first_is) in
-    let w : a.w ≡ b.w = code_once nodes second a.columns a.w b.w a.second_is (subst (λ cs. IsCodeOf nodes cs second b.w) (sym columns) b.second_is) in
+    let w : a.w ≡ b.w = code_once nodes second a.columns a.w b.w a.second_is (subst (λ cs. IsSpanCode nodes cs second b.w) (sym columns) b.second_is) in
     let ours = a.far_is in
     let theirs = b.far_is in
     cc
 
 -- the claim of a thin certificate
-module _ (t : Topology) (wanted distance : ℕ) (nodes : List NodeName) (first : Side) (second : Span) (far : ℕ) (at : AreAt t nodes first second far) where
+module _ (t : Topology) (wanted distance : ℕ) (nodes : List NodeName) (first : Side) (second : Span) (far : ℕ) (at : AreSidesApart t nodes first second far) where
   pub thin_holds : far ≡ distance → 0 < far → far < wanted → All (Passes t (Thin wanted distance nodes first second)) (claim_check ∷ [])
   thin_holds same some less =
       let close : IsClose wanted distance = record { some = subst (λ m. 0 < m) same some; less = subst (λ m. m < wanted) same less } in
-      pass_one t (Thin wanted distance nodes first second) claim_check (subst (AreAt t nodes first second) same at, close)
+      pass_one t (Thin wanted distance nodes first second) claim_check (subst (AreSidesApart t nodes first second) same at, close)
 
   pub thin_fails : ((far ≡ distance) → (0 < far) → (far < wanted) → ⊥) → Judges t (Thin wanted distance nodes first second) (claim_check ∷ []) (Err (NotThin far))
   thin_fails not = fails_here t (Thin wanted distance nodes first second) claim_check [] (NotThin far) (λ holds.
@@ -101,12 +101,12 @@ module _ (t : Topology) (wanted distance : ℕ) (nodes : List NodeName) (first :
 
 -- what all checks come to is the verdict
 pub valid_of : {X : Type 0} (t : Topology) (c : Certificate) (checks : List Check) → AreChecks t c checks → (result : Result X Rejected)
-    → Judges t c checks (ended result) → OnOk result (IsValid t c)
+    → Judges t c checks (verdict_of result) → OnOk result (IsValid t c)
 valid_of t c checks are (Ok x) judged = (valid_passes_all t c checks are).1 judged
 valid_of t c checks are (Err e) judged = tt
 
 pub why_of : {X : Type 0} (t : Topology) (c : Certificate) (checks : List Check) → AreChecks t c checks → (result : Result X Rejected)
-    → Judges t c checks (ended result) → IfErr result (TellsWhy t c)
+    → Judges t c checks (verdict_of result) → IfErr result (TellsWhy t c)
 why_of t c checks are (Ok x) judged = tt
 why_of t c checks are (Err e) judged = judged_is_first_fail t c checks are e judged
 
@@ -122,7 +122,7 @@ module _ (n : Numbered) (ids : List NodeId) (c : Certificate) (known : IsKnown n
   side_read (Root span) code is = code_read n ids c known columns names are named span is.listed code is.lists is.coded
 
   pub at_read : (first : Side) (second : Span) (v w : List Bool) → IsSideRead ids columns first v → IsRead ids columns second w → (far : ℕ) → far ≡ differing v w
-      → AreAt (topology_of n) (nodes_of c) first second far
+      → AreSidesApart (topology_of n) (nodes_of c) first second far
   at_read first second v w read_v read_w far is = record {
     columns = names;
     columns_are = are;
@@ -140,7 +140,7 @@ far_small v w =
     omega arith
 
 -- what is shown of the two sides is what the certificate shows
-pub shows_thin : (t : Topology) (nodes : List NodeName) (first : Side) (second : Span) (claim : Closeness) (shown : Accepted) → IsShown nodes first second claim shown
-    → Shows t (Thin claim.wanted claim.distance nodes first second) shown
+pub shows_thin : (t : Topology) (nodes : List NodeName) (first : Side) (second : Span) (claim : Closeness) (shown : Accepted) → IsThinShown nodes first second claim shown
+    → CertificateShows t (Thin claim.wanted claim.distance nodes first second) shown
 shows_thin t nodes first second claim (accepted.Book d r g k) is = is
 shows_thin t nodes first second claim (accepted.Thin w f s x) is = is

@@ -11,19 +11,19 @@ use Rattle.cb_nodes.specs.declared.id.NodeId.{NodeId}
 use Rattle.cb_successors.specs.Rows.{Has}
 use Rattle.cb_topo.specs.Numbered.{Numbered, topology_of, IsNodeNamed, AreNamed}
 use Rattle.cb_checker.specs.Known.{IsKnown}
-use Rattle.cb_checker.specs.Listed.{ArePlaced, IsAmong}
-use Rattle.cb_checker.specs.Codes.{IsCodeOf}
+use Rattle.cb_checker.specs.Listed.{ArePlaced, IsAmongPlaced}
+use Rattle.cb_checker.specs.Codes.{IsCodeOfListed}
 
 -- the row has exactly the nodes that the span lists
 pub record IsListing (ids : List NodeId) (span : Span) (listed : List Bool) : Type 0 where
   pub placed : List NodeId
   pub are : ArePlaced ids span (length span.entries) placed
-  pub each : (k : ℕ) → Has listed k ↔ IsAmong placed k
+  pub each : (k : ℕ) → Has listed k ↔ IsAmongPlaced placed k
 
 -- the problem of this number, with the code that a row makes
 pub record IsCodedBy (n : Numbered) (columns : List NodeId) (id : NodeId) (listed : List Bool) (p : Problem) : Type 0 where
   pub named : IsNodeNamed n id p.name
-  pub code : IsCodeOf columns listed p.code
+  pub code : IsCodeOfListed columns listed p.code
 
 -- the problem of this number, with the code that is read off the span
 pub record IsReadOff (n : Numbered) (ids columns : List NodeId) (id : NodeId) (span : Span) (p : Problem) : Type 0 where

@@ -20,7 +20,7 @@ abbrev pub HaveMembers : List Group → Type 0
 HaveMembers groups = (i : ℕ) (g : Group) → 0 < i → slice_get groups i ≡ Some g → 0 < length g.members
 
 -- this is reported of the two groups
-pub record IsTooClose (groups : List Group) (pair : Pair) (why : Rejected) : Type 0 where
+pub record ReportsTooClose (groups : List Group) (pair : Pair) (why : Rejected) : Type 0 where
   pub first : GroupName
   pub second : GroupName
   pub is : why ≡ TooClose first second pair.distance
@@ -44,7 +44,7 @@ pub record IsBadBook (columns ids : List NodeId) (numbers : List ℕ) (problems 
   pub groups_are : AreGroups (length columns) problems groups
   pub places_are : ArePlacesOf columns ids numbers places
   pub close : IsFirstClose places (codes_of groups) d pair
-  pub reported : IsTooClose groups pair why
+  pub reported : ReportsTooClose groups pair why
 
 abbrev pub JudgesBook : List NodeId → List NodeId → List ℕ → List Problem → ℕ → Result Accepted Rejected → Type 0
 JudgesBook columns ids numbers problems d (Ok shown) = IsGoodBook columns ids numbers problems d shown

@@ -3,10 +3,10 @@ use Rattle.std.specs.Prelude.{◌≡◌, false, ℕ, ◌<◌, List, Bool, Some, 
 use Rattle.cb_nodes.specs.declared.id.NodeId.{NodeId}
 
 -- all numbers are below the bound
-abbrev pub IsBelow : ℕ → List NodeId → Type 0
-IsBelow room ids = (i : ℕ) (id : NodeId) → slice_get ids i ≡ Some id → id.0 < room
+abbrev pub AreIdsBelow : ℕ → List NodeId → Type 0
+AreIdsBelow capacity ids = (i : ℕ) (id : NodeId) → slice_get ids i ≡ Some id → id.0 < capacity
 
 -- for each column, whether the row has it
-pub record IsCodeOf (columns : List NodeId) (listed code : List Bool) : Type 0 where
+pub record IsCodeOfListed (columns : List NodeId) (listed code : List Bool) : Type 0 where
   pub width : length code ≡ length columns
   pub each : (place : ℕ) (id : NodeId) → slice_get columns place ≡ Some id → slice_index_or code place false ≡ slice_index_or listed id.0 false

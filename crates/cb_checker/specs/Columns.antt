@@ -4,7 +4,7 @@ use Rattle.cb_model.specs.declared.node.NodeName.{NodeName}
 use Rattle.cb_network.specs.Nodes.{IsColumn}
 use Rattle.cb_cert.specs.declared.certificate.Certificate.{Certificate}
 use Rattle.cb_validity.specs.declared.verdict.Rejected.{Rejected}
-use Rattle.cb_validity.specs.Checks.{Judges, column_check, columns_of, places}
+use Rattle.cb_validity.specs.Checks.{Judges, column_check, certificate_columns, places}
 use Rattle.cb_nodes.specs.declared.id.NodeId.{NodeId}
 use Rattle.cb_topo.specs.Numbered.{Numbered, topology_of, IsNodeNamed}
 use Rattle.cb_checker.specs.Known.{IsIdAt, IsKnown}
@@ -20,5 +20,5 @@ pub record IsColumnAt (n : Numbered) (ids : List NodeId) (columns : List ℕ) (p
 
 -- whatever the certificate claims over these columns, this is what its checks of columns come to
 abbrev pub JudgesColumns : Numbered → List NodeId → List ℕ → Result (Unit {0}) Rejected → Type 0
-JudgesColumns n ids columns result = (c : Certificate) → IsKnown n ids c → columns_of c ≡ columns
+JudgesColumns n ids columns result = (c : Certificate) → IsKnown n ids c → certificate_columns c ≡ columns
     → Judges (topology_of n) c (map column_check (places columns)) result

@@ -24,6 +24,6 @@ pub record IsKnown (n : Numbered) (ids : List NodeId) (c : Certificate) : Type 0
   pub rise : Rises node_cmp (nodes_of c)
 
 -- whether it went well, whatever was found
-abbrev pub ended : {X : Type 0} → Result X Rejected → Result (Unit {0}) Rejected
-ended (Ok x) = Ok tt
-ended (Err why) = Err why
+abbrev pub verdict_of : {X : Type 0} → Result X Rejected → Result (Unit {0}) Rejected
+verdict_of (Ok x) = Ok tt
+verdict_of (Err why) = Err why

@@ -21,15 +21,15 @@ pub record ArePlaced (ids : List NodeId) (span : Span) (to : ℕ) (placed : List
   pub each : (place : ℕ) (id : NodeId) → slice_get placed place ≡ Some id → IsPlaced ids span place id
 
 -- one of them has this number
-abbrev pub IsAmong : List NodeId → ℕ → Type 0
-IsAmong placed k = (place : ℕ) × (slice_get placed place ≡ Some (number k))
+abbrev pub IsAmongPlaced : List NodeId → ℕ → Type 0
+IsAmongPlaced placed k = (place : ℕ) × (slice_get placed place ≡ Some (number k))
 
 -- the row has exactly the placed nodes
 abbrev pub AreListed : List Bool → List NodeId → Type 0
-AreListed listed placed = (k : ℕ) → Has listed k ↔ IsAmong placed k
+AreListed listed placed = (k : ℕ) → Has listed k ↔ IsAmongPlaced placed k
 
 -- the rows have a position for each number, and exactly the placed nodes are listed
 pub record AreMarked (n : Numbered) (marks : SpanNodes) : Type 0 where
-  pub room : length marks.listed ≡ length n.nodes
+  pub capacity : length marks.listed ≡ length n.nodes
   pub spare : length marks.found ≡ length n.nodes
   pub each : AreListed marks.listed marks.placed.items

@@ -9,15 +9,15 @@ use Rattle.cb_topo.specs.Numbered.{Numbered, IsNodeNamed}
 use Rattle.cb_graph.specs.Edges.{EdgeAt, number}
 
 -- the row has exactly the successors of this node
-abbrev pub AreSuccessors : Numbered → List Bool → NodeId → Type 0
-AreSuccessors n found from = (k : ℕ) → Has found k ↔ EdgeAt n from.0 k
+abbrev pub IsSuccessorRow : Numbered → List Bool → NodeId → Type 0
+IsSuccessorRow n found from = (k : ℕ) → Has found k ↔ EdgeAt n from.0 k
 
 -- the row has all successors of the first placed nodes
 abbrev pub HasSuccessorsTo : Numbered → List NodeId → ℕ → List Bool → Type 0
 HasSuccessorsTo n placed to found = (place : ℕ) (id : NodeId) → place < to → slice_get placed place ≡ Some id → (k : ℕ) → EdgeAt n id.0 k → Has found k
 
 -- of the nodes whose numbers are so, none has a name that stands before this one, which one of them has
-pub record IsLeastOf (n : Numbered) (P : ℕ → Type 0) (name : NodeName) : Type 0 where
+pub record IsLeastName (n : Numbered) (P : ℕ → Type 0) (name : NodeName) : Type 0 where
   pub node : ℕ
   pub is : P node
   pub named : IsNodeNamed n (number node) name
@@ -26,14 +26,14 @@ pub record IsLeastOf (n : Numbered) (P : ℕ → Type 0) (name : NodeName) : Typ
 -- the name of the least of these nodes, if there are any
 abbrev pub IsLeastIfAny : Numbered → (ℕ → Type 0) → Option NodeName → Type 0
 IsLeastIfAny n P None = (k : ℕ) → ¬ P k
-IsLeastIfAny n P (Some name) = IsLeastOf n P name
+IsLeastIfAny n P (Some name) = IsLeastName n P name
 
 -- the one row has it, and the other hasn't
 abbrev pub IsOutside : List Bool → List Bool → ℕ → Type 0
 IsOutside found listed k = Has found k × (¬ Has listed k)
 
-abbrev pub IsLeastOutside : Numbered → List Bool → List Bool → Option NodeName → Type 0
-IsLeastOutside n found listed least = IsLeastIfAny n (IsOutside found listed) least
+abbrev pub IsLeastUnlisted : Numbered → List Bool → List Bool → Option NodeName → Type 0
+IsLeastUnlisted n found listed least = IsLeastIfAny n (IsOutside found listed) least
 
 -- an edge leads to it, and it isn't listed
 abbrev pub IsMissing : Numbered → ℕ → List Bool → ℕ → Type 0

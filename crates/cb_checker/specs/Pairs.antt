@@ -12,14 +12,14 @@ use Rattle.cb_nodes.specs.declared.id.NodeId.{NodeId}
 use Rattle.cb_topo.specs.Numbered.{Numbered, topology_of}
 use Rattle.cb_checker.specs.Known.{IsKnown}
 use Rattle.cb_checker.specs.Books.{IsListing}
-use Rattle.cb_checker.specs.Codes.{IsCodeOf}
+use Rattle.cb_checker.specs.Codes.{IsCodeOfListed}
 use Rattle.cb_checker.specs.Spans.{asked}
 
 -- the code is read off the span
 pub record IsRead (ids columns : List NodeId) (span : Span) (code : List Bool) : Type 0 where
   pub listed : List Bool
   pub lists : IsListing ids span listed
-  pub coded : IsCodeOf columns listed code
+  pub coded : IsCodeOfListed columns listed code
 
 -- the code is the quiet group's, or it is read off the span
 abbrev pub IsSideRead : List NodeId → List NodeId → Side → List Bool → Type 0

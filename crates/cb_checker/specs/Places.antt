@@ -4,11 +4,11 @@ use Rattle.std.specs.List.{AllZip}
 use Rattle.cb_nodes.specs.declared.id.NodeId.{NodeId}
 use Rattle.cb_graph.specs.Edges.{number}
 use Rattle.cb_checker.specs.Known.{IsIdAt}
-use Rattle.cb_checker.specs.Listed.{IsAmong}
+use Rattle.cb_checker.specs.Listed.{IsAmongPlaced}
 
 -- no node stands twice
-abbrev pub IsOnce : List NodeId → Type 0
-IsOnce all = (i j : ℕ) (id : NodeId) → slice_get all i ≡ Some id → slice_get all j ≡ Some id → i ≡ j
+abbrev pub AreDistinctNodes : List NodeId → Type 0
+AreDistinctNodes all = (i j : ℕ) (id : NodeId) → slice_get all i ≡ Some id → slice_get all j ≡ Some id → i ≡ j
 
 -- for the number of each node its one position among these nodes, if it is one of them
 pub record IsTable (all : List NodeId) (places : List (Option ℕ)) : Type 0 where
@@ -17,7 +17,7 @@ pub record IsTable (all : List NodeId) (places : List (Option ℕ)) : Type 0 whe
 
 -- the number is that of one of these nodes
 abbrev pub IsThere : List NodeId → List NodeId → ℕ → Type 0
-IsThere all ids number = (id : NodeId) × IsIdAt ids number id × IsAmong all id.0
+IsThere all ids number = (id : NodeId) × IsIdAt ids number id × IsAmongPlaced all id.0
 
 -- all numbers are those of these nodes
 abbrev pub AreThere : List NodeId → List NodeId → List ℕ → Type 0

@@ -72,7 +72,7 @@ AreFrom from reasons = (reason : Reason) → Contains reasons reason → reason.
 
 -- all lead to nodes with numbers below this one
 abbrev pub AreEndsBelow : ℕ → List Reason → Type 0
-AreEndsBelow room reasons = (reason : Reason) → Contains reasons reason → reason.to.0 < room
+AreEndsBelow capacity reasons = (reason : Reason) → Contains reasons reason → reason.to.0 < capacity
 
 -- the row has the node to which the edge leads
 abbrev pub HasEnd : List Bool → Reason → Type 0

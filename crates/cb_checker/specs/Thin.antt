@@ -8,16 +8,16 @@ use Rattle.cb_cert.specs.declared.certificate.Span.{Span}
 use Rattle.cb_validity.specs.declared.verdict.Accepted.{Accepted}
 use Rattle.cb_validity.specs.declared.verdict.Rejected.{Rejected}
 use Rattle.cb_validity.specs.Checks.{Judges, thin_checks}
-use Rattle.cb_validity.specs.Spans.{BeginsWith}
+use Rattle.cb_validity.specs.Spans.{BeginsWithRoot}
 use Rattle.cb_validity.specs.declared.verdict.Accepted.TheVariants as accepted
-use Rattle.cb_validity.specs.Verdicts.{Shows, IsSideName}
+use Rattle.cb_validity.specs.Verdicts.{CertificateShows, IsSideName}
 use Rattle.cb_checker.specs.declared.thin.Closeness.{Closeness}
 use Rattle.cb_topo.specs.Numbered.{Numbered, topology_of}
 
 -- the span of the side, if it has one, begins with some root
 abbrev pub IsBegun : List NodeName → Side → Type 0
 IsBegun nodes Quiet = ⊤
-IsBegun nodes (Root span) = (root : NodeName) × BeginsWith nodes span root
+IsBegun nodes (Root span) = (root : NodeName) × BeginsWithRoot nodes span root
 
 -- this is what all checks of the thin certificate come to
 abbrev pub JudgesThinOver : Numbered → List NodeName → Side → Span → ℕ → ℕ → Result (Unit {0}) Rejected → Type 0
@@ -26,12 +26,12 @@ JudgesThinOver n nodes first second wanted distance result =
 
 -- this is what it shows
 abbrev pub ShowsThinOver : Numbered → List NodeName → Side → Span → ℕ → ℕ → Accepted → Type 0
-ShowsThinOver n nodes first second wanted distance shown = Shows (topology_of n) (Thin wanted distance nodes first second) shown
+ShowsThinOver n nodes first second wanted distance shown = CertificateShows (topology_of n) (Thin wanted distance nodes first second) shown
 
 -- this is what is shown of the two sides
-abbrev pub IsShown : List NodeName → Side → Span → Closeness → Accepted → Type 0
-IsShown nodes first second claim (accepted.Book d r g k) = ⊥
-IsShown nodes first second claim (accepted.Thin w f s x) =
+abbrev pub IsThinShown : List NodeName → Side → Span → Closeness → Accepted → Type 0
+IsThinShown nodes first second claim (accepted.Book d r g k) = ⊥
+IsThinShown nodes first second claim (accepted.Thin w f s x) =
     (w ≡ claim.wanted) × IsSideName nodes first f × IsSideName nodes (Root second) s × (x ≡ claim.distance)
 
 -- so far apart are two groups that are as close as is claimed

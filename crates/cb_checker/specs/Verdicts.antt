@@ -8,7 +8,7 @@ use Rattle.cb_cert.specs.declared.certificate.Span.{Span}
 use Rattle.cb_validity.specs.declared.verdict.Accepted.{Accepted}
 use Rattle.cb_validity.specs.declared.verdict.Rejected.{Rejected}
 use Rattle.cb_validity.specs.Checks.{Judges, book_checks}
-use Rattle.cb_validity.specs.Verdicts.{Shows}
+use Rattle.cb_validity.specs.Verdicts.{CertificateShows}
 use Rattle.cb_nodes.specs.declared.id.NodeId.{NodeId}
 use Rattle.cb_topo.specs.Numbered.{Numbered, topology_of, AreNamed, IsWhole}
 use Rattle.cb_checker.specs.declared.sides.Sides.{Sides}
@@ -31,4 +31,4 @@ JudgesBookOver n problems nodes numbers spans d result = (names : List NodeName)
 
 -- this is what the book shows
 abbrev pub ShowsBookOver : Numbered → List NodeName → List ℕ → List Span → ℕ → Accepted → Type 0
-ShowsBookOver n nodes numbers spans d shown = Shows (topology_of n) (Book d nodes numbers spans) shown
+ShowsBookOver n nodes numbers spans d shown = CertificateShows (topology_of n) (Book d nodes numbers spans) shown

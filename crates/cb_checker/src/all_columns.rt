@@ -1,8 +1,8 @@
 //! All columns of a topology, and the position of each.
 ghost use Rattle.std.specs.Prelude.{◌≡◌, ◌<◌, ◌^◌, ℕ, length, IfOk, IfSome, IfNone, Some, slice_get};
-ghost use Rattle.cb_checker.specs.Codes.{IsBelow};
-ghost use Rattle.cb_checker.specs.Listed.{IsAmong};
-ghost use Rattle.cb_checker.specs.Places.{IsOnce, IsTable};
+ghost use Rattle.cb_checker.specs.Codes.{AreIdsBelow};
+ghost use Rattle.cb_checker.specs.Listed.{IsAmongPlaced};
+ghost use Rattle.cb_checker.specs.Places.{AreDistinctNodes, IsTable};
 
 use cb_model::List;
 use cb_nodes::NodeId;
@@ -30,14 +30,14 @@ impl Model for AllColumns {
 }
 
 impl AllColumns {
-    /// The columns of these numbers. All numbers of nodes are below `room`.
-    pub fn of(alloc: Global, nodes: List<NodeId>, room: usize) -> Result<AllColumns, AllocError>
-        requires once { IsOnce nodes }
-        requires below { IsBelow room nodes }
+    /// The columns of these numbers. All numbers of nodes are below `capacity`.
+    pub fn of(alloc: Global, nodes: List<NodeId>, capacity: usize) -> Result<AllColumns, AllocError>
+        requires once { AreDistinctNodes nodes }
+        requires below { AreIdsBelow capacity nodes }
         requires few { length nodes < 2 ^ 32 }
         ensures { IfOk result (λ columns. columns ≡ nodes) }
     {
-        let places = table_of(alloc, &nodes, room)?;
+        let places = table_of(alloc, &nodes, capacity)?;
         Ok(AllColumns { nodes, places })
     }
 
@@ -52,7 +52,7 @@ impl AllColumns {
     pub fn place(&self, id: NodeId) -> Option<u32>
         ensures found { IfSome result (λ place. slice_get self.now place ≡ Some id) }
         ensures alone { IfSome result (λ place. (other : ℕ) → slice_get self.now other ≡ Some id → other ≡ place) }
-        ensures none { IfNone result (¬ IsAmong self.now id.0) }
+        ensures none { IfNone result (¬ IsAmongPlaced self.now id.0) }
     {
         let node = id.0 as usize;
         if node < self.places.len() {
@@ -67,14 +67,14 @@ impl AllColumns {
 fn table_of(
     alloc: Global,
     columns: &List<NodeId>,
-    room: usize,
+    capacity: usize,
 ) -> Result<Vec<Option<u32>>, AllocError>
-    requires once { IsOnce columns.now }
-    requires below { IsBelow room columns.now }
+    requires once { AreDistinctNodes columns.now }
+    requires below { AreIdsBelow capacity columns.now }
     requires few { length columns.now < 2 ^ 32 }
     ensures { IfOk result (λ places. IsTable columns.now places.items) }
 {
-    let mut places = vec![in alloc; None; room]?;
+    let mut places = vec![in alloc; None; capacity]?;
     for place in 0..columns.len() {
         places[columns.at(place).0 as usize] = Some(place as u32);
     }

@@ -4,7 +4,7 @@ ghost use Rattle.cb_validity.specs.Checks.{IsGoodNode};
 ghost use Rattle.cb_validity.specs.Verdicts.{entries_of};
 ghost use Rattle.cb_topo.specs.Numbered.{topology_of, AreNamed};
 ghost use Rattle.cb_checker.specs.Firsts.{AreAll, JudgesNodes};
-ghost use Rattle.cb_checker.specs.Known.{ended};
+ghost use Rattle.cb_checker.specs.Known.{verdict_of};
 ghost use Rattle.cb_checker.specs.Verdicts.{AreSidesOf, JudgesBookOver, ShowsBookOver};
 
 use crate::claim::judge_book;
@@ -38,7 +38,7 @@ pub(crate) fn check_book<L: Ledger>(
     requires some { 0 < distance }
     requires few { length nodes.now + length numbers.now + length spans.now + entries_of spans.now + 1 < 4294967296 }
     ensures same { graph.new ≡ graph.old }
-    ensures judges { JudgesBookOver graph.old sides.now.problems nodes.now numbers.now spans.now distance (ended result) }
+    ensures judges { JudgesBookOver graph.old sides.now.problems nodes.now numbers.now spans.now distance (verdict_of result) }
     ensures shows { IfOk result (ShowsBookOver graph.old nodes.now numbers.now spans.now distance) }
 {
     let ids = known(alloc, graph.topology(), nodes)?;
@@ -66,7 +66,7 @@ pub(crate) fn known(
     nodes: &[NodeName],
 ) -> Result<Vec<NodeId>, Rejected>
     requires { length nodes.now + 1 < 4294967296 }
-    ensures judges { JudgesNodes (topology_of topology.now) nodes.now (ended result) }
+    ensures judges { JudgesNodes (topology_of topology.now) nodes.now (verdict_of result) }
     ensures good { OnOk result (AreAll (IsGoodNode (topology_of topology.now) nodes.now) (length nodes.now)) }
     ensures named { IfOk result (λ ids. AreNamed topology.now ids.items nodes.now) }
 {

@@ -2,7 +2,7 @@
 ghost use Rattle.std.specs.Prelude.{◌≡◌, IfOk, OnOk, IfErr};
 ghost use Rattle.cb_topo.specs.Numbered.{topology_of};
 ghost use Rattle.cb_validity.specs.Valid.{IsValid};
-ghost use Rattle.cb_validity.specs.Verdicts.{IsCheckable, Shows, TellsWhy};
+ghost use Rattle.cb_validity.specs.Verdicts.{IsCheckable, CertificateShows, TellsWhy};
 ghost use Rattle.cb_checker.specs.Verdicts.{AreSidesOf};
 
 use crate::book::check_book;
@@ -25,7 +25,7 @@ pub fn check<L: Ledger>(
     requires { IsCheckable certificate.now }
     ensures same { graph.new ≡ graph.old }
     ensures valid { OnOk result (IsValid (topology_of graph.old) certificate.now) }
-    ensures shows { IfOk result (Shows (topology_of graph.old) certificate.now) }
+    ensures shows { IfOk result (CertificateShows (topology_of graph.old) certificate.now) }
     ensures why { IfErr result (TellsWhy (topology_of graph.old) certificate.now) }
 {
     let Ok(sides) = sides_of(alloc, graph.topology()) else {
@@ -46,7 +46,7 @@ fn check_over<L: Ledger>(
     requires checkable { IsCheckable certificate.now }
     ensures same { graph.new ≡ graph.old }
     ensures valid { OnOk result (IsValid (topology_of graph.old) certificate.now) }
-    ensures shows { IfOk result (Shows (topology_of graph.old) certificate.now) }
+    ensures shows { IfOk result (CertificateShows (topology_of graph.old) certificate.now) }
     ensures why { IfErr result (TellsWhy (topology_of graph.old) certificate.now) }
 {
     match certificate {

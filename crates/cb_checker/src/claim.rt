@@ -1,9 +1,9 @@
 //! What a book claims of groups.
 ghost use Rattle.std.specs.Prelude.{◌≡◌, ◌<◌, ◌+◌, ◌^◌, length, IfOk};
-ghost use Rattle.cb_coding.specs.Groups.{AreProblems};
+ghost use Rattle.cb_coding.specs.Groups.{AreCodedProblems};
 ghost use Rattle.cb_finding.specs.Finding.{IsCalled};
 ghost use Rattle.cb_checker.specs.Places.{AreThere};
-ghost use Rattle.cb_checker.specs.Claims.{HaveMembers, IsTooClose, JudgesBook};
+ghost use Rattle.cb_checker.specs.Claims.{HaveMembers, ReportsTooClose, JudgesBook};
 
 use crate::all_columns::AllColumns;
 use crate::places::places_of;
@@ -27,7 +27,7 @@ pub(crate) fn judge_book(
     requires columns { length columns.now < 2 ^ 32 }
     requires there { AreThere columns.now ids.now numbers.now }
     requires numbers { length numbers.now < 2 ^ 32 }
-    requires problems { AreProblems (length columns.now) problems.now }
+    requires problems { AreCodedProblems (length columns.now) problems.now }
     requires few { length problems.now + 1 < 2 ^ 32 }
     ensures { IfOk result (JudgesBook columns.now ids.now numbers.now problems.now distance) }
 {
@@ -50,7 +50,7 @@ fn too_close(alloc: Global, groups: &List<Group>, pair: Pair) -> Result<Rejected
     requires first { pair.first < length groups.now }
     requires second { pair.second < length groups.now }
     requires members { HaveMembers groups.now }
-    ensures { IfOk result (IsTooClose groups.now pair) }
+    ensures { IfOk result (ReportsTooClose groups.now pair) }
 {
     let first = name_of(alloc, groups, pair.first as usize)?;
     let second = name_of(alloc, groups, pair.second as usize)?;

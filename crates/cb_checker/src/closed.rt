@@ -5,7 +5,7 @@ ghost use Rattle.cb_topo.specs.Numbered.{IsLiveNode};
 ghost use Rattle.cb_graph.specs.Edges.{number};
 ghost use Rattle.cb_checker.specs.Known.{AreLive};
 ghost use Rattle.cb_checker.specs.Listed.{AreMarked};
-ghost use Rattle.cb_checker.specs.Missing.{AreClosed, HasSuccessorsTo, IsLeastMissing, IsLeastOutside, IsLesser};
+ghost use Rattle.cb_checker.specs.Missing.{AreClosed, HasSuccessorsTo, IsLeastMissing, IsLeastUnlisted, IsLesser};
 ghost use Rattle.cb_checker.specs.Spans.{JudgesClosed};
 
 use crate::marks::SpanNodes;
@@ -132,10 +132,10 @@ fn least_outside(
     requires live { (k : ℕ) → Has found.now k → IsLiveNode topology.now (number k) }
     requires found { length found.now ≡ length topology.now.nodes }
     requires listed { length listed.now ≡ length topology.now.nodes }
-    ensures { IfOk result (IsLeastOutside topology.now found.now listed.now) }
+    ensures { IfOk result (IsLeastUnlisted topology.now found.now listed.now) }
 {
     // Numbers of nodes are below it, and it is small.
-    let _room = topology.node_room();
+    let _capacity = topology.node_capacity();
     let mut least = None;
     let mut from = 0;
     while let Some(node) = found.next_not_in(listed, from) {

@@ -1,6 +1,6 @@
 //! Codes, read off spans.
 ghost use Rattle.std.specs.Prelude.{IfOk};
-ghost use Rattle.cb_checker.specs.Codes.{IsCodeOf};
+ghost use Rattle.cb_checker.specs.Codes.{IsCodeOfListed};
 ghost use Rattle.cb_checker.specs.Listed.{AreListed};
 
 use crate::all_columns::AllColumns;
@@ -15,7 +15,7 @@ pub(crate) fn code_of(
     marks: &SpanNodes,
 ) -> Result<Row, AllocError>
     requires { AreListed marks.now.listed marks.now.placed.items }
-    ensures { IfOk result (IsCodeOf columns.now marks.now.listed) }
+    ensures { IfOk result (IsCodeOfListed columns.now marks.now.listed) }
 {
     let mut code = Row::zeroed(alloc, columns.len())?;
     for place in 0..marks.placed.len() {

@@ -3,7 +3,7 @@ ghost use Rattle.std.specs.Prelude.{◌≡◌, ◌<◌, ◌-◌, ◌+◌, ℕ, [
 ghost use Rattle.std.specs.List.{Contains, flat_map, range_with_len};
 ghost use Rattle.cb_validity.specs.Checks.{entry_checks};
 ghost use Rattle.cb_checker.specs.declared.reasons.Reason.{Reason as Stated};
-ghost use Rattle.cb_checker.specs.Codes.{IsBelow};
+ghost use Rattle.cb_checker.specs.Codes.{AreIdsBelow};
 ghost use Rattle.cb_checker.specs.Known.{AreLive};
 ghost use Rattle.cb_checker.specs.Listed.{ArePlaced, AreListed, AreMarked};
 ghost use Rattle.cb_checker.specs.Reasons.{IsStated, AreStated, JudgesEntry, JudgesEntryIfLed, JudgesIfLed, JudgesIfUnled};
@@ -58,7 +58,7 @@ fn list_entries(
 ) -> Result<(), Rejected>
     requires some { 0 < length span.now.entries }
     requires few { before + length span.now.entries < 4294967296 }
-    requires below { IsBelow (length marks.old.listed) ids.now }
+    requires below { AreIdsBelow (length marks.old.listed) ids.now }
     requires first { ArePlaced ids.now span.now 1 marks.old.placed.items }
     requires listed { AreListed marks.old.listed marks.old.placed.items }
     ensures led { JudgesIfLed ids.now before span.now marks.new.reasons.items result }
@@ -66,7 +66,7 @@ fn list_entries(
     ensures stated { AreStated ids.now span.now (length span.now.entries) marks.new.reasons.items }
     ensures placed { OnOk result (ArePlaced ids.now span.now (length span.now.entries) marks.new.placed.items) }
     ensures listed { OnOk result (AreListed marks.new.listed marks.new.placed.items) }
-    ensures room { length marks.new.listed ≡ length marks.old.listed }
+    ensures capacity { length marks.new.listed ≡ length marks.old.listed }
     ensures found { marks.new.found ≡ marks.old.found }
 {
     marks.reasons.clear();
@@ -86,7 +86,7 @@ fn list_entry(
 ) -> Result<(), Rejected>
     requires place { place < length span.now.entries }
     requires few { before + length span.now.entries < 4294967296 }
-    requires below { IsBelow (length marks.old.listed) ids.now }
+    requires below { AreIdsBelow (length marks.old.listed) ids.now }
     requires placed { ArePlaced ids.now span.now place marks.old.placed.items }
     requires listed { AreListed marks.old.listed marks.old.placed.items }
     requires stated { AreStated ids.now span.now place marks.old.reasons.items }
@@ -95,7 +95,7 @@ fn list_entry(
     ensures keeps { (reason : Stated) → Contains marks.old.reasons.items reason → Contains marks.new.reasons.items reason }
     ensures placed { OnOk result (ArePlaced ids.now span.now (place + 1) marks.new.placed.items) }
     ensures listed { OnOk result (AreListed marks.new.listed marks.new.placed.items) }
-    ensures room { length marks.new.listed ≡ length marks.old.listed }
+    ensures capacity { length marks.new.listed ≡ length marks.old.listed }
     ensures found { marks.new.found ≡ marks.old.found }
 {
     let reason = reason_at(ids, span, before, place, &marks.placed)?;

@@ -22,12 +22,12 @@ impl SpanNodes {
     pub fn new(alloc: Global, topology: &Topology) -> Result<SpanNodes, AllocError>
         ensures { IfOk result (AreMarked topology.now) }
     {
-        let room = topology.node_room();
+        let capacity = topology.node_capacity();
         Ok(SpanNodes {
             placed: Vec::new(alloc),
-            listed: Row::zeroed(alloc, room)?,
+            listed: Row::zeroed(alloc, capacity)?,
             reasons: Vec::new(alloc),
-            found: Row::zeroed(alloc, room)?,
+            found: Row::zeroed(alloc, capacity)?,
         })
     }
 
@@ -49,7 +49,7 @@ impl SpanNodes {
         requires { node.0 < length self.old.listed }
         ensures placed { OnOk result (self.new.placed.items ≡ self.old.placed.items ++ node ∷ []) }
         ensures listed { OnOk result (self.new.listed ≡ slice_set self.old.listed node.0 true) }
-        ensures room { length self.new.listed ≡ length self.old.listed }
+        ensures capacity { length self.new.listed ≡ length self.old.listed }
         ensures reasons { self.new.reasons ≡ self.old.reasons }
         ensures found { self.new.found ≡ self.old.found }
     {

@@ -1,7 +1,7 @@
 //! What the sides of a thin certificate are called.
 ghost use Rattle.std.specs.Prelude.{IfOk};
 ghost use Rattle.cb_model.specs.declared.node.NodeName.{NodeName as Name};
-ghost use Rattle.cb_validity.specs.Spans.{BeginsWith};
+ghost use Rattle.cb_validity.specs.Spans.{BeginsWithRoot};
 ghost use Rattle.cb_validity.specs.Verdicts.{IsSideName};
 ghost use Rattle.cb_checker.specs.Thin.{IsBegun};
 
@@ -30,8 +30,8 @@ pub(crate) fn root_name(
     nodes: &[NodeName],
     span: &Span,
 ) -> Result<NodeName, AllocError>
-    requires { (root : Name) × BeginsWith nodes.now span.now root }
-    ensures { IfOk result (BeginsWith nodes.now span.now) }
+    requires { (root : Name) × BeginsWithRoot nodes.now span.now root }
+    ensures { IfOk result (BeginsWithRoot nodes.now span.now) }
 {
     let first = *span.entries.at(0);
     nodes[first.node as usize - 1].copy(alloc)

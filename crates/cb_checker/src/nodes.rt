@@ -47,7 +47,7 @@ fn is_node(topology: &Topology, node: &NodeName) -> bool
     ensures { IsTrue result ↔ IsNodeOf (topology_of topology.now) node.now }
 {
     // Nodes with numbers are nodes of the topology.
-    let _room = topology.node_room();
+    let _capacity = topology.node_capacity();
     topology
         .node_named(node.event.bytes(), node.instance.bytes())
         .is_some()

@@ -5,9 +5,9 @@ ghost use Rattle.cb_validity.specs.declared.verdict.Rejected.TheVariants.{NoMemo
 ghost use Rattle.cb_validity.specs.Canonical.{side_spans};
 ghost use Rattle.cb_validity.specs.Checks.{span_checks};
 ghost use Rattle.cb_validity.specs.Verdicts.{entries_of};
-ghost use Rattle.cb_checker.specs.Known.{AreLive, ended};
+ghost use Rattle.cb_checker.specs.Known.{AreLive, verdict_of};
 ghost use Rattle.cb_checker.specs.Listed.{AreMarked};
-ghost use Rattle.cb_checker.specs.Codes.{IsBelow};
+ghost use Rattle.cb_checker.specs.Codes.{AreIdsBelow};
 ghost use Rattle.cb_checker.specs.Spans.{JudgesSpan};
 ghost use Rattle.cb_checker.specs.Pairs.{IsRead, IsSideRead, JudgesSide, JudgesSides};
 
@@ -26,7 +26,7 @@ use std::sync::ledger::Ledger;
 
 /// The codes of two groups.
 #[derive(Drop)]
-pub struct Codes {
+pub struct SideCodes {
     pub first: Row,
     pub second: Row,
 }
@@ -40,12 +40,12 @@ pub(crate) fn read_sides<L: Ledger>(
     first: &Side,
     second: &Span,
     steps: &mut Steps<L>,
-) -> Result<Codes, Rejected>
+) -> Result<SideCodes, Rejected>
     requires live { AreLive graph.old ids.now }
-    requires columns { IsBelow (length graph.old.nodes) columns.now }
+    requires columns { AreIdsBelow (length graph.old.nodes) columns.now }
     requires few { entries_of (side_spans first.now) + length second.now.entries + 1 < 4294967296 }
     ensures same { graph.new ≡ graph.old }
-    ensures judges { JudgesSides graph.old ids.now first.now second.now (ended result) }
+    ensures judges { JudgesSides graph.old ids.now first.now second.now (verdict_of result) }
     ensures first { IfOk result (λ codes. IsSideRead ids.now columns.now first.now codes.first) }
     ensures second { IfOk result (λ codes. IsRead ids.now columns.now second.now codes.second) }
 {
@@ -57,7 +57,7 @@ pub(crate) fn read_sides<L: Ledger>(
     let second = read_span(
         alloc, graph, ids, columns, second, before, &mut marks, steps,
     )?;
-    Ok(Codes { first, second })
+    Ok(SideCodes { first, second })
 }
 
 // How many entries the span of a side has, if it has one.
@@ -82,11 +82,11 @@ fn read_side<L: Ledger>(
     steps: &mut Steps<L>,
 ) -> Result<Row, Rejected>
     requires live { AreLive graph.old ids.now }
-    requires columns { IsBelow (length graph.old.nodes) columns.now }
+    requires columns { AreIdsBelow (length graph.old.nodes) columns.now }
     requires few { entries_of (side_spans side.now) + 1 < 4294967296 }
     requires marked { AreMarked graph.old marks.old }
     ensures same { graph.new ≡ graph.old }
-    ensures judges { JudgesSide graph.old ids.now side.now (ended result) }
+    ensures judges { JudgesSide graph.old ids.now side.now (verdict_of result) }
     ensures code { IfOk result (IsSideRead ids.now columns.now side.now) }
     ensures marked { OnOk result (AreMarked graph.old marks.new) }
 {
@@ -119,11 +119,11 @@ fn read_span<L: Ledger>(
     steps: &mut Steps<L>,
 ) -> Result<Row, Rejected>
     requires live { AreLive graph.old ids.now }
-    requires columns { IsBelow (length graph.old.nodes) columns.now }
+    requires columns { AreIdsBelow (length graph.old.nodes) columns.now }
     requires few { before + length span.now.entries + 1 < 4294967296 }
     requires marked { AreMarked graph.old marks.old }
     ensures same { graph.new ≡ graph.old }
-    ensures judges { JudgesSpan graph.old ids.now None before span.now span_checks (ended result) }
+    ensures judges { JudgesSpan graph.old ids.now None before span.now span_checks (verdict_of result) }
     ensures code { IfOk result (IsRead ids.now columns.now span.now) }
     ensures marked { OnOk result (AreMarked graph.old marks.new) }
 {

@@ -33,7 +33,7 @@ pub(crate) fn first_unled<L: Ledger>(
     requires found { length found.old ≡ length graph.old.nodes }
     ensures same { graph.new ≡ graph.old }
     ensures first { IsFirstUnled graph.old reasons.old.items result }
-    ensures room { length found.new ≡ length found.old }
+    ensures capacity { length found.new ≡ length found.old }
 {
     reasons.sort_unstable_by_key(|reason| reason.parent);
     first_by_parents(graph, reasons, found, steps)
@@ -50,7 +50,7 @@ fn first_by_parents<L: Ledger>(
     requires found { length found.old ≡ length graph.old.nodes }
     ensures same { graph.new ≡ graph.old }
     ensures first { IsFirstUnled graph.old reasons.now result }
-    ensures room { length found.new ≡ length found.old }
+    ensures capacity { length found.new ≡ length found.old }
 {
     let mut first = None;
     let mut start = 0;
@@ -94,7 +94,7 @@ fn first_of_siblings<L: Ledger>(
     requires found { length found.old ≡ length graph.old.nodes }
     ensures same { graph.new ≡ graph.old }
     ensures first { IsFirstUnled graph.old siblings.now result }
-    ensures room { length found.new ≡ length found.old }
+    ensures capacity { length found.new ≡ length found.old }
 {
     clear_ends(siblings, found);
     graph.add_successors(from.0 as usize, found, steps);
@@ -105,7 +105,7 @@ fn first_of_siblings<L: Ledger>(
 fn clear_ends(siblings: &[Reason], found: &mut Row)
     requires { AreEndsBelow (length found.old) siblings.now }
     ensures none { HasNoEnds siblings.now found.new }
-    ensures room { length found.new ≡ length found.old }
+    ensures capacity { length found.new ≡ length found.old }
 {
     for i in 0..siblings.len() {
         found.clear(siblings[i].to.0 as usize);

@@ -3,7 +3,7 @@ ghost use Rattle.std.specs.Prelude.{◌<◌, ◌+◌, ◌↔◌, [], ◌∷◌, 
 ghost use Rattle.cb_nodes.specs.declared.id.NodeId.{NodeId as Id};
 ghost use Rattle.cb_validity.specs.Checks.{root_check};
 ghost use Rattle.cb_topo.specs.Numbered.{IsLiveNode};
-ghost use Rattle.cb_checker.specs.Known.{AreLive, ended};
+ghost use Rattle.cb_checker.specs.Known.{AreLive, verdict_of};
 ghost use Rattle.cb_checker.specs.Listed.{IsPlaced};
 ghost use Rattle.cb_checker.specs.Spans.{IsAskedAt, IsRootAt, JudgesSpan};
 
@@ -23,7 +23,7 @@ pub(crate) fn check_root(
 ) -> Result<NodeId, Rejected>
     requires live { AreLive topology.now ids.now }
     requires few { before + 1 < 4294967296 }
-    ensures judges { JudgesSpan topology.now ids.now root before span.now (λ a. root_check a ∷ []) (ended result) }
+    ensures judges { JudgesSpan topology.now ids.now root before span.now (λ a. root_check a ∷ []) (verdict_of result) }
     ensures first { IfOk result (IsPlaced ids.now span.now 0) }
 {
     match root_of(topology, ids, root, span) {

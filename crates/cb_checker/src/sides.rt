@@ -20,9 +20,9 @@ pub(crate) fn sides_of(alloc: Global, topology: &Topology) -> Result<Sides, Allo
     ensures { IfOk result (AreSidesOf topology.now) }
 {
     // The topology is sound, so that they are few.
-    let room = topology.node_room();
+    let capacity = topology.node_capacity();
     let problems = topology.problems(alloc)?;
     let nodes = topology.columns(alloc)?;
-    let columns = AllColumns::of(alloc, nodes, room)?;
+    let columns = AllColumns::of(alloc, nodes, capacity)?;
     Ok(Sides { problems, columns })
 }

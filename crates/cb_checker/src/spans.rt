@@ -3,8 +3,8 @@ ghost use Rattle.std.specs.Prelude.{◌≡◌, ◌<◌, ◌+◌, ◌++◌, [], �
 ghost use Rattle.cb_coding.specs.declared.group.Problem.{Problem as Coded};
 ghost use Rattle.cb_validity.specs.Verdicts.{entries_of};
 ghost use Rattle.cb_topo.specs.Numbered.{IsLiveNode};
-ghost use Rattle.cb_checker.specs.Known.{AreLive, ended};
-ghost use Rattle.cb_checker.specs.Codes.{IsBelow};
+ghost use Rattle.cb_checker.specs.Known.{AreLive, verdict_of};
+ghost use Rattle.cb_checker.specs.Codes.{AreIdsBelow};
 ghost use Rattle.cb_checker.specs.Listed.{AreListed};
 ghost use Rattle.cb_checker.specs.Books.{IsCodedBy, AreReadTo, JudgesSpans, JudgesCount};
 
@@ -35,10 +35,10 @@ pub(crate) fn check_spans<L: Ledger>(
 ) -> Result<List<Problem>, Rejected>
     requires live { AreLive graph.old ids.now }
     requires problems { AreLive graph.old problems.now }
-    requires columns { IsBelow (length graph.old.nodes) columns.now }
+    requires columns { AreIdsBelow (length graph.old.nodes) columns.now }
     requires few { entries_of spans.now + 1 < 4294967296 }
     ensures same { graph.new ≡ graph.old }
-    ensures judges { JudgesSpans graph.old ids.now problems.now spans.now (ended result) }
+    ensures judges { JudgesSpans graph.old ids.now problems.now spans.now (verdict_of result) }
     ensures coded { IfOk result (AreReadTo graph.old ids.now problems.now columns.now spans.now (min (length problems.now) (length spans.now))) }
 {
     let Ok(mut marks) = SpanNodes::new(alloc, graph.topology()) else {

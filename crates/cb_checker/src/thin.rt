@@ -3,9 +3,9 @@ ghost use Rattle.std.specs.Prelude.{◌≡◌, ◌<◌, ◌+◌, ◌↔◌, leng
 ghost use Rattle.cb_cert.specs.declared.certificate.Side.TheVariants.{Root};
 ghost use Rattle.cb_validity.specs.Canonical.{side_spans};
 ghost use Rattle.cb_validity.specs.Verdicts.{entries_of};
-ghost use Rattle.cb_checker.specs.Known.{ended};
+ghost use Rattle.cb_checker.specs.Known.{verdict_of};
 ghost use Rattle.cb_checker.specs.Verdicts.{AreSidesOf};
-ghost use Rattle.cb_checker.specs.Thin.{IsAsClaimed, IsBegun, IsShown, JudgesThinOver, ShowsThinOver};
+ghost use Rattle.cb_checker.specs.Thin.{IsAsClaimed, IsBegun, IsThinShown, JudgesThinOver, ShowsThinOver};
 
 use crate::book::known;
 use crate::names::{root_name, side_name};
@@ -40,7 +40,7 @@ pub(crate) fn check_thin<L: Ledger>(
     requires sides { AreSidesOf graph.old sides.now }
     requires few { length nodes.now + entries_of (side_spans first.now) + length second.now.entries + 1 < 4294967296 }
     ensures same { graph.new ≡ graph.old }
-    ensures judges { JudgesThinOver graph.old nodes.now first.now second.now claim.wanted claim.distance (ended result) }
+    ensures judges { JudgesThinOver graph.old nodes.now first.now second.now claim.wanted claim.distance (verdict_of result) }
     ensures shows { IfOk result (ShowsThinOver graph.old nodes.now first.now second.now claim.wanted claim.distance) }
 {
     let ids = known(alloc, graph.topology(), nodes)?;
@@ -72,7 +72,7 @@ fn shown(
 ) -> Result<Accepted, AllocError>
     requires first { IsBegun nodes.now first.now }
     requires second { IsBegun nodes.now (Root second.now) }
-    ensures { IfOk result (IsShown nodes.now first.now second.now claim) }
+    ensures { IfOk result (IsThinShown nodes.now first.now second.now claim) }
 {
     let first = side_name(alloc, nodes, first)?;
     let second = GroupName::Least(root_name(alloc, nodes, second)?);

@@ -7,7 +7,7 @@ use Rattle.cb_model.proofs.Numbers.{slice_get-push_before, slice_get-push_last}
 use Rattle.cb_coding.specs.declared.group.Problem.{Problem}
 use Rattle.cb_codes.specs.Groups.{group_with, groups_of, Fit}
 use Rattle.cb_codes.proofs.Fitting.{group_there, code_there, groups_push, groups_set, fit_push, fit_set}
-use Rattle.cb_codes.specs.EachOnce.{IsThere, GoesLast, FindsPlace}
+use Rattle.cb_codes.specs.EachOnce.{IsCodeThere, GoesLast, FindsPlace}
 use Rattle.cb_codes.specs.Grouped.{group, Joins, Opens, AddsProblem, JoinsThere, OpensLast, TakesMember}
 
 -- the first code
@@ -37,7 +37,7 @@ stays_there code old new place (inr last) i other at = subst (λ codes. slice_ge
 
 module _ (p : Problem) (codes codes' : List (List Bool)) (groups groups' : List NamedGroup) (fit : Fit codes groups) (place : ℕ) where
   -- where the code is there
-  module _ (there : IsThere p.code codes codes' place) (joins : JoinsThere place p.name groups groups') where
+  module _ (there : IsCodeThere p.code codes codes' place) (joins : JoinsThere place p.name groups groups') where
     abbrev joined : NamedGroup
     joined = record { quiet = joins.joined.quiet; members = joins.joined.members ++ p.name ∷ [] }
 

@@ -3,7 +3,7 @@ use Rattle.std.proofs.Common.{◌≡◌, ℕ, ◌+◌, ◌-◌, ◌<◌, List, [
 use Rattle.std.proofs.lemmas.Bool.{cases_lt, cases_Bool, both_ways}
 use Rattle.std.proofs.lemmas.List.{get_or_past, get_or_append_left, get_or-append_right, get_or-replicate, length-replicate, nil_from_length}
 use Rattle.cb_coding.specs.Distance.{bit, code_at}
-use Rattle.cb_codes.specs.Holders.{holders_of, AreHolders, AreHoldersOrNone, AddsPlace}
+use Rattle.cb_codes.specs.Holders.{holders_of, AreHolders, AreHoldersOrNone, AddsHolder}
 use Rattle.cb_codes.proofs.Passing.{passing, same_passing, one_more_passes, one_more_fails}
 
 -- what a code has is below its width
@@ -47,7 +47,7 @@ module _ (width : ℕ) (codes : List (List Bool)) (code : List Bool) where
   now_is column = ap (passing (has_now column)) long
 
   -- one code further
-  pub more_holders : (old new : List (List ℕ)) → AreHolders width codes old → AddsPlace code (length codes) old new → AreHolders width more new
+  pub more_holders : (old new : List (List ℕ)) → AreHolders width codes old → AddsHolder code (length codes) old new → AreHolders width more new
   more_holders old new holders adds = record {
     all = adds.all ∙ holders.all;
     each = λ column lt. elim (cases_Bool (bit code column)) [
@@ -60,13 +60,13 @@ module _ (width : ℕ) (codes : List (List Bool)) (code : List Bool) where
 
   -- or the lists are given up
   pub held_on : (old new : List (List ℕ)) (added : List Bool) (place : ℕ) → AreHoldersOrNone width codes old → added ≡ code → place ≡ length codes
-      → ((new ≡ []) ⊎ AddsPlace added place old new) → AreHoldersOrNone width more new
+      → ((new ≡ []) ⊎ AddsHolder added place old new) → AreHoldersOrNone width more new
   held_on old new added place were is at now = elim now [
     | inl none ↦ inl none
     | inr adds ↦ elim were [
       | inl none ↦ inl (nil_from_length new (adds.all ∙ ap length none))
       | inr holders ↦ inr (more_holders old new holders
-          (subst (λ i. AddsPlace code i old new) at (subst (λ v. AddsPlace v place old new) is adds)))
+          (subst (λ i. AddsHolder code i old new) at (subst (λ v. AddsHolder v place old new) is adds)))
     ]
   ]
 

@@ -9,7 +9,7 @@ use Rattle.cb_model.proofs.Numbers.{slice_get-set_other, slice_get-set_same, all
 use Rattle.cb_model.proofs.Spread.{map_at, map_there}
 use Rattle.cb_coding.specs.declared.group.Problem.{Problem}
 use Rattle.cb_coding.specs.declared.group.Group.{Group}
-use Rattle.cb_coding.specs.Groups.{AreProblems, AreGroups, members_of, group_of, same_code, zeros, codes_of}
+use Rattle.cb_coding.specs.Groups.{AreCodedProblems, AreGroups, members_of, group_of, same_code, zeros, codes_of}
 use Rattle.cb_coding.proofs.One.{same_code_true, same_code_itself}
 use Rattle.cb_codes.specs.Grouped.{group, Joins, Opens, AddsProblem}
 use Rattle.cb_codes.proofs.Before.{GroupsBefore, none_yet, all_groups, has_group, opens_group, is_new}
@@ -84,7 +84,7 @@ module _ (width : ℕ) (problems : List Problem) where
       let same = are_of_codes problems groups (λ k g at. are.each k g at ∙ ap (λ ps. members_of ps g.code) whole) in
       subst (AreGroups width problems) same (all_groups width problems i le _ are.before)
 
-  module _ (are_problems : AreProblems width problems) (i : ℕ) (p : Problem) (at : slice_get problems i ≡ Some p) (groups new : List Group)
+  module _ (are_problems : AreCodedProblems width problems) (i : ℕ) (p : Problem) (at : slice_get problems i ≡ Some p) (groups new : List Group)
       (are : AreGrouped width problems i groups) where
     abbrev full : List Group
     full = map (group_of problems) (codes_of groups)

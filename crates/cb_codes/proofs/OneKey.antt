@@ -12,7 +12,7 @@ use Rattle.cb_bits.proofs.Packed.{one_packing, one_row}
 use Rattle.cb_coding.specs.Distance.{bit, all_columns}
 use Rattle.cb_coding.proofs.Distances.{in_all_columns}
 use Rattle.cb_coding.proofs.BookLaws.{kept_by_filter, was_in_filtered}
-use Rattle.cb_codes.specs.Keys.{IsKey, columns_of, ones}
+use Rattle.cb_codes.specs.Keys.{IsKey, columns_of, code_weight}
 use Rattle.cb_codes.proofs.ByColumn.{had_within}
 use Rattle.cb_codes.proofs.Passing.{passing, one_more_passes, none_further, passing_grow}
 
@@ -37,13 +37,13 @@ module _ (code : List Bool) where
       (λ k d lt. get_or_default code k d false lt ∙ sym (get_or-map-range_with_len (bit code) 0 (length code) k k d lt (omega arith)))
 
   -- it has as many columns as are listed
-  pub as_many : length (columns_of code) ≡ ones code
+  pub as_many : length (columns_of code) ≡ code_weight code
   as_many =
       let digit : Bool → ℕ = λ b. cond b 1 0 in
       length-filter (bit code) (all_columns (length code)) ∙ sym (ap (count_by (λ value. value)) by_columns ∙ sum_by-map digit (bit code) (all_columns (length code)))
 
   -- and no fewer than those before a place
-  pub no_fewer : (columns : List ℕ) (from : ℕ) → columns ≡ passing (bit code) from → from ≤ length code → length columns ≤ ones code
+  pub no_fewer : (columns : List ℕ) (from : ℕ) → columns ≡ passing (bit code) from → from ≤ length code → length columns ≤ code_weight code
   no_fewer columns from are within =
       let some = ap length are in
       let further = passing_grow (bit code) from (length code - from) (length code) (omega arith) in
@@ -59,7 +59,7 @@ module _ (code : List Bool) where
 
   -- a code has one key
   pub one_key : (a b : List ℕ) → IsKey code a → IsKey code b → a ≡ b
-  one_key a b ka kb = elim (cases_lt (ones code) (words_for (length code))) [
+  one_key a b ka kb = elim (cases_lt (code_weight code) (words_for (length code))) [
     | inl few ↦ ka.sparse few ∙ sym (kb.sparse few)
     | inr many ↦ one_packing code a b (ka.dense many) (kb.dense many)
   ]
@@ -80,19 +80,19 @@ same_columns v w same columns = same_lists v w same (λ k d lt.
 -- and so are codes of one width with the same key
 pub one_code : (v w : List Bool) (key : List ℕ) → length v ≡ length w → IsKey v key → IsKey w key → v ≡ w
 one_code v w key same kv kw =
-    elim (cases_lt (ones v) (words_for (length v))) [
-      | inl few ↦ elim (cases_lt (ones w) (words_for (length w))) [
+    elim (cases_lt (code_weight v) (words_for (length v))) [
+      | inl few ↦ elim (cases_lt (code_weight w) (words_for (length w))) [
         | inl few_too ↦ same_columns v w same (sym (kv.sparse few) ∙ kw.sparse few_too)
         | inr many ↦ absurd (apart v w same key few (kv.sparse few) (kw.dense many))
       ]
-      | inr many ↦ elim (cases_lt (ones w) (words_for (length w))) [
+      | inr many ↦ elim (cases_lt (code_weight w) (words_for (length w))) [
         | inl few ↦ absurd (apart w v (sym same) key few (kw.sparse few) (kv.dense many))
         | inr many_too ↦ one_row v w key same (kv.dense many) (kw.dense many_too)
       ]
     ]
   where
     -- a list of columns is shorter than words are
-    apart : (a b : List Bool) → length a ≡ length b → (key : List ℕ) → ones a < words_for (length a) → key ≡ columns_of a → ¬ Packs b key
+    apart : (a b : List Bool) → length a ≡ length b → (key : List ℕ) → code_weight a < words_for (length a) → key ≡ columns_of a → ¬ Packs b key
     apart a b same key few columns packs =
         let long = word_count b key packs in
         let short = ap length columns ∙ as_many a in

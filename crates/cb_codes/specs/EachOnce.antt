@@ -9,7 +9,7 @@ pub record AreKeysOf (codes : List (List Bool)) (keys : List (Vec ℕ)) : Type 0
   pub each : (i : ℕ) (code : List Bool) (key : Vec ℕ) → slice_get codes i ≡ Some code → slice_get keys i ≡ Some key → IsKey code key.items
 
 -- the code is at that position already
-pub record IsThere (code : List Bool) (old new : List (List Bool)) (place : ℕ) : Type 0 where
+pub record IsCodeThere (code : List Bool) (old new : List (List Bool)) (place : ℕ) : Type 0 where
   pub at : slice_get old place ≡ Some code
   pub same : new ≡ old
 
@@ -21,4 +21,4 @@ pub record GoesLast (code : List Bool) (old new : List (List Bool)) (place : ℕ
 
 -- the position of a code, which is put there if it is at none
 abbrev pub FindsPlace : List Bool → List (List Bool) → List (List Bool) → ℕ → Type 0
-FindsPlace code old new place = IsThere code old new place ⊎ GoesLast code old new place
+FindsPlace code old new place = IsCodeThere code old new place ⊎ GoesLast code old new place

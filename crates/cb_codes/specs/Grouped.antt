@@ -55,6 +55,6 @@ pub record FitsTogether (width : ℕ) (grouping : Grouping) : Type 0 where
   pub fit : Fit grouping.codes.codes.rows grouping.named.items
 
 -- these are the problems, each with the position of its group
-pub record Holds (problems : List Problem) (grouping : Grouping) : Type 0 where
+pub record HoldsProblems (problems : List Problem) (grouping : Grouping) : Type 0 where
   pub names : grouping.problems ≡ map (λ p. p.name) problems
   pub places : AllZip (λ place p. slice_get grouping.codes.codes.rows place ≡ Some p.code) grouping.places problems

@@ -10,15 +10,15 @@ abbrev pub columns_of : List Bool → List ℕ
 columns_of code = filter (bit code) (all_columns (length code))
 
 -- how many columns a code has
-abbrev pub ones : List Bool → ℕ
-ones code = count_by (λ value. value) code
+abbrev pub code_weight : List Bool → ℕ
+code_weight code = count_by (λ value. value) code
 
 -- the key of a code: its columns, where these are fewer than its words, and else its words
 pub record IsKey (code : List Bool) (key : List ℕ) : Type 0 where
-  pub sparse : ones code < words_for (length code) → key ≡ columns_of code
-  pub dense : words_for (length code) ≤ ones code → Packs code key
+  pub sparse : code_weight code < words_for (length code) → key ≡ columns_of code
+  pub dense : words_for (length code) ≤ code_weight code → Packs code key
 
 -- the columns of a code, where these are fewer than the limit, and else nothing
 abbrev pub AreColumnsBelow : List Bool → ℕ → Option (Vec ℕ) → Type 0
-AreColumnsBelow code limit None = limit ≤ ones code
-AreColumnsBelow code limit (Some columns) = (ones code < limit) × (columns.items ≡ columns_of code)
+AreColumnsBelow code limit None = limit ≤ code_weight code
+AreColumnsBelow code limit (Some columns) = (code_weight code < limit) × (columns.items ≡ columns_of code)

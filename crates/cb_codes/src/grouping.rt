@@ -3,7 +3,7 @@ ghost use Rattle.std.specs.Prelude.{◌≡◌, ◌≤◌, List as Items, [], ◌
 ghost use Rattle.cb_coding.specs.Groups.{zeros as no_symptom};
 ghost use Rattle.cb_coding.specs.declared.group.Problem.{Problem as Problem_};
 ghost use Rattle.cb_codes.specs.Groups.{Fit};
-ghost use Rattle.cb_codes.specs.Grouped.{group, AddsProblem, FitsTogether, Holds, TakesMember, groups_in};
+ghost use Rattle.cb_codes.specs.Grouped.{group, AddsProblem, FitsTogether, HoldsProblems, TakesMember, groups_in};
 
 use crate::each_once::EachOnce;
 use crate::groups::Groups;
@@ -26,7 +26,7 @@ impl Grouping {
     pub fn of_quiet(alloc: Global, width: usize) -> Result<Grouping, AllocError>
         ensures sound { IfOk result (FitsTogether width) }
         ensures quiet { IfOk result (λ made. groups_in made ≡ group (no_symptom width) [] ∷ []) }
-        ensures none { IfOk result (Holds []) }
+        ensures none { IfOk result (HoldsProblems []) }
     {
         let mut codes = EachOnce::new(alloc, width);
         codes.place_of(alloc, Row::zeroed(alloc, width)?)?;
@@ -48,7 +48,7 @@ impl Grouping {
         requires sound { FitsTogether (length problem.code) self.old }
         ensures sound { OnOk result (FitsTogether (length problem.code) self.new) }
         ensures added { OnOk result (AddsProblem problem (groups_in self.old) (groups_in self.new)) }
-        ensures holds { OnOk result ((before : Items Problem_) → Holds before self.old → Holds (before ++ problem ∷ []) self.new) }
+        ensures holds { OnOk result ((before : Items Problem_) → HoldsProblems before self.old → HoldsProblems (before ++ problem ∷ []) self.new) }
     {
         let Problem { name, code } = problem;
         let member = name.copy(alloc)?;

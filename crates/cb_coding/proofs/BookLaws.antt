@@ -14,7 +14,7 @@ use Rattle.cb_model.specs.declared.wish.Wish.TheVariants.{Plain, Cap}
 use Rattle.cb_coding.specs.Distance.{differ, bit, all_columns, code_at, apart}
 use Rattle.cb_coding.specs.Pairs.{IsPair, Good, plain_need, GoodFor}
 use Rattle.cb_coding.specs.Needs.{capped_need, need_of}
-use Rattle.cb_coding.specs.Books.{without, IsChoice, IsBook, IsCapBook, IsInUse, IsMetFor, IsChoiceInUse}
+use Rattle.cb_coding.specs.Books.{columns_without, IsChoice, IsBook, IsCapBook, IsInUse, IsMetFor, IsChoiceInUse}
 use Rattle.cb_coding.specs.Laws.{leaving_out}
 use Rattle.cb_coding.specs.Radii.{AreRadii}
 use Rattle.cb_coding.proofs.One.{same_numbers, closest_is_one}
@@ -224,7 +224,7 @@ module _ (width : ℕ) (codes : List (List Bool)) (need : ℕ → ℕ → ℕ) (
       elim (cases_lt (far i j (all_columns c) + far i j (from c)) (need i j)) [
         | inl low ↦
             let out : ¬ Contains columns c = λ there. omega (arith, far_with i j c there, far_cons i j c (after c)) in
-            let good = good_for_is_stable codes (without c columns) need (λ bad. out ((is.kept c (omega arith)).1 bad)) in
+            let good = good_for_is_stable codes (columns_without c columns) need (λ bad. out ((is.kept c (omega arith)).1 bad)) in
             absurd (omega (arith, good i j pair, far_append i j (all_columns c) (after c), far_after i j c))
         | inr high ↦ high
       ]

@@ -9,12 +9,12 @@ use Rattle.cb_model.specs.declared.wish.Wish.{Wish}
 use Rattle.cb_model.specs.declared.wish.Wish.TheVariants.{Plain, Cap}
 use Rattle.cb_coding.specs.Distance.{all_columns}
 use Rattle.cb_coding.specs.Needs.{capped_need, need_of}
-use Rattle.cb_coding.specs.Pairs.{Good, IsLeast, plain_need, GoodFor}
+use Rattle.cb_coding.specs.Pairs.{Good, IsClosestPair, plain_need, GoodFor}
 use Rattle.cb_coding.specs.Radii.{AreRadii}
 
 -- all columns before c, and those of the book after c
-abbrev pub without : ℕ → List ℕ → List ℕ
-without c columns = all_columns c ++ filter (λ k. nat_lt c k) columns
+abbrev pub columns_without : ℕ → List ℕ → List ℕ
+columns_without c columns = all_columns c ++ filter (λ k. nat_lt c k) columns
 
 -- All columns are good for a need, and a column is kept exactly where those before it, together with the kept ones after it,
 -- aren't.
@@ -22,7 +22,7 @@ pub record IsChoice (width : ℕ) (codes : List (List Bool)) (need : ℕ → ℕ
   pub good : GoodFor codes (all_columns width) need
   pub rise : IsStrictlyIncreasing columns
   pub within : All (λ k. k < width) columns
-  pub kept : (c : ℕ) → c < width → Contains columns c ↔ ¬ GoodFor codes (without c columns) need
+  pub kept : (c : ℕ) → c < width → Contains columns c ↔ ¬ GoodFor codes (columns_without c columns) need
 
 -- the choice at the book's distance
 abbrev pub IsBook : ℕ → List (List Bool) → Book → Type 0
@@ -37,14 +37,14 @@ pub record IsCapBook (width : ℕ) (codes : List (List Bool)) (book : CapBook) :
 pub record IsInUse (width : ℕ) (codes : List (List Bool)) (wanted : ℕ) (book : Book) : Type 0 where
   pub is_book : IsBook width codes book
   pub wanted_is : Good codes (all_columns width) wanted → book.distance ≡ wanted
-  pub least_is : ¬ Good codes (all_columns width) wanted → (pair : Pair) × IsLeast width codes (Some pair) × (book.distance ≡ pair.distance)
+  pub least_is : ¬ Good codes (all_columns width) wanted → (pair : Pair) × IsClosestPair width codes (Some pair) × (book.distance ≡ pair.distance)
 
 -- The wish that is met in place of another: a cap always is; a distance where all columns are good at it, and else the least
 -- distance is.
 abbrev pub IsMetFor : ℕ → List (List Bool) → Wish → Wish → Type 0
 IsMetFor width codes (Plain d) used =
     (Good codes (all_columns width) d → used ≡ Plain d)
-    × (¬ Good codes (all_columns width) d → (pair : Pair) × IsLeast width codes (Some pair) × (used ≡ Plain pair.distance))
+    × (¬ Good codes (all_columns width) d → (pair : Pair) × IsClosestPair width codes (Some pair) × (used ≡ Plain pair.distance))
 IsMetFor width codes (Cap cap) used = used ≡ Cap cap
 
 -- the columns in use for a wish, and the wish that they meet

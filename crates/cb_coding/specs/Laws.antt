@@ -11,18 +11,18 @@ use Rattle.cb_coding.specs.declared.group.Problem.{Problem}
 use Rattle.cb_coding.specs.declared.group.Group.{Group}
 use Rattle.cb_model.specs.declared.wish.Wish.{Wish}
 use Rattle.cb_coding.specs.Distance.{distance, all_columns}
-use Rattle.cb_coding.specs.Pairs.{IsLeast, IsFirstShort, IsFirstClose, Good, GoodFor}
+use Rattle.cb_coding.specs.Pairs.{IsClosestPair, IsFirstShort, IsFirstClose, Good, GoodFor}
 use Rattle.cb_model.specs.declared.wish.Wish.TheVariants.{Plain, Cap}
 use Rattle.cb_coding.specs.Needs.{capped_need, need_of}
 use Rattle.cb_coding.specs.Books.{IsChoice, IsBook, IsCapBook, IsInUse, IsChoiceInUse}
 use Rattle.cb_coding.specs.Answers.{IsAnswer, IsAnswerBy, from_word, radius}
 use Rattle.cb_coding.specs.Radii.{AreRadii, radius_at}
 use Rattle.cb_coding.specs.Used.{IsRadius, AreLeastAndGreatest, AsksSomething, IsAnswerFor}
-use Rattle.cb_coding.specs.Groups.{AreProblems, AreGroups, codes_of}
+use Rattle.cb_coding.specs.Groups.{AreCodedProblems, AreGroups, codes_of}
 
 -- codes have one closest pair
 abbrev pub LeastIsOne : Type 0
-LeastIsOne = (width : ℕ) (codes : List (List Bool)) (p q : Option Pair) → IsLeast width codes p → IsLeast width codes q → p ≡ q
+LeastIsOne = (width : ℕ) (codes : List (List Bool)) (p q : Option Pair) → IsClosestPair width codes p → IsClosestPair width codes q → p ≡ q
 
 -- codes have one first pair that is closer than wanted
 abbrev pub FirstCloseIsOne : Type 0
@@ -144,7 +144,7 @@ IsIn groups i name = (g : Group) × (slice_get groups i ≡ Some g) × Contains 
 -- every problem is in one group, and in no other
 abbrev pub ProblemIsInOneGroup : Type 0
 ProblemIsInOneGroup = (width : ℕ) (problems : List Problem) (groups : List Group) (p : Problem)
-    → AreProblems width problems → AreGroups width problems groups → Contains problems p
+    → AreCodedProblems width problems → AreGroups width problems groups → Contains problems p
     → (i : ℕ) × IsIn groups i p.name × ((j : ℕ) → IsIn groups j p.name → j ≡ i)
 
 -- no two groups have one code
@@ -154,13 +154,13 @@ GroupsHaveDifferentCodes = (width : ℕ) (problems : List Problem) (groups : Lis
 
 -- the codes of groups are good at 1
 abbrev pub OneIsGood : Type 0
-OneIsGood = (width : ℕ) (problems : List Problem) (groups : List Group) → AreProblems width problems → AreGroups width problems groups
+OneIsGood = (width : ℕ) (problems : List Problem) (groups : List Group) → AreCodedProblems width problems → AreGroups width problems groups
     → Good (codes_of groups) (all_columns width) 1
 
 -- the closest groups are at least 1 apart
 abbrev pub LeastIsPositive : Type 0
-LeastIsPositive = (width : ℕ) (problems : List Problem) (groups : List Group) → AreProblems width problems → AreGroups width problems groups
-    → (pair : Pair) → IsLeast width (codes_of groups) (Some pair) → 0 < pair.distance
+LeastIsPositive = (width : ℕ) (problems : List Problem) (groups : List Group) → AreCodedProblems width problems → AreGroups width problems groups
+    → (pair : Pair) → IsClosestPair width (codes_of groups) (Some pair) → 0 < pair.distance
 
 -- over a choice of columns the codes are as far apart as they need
 abbrev pub ChoiceIsGood : Type 0

@@ -13,7 +13,7 @@ use Rattle.cb_bits.proofs.Totals.{sum_by-map}
 use Rattle.cb_bits.specs.Bits.{IsNextOne, HasNoneFrom}
 use Rattle.cb_compact.specs.declared.compact.Kept.{Kept}
 use Rattle.cb_compact.specs.declared.compact.Kept.TheVariants.{Places, Whole}
-use Rattle.cb_compact.specs.Compact.{ones_of, with_ones, values_of, Keeps, AreRising, AreBefore}
+use Rattle.cb_compact.specs.Compact.{ones_of, with_ones, values_of, KeepsRow, AreRising, AreBefore}
 
 numbers_rise : (n : ℕ) → AreRising (range_with_len 0 n)
 numbers_rise n i j d lt le =
@@ -130,6 +130,6 @@ module _ (places : List ℕ) (row : List Bool) (are : places ≡ ones_of row) wh
     is_nowhere other = none_until from (omega arith) (λ lt. let le = before.after at (omega arith) lt in let no = other lt in omega arith)
 
 -- what is kept of a row has its values
-pub kept_values : (row : List Bool) (kept : Kept) → Keeps row kept → values_of kept (length row) ≡ row
+pub kept_values : (row : List Bool) (kept : Kept) → KeepsRow row kept → values_of kept (length row) ≡ row
 kept_values row (Places places) keeps = ap (λ ps. with_ones ps (length row)) keeps ∙ values_are row
 kept_values row (Whole whole) keeps = keeps

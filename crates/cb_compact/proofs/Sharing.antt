@@ -9,7 +9,7 @@ use mathlib.Core.Bool.{beq}
 use Rattle.cb_bits.specs.Bits.{differing}
 use Rattle.cb_compact.specs.declared.compact.Kept.{Kept}
 use Rattle.cb_compact.specs.declared.compact.Kept.TheVariants.{Places}
-use Rattle.cb_compact.specs.Compact.{ones_of, values_of, Keeps, IsCompactOf, differs, differing_under}
+use Rattle.cb_compact.specs.Compact.{ones_of, values_of, KeepsRow, IsCompactOf, differs, differing_under}
 use Rattle.cb_compact.proofs.Counting.{once, no_more_than}
 use Rattle.cb_compact.proofs.Ones.{by_places, one_at, one_within}
 
@@ -166,7 +166,7 @@ module _ (v w : List Bool) (same : length v ≡ length w) where
 
 -- what a row stores as a list are its ones
 pub listed_of : (v : List Bool) (kept : Kept) (n weight : ℕ) (places : Vec ℕ Global) → values_of kept n ≡ v → IsCompactOf kept n weight → kept ≡ Places places → places.items ≡ ones_of v
-listed_of v kept n weight places view is same = subst (λ k. Keeps v k) same (subst (λ r. Keeps r kept) view is.keeps)
+listed_of v kept n weight places view is same = subst (λ k. KeepsRow v k) same (subst (λ r. KeepsRow r kept) view is.keeps)
 
 -- the same of a list that has the positions of the ones
 module _ (list : List ℕ) (v w : List Bool) (are : list ≡ ones_of v) (same : length v ≡ length w) where

@@ -12,7 +12,7 @@ use Rattle.std.proofs.lemmas.Nat.{xor_lt}
 use Rattle.std.proofs.lemmas.Nat.Bits.{bit_at-zero}
 use Rattle.std.proofs.lemmas.Simd.{get_or-zip2}
 use mathlib.Core.Bool.{beq}
-use Rattle.cb_lanes.specs.Words.{bit_of, in_not, IsNextBit, differs as bits_differ, differing_under as bits_under, word_limit}
+use Rattle.cb_lanes.specs.Words.{bit_of, in_not, IsNextBit, bit_differs as bits_differ, differing_bits_under as bits_under, word_limit}
 use Rattle.cb_lanes.proofs.Zipped.{zip_bit, xor_bits}
 use Rattle.cb_bits.specs.Bits.{Packs}
 use Rattle.cb_bits.proofs.NextOnes.{all_left}
@@ -119,7 +119,7 @@ module _ (v w mask : List Bool) (a b m : List ℕ) (pv : Packs v a) (pw : Packs 
       let rest = below n in
       omega arith
 
-  -- at so many ones of the mask two rows differ
+  -- at how many ones of the mask two rows differ
   pub under_is : length v ≡ length mask → length w ≡ length mask → bits_under a b m ≡ differing_under mask v w
   under_is same same' =
       let enough = pv.holds.enough in

@@ -19,14 +19,14 @@ values_of (Places places) n = with_ones places.items n
 values_of (Whole row) n = row
 
 -- this is kept of a row: the positions of its ones, or all of it
-abbrev pub Keeps : List Bool → Kept → Type 0
-Keeps row (Places places) = places.items ≡ ones_of row
-Keeps row (Whole whole) = whole ≡ row
+abbrev pub KeepsRow : List Bool → Kept → Type 0
+KeepsRow row (Places places) = places.items ≡ ones_of row
+KeepsRow row (Whole whole) = whole ≡ row
 
 -- the stored form of n values, of which `weight` are true
 pub record IsCompactOf (kept : Kept) (n weight : ℕ) : Type 0 where
   pub long : length (values_of kept n) ≡ n
-  pub keeps : Keeps (values_of kept n) kept
+  pub keeps : KeepsRow (values_of kept n) kept
   pub counted : weight ≡ count_by (λ value. value) (values_of kept n)
 
 -- each position is below all later ones

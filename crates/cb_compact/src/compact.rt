@@ -1,7 +1,7 @@
 //! A row of truth values, by the positions of its ones where these are few.
 ghost use Rattle.std.specs.Prelude.{All, ◌≡◌, ◌+◌, ◌<◌, ◌≤◌, length, true, false, slice_index_or, count_by, SomeIff, IfSome, IfNone, IfOk};
 ghost use Rattle.cb_bits.specs.Bits.{differing, IsNextOne, HasNoneFrom};
-ghost use Rattle.cb_compact.specs.Compact.{ones_of, with_ones, AreRising, AreBefore, Keeps, differs, differing_before, differing_under};
+ghost use Rattle.cb_compact.specs.Compact.{ones_of, with_ones, AreRising, AreBefore, KeepsRow, differs, differing_before, differing_under};
 
 use crate::apart::nth_apart;
 use crate::beside::{shared, shared_under};
@@ -269,7 +269,7 @@ impl CompactRow {
 // The positions of the `ones` ones, if these are fewer than half of the words of the row, and else a copy: a step in two lists takes as long as
 // some two words.
 fn kept_of(alloc: Global, row: &Row, ones: usize) -> Result<Kept, AllocError>
-    ensures { IfOk result (Keeps row.now) }
+    ensures { IfOk result (KeepsRow row.now) }
 {
     if row.len() <= MOST_PLACES && ones < row.words().len() / 2 {
         let places = places_of(alloc, row, ones)?;

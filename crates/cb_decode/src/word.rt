@@ -2,7 +2,7 @@
 ghost use Rattle.std.specs.Prelude.{◌≡◌, IfOk};
 ghost use Rattle.cb_model.specs.Order.{Rises};
 ghost use Rattle.cb_model.specs.NodeOrder.{node_cmp};
-ghost use Rattle.cb_decode.specs.Found.{IsPlaceOf};
+ghost use Rattle.cb_decode.specs.Found.{IsPlaceAmong};
 ghost use Rattle.cb_finding.specs.Finding.{unknown_of, word_of as word_of_raised};
 
 use cb_bits::Row;
@@ -30,7 +30,7 @@ pub fn word_of(
 // The position of a node among columns, which are in order.
 fn place_of(columns: &List<NodeName>, node: &NodeName) -> Option<usize>
     requires { Rises node_cmp columns.now }
-    ensures { IsPlaceOf columns.now node.now result }
+    ensures { IsPlaceAmong columns.now node.now result }
 {
     columns.as_slice().binary_search(node).ok()
 }

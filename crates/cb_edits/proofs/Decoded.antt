@@ -10,7 +10,7 @@ use Rattle.cb_text.specs.Names.{IsName}
 use Rattle.cb_text.proofs.Cuts.{name_lacks_at}
 use Rattle.cb_network.specs.declared.edit.Edit.{Edit}
 use Rattle.cb_network.specs.declared.edit.Edit.TheVariants.{Create, Delete, Link, Unlink, Mute, Unmute}
-use Rattle.cb_edits.specs.Spelled.{SpellsEditWords, HasNames, words_for, node_text}
+use Rattle.cb_edits.specs.Spelled.{SpellsEditWords, EditHasNames, edit_words, node_spelling}
 
 -- the word of this place
 abbrev word : List (List ℕ) → ℕ → List ℕ
@@ -23,15 +23,15 @@ event_of text = word (slice_split (λ b. nat_eq b 64) text) 0
 abbrev name_of : List ℕ → List ℕ
 name_of text = drop (length (event_of text ++ codes "@")) text
 
-event_is : (event name : List ℕ) → IsName event → event_of (node_text event name) ≡ event
+event_is : (event name : List ℕ) → IsName event → event_of (node_spelling event name) ≡ event
 event_is event name is =
     let cut = ap (slice_split (λ b. nat_eq b 64)) (append_assoc event (codes "@") name) in
     let parts = slice_split_at (λ b. nat_eq b 64) event 64 name (name_lacks_at event is.run) (search rules) in
     ap (λ (words : List (List ℕ)). word words 0) (cut ∙ parts)
 
-name_is : (event name : List ℕ) → IsName event → name_of (node_text event name) ≡ name
+name_is : (event name : List ℕ) → IsName event → name_of (node_spelling event name) ≡ name
 name_is event name is =
-    ap (λ (e : List ℕ). drop (length (e ++ codes "@")) (node_text event name)) (event_is event name is) ∙ drop-append_seam (event ++ codes "@") name
+    ap (λ (e : List ℕ). drop (length (e ++ codes "@")) (node_spelling event name)) (event_is event name is) ∙ drop-append_seam (event ++ codes "@") name
 
 -- the edit of words
 decoded : List (List ℕ) → Edit
@@ -44,7 +44,7 @@ decoded words =
     (cond (bytes_eq verb (codes "mute")) (Mute (event_of (word words 1)) (name_of (word words 1)))
     (Unmute (event_of (word words 1)) (name_of (word words 1)))))))
 
-decoded_is : (edit : Edit) → HasNames edit → decoded (words_for edit) ≡ edit
+decoded_is : (edit : Edit) → EditHasNames edit → decoded (edit_words edit) ≡ edit
 unfolding decoded
 decoded_is (Create name class) names = refl
 decoded_is (Delete name) names = refl

@@ -13,21 +13,21 @@ use Rattle.cb_levels.specs.declared.levels.Levels.{Levels}
 use Rattle.cb_levels.specs.declared.verdict.LevelFault.{LevelFault}
 use Rattle.cb_levels.specs.Valid.{AreValidLevels}
 use Rattle.cb_levels.specs.declared.verdict.LevelFault.TheVariants as why
-use Rattle.cb_levels.specs.Checks.{parent_check, edge_check, new_check, level_check, checks_of_entry, EntryIs, IsParentEarlier, HasEdgeFromParent, PassesCheck, FailsFirstOf, IsRejectedFor, TellsFault}
+use Rattle.cb_levels.specs.Checks.{parent_check, edge_check, new_check, level_check, checks_of_entry, LevelEntryIs, IsParentEarlier, HasEdgeFromParent, PassesCheck, FailsFirstOf, IsRejectedFor, TellsLevelFault}
 use Rattle.cb_explain.specs.declared.listed.ListedNodes.{ListedNodes}
 use Rattle.cb_explain.specs.declared.entries.EntryFault.{EntryFault}
 use Rattle.cb_explain.specs.declared.entries.EntryFault.TheVariants as fault
 use Rattle.cb_explain.specs.declared.survey.WrongSuccessor.{WrongSuccessor}
 use Rattle.cb_explain.specs.declared.survey.Survey.{Survey}
 use Rattle.cb_explain.specs.Checking.{AreGoodNodes, IsRootNumber, AreListedNodes, HaveParents, HasEntryFault, FaultOf, IsDeepest, AreMarkedLed, IsFirstNotLed}
-use Rattle.cb_explain.specs.Surveyed.{IsLedBefore, IsFirstWrongOf, IsFirstWrong, IsSurvey, ReportsWrong, wrong_fault}
+use Rattle.cb_explain.specs.Surveyed.{IsLedBefore, IsFirstWrongOf, IsFirstWrongIfAny, IsSurvey, ReportsWrong, wrong_fault}
 use Rattle.cb_explain.proofs.Listing.{first_listed}
 use Rattle.cb_explain.proofs.Leading.{edge_of_led, led_of_edge}
 use Rattle.cb_explain.proofs.Lacking.{successors_pass, lack_fails}
 use Rattle.cb_explain.proofs.Rejecting.{fails_here, fails_next, entry_fails, successors_fail, all_pass}
 
--- what levels are rejected for is told
-pub rejected_tells : (t : Topology) (levels : Levels) (reported : LevelFault) → IsRejectedFor t levels reported → TellsFault t levels reported
+-- what levels are rejected for is reported
+pub rejected_tells : (t : Topology) (levels : Levels) (reported : LevelFault) → IsRejectedFor t levels reported → TellsLevelFault t levels reported
 rejected_tells t levels (why.BadNode a) is = is
 rejected_tells t levels (why.BadRoot a) is = is
 rejected_tells t levels (why.BadParent a) is = is
@@ -43,7 +43,7 @@ module _ (n : Numbered) (levels : Levels) (position : ℕ) where
   abbrev t : Topology
   t = topology_of n
 
-  no_edge_fails : EntryIs levels position (IsParentEarlier position) → ¬ EntryIs levels position (HasEdgeFromParent t levels)
+  no_edge_fails : LevelEntryIs levels position (IsParentEarlier position) → ¬ LevelEntryIs levels position (HasEdgeFromParent t levels)
       → FailsFirstOf t levels (checks_of_entry position) (why.NoEdge (position + 1))
   no_edge_fails parent none =
       fails_next t levels (parent_check position) (edge_check position ∷ new_check position ∷ level_check position ∷ []) (why.NoEdge (position + 1)) parent
@@ -110,7 +110,7 @@ module _ (n : Numbered) (levels : Levels) (listed : ListedNodes) (are : AreListe
 
   pub unled_rejected : (position : ℕ) → IsFirstNotLed survey.led.items position → IsRejectedFor (topology_of n) levels (why.NoEdge (position + 1))
   unled_rejected position first =
-      let room = found.room in
+      let capacity = found.capacity in
       let within = are.within in
       let below = first.within in
       let low : position < length nodes = omega arith in
@@ -120,7 +120,7 @@ module _ (n : Numbered) (levels : Levels) (listed : ListedNodes) (are : AreListe
 
   module _ (led : AreMarkedLed survey.led.items (length survey.led.items)) where
     all_pass_to : (j : ℕ) → 0 < j → j < length nodes → All (PassesCheck (topology_of n) levels) (checks_of_entry j)
-    all_pass_to = let room = found.room in passes_to (length nodes) (omega arith) (subst (AreMarkedLed survey.led.items) room led)
+    all_pass_to = let capacity = found.capacity in passes_to (length nodes) (omega arith) (subst (AreMarkedLed survey.led.items) capacity led)
 
     pub fault_rejected : 0 < length nodes → (wrong : EntryFault) → (length nodes < length levels.entries) × HasEntryFault n levels (length nodes) wrong
         → (reported : LevelFault) → FaultOf (topology_of n) levels (length nodes) wrong reported → IsRejectedFor (topology_of n) levels reported
@@ -143,7 +143,7 @@ module _ (n : Numbered) (levels : Levels) (listed : ListedNodes) (are : AreListe
           (wrong_fault lack.fault (lack.position + 1) told.successor)
           (lack_fails n levels listed are all lack.position low first.id first.id_is first.entry first.entry_is lack.fault lack.successor told.successor told.named first.least))
 
-      pub none_rejected : IsFirstWrong n levels nodes (length nodes) None → AreValidLevels (topology_of n) levels
+      pub none_rejected : IsFirstWrongIfAny n levels nodes (length nodes) None → AreValidLevels (topology_of n) levels
       none_rejected none =
           all_pass (topology_of n) levels good root.root root.begins entries_pass
           (λ j low. successors_pass n levels listed are all j (omega arith) (none j (omega arith)))

@@ -24,13 +24,13 @@ use Rattle.cb_levels.specs.declared.levels.LevelEntry.{LevelEntry}
 use Rattle.cb_levels.specs.declared.levels.Levels.{Levels}
 use Rattle.cb_levels.specs.declared.verdict.LevelFault.TheVariants.{NotClosed, NotShort}
 use Rattle.cb_levels.specs.Listed.{IsEntryAt, ListsInLevels}
-use Rattle.cb_levels.specs.Checks.{closed_check, short_check, checks_of_successors, IsTooFar, IsClosedAt, IsShortAt, PassesCheck, FailsFirstOf, IsLeastSuccessor}
+use Rattle.cb_levels.specs.Checks.{closed_check, short_check, checks_of_successors, IsTooFar, AreLevelsClosedAt, IsShortAt, PassesCheck, FailsFirstOf, IsLeastSuccessor}
 use Rattle.cb_explain.specs.declared.listed.ListedNodes.{ListedNodes}
 use Rattle.cb_explain.specs.declared.survey.WrongSuccessor.{WrongSuccessor}
 use Rattle.cb_explain.specs.declared.survey.SuccessorFault.{SuccessorFault}
 use Rattle.cb_explain.specs.declared.survey.SuccessorFault.TheVariants.{Unlisted, Far}
 use Rattle.cb_explain.specs.Checking.{HavePositions, AreListedNodes}
-use Rattle.cb_explain.specs.Surveyed.{IsFarAbove, IsWrongAt, IsLeastNumber, IsLeastIfSome, IsNoHigher, IsNotAfter, IsLeastWrong, IsLeastWrongIfAny, IsLeastWrongAmong, IsKnownOr, HasNoWrong, IsFirstWrongOf, IsFirstWrong, IsLower, wrong_fault}
+use Rattle.cb_explain.specs.Surveyed.{IsFarAbove, IsWrongAt, IsLeastNumber, IsLeastIfSome, IsNoHigher, IsNotAfter, IsLeastWrong, IsLeastWrongIfAny, IsLeastWrongAmong, IsKnownOr, HasNoWrong, IsFirstWrongOf, IsFirstWrongIfAny, IsLower, wrong_fault}
 use Rattle.cb_explain.proofs.Listing.{number_at, listed_by_name, listed_or_not, none_there, live_below}
 use Rattle.cb_explain.proofs.Leading.{among_more, among_last, among_cases, contains_among}
 use Rattle.cb_explain.proofs.Rejecting.{fails_here, fails_next}
@@ -113,7 +113,7 @@ module _ (E F : ℕ → Type 0) (Le Me : ℕ → ℕ → Type 0) (P : SuccessorF
 -- the first lack
 
 module _ (n : Numbered) (levels : Levels) (nodes : List NodeId) where
-  pub none_lack : IsFirstWrong n levels nodes 0 None
+  pub none_lack : IsFirstWrongIfAny n levels nodes 0 None
   none_lack = λ position low. absurd (omega arith)
 
   later_bound : (to : ℕ) (lack : WrongSuccessor) → IsFirstWrongOf n levels nodes to lack → IsFirstWrongOf n levels nodes (to + 1) lack
@@ -144,8 +144,8 @@ module _ (n : Numbered) (levels : Levels) (nodes : List NodeId) where
         let one : e ≡ entry = same_Some e entry (sym at_e ∙ entry_is) in
         none w k (edge_among k (subst (λ (x : NodeId). EdgeAt n x.0 k) same edge), subst (λ (x : LevelEntry). IsWrongAt levels nodes x.level w k) one wrong)
 
-    lack_now : (lack : Option WrongSuccessor) → IsFirstWrong n levels nodes to None → IsLeastWrongIfAny (IsAmong successors) (IsNoHigher order.ranks.items) P to lack
-        → IsFirstWrong n levels nodes (to + 1) lack
+    lack_now : (lack : Option WrongSuccessor) → IsFirstWrongIfAny n levels nodes to None → IsLeastWrongIfAny (IsAmong successors) (IsNoHigher order.ranks.items) P to lack
+        → IsFirstWrongIfAny n levels nodes (to + 1) lack
     lack_now None before none = λ position low. elim (cases_lt position to) [
       | inl earlier ↦ before position earlier
       | inr late ↦
@@ -163,10 +163,10 @@ module _ (n : Numbered) (levels : Levels) (nodes : List NodeId) where
           lack.fault lack.successor is;
     }
 
-    pub lack_more : (known lack : Option WrongSuccessor) → IsFirstWrong n levels nodes to known → IsKnownOr known (IsLeastWrongAmong order.ranks.items levels nodes successors to) lack
-        → IsFirstWrong n levels nodes (to + 1) lack
+    pub lack_more : (known lack : Option WrongSuccessor) → IsFirstWrongIfAny n levels nodes to known → IsKnownOr known (IsLeastWrongAmong order.ranks.items levels nodes successors to) lack
+        → IsFirstWrongIfAny n levels nodes (to + 1) lack
     lack_more None lack before is = lack_now lack before (is entry entry_is)
-    lack_more (Some known) lack first same = subst (IsFirstWrong n levels nodes (to + 1)) (sym same) (later_bound to known first)
+    lack_more (Some known) lack first same = subst (IsFirstWrongIfAny n levels nodes (to + 1)) (sym same) (later_bound to known first)
 
 -- from numbers to names, where all entries are listed
 
@@ -225,13 +225,13 @@ module _ (n : Numbered) (levels : Levels) (listed : ListedNodes) (are : AreListe
         let led : EdgeAt n from.0.0 to.0.0 = record { from = p; to = q; from_is = from.2; to_is = to.1; edge = edge } in
         (from.0, to.0.0, from.1, to.1, led)
 
-    is_closed : HasNoWrong n levels nodes position → IsClosedAt (topology_of n) levels position
+    is_closed : HasNoWrong n levels nodes position → AreLevelsClosedAt (topology_of n) levels position
     is_closed none entry p q at edge =
         let e = edge_numbers entry p q at edge in
         let id = e.0 in
         let k = e.1 in
         let named = e.3 in
-        let room = are.room in
+        let capacity = are.capacity in
         let small = live_below n (number k) (q, named) in
         elim (listed_or_not listed.nodes.items listed.positions.items are.table k (omega arith)) [
           | inl there ↦ let l = entry_named k there.0 q named there.1 in (there.0, l.0, l.1)
@@ -285,12 +285,12 @@ module _ (n : Numbered) (levels : Levels) (listed : ListedNodes) (are : AreListe
           (λ closed. first.such (closed first.entry first.node q first.is first.edge)) (q, first, refl)
       lack_fails Far k q named (none, least) =
           let first = least_name Far k q named least in
-          let closed : IsClosedAt t levels position = λ e p other at edge.
+          let closed : AreLevelsClosedAt t levels position = λ e p other at edge.
           let numbers = edge_numbers e p other at edge in
           let j = numbers.1 in
           let one : numbers.0 ≡ id = same_Some numbers.0 id (sym numbers.2 ∙ id_is) in
           let led = subst (λ (x : NodeId). EdgeAt n x.0 j) one numbers.4 in
-          let room = are.room in
+          let capacity = are.capacity in
           let small = live_below n (number j) (other, numbers.3) in
           elim (listed_or_not listed.nodes.items listed.positions.items are.table j (omega arith)) [
             | inl there ↦ let l = entry_named j there.0 other numbers.3 there.1 in (there.0, l.0, l.1)

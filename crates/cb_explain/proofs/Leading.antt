@@ -18,7 +18,7 @@ use Rattle.cb_graph.specs.Edges.{EdgeAt, number}
 use Rattle.cb_graph.proofs.Chains.{named_once}
 use Rattle.cb_levels.specs.declared.levels.LevelEntry.{LevelEntry}
 use Rattle.cb_levels.specs.declared.levels.Levels.{Levels}
-use Rattle.cb_levels.specs.Checks.{EntryIs, IsParentEarlier, HasEdgeFromParent}
+use Rattle.cb_levels.specs.Checks.{LevelEntryIs, IsParentEarlier, HasEdgeFromParent}
 use Rattle.cb_explain.specs.declared.listed.ListedNodes.{ListedNodes}
 use Rattle.cb_explain.specs.Checking.{ListsNumber, HavePositions, AreListedNodes}
 use Rattle.cb_explain.specs.Surveyed.{IsChildAmong, IsLedBefore}
@@ -52,7 +52,7 @@ module _ (n : Numbered) (levels : Levels) (listed : ListedNodes) (are : AreListe
   names : StandsFor levels.nodes entry.node lists.node
   names = subst (λ (e : LevelEntry). StandsFor levels.nodes e.node lists.node) same_entry lists.is.names
 
-  pub has_edge : EdgeAt n from.0 to.0 → EntryIs levels position (HasEdgeFromParent (topology_of n) levels)
+  pub has_edge : EdgeAt n from.0 to.0 → LevelEntryIs levels position (HasEdgeFromParent (topology_of n) levels)
   has_edge led =
       let t = topology_of n in
       let p = are.each (entry.parent - 1) from from_at in
@@ -69,7 +69,7 @@ module _ (n : Numbered) (levels : Levels) (listed : ListedNodes) (are : AreListe
       } in
       (entry, at, has)
 
-  pub edge_led : EntryIs levels position (HasEdgeFromParent (topology_of n) levels) → EdgeAt n from.0 to.0
+  pub edge_led : LevelEntryIs levels position (HasEdgeFromParent (topology_of n) levels) → EdgeAt n from.0 to.0
   edge_led is =
       let t = topology_of n in
       let same : is.0 ≡ entry = same_Some is.0 entry (sym is.1 ∙ at) in
@@ -91,14 +91,14 @@ module _ (n : Numbered) (levels : Levels) (listed : ListedNodes) (are : AreListe
   abbrev nodes : List NodeId
   nodes = listed.nodes.items
 
-  pub edge_of_led : (bound position : ℕ) → IsLedBefore n levels nodes bound position → EntryIs levels position (HasEdgeFromParent (topology_of n) levels)
+  pub edge_of_led : (bound position : ℕ) → IsLedBefore n levels nodes bound position → LevelEntryIs levels position (HasEdgeFromParent (topology_of n) levels)
   edge_of_led bound position led =
       let same : led.parent ≡ led.entry.parent - 1 = let e = led.parent_is in omega arith in
       has_edge n levels listed are position led.entry led.is led.from (subst (λ k. slice_get nodes k ≡ Some led.from) same led.from_is) led.to
       (are.each position led.to led.to_is) led.edge
 
-  pub led_of_edge : (position : ℕ) (to : NodeId) → slice_get nodes position ≡ Some to → EntryIs levels position (IsParentEarlier position)
-      → EntryIs levels position (HasEdgeFromParent (topology_of n) levels) → IsLedBefore n levels nodes (length nodes) position
+  pub led_of_edge : (position : ℕ) (to : NodeId) → slice_get nodes position ≡ Some to → LevelEntryIs levels position (IsParentEarlier position)
+      → LevelEntryIs levels position (HasEdgeFromParent (topology_of n) levels) → IsLedBefore n levels nodes (length nodes) position
   led_of_edge position to to_is parent edge =
       let entry = parent.0 in
       let some = parent.2.0 in
@@ -282,7 +282,7 @@ pub none_led : (n : Numbered) (levels : Levels) (nodes : List NodeId) (size i : 
 none_led n levels nodes size i = (λ has. absurd (nothing size i has), λ led. absurd (let low = led.low in omega arith))
 
 -- the parent of an entry is before it
-pub parent_low : (levels : Levels) (position : ℕ) (entry : LevelEntry) → slice_get levels.entries position ≡ Some entry → EntryIs levels position (IsParentEarlier position)
+pub parent_low : (levels : Levels) (position : ℕ) (entry : LevelEntry) → slice_get levels.entries position ≡ Some entry → LevelEntryIs levels position (IsParentEarlier position)
     → entry.parent - 1 < position
 parent_low levels position entry at is =
     let same = ap (λ (e : LevelEntry). e.parent) (same_Some is.0 entry (sym is.1 ∙ at)) in
@@ -290,7 +290,7 @@ parent_low levels position entry at is =
     let most = is.2.1 in
     omega arith
 
--- the ends of edges are below the room
+-- the ends of edges are below the capacity
 pub ends_below : (n : Numbered) (from : ℕ) (successors : List ℕ) → ((k : ℕ) → Contains successors k ↔ EdgeAt n from k) → AreBelow (length n.nodes) successors
 ends_below n from successors edges i k at =
     let edge = (edges k).0 (contains_at successors i k at) in

@@ -16,7 +16,7 @@ use Rattle.cb_validity.specs.Spans.{StandsFor}
 use Rattle.cb_topo.specs.Numbered.{Numbered, topology_of, IsLiveNode, IsWhole}
 use Rattle.cb_graph.specs.Edges.{EdgeAt}
 use Rattle.cb_span.specs.declared.numbering.Numbering.{Numbering}
-use Rattle.cb_span.specs.Made.{IsProblemAt}
+use Rattle.cb_span.specs.Made.{IsProblemId}
 use Rattle.cb_span.specs.Numberings.{IsNumbering}
 use Rattle.cb_span.specs.Orders.{IsAtRank, IsOrderOf, IsRank}
 use Rattle.cb_span.proofs.Ranked.{at_one}
@@ -26,7 +26,7 @@ use Rattle.cb_levels.specs.declared.levels.Levels.{Levels}
 use Rattle.cb_levels.proofs.Canonicals.{canonical_is_valid}
 use Rattle.cb_levels.proofs.Fitting.{valid_is_of_format}
 use Rattle.cb_levels.proofs.Followable.{valid_can_be_followed}
-use Rattle.cb_explain.specs.Made.{LeadsAt, IsLedFrom, AreRanks, IsEntryFor, AreLevelsFor}
+use Rattle.cb_explain.specs.Made.{IsRankEdge, IsLedFrom, AreRanks, IsEntryFor, AreLevelsFor}
 use Rattle.cb_explain.specs.Levelled.{AreLevelsAt, AreRanksBelow, IsRankVisited, IsNumberedEntry}
 use Rattle.cb_explain.proofs.Made.{search_is_canonical}
 
@@ -100,7 +100,7 @@ module _ (n : Numbered) (order : Order) (ord : IsOrderOf n order) where
           leads = record { from = at.node; to = there.0.0; from_is = at.at; to_is = rank.1; leads = leads };
         }
 
-    leads_at : (a b : ℕ) → Follows (EdgeAt n) nodes a b → LeadsAt (topology_of n) At a b
+    leads_at : (a b : ℕ) → Follows (EdgeAt n) nodes a b → IsRankEdge (topology_of n) At a b
     leads_at a b next =
         let e = next.leads in
         record {
@@ -115,7 +115,7 @@ module _ (n : Numbered) (order : Order) (ord : IsOrderOf n order) where
     are_ranks = record { one = at_one n order; rise = ord.rise; leads = leads_at; led = led_from }
 
     pub levels_made : (id : NodeId) (rank : ℕ) (visits : List LevelVisit) (levels : Levels) → Sound (topology_of n) → WellTyped (topology_of n).model
-        → IsProblemAt n id → IsRank order id rank → IsLevelTree (Follows (EdgeAt n) nodes) rank visits → AreLevelsFor At visits levels → AreLevelsAt n id levels
+        → IsProblemId n id → IsRank order id rank → IsLevelTree (Follows (EdgeAt n) nodes) rank visits → AreLevelsFor At visits levels → AreLevelsAt n id levels
     levels_made id rank visits levels sound typed problem ranked tree are =
         let t = topology_of n in
         let p = problem.name in

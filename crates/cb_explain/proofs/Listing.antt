@@ -18,12 +18,12 @@ use Rattle.cb_levels.specs.Listed.{IsEntryAt}
 use Rattle.cb_levels.specs.Valid.{BeginsAtProblem}
 use Rattle.cb_network.specs.Topology.{Topology}
 use Rattle.cb_network.specs.Nodes.{IsNodeOf}
-use Rattle.cb_levels.specs.Checks.{EntryIs, IsParentEarlier, IsFirstListed, IsOneAbove}
+use Rattle.cb_levels.specs.Checks.{LevelEntryIs, IsParentEarlier, IsFirstListed, IsOneAbove}
 use Rattle.cb_levels.proofs.Lists.{listed_one}
 use Rattle.cb_explain.specs.declared.listed.ListedNodes.{ListedNodes}
 use Rattle.cb_explain.specs.Checking.{AreGoodNodes, IsRootNumber, ListsNumber, HavePositions, AreListedNodes, HaveParents, IsRightNode}
 
--- the number of a node is below the room
+-- the number of a node is below the capacity
 pub live_below : (n : Numbered) (id : NodeId) → IsLiveNode n id → id.0 < length n.nodes
 live_below n id live = elim (cases_lt id.0 (length n.nodes)) [
   | inl lt ↦ lt
@@ -35,10 +35,10 @@ lists_live n levels position id lists = (lists.node, lists.named)
 
 -- positions
 
-pub no_positions : (room : ℕ) → HavePositions [] (replicate room None)
-no_positions room = record {
+pub no_positions : (capacity : ℕ) → HavePositions [] (replicate capacity None)
+no_positions capacity = record {
   each = λ position id at. absurd (cc);
-  only = λ k position at. absurd (let e = slice_get-replicate room k None (Some position) at in cc);
+  only = λ k position at. absurd (let e = slice_get-replicate capacity k None (Some position) at in cc);
 }
 
 module _ (nodes : List NodeId) (positions : List (Option ℕ)) (old : HavePositions nodes positions) where
@@ -99,7 +99,7 @@ pub no_nodes : (n : Numbered) (levels : Levels) (listed : ListedNodes) → IsWho
 no_nodes n levels listed whole none empty = record {
   whole = whole;
   within = let e = ap length none in omega arith;
-  room = ap length empty ∙ length-replicate (length n.nodes) None;
+  capacity = ap length empty ∙ length-replicate (length n.nodes) None;
   each = λ position id at. absurd (let e = subst (λ xs. slice_get xs position ≡ Some id) none at in cc);
   table = subst (λ ps. HavePositions listed.nodes.items ps) (sym empty) (subst (λ xs. HavePositions xs (replicate (length n.nodes) None)) (sym none) (no_positions (length n.nodes)));
 }
@@ -115,7 +115,7 @@ module _ (n : Numbered) (levels : Levels) (old new : ListedNodes) (id : NodeId) 
   listed_more = record {
     whole = are.whole;
     within = let low = slice_get_within levels.entries (length old.nodes.items) lists.entry lists.is.is in let s = size in omega arith;
-    room = ap length positions ∙ (length-set old.positions.items id.0 (Some (length old.nodes.items)) ∙ are.room);
+    capacity = ap length positions ∙ (length-set old.positions.items id.0 (Some (length old.nodes.items)) ∙ are.capacity);
     each = λ position other at. elim (appended old.nodes.items id position other (subst (λ xs. slice_get xs position ≡ Some other) nodes at)) [
       | inl before ↦ are.each position other before
       | inr last ↦
@@ -132,7 +132,7 @@ parents_more n levels listed id have right = λ position later low. elim (cases_
   | inl before ↦ have position later before
   | inr at ↦
       let same : length listed.nodes.items ≡ position = omega arith in
-      subst (λ k. EntryIs levels k (IsParentEarlier k) × EntryIs levels k (IsOneAbove levels)) same (right.parent, right.level)
+      subst (λ k. LevelEntryIs levels k (IsParentEarlier k) × LevelEntryIs levels k (IsOneAbove levels)) same (right.parent, right.level)
 ]
 
 module _ (n : Numbered) (levels : Levels) (listed : ListedNodes) (are : AreListedNodes n levels listed) where
@@ -193,7 +193,7 @@ live_node t nodes good number node stands =
 
 -- the entry is one level above its parent
 pub one_above : (levels : Levels) (position : ℕ) (entry from : LevelEntry) → slice_get levels.entries position ≡ Some entry
-    → slice_get levels.entries (entry.parent - 1) ≡ Some from → EntryIs levels position (IsOneAbove levels) → entry.level ≡ from.level + 1
+    → slice_get levels.entries (entry.parent - 1) ≡ Some from → LevelEntryIs levels position (IsOneAbove levels) → entry.level ≡ from.level + 1
 one_above levels position entry from at from_at is =
     let same : is.0 ≡ entry = same_Some is.0 entry (sym is.1 ∙ at) in
     let above = subst (IsOneAbove levels) same is.2 in

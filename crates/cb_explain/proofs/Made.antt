@@ -25,7 +25,7 @@ use Rattle.cb_levels.specs.Canonical.{ListsLevels, entry_cmp, AreCanonicalLevels
 use Rattle.cb_levels.proofs.One.{level_is_one}
 use Rattle.cb_levels.proofs.Order.{rises_at}
 use Rattle.cb_levels.proofs.Lists.{one_edge_more, more_long}
-use Rattle.cb_explain.specs.Made.{LeadsAt, AreRanks, IsEntryFor, AreLevelsFor, IsNthName, HaveSuccessors}
+use Rattle.cb_explain.specs.Made.{IsRankEdge, AreRanks, IsEntryFor, AreLevelsFor, IsNthName, HaveSuccessors}
 
 -- lists that go together
 zip_forth : {X Y : Type 0} (R : X → Y → Type 0) (xs : List X) (ys : List Y) → AllZip R xs ys → (i : ℕ) (x : X) → slice_get xs i ≡ Some x
@@ -283,7 +283,7 @@ pub search_is_canonical : (t : Topology) (edge : ℕ → ℕ → Type 0) (At : �
     (levels : Levels) → AreRanks t edge At → At root p → IsLevelTree edge root visits → AreLevelsFor At visits levels → AreCanonicalLevels t p levels
 search_is_canonical t edge At root p visits levels ranks at_root tree are = canonical t edge At ranks root p at_root visits tree levels are
 
-places_are_ranks : (t : Topology) (names : List NodeName) → Rises node_cmp names → HaveSuccessors t names → AreRanks t (LeadsAt t (IsNthName names)) (IsNthName names)
+places_are_ranks : (t : Topology) (names : List NodeName) → Rises node_cmp names → HaveSuccessors t names → AreRanks t (IsRankEdge t (IsNthName names)) (IsNthName names)
 places_are_ranks t names rise closed = record {
   one = λ a x y at at'. same_Some x y (sym at ∙ at');
   rise = λ a b x y below at at'. rises_at node_cmp names rise a b x y below at at';
@@ -295,6 +295,6 @@ places_are_ranks t names rise closed = record {
 
 pub level_tree_is_canonical : (t : Topology) (names : List NodeName) (root : ℕ) (p : NodeName) (visits : List LevelVisit) (levels : Levels)
     → Rises node_cmp names → HaveSuccessors t names → IsNthName names root p
-    → IsLevelTree (LeadsAt t (IsNthName names)) root visits → AreLevelsFor (IsNthName names) visits levels → AreCanonicalLevels t p levels
+    → IsLevelTree (IsRankEdge t (IsNthName names)) root visits → AreLevelsFor (IsNthName names) visits levels → AreCanonicalLevels t p levels
 level_tree_is_canonical t names root p visits levels rise closed at_root tree are =
-    search_is_canonical t (LeadsAt t (IsNthName names)) (IsNthName names) root p visits levels (places_are_ranks t names rise closed) at_root tree are
+    search_is_canonical t (IsRankEdge t (IsNthName names)) (IsNthName names) root p visits levels (places_are_ranks t names rise closed) at_root tree are

@@ -14,7 +14,7 @@ use Rattle.cb_levels.specs.declared.levels.Levels.{Levels}
 use Rattle.cb_levels.specs.declared.verdict.LevelFault.{LevelFault}
 use Rattle.cb_levels.specs.declared.verdict.LevelFault.TheVariants.{BadNode, BadRoot}
 use Rattle.cb_levels.specs.Valid.{BeginsAtProblem, AreValidLevels}
-use Rattle.cb_levels.specs.Checks.{LevelCheck, node_check, root_check, checks_of_entry, checks_of_successors, node_checks, later_checks, closing_checks, PassesCheck, ReportsCheck, FailsFirstOf, IsRejectedFor}
+use Rattle.cb_levels.specs.Checks.{LevelCheck, node_check, root_check, checks_of_entry, checks_of_successors, node_checks, later_checks, closing_checks, PassesCheck, ReportsLevelCheck, FailsFirstOf, IsRejectedFor}
 use Rattle.cb_levels.proofs.Checking.{valid_passes_all}
 use Rattle.cb_explain.specs.Checking.{AreGoodNodes, IsFirstBadNode}
 
@@ -60,7 +60,7 @@ module _ (t : Topology) (levels : Levels) where
   }
 
   -- the first of these checks fails
-  pub fails_here : (check : LevelCheck) (after : List LevelCheck) (why : LevelFault) → ¬ P check → ReportsCheck t levels check why
+  pub fails_here : (check : LevelCheck) (after : List LevelCheck) (why : LevelFault) → ¬ P check → ReportsLevelCheck t levels check why
       → FailsFirstOf t levels (check ∷ after) why
   fails_here check after why fails tells = record {
     before = [];
@@ -108,7 +108,7 @@ module _ (t : Topology) (levels : Levels) where
       why failed
 
   map_fails : (f : ℕ → LevelCheck) (xs : List ℕ) (i x : ℕ) → slice_get xs i ≡ Some x → ((j y : ℕ) → j < i → slice_get xs j ≡ Some y → P (f y))
-      → (why : LevelFault) → ¬ P (f x) → ReportsCheck t levels (f x) why → FailsFirstOf t levels (map f xs) why
+      → (why : LevelFault) → ¬ P (f x) → ReportsLevelCheck t levels (f x) why → FailsFirstOf t levels (map f xs) why
   map_fails f [] i x at before why fails tells = absurd (cc)
   map_fails f (z ∷ xs) zero x at before why fails tells =
       subst (λ y. FailsFirstOf t levels (f y ∷ map f xs) why) (sym (same_Some z x at)) (fails_here (f x) (map f xs) why fails tells)

@@ -11,14 +11,14 @@ use Rattle.cb_explain.specs.Levelled.{IsRankVisited}
 
 -- the nodes of the first visits are added
 pub record AreUsedTo (visits : List LevelVisit) (to : ℕ) (used0 used : List Bool) : Type 0 where
-  pub room : length used ≡ length used0
+  pub capacity : length used ≡ length used0
   pub kept : (rank : ℕ) → Has used0 rank → Has used rank
   pub each : (rank : ℕ) → Has used rank → Has used0 rank ⊎ IsRankVisited visits rank
   pub all : (i : ℕ) (v : LevelVisit) → i < to → slice_get visits i ≡ Some v → Has used v.node
 
 pub none_used : (visits : List LevelVisit) (used : List Bool) → AreUsedTo visits 0 used used
 none_used visits used = record {
-  room = refl;
+  capacity = refl;
   kept = λ rank has. has;
   each = λ rank has. inl has;
   all = λ i v lt at. absurd (omega arith);
@@ -27,7 +27,7 @@ none_used visits used = record {
 module _ (visits : List LevelVisit) (to : ℕ) (used0 used : List Bool) (old : AreUsedTo visits to used0 used) where
   pub one_used : (v : LevelVisit) → slice_get visits to ≡ Some v → v.node < length used → AreUsedTo visits (to + 1) used0 (slice_set used v.node true)
   one_used v here low = record {
-    room = length-set used v.node true ∙ old.room;
+    capacity = length-set used v.node true ∙ old.capacity;
     kept = λ r has. has_still used v.node r low (old.kept r has);
     each = λ r has. elim (set_cases used v.node r has) [
       | inl same ↦ inr (record { position = to; visit = v; is = here; of = sym same })

@@ -11,7 +11,7 @@ use Rattle.cb_levels.specs.declared.levels.LevelEntry.{LevelEntry}
 use Rattle.cb_levels.specs.declared.levels.Levels.{Levels}
 use Rattle.cb_levels.specs.Listed.{IsEntryAt}
 use Rattle.cb_levels.specs.Valid.{BeginsAtProblem}
-use Rattle.cb_levels.specs.Checks.{EntryIs, IsParentEarlier, HasEdgeFromParent, IsFirstListed, IsOneAbove}
+use Rattle.cb_levels.specs.Checks.{LevelEntryIs, IsParentEarlier, HasEdgeFromParent, IsFirstListed, IsOneAbove}
 use Rattle.cb_levels.specs.declared.verdict.LevelFault.{LevelFault}
 use Rattle.cb_levels.specs.declared.verdict.LevelFault.TheVariants.{BadParent, NoEdge, Repeated, BadLevel}
 use Rattle.cb_explain.specs.declared.listed.ListedNodes.{ListedNodes}
@@ -50,31 +50,31 @@ pub record HavePositions (nodes : List NodeId) (positions : List (Option ℕ)) :
 pub record AreListedNodes (n : Numbered) (levels : Levels) (listed : ListedNodes) : Type 0 where
   pub whole : IsWhole n
   pub within : length listed.nodes.items ≤ length levels.entries
-  pub room : length listed.positions.items ≡ length n.nodes
+  pub capacity : length listed.positions.items ≡ length n.nodes
   pub each : (position : ℕ) (id : NodeId) → slice_get listed.nodes.items position ≡ Some id → ListsNumber n levels position id
   pub table : HavePositions listed.nodes.items listed.positions.items
 
 -- each entry before a position, but the first one, has an earlier parent, one level below
 abbrev pub HaveParents : Levels → ℕ → Type 0
 HaveParents levels to = (position : ℕ) → 0 < position → position < to
-    → EntryIs levels position (IsParentEarlier position) × EntryIs levels position (IsOneAbove levels)
+    → LevelEntryIs levels position (IsParentEarlier position) × LevelEntryIs levels position (IsOneAbove levels)
 
 -- the next entry lists this node, which isn't listed, and has an earlier parent, one level below
 pub record IsRightNode (n : Numbered) (levels : Levels) (listed : ListedNodes) (id : NodeId) : Type 0 where
   pub lists : ListsNumber n levels (length listed.nodes.items) id
   pub new : slice_get listed.positions.items id.0 ≡ Some None
-  pub parent : EntryIs levels (length listed.nodes.items) (IsParentEarlier (length listed.nodes.items))
-  pub level : EntryIs levels (length listed.nodes.items) (IsOneAbove levels)
+  pub parent : LevelEntryIs levels (length listed.nodes.items) (IsParentEarlier (length listed.nodes.items))
+  pub level : LevelEntryIs levels (length listed.nodes.items) (IsOneAbove levels)
 
 -- this is wrong with the entry at the position, and nothing that is checked before but perhaps its edge
 abbrev pub HasEntryFault : Numbered → Levels → ℕ → EntryFault → Type 0
-HasEntryFault n levels position fault.Parent = ¬ EntryIs levels position (IsParentEarlier position)
-HasEntryFault n levels position fault.Node = EntryIs levels position (IsParentEarlier position) × ((entry : LevelEntry) (node : NodeName) → ¬ IsEntryAt levels position entry node)
+HasEntryFault n levels position fault.Parent = ¬ LevelEntryIs levels position (IsParentEarlier position)
+HasEntryFault n levels position fault.Node = LevelEntryIs levels position (IsParentEarlier position) × ((entry : LevelEntry) (node : NodeName) → ¬ IsEntryAt levels position entry node)
 HasEntryFault n levels position (fault.Repeated id) =
-    EntryIs levels position (IsParentEarlier position) × ListsNumber n levels position id × (¬ IsFirstListed levels position)
+    LevelEntryIs levels position (IsParentEarlier position) × ListsNumber n levels position id × (¬ IsFirstListed levels position)
 HasEntryFault n levels position (fault.Level id) =
-    EntryIs levels position (IsParentEarlier position) × ListsNumber n levels position id × IsFirstListed levels position
-    × (¬ EntryIs levels position (IsOneAbove levels))
+    LevelEntryIs levels position (IsParentEarlier position) × ListsNumber n levels position id × IsFirstListed levels position
+    × (¬ LevelEntryIs levels position (IsOneAbove levels))
 
 -- all entries are listed, or the next one has this fault
 abbrev pub ListsAll : Numbered → Levels → ℕ → Option EntryFault → Type 0
@@ -95,7 +95,7 @@ pub record IsFirstNotLed (led : List Bool) (position : ℕ) : Type 0 where
 -- this is reported of the entry at the position, unless no edge leads to it from its parent
 abbrev pub IsUnlessUnled : Topology → Levels → ℕ → LevelFault → LevelFault → Type 0
 IsUnlessUnled t levels position other why =
-    (EntryIs levels position (HasEdgeFromParent t levels) × (why ≡ other)) ⊎ ((¬ EntryIs levels position (HasEdgeFromParent t levels)) × (why ≡ NoEdge (position + 1)))
+    (LevelEntryIs levels position (HasEdgeFromParent t levels) × (why ≡ other)) ⊎ ((¬ LevelEntryIs levels position (HasEdgeFromParent t levels)) × (why ≡ NoEdge (position + 1)))
 
 -- what is reported of an entry with a fault
 abbrev pub FaultOf : Topology → Levels → ℕ → EntryFault → LevelFault → Type 0

@@ -15,7 +15,7 @@ use Rattle.cb_levels.specs.declared.levels.Levels.{Levels}
 use Rattle.cb_levels.specs.Canonical.{AreCanonicalLevels}
 
 -- an edge between ranks is one between the nodes of these ranks
-pub record LeadsAt (t : Topology) (At : ℕ → NodeName → Type 0) (a b : ℕ) : Type 0 where
+pub record IsRankEdge (t : Topology) (At : ℕ → NodeName → Type 0) (a b : ℕ) : Type 0 where
   pub from : NodeName
   pub to : NodeName
   pub from_is : At a from
@@ -32,7 +32,7 @@ pub record IsLedFrom (edge : ℕ → ℕ → Type 0) (At : ℕ → NodeName → 
 pub record AreRanks (t : Topology) (edge : ℕ → ℕ → Type 0) (At : ℕ → NodeName → Type 0) : Type 0 where
   pub one : (a : ℕ) (x y : NodeName) → At a x → At a y → x ≡ y
   pub rise : (a b : ℕ) (x y : NodeName) → a < b → At a x → At b y → node_cmp x y ≡ Less
-  pub leads : (a b : ℕ) → edge a b → LeadsAt t At a b
+  pub leads : (a b : ℕ) → edge a b → IsRankEdge t At a b
   pub led : (a : ℕ) (x y : NodeName) → At a x → Edge t x y → IsLedFrom edge At a y
 
 -- the entry of a visit, by the number of its node
@@ -69,4 +69,4 @@ HaveSuccessors t names = (rank : ℕ) (x y : NodeName) → IsNthName names rank 
 abbrev pub LevelTreeIsCanonical : Type 0
 LevelTreeIsCanonical = (t : Topology) (names : List NodeName) (root : ℕ) (p : NodeName) (visits : List LevelVisit) (levels : Levels)
     → Rises node_cmp names → HaveSuccessors t names → IsNthName names root p
-    → IsLevelTree (LeadsAt t (IsNthName names)) root visits → AreLevelsFor (IsNthName names) visits levels → AreCanonicalLevels t p levels
+    → IsLevelTree (IsRankEdge t (IsNthName names)) root visits → AreLevelsFor (IsNthName names) visits levels → AreCanonicalLevels t p levels

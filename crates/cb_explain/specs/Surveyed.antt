@@ -105,15 +105,15 @@ pub record IsFirstWrongOf (n : Numbered) (levels : Levels) (nodes : List NodeId)
   pub before : (position : ℕ) → position < wrong.position → HasNoWrong n levels nodes position
   pub least : IsLeastWrong (EdgeAt n id.0) (IsNotAfter n) (IsWrongAt levels nodes entry.level) wrong.fault wrong.successor
 
-abbrev pub IsFirstWrong : Numbered → Levels → List NodeId → ℕ → Option WrongSuccessor → Type 0
-IsFirstWrong n levels nodes to None = (position : ℕ) → position < to → HasNoWrong n levels nodes position
-IsFirstWrong n levels nodes to (Some wrong) = IsFirstWrongOf n levels nodes to wrong
+abbrev pub IsFirstWrongIfAny : Numbered → Levels → List NodeId → ℕ → Option WrongSuccessor → Type 0
+IsFirstWrongIfAny n levels nodes to None = (position : ℕ) → position < to → HasNoWrong n levels nodes position
+IsFirstWrongIfAny n levels nodes to (Some wrong) = IsFirstWrongOf n levels nodes to wrong
 
 -- to which entries edges lead from their parents, and the first wrong successor
 pub record IsSurvey (n : Numbered) (levels : Levels) (nodes : List NodeId) (survey : Survey) : Type 0 where
-  pub room : length survey.led.items ≡ length nodes
+  pub capacity : length survey.led.items ≡ length nodes
   pub led : (position : ℕ) → Has survey.led.items position ↔ IsLedBefore n levels nodes (length nodes) position
-  pub wrong : IsFirstWrong n levels nodes (length nodes) survey.wrong
+  pub wrong : IsFirstWrongIfAny n levels nodes (length nodes) survey.wrong
 
 -- the one of two numbers with the lower rank, or the second where there is no first
 abbrev pub IsLower : List ℕ → Option ℕ → ℕ → ℕ → Type 0

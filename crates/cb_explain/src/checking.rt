@@ -8,7 +8,7 @@ ghost use Rattle.cb_graph.specs.Edges.{number};
 ghost use Rattle.cb_levels.specs.declared.levels.LevelEntry.{LevelEntry as Entry};
 ghost use Rattle.cb_levels.specs.Listed.{IsEntryAt};
 ghost use Rattle.cb_levels.specs.Valid.{AreValidLevels, BeginsAtProblem};
-ghost use Rattle.cb_levels.specs.Checks.{HasSmallNumbers, ShowsReach, TellsFault, EntryIs, HasEdgeFromParent, IsParentEarlier};
+ghost use Rattle.cb_levels.specs.Checks.{HasSmallNumbers, ShowsReach, TellsLevelFault, LevelEntryIs, HasEdgeFromParent, IsParentEarlier};
 ghost use Rattle.cb_explain.specs.Checking.{AreGoodNodes, IsRootNumber, ListsNumber, AreListedNodes, HasEntryFault, FaultOf, IsFirstNotLed, AreMarkedLed, IsDeepest};
 ghost use Rattle.cb_explain.specs.Surveyed.{ReportsWrong};
 
@@ -36,7 +36,7 @@ pub fn check_levels<L: Ledger>(
     ensures same { graph.new ≡ graph.old }
     ensures valid { OnOk result (AreValidLevels (topology_of graph.old) levels.now) }
     ensures shows { IfOk result (ShowsReach (topology_of graph.old) levels.now) }
-    ensures why { IfErr result (TellsFault (topology_of graph.old) levels.now) }
+    ensures why { IfErr result (TellsLevelFault (topology_of graph.old) levels.now) }
     ensures asked { steps.new ≤ steps.old + length levels.now.entries }
 {
     if let Some(position) = first_bad_node(graph.topology(), levels.nodes.as_slice()) {
@@ -50,7 +50,7 @@ pub fn check_levels<L: Ledger>(
     check_entries(alloc, graph, levels, root, steps)
 }
 
-// The same, where the nodes and the first entry are right.
+// Checks the entries, where the nodes and the first entry are right.
 fn check_entries<L: Ledger>(
     alloc: Global,
     graph: &mut Graph,
@@ -64,10 +64,10 @@ fn check_entries<L: Ledger>(
     ensures same { graph.new ≡ graph.old }
     ensures valid { OnOk result (AreValidLevels (topology_of graph.old) levels.now) }
     ensures shows { IfOk result (ShowsReach (topology_of graph.old) levels.now) }
-    ensures why { IfErr result (TellsFault (topology_of graph.old) levels.now) }
+    ensures why { IfErr result (TellsLevelFault (topology_of graph.old) levels.now) }
     ensures asked { steps.new ≤ steps.old + length levels.now.entries }
 {
-    let mut listed = ListedNodes::new(alloc, graph.topology().node_room())?;
+    let mut listed = ListedNodes::new(alloc, graph.topology().node_capacity())?;
     listed.add(root)?;
     let fault = list_entries(graph.topology(), levels, &mut listed)?;
     let survey = ask_all(alloc, graph, levels, &listed, steps)?;
@@ -145,11 +145,11 @@ fn is_led<L: Ledger>(
     steps: &mut Steps<L>,
 ) -> Result<bool, AllocError>
     requires listed { AreListedNodes graph.old levels.now listed.now }
-    requires parent { EntryIs levels.now (length listed.now.nodes.items) (IsParentEarlier (length listed.now.nodes.items)) }
+    requires parent { LevelEntryIs levels.now (length listed.now.nodes.items) (IsParentEarlier (length listed.now.nodes.items)) }
     requires node { ListsNumber graph.old levels.now (length listed.now.nodes.items) node }
     ensures same { graph.new ≡ graph.old }
     ensures asked { steps.new ≤ steps.old + 1 }
-    ensures led { IfOk result (λ is. IsTrue is ↔ EntryIs levels.now (length listed.now.nodes.items) (HasEdgeFromParent (topology_of graph.old) levels.now)) }
+    ensures led { IfOk result (λ is. IsTrue is ↔ LevelEntryIs levels.now (length listed.now.nodes.items) (HasEdgeFromParent (topology_of graph.old) levels.now)) }
 {
     let parent = levels.entries.at(listed.nodes.len()).parent as usize - 1;
     let mut successors = Vec::new(alloc);
@@ -174,7 +174,7 @@ fn wrong_fault(
     ensures { IfOk result (ReportsWrong topology.now wrong) }
 {
     // Numbers of nodes are below it, and it is small.
-    let _room = topology.node_room();
+    let _capacity = topology.node_capacity();
     let successor = topology.copy_name(alloc, NodeId(wrong.successor as u32))?;
     let entry = wrong.position as u32 + 1;
     match wrong.fault {

@@ -6,7 +6,7 @@ ghost use Rattle.cb_network.specs.Causes.{Causes};
 ghost use Rattle.cb_levels.specs.Level.{IsShortChain};
 ghost use Rattle.cb_topo.specs.Numbered.{topology_of, IsLiveNode, IsNodeNamed};
 ghost use Rattle.cb_span.specs.Orders.{IsOrderOf, IsAtRank};
-ghost use Rattle.cb_span.specs.Made.{IsProblemAt};
+ghost use Rattle.cb_span.specs.Made.{IsProblemId};
 ghost use Rattle.cb_explain.specs.Levelled.{AreRanksBelow, IsRankVisited};
 ghost use Rattle.cb_explain.specs.Explained.{IsExplainerOf, HasSearched, CountsCaused};
 ghost use Rattle.cb_explain.specs.Chained.{HavePositions, AreVisitedOnce, HaveEarlierParents, IsParentAt, IsVisitAt, IsVisitTrail};
@@ -61,7 +61,7 @@ impl Explainer {
         steps: &mut Steps<L>,
     ) -> Result<(), AllocError>
         requires explainer { IsExplainerOf graph.old self.old }
-        requires problem { IsProblemAt graph.old problem }
+        requires problem { IsProblemId graph.old problem }
         ensures same { graph.new ≡ graph.old }
         ensures searched { OnOk result ((p : Name) → IsNodeNamed graph.old problem p → HasSearched graph.old p self.new) }
         ensures explainer { OnOk result (IsExplainerOf graph.old self.new) }

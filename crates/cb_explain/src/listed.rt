@@ -23,14 +23,14 @@ pub(crate) struct ListedNodes {
 }
 
 impl ListedNodes {
-    /// No node is listed yet. All numbers of nodes are below `room`.
-    pub fn new(alloc: Global, room: usize) -> Result<ListedNodes, AllocError>
+    /// No node is listed yet. All numbers of nodes are below `capacity`.
+    pub fn new(alloc: Global, capacity: usize) -> Result<ListedNodes, AllocError>
         ensures nodes { IfOk result (λ listed. listed.nodes.items ≡ []) }
-        ensures positions { IfOk result (λ listed. listed.positions.items ≡ replicate room None) }
+        ensures positions { IfOk result (λ listed. listed.positions.items ≡ replicate capacity None) }
     {
         Ok(ListedNodes {
             nodes: Vec::new(alloc),
-            positions: vec![in alloc; None; room]?,
+            positions: vec![in alloc; None; capacity]?,
         })
     }
 
@@ -71,7 +71,7 @@ fn is_node(topology: &Topology, node: &NodeName) -> bool
     ensures { IsTrue result ↔ IsNodeOf (topology_of topology.now) node.now }
 {
     // Nodes with numbers are nodes of the topology.
-    let _room = topology.node_room();
+    let _capacity = topology.node_capacity();
     topology
         .node_named(node.event.bytes(), node.instance.bytes())
         .is_some()

@@ -1,7 +1,7 @@
 //! The canonical levels of a problem, made.
 ghost use Rattle.std.specs.Prelude.{◌≡◌, ◌≤◌, ◌+◌, ℕ, length, IfOk};
 ghost use Rattle.cb_span.specs.Orders.{IsRank};
-ghost use Rattle.cb_span.specs.Made.{IsProblemAt};
+ghost use Rattle.cb_span.specs.Made.{IsProblemId};
 ghost use Rattle.cb_explain.specs.Levelled.{AreLevelsAt};
 
 use crate::written::levels_by;
@@ -21,7 +21,7 @@ pub fn levels_of<L: Ledger>(
     problem: NodeId,
     steps: &mut Steps<L>,
 ) -> Result<Levels, AllocError>
-    requires { IsProblemAt graph.old problem }
+    requires { IsProblemId graph.old problem }
     ensures same { graph.new ≡ graph.old }
     ensures made { IfOk result (AreLevelsAt graph.old problem) }
     ensures asked { IfOk result (λ levels. steps.new ≤ steps.old + length levels.entries) }

@@ -80,7 +80,7 @@ fn mark_children(
     requires led { length led.old.items ≡ length listed.now.nodes.items }
     requires parent { parent < length listed.now.nodes.items }
     ensures led { (position : ℕ) → Has led.new.items position ↔ (Has led.old.items position ⊎ IsChildAmong levels.now listed.now.nodes.items parent successors.now position) }
-    ensures room { length led.new.items ≡ length led.old.items }
+    ensures capacity { length led.new.items ≡ length led.old.items }
 {
     for position in 0..successors.len() {
         mark_child(levels, listed, parent, successors[position], led);
@@ -101,7 +101,7 @@ fn mark_child(
     requires led { length led.old.items ≡ length listed.now.nodes.items }
     requires parent { parent < length listed.now.nodes.items }
     ensures led { (position : ℕ) → Has led.new.items position ↔ (Has led.old.items position ⊎ IsChildAmong levels.now listed.now.nodes.items parent (node ∷ []) position) }
-    ensures room { length led.new.items ≡ length led.old.items }
+    ensures capacity { length led.new.items ≡ length led.old.items }
 {
     if let Some(position) = listed.positions[node] {
         if levels.entries.at(position).parent as usize == parent + 1 {

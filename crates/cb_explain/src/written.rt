@@ -39,7 +39,7 @@ pub(crate) fn levels_by(
 fn use_visits(visits: &[LevelVisit], used: &mut Row)
     requires { AreRanksBelow (length used.old) visits.now }
     ensures used { (rank : ℕ) → Has used.new rank ↔ (Has used.old rank ⊎ IsRankVisited visits.now rank) }
-    ensures room { length used.new ≡ length used.old }
+    ensures capacity { length used.new ≡ length used.old }
 {
     for position in 0..visits.len() {
         used.set(visits[position].node as usize);

@@ -15,9 +15,9 @@ use Rattle.cb_outcome.specs.Roles.{Wanted, Role, byte_limit}
 use Rattle.cb_report.specs.declared.fault.Fault.{Fault}
 use Rattle.cb_report.specs.declared.fault.Fault.TheVariants as faults
 use Rattle.cb_report.specs.FaultSources.{fault_of_text, fault_of_rejected}
-use Rattle.cb_outcome.specs.Judged.{File, Known, network, certified, Says, IsRejection, IsCertificateFault, Refuses}
+use Rattle.cb_outcome.specs.Judged.{File, Known, network, certified, Says, IsRejection, IsCertificateFault, RefusesFile}
 use Rattle.cb_outcome.specs.Texts.{IsWantedKind}
-use Rattle.cb_file_kinds.specs.Kinds.{file_of, IsWant, SaysAfter, StopsJudging}
+use Rattle.cb_file_kinds.specs.Kinds.{file_in_role, IsWant, SaysAfter, StopsJudging}
 
 -- why a certificate is rejected, as a fault
 pub rejection : (t : Topology) (c : Certificate) (why : Rejected) → TellsWhy t c why
@@ -41,10 +41,10 @@ module _ (wanted : Wanted) (name text : List ℕ) (short : length text ≤ byte_
   Network known = known ≡ network t
 
   abbrev TextFile : File
-  TextFile = file_of (Role.certificate wanted) name text
+  TextFile = file_in_role (Role.certificate wanted) name text
 
-  refuses : (fault : Fault) → Refuses (network t) TextFile fault → StopsJudging Network TextFile fault
-  refuses fault r = inr (λ known is. subst (λ (k : Known). Refuses k TextFile fault) (sym is) r)
+  refuses : (fault : Fault) → RefusesFile (network t) TextFile fault → StopsJudging Network TextFile fault
+  refuses fault r = inr (λ known is. subst (λ (k : Known). RefusesFile k TextFile fault) (sym is) r)
 
   pub certificate_long : (line : ℕ) → IsFirstLong text line → StopsJudging Network TextFile (faults.LimitLine name line)
   certificate_long line first = refuses (faults.LimitLine name line) (inr (inl (record { bytes = short; limited = tt; line = line; first = first; is = refl })))

@@ -12,8 +12,8 @@ use Rattle.cb_outcome.specs.Judged.{Known, nothing, Says, PassFrom}
 use Rattle.cb_outcome.specs.Contents.{Left, Reads, names_of, with_texts}
 use Rattle.cb_outcome.specs.Command.{Command, reads_of, JobGives}
 use Rattle.cb_outcome.specs.Reading.{WhereReported, LeavesRest, ReadsTo}
-use Rattle.cb_file_kinds.specs.Kinds.{file_of, IsWant, ReadsOnly, StopsReading}
-use Rattle.cb_file_kinds.specs.Ending.{names, Passed, Makes, WantsMemory, StopsAt}
+use Rattle.cb_file_kinds.specs.Kinds.{file_in_role, IsWant, ReadsOnly, StopsReading}
+use Rattle.cb_file_kinds.specs.Ending.{names, Passed, MakesOutput, WantsMemory, FileStops}
 
 -- ---- facts where they are reported
 
@@ -133,17 +133,17 @@ module _ (old now new : FilesReport) (prefix rest : List (List ℕ)) (name : Lis
 
 -- one more file says something
 all_say_next : (left : Left) (before : List (List ℕ)) (files : List (Role × List ℕ)) (role : Role) (name : List ℕ) (known mid next : Known)
-    → PassFrom known (with_texts left before files) mid → Says mid (file_of role name (contents left (before ++ names files) name)) next
+    → PassFrom known (with_texts left before files) mid → Says mid (file_in_role role name (contents left (before ++ names files) name)) next
     → PassFrom known (with_texts left before (files ++ (role, name) ∷ [])) next
 all_say_next left before [] role name known mid next same says =
-    let says_here = subst (λ (ns : List (List ℕ)). Says mid (file_of role name (contents left ns name)) next) (append_nil before) says in
-    (next, subst (λ (k : Known). Says k (file_of role name (contents left before name)) next) (sym same) says_here, refl)
+    let says_here = subst (λ (ns : List (List ℕ)). Says mid (file_in_role role name (contents left ns name)) next) (append_nil before) says in
+    (next, subst (λ (k : Known). Says k (file_in_role role name (contents left before name)) next) (sym same) says_here, refl)
 all_say_next left before (file ∷ files) role name known mid next (first, said, all) says =
     let moved : before ++ file.1 ∷ names files ≡ (before ++ file.1 ∷ []) ++ names files = sym (append_assoc before (file.1 ∷ []) (names files)) in (
       first,
       said,
       all_say_next left (before ++ file.1 ∷ []) files role name first mid next all
-          (subst (λ (ns : List (List ℕ)). Says mid (file_of role name (contents left ns name)) next) moved says),
+          (subst (λ (ns : List (List ℕ)). Says mid (file_in_role role name (contents left ns name)) next) moved says),
     )
 
 pub passed_none : (old : FilesReport) → Passed [] nothing old old
@@ -157,11 +157,11 @@ text_there old now before name text each reported =
 
 module _ (earlier : List (Role × List ℕ)) (role : Role) (name : List ℕ) (known : Known) (old now new : FilesReport) (passed : Passed earlier known old now) (only : ReadsOnly name now new) where
   -- the next file was read and has passed too
-  pub passed_next : (text : List ℕ) (next : Known) → ReadsAll now new name text → Says known (file_of role name text) next
+  pub passed_next : (text : List ℕ) (next : Known) → ReadsAll now new name text → Says known (file_in_role role name text) next
       → Passed (earlier ++ (role, name) ∷ []) next old new
   passed_next text next read says = record {
     said = if_some2 old.left _ _ _ (λ left all is. all_say_next left [] earlier role name nothing known next all
-        (subst (λ (t : List ℕ). Says known (file_of role name t) next) is says)) passed.said (ReadsEach-gives old now new (names earlier) name text passed.read read);
+        (subst (λ (t : List ℕ). Says known (file_in_role role name t) next) is says)) passed.said (ReadsEach-gives old now new (names earlier) name text passed.read read);
     read = subst (ReadsEach old new) (sym (map_append (λ (file : Role × List ℕ). file.1) earlier ((role, name) ∷ [])))
         (ReadsEach-next old now new (names earlier) name text passed.read only.others read);
     counts = NoCountFalls-trans old now new passed.counts only.counts;
@@ -181,7 +181,7 @@ module _ (earlier : List (Role × List ℕ)) (role : Role) (name : List ℕ) (kn
 
     -- or stops the run
     pub stops_there : (Before : Known → Type 0) (fault : Fault) → Before known → StopsReading role name Before now new fault
-        → WantsMemory reads old new fault ⊎ StopsAt reads old new fault
+        → WantsMemory reads old new fault ⊎ FileStops reads old new fault
     stops_there Before fault before (inl want) = inl (record { is = want; whole = length earlier; read = read_there })
     stops_there Before fault before (inr (inl fails)) = inr (record {
       earlier = earlier;
@@ -216,7 +216,7 @@ module _ (c : Command) (files : List (Role × List ℕ)) (known : Known) (old ne
   -- what it gives
   pub makes : (bytes : List ℕ) (fault : Option Fault)
       → ((left : Left) (whole : ℕ) → JobGives left c known whole (record { out = bytes; fault = fault; whole = whole }))
-      → Makes c old new bytes fault
+      → MakesOutput c old new bytes fault
   makes bytes fault gives = record {
     known = known;
     said = subst (λ (fs : List (Role × List ℕ)). WhereReported old (λ left. PassFrom nothing (with_texts left [] fs) known)) (sym files_are) passed.said;

@@ -10,7 +10,7 @@ use Rattle.cb_outcome.specs.Texts.{IsBookKind}
 use Rattle.cb_file_kinds.specs.declared.book_file.ShownBook.{ShownBook}
 use Rattle.cb_file_kinds.specs.declared.certificate_file.ValidCertificate.{ValidCertificate}
 use Rattle.cb_file_kinds.specs.Given.{IsValidFrom, IsShownBy, IsKnownBook}
-use Rattle.cb_file_kinds.specs.Kinds.{file_of, IsWant, SaysAfter, StopsJudging}
+use Rattle.cb_file_kinds.specs.Kinds.{file_in_role, IsWant, SaysAfter, StopsJudging}
 use Rattle.cb_file_kinds.proofs.Certified.{certificate_says, certificate_unwanted}
 
 module _ (name text : List ℕ) (short : length text ≤ byte_limit (Role.certificate Wanted.book)) (t : Topology) (valid : ValidCertificate)
@@ -19,7 +19,7 @@ module _ (name text : List ℕ) (short : length text ≤ byte_limit (Role.certif
   Network known = known ≡ network t
 
   abbrev BookText : File
-  BookText = file_of (Role.certificate Wanted.book) name text
+  BookText = file_in_role (Role.certificate Wanted.book) name text
 
   book_says : (shown : ShownBook) → IsShownBy t valid.certificate shown → SaysAfter Network (IsKnownBook t shown) BookText
   book_says shown by =

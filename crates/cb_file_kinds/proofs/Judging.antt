@@ -10,7 +10,7 @@ use Rattle.cb_syntax.specs.Spells.{SpellsModel}
 use Rattle.cb_syntax.specs.Laws.{TellsFault}
 use Rattle.cb_syntax.specs.declared.fault.SyntaxFault.{SyntaxFault}
 use Rattle.cb_rules.specs.declared.rule.BrokenRule.{BrokenRule}
-use Rattle.cb_rules.specs.Fault.{KeepsAll, IsFault as IsTypeFault}
+use Rattle.cb_rules.specs.Fault.{KeepsAll, IsFirstBroken as IsTypeFault}
 use Rattle.cb_check.specs.declared.fault.TypeFault.{TypeFault}
 use Rattle.cb_check.specs.declared.fault.TypeFault.TheVariants as types
 use Rattle.cb_check.specs.Fault.{OnBroken}
@@ -27,8 +27,8 @@ use Rattle.cb_outcome.specs.Roles.{Role, byte_limit}
 use Rattle.cb_report.specs.declared.fault.Fault.{Fault}
 use Rattle.cb_report.specs.declared.fault.Fault.TheVariants as faults
 use Rattle.cb_report.specs.FaultSources.{fault_of_syntax, fault_of_types}
-use Rattle.cb_outcome.specs.Judged.{Known, nothing, parsed, network, raised, Says, IsModelFault, Refuses}
-use Rattle.cb_file_kinds.specs.Kinds.{file_of, SaysAfter, RefusesAfter, StopsJudging, StopsReading, IsTextOf}
+use Rattle.cb_outcome.specs.Judged.{Known, nothing, parsed, network, raised, Says, IsModelFault, RefusesFile}
+use Rattle.cb_file_kinds.specs.Kinds.{file_in_role, SaysAfter, RefusesAfter, StopsJudging, StopsReading, IsTextOf}
 use Rattle.cb_file_kinds.specs.Faults.{fault_of_topology, fault_of_symptoms}
 
 -- ---- a text that was read
@@ -55,36 +55,36 @@ module _ (name text : List ℕ) (short : length text ≤ byte_limit Role.model) 
   abbrev Only : Known → Type 0
   Only known = known ≡ nothing
 
-  pub tree_says : (tree : Tree) → SpellsModel text tree → KeepsAll tree → SaysAfter Only (λ known. known ≡ parsed tree) (file_of Role.model name text)
+  pub tree_says : (tree : Tree) → SpellsModel text tree → KeepsAll tree → SaysAfter Only (λ known. known ≡ parsed tree) (file_in_role Role.model name text)
   tree_says tree spelled keeps known is =
-      let means : Says nothing (file_of Role.model name text) (parsed tree) = record {
+      let means : Says nothing (file_in_role Role.model name text) (parsed tree) = record {
         short = record { bytes = short; lines = λ none. absurd none };
         means = (tree, record { spelled = spelled; keeps = keeps }, refl);
       } in
-      (parsed tree, refl, subst (λ (k : Known). Says k (file_of Role.model name text) (parsed tree)) (sym is) means)
+      (parsed tree, refl, subst (λ (k : Known). Says k (file_in_role Role.model name text) (parsed tree)) (sym is) means)
 
   pub model_says : (tree : Tree) (tables : Tables) → SpellsModel text tree → KeepsAll tree → Stands tree tables
-      → SaysAfter Only (λ known. (t : Tree) × (known ≡ parsed t) × Stands t tables) (file_of Role.model name text)
+      → SaysAfter Only (λ known. (t : Tree) × (known ≡ parsed t) × Stands t tables) (file_in_role Role.model name text)
   model_says tree tables spelled keeps stands known is =
       let (next, e, says) = tree_says tree spelled keeps known is in
       (next, (tree, e, stands), says)
 
-  refuses : (fault : Fault) → Refuses nothing (file_of Role.model name text) fault → RefusesAfter Only (file_of Role.model name text) fault
-  refuses fault r known is = subst (λ (k : Known). Refuses k (file_of Role.model name text) fault) (sym is) r
+  refuses : (fault : Fault) → RefusesFile nothing (file_in_role Role.model name text) fault → RefusesAfter Only (file_in_role Role.model name text) fault
+  refuses fault r known is = subst (λ (k : Known). RefusesFile k (file_in_role Role.model name text) fault) (sym is) r
 
-  faulty : (fault : Fault) → IsModelFault text fault → StopsJudging Only (file_of Role.model name text) fault
+  faulty : (fault : Fault) → IsModelFault text fault → StopsJudging Only (file_in_role Role.model name text) fault
   faulty fault has = inr (refuses fault (inr (inr (record { short = record { bytes = short; lines = λ none. absurd none }; has = has }))))
 
-  pub syntax_stops : (why : SyntaxFault) → TellsFault text why → StopsJudging Only (file_of Role.model name text) (fault_of_syntax why)
+  pub syntax_stops : (why : SyntaxFault) → TellsFault text why → StopsJudging Only (file_in_role Role.model name text) (fault_of_syntax why)
   syntax_stops why (inl want) = inl (rw want refl)
   syntax_stops why (inr is) = faulty (fault_of_syntax why) (inl (record { why = why; has = is; is = refl }))
 
   pub rule_stops : (tree : Tree) (broken : BrokenRule) → SpellsModel text tree → IsTypeFault tree broken
-      → StopsJudging Only (file_of Role.model name text) (faults.Kind broken)
+      → StopsJudging Only (file_in_role Role.model name text) (faults.Kind broken)
   rule_stops tree broken spelled is = faulty (faults.Kind broken) (inr (record { tree = tree; spells = spelled; broken = broken; breaks = is; is = refl }))
 
   pub type_stops : (tree : Tree) (why : TypeFault) → SpellsModel text tree → OnBroken {T = Tables} (Err why) (IsTypeFault tree)
-      → StopsJudging Only (file_of Role.model name text) (fault_of_types why)
+      → StopsJudging Only (file_in_role Role.model name text) (fault_of_types why)
   type_stops tree (types.Broken broken) spelled is = rule_stops tree broken spelled is
   type_stops tree types.NoMemory spelled is = inl refl
 
@@ -94,23 +94,23 @@ module _ (name text : List ℕ) (short : length text ≤ byte_limit Role.topolog
   abbrev Model : Known → Type 0
   Model known = (t : Tree) × (known ≡ parsed t) × Stands t tables
 
-  pub topology_says : (t : Topology) → MakesTopology tables text t → SaysAfter Model (λ known. known ≡ network t) (file_of Role.topology name text)
+  pub topology_says : (t : Topology) → MakesTopology tables text t → SaysAfter Model (λ known. known ≡ network t) (file_in_role Role.topology name text)
   topology_says t makes known (tree, is, stands) =
-      let says : Says (parsed tree) (file_of Role.topology name text) (network t) = record {
+      let says : Says (parsed tree) (file_in_role Role.topology name text) (network t) = record {
         short = record { bytes = short; lines = λ limited. makes.short };
         means = (t, record { tables = tables; stands = stands; makes = makes }, refl);
       } in
-      (network t, refl, subst (λ (k : Known). Says k (file_of Role.topology name text) (network t)) (sym is) says)
+      (network t, refl, subst (λ (k : Known). Says k (file_in_role Role.topology name text) (network t)) (sym is) says)
 
-  pub topology_stops : (stop : TopologyStop) → StopsTopology tables text stop → StopsJudging Model (file_of Role.topology name text) (fault_of_topology name stop)
+  pub topology_stops : (stop : TopologyStop) → StopsTopology tables text stop → StopsJudging Model (file_in_role Role.topology name text) (fault_of_topology name stop)
   topology_stops (topology.LongLine line) first = inr (λ known (tree, is, stands).
-      subst (λ (k : Known). Refuses k (file_of Role.topology name text) (faults.LimitLine name line)) (sym is)
+      subst (λ (k : Known). RefusesFile k (file_in_role Role.topology name text) (faults.LimitLine name line)) (sym is)
       (inr (inl (record { bytes = short; limited = tt; line = line; first = first; is = refl }))))
   topology_stops (topology.BadLine line BadWords) first = inr (λ known (tree, is, stands).
-      subst (λ (k : Known). Refuses k (file_of Role.topology name text) (faults.EditWords line)) (sym is)
+      subst (λ (k : Known). RefusesFile k (file_in_role Role.topology name text) (faults.EditWords line)) (sym is)
       (inr (inr (record { short = record { bytes = short; lines = λ limited. first.short }; has = (tables, stands, first) }))))
   topology_stops (topology.BadLine line (Refused why)) first = inr (λ known (tree, is, stands).
-      subst (λ (k : Known). Refuses k (file_of Role.topology name text) (faults.Edit line why)) (sym is)
+      subst (λ (k : Known). RefusesFile k (file_in_role Role.topology name text) (faults.Edit line why)) (sym is)
       (inr (inr (record { short = record { bytes = short; lines = λ limited. first.short }; has = (tables, stands, first) }))))
   topology_stops topology.NoMemory first = inl refl
 
@@ -121,26 +121,26 @@ module _ (name text : List ℕ) (short : length text ≤ byte_limit Role.symptom
   Network known = known ≡ network t
 
   pub symptoms_say : (nodes : List NodeName) → ListsNodes text nodes
-      → (known : Known) → Network known → (next : Known) × (next ≡ raised t nodes) × Says known (file_of Role.symptoms name text) next
+      → (known : Known) → Network known → (next : Known) × (next ≡ raised t nodes) × Says known (file_in_role Role.symptoms name text) next
   symptoms_say nodes lists known is =
-      let says : Says (network t) (file_of Role.symptoms name text) (raised t nodes) = record {
+      let says : Says (network t) (file_in_role Role.symptoms name text) (raised t nodes) = record {
         short = record { bytes = short; lines = λ limited. lists.short };
         means = (nodes, lists, refl);
       } in
-      (raised t nodes, refl, subst (λ (k : Known). Says k (file_of Role.symptoms name text) (raised t nodes)) (sym is) says)
+      (raised t nodes, refl, subst (λ (k : Known). Says k (file_in_role Role.symptoms name text) (raised t nodes)) (sym is) says)
 
-  pub symptoms_stop : (stop : SymptomStop) → StopsSymptoms text stop → StopsJudging Network (file_of Role.symptoms name text) (fault_of_symptoms name stop)
+  pub symptoms_stop : (stop : SymptomStop) → StopsSymptoms text stop → StopsJudging Network (file_in_role Role.symptoms name text) (fault_of_symptoms name stop)
   symptoms_stop (symptoms.LongLine line) first = inr (λ known is.
-      subst (λ (k : Known). Refuses k (file_of Role.symptoms name text) (faults.LimitLine name line)) (sym is)
+      subst (λ (k : Known). RefusesFile k (file_in_role Role.symptoms name text) (faults.LimitLine name line)) (sym is)
       (inr (inl (record { bytes = short; limited = tt; line = line; first = first; is = refl }))))
   symptoms_stop (symptoms.BadName line) first = inr (λ known is.
-      subst (λ (k : Known). Refuses k (file_of Role.symptoms name text) (faults.SymptomLine line)) (sym is)
+      subst (λ (k : Known). RefusesFile k (file_in_role Role.symptoms name text) (faults.SymptomLine line)) (sym is)
       (inr (inr (record { short = record { bytes = short; lines = λ limited. first.short }; has = first }))))
   symptoms_stop symptoms.NoMemory first = inl refl
 
 -- what judging a text that was read shows of the file
 pub stops_reading : (role : Role) (name : List ℕ) (Before : Known → Type 0) (old new : FilesReport) (text : List ℕ) (fault : Fault) → ReadsAll old new name text
-    → StopsJudging Before (file_of role name text) fault → StopsReading role name Before old new fault
+    → StopsJudging Before (file_in_role role name text) fault → StopsReading role name Before old new fault
 stops_reading role name Before old new text fault read (inl want) = inl want
 stops_reading role name Before old new text fault read (inr refuses) =
     inr (inr (record { text = text; text_is = text_of_read old new name text read; refuses = refuses }))

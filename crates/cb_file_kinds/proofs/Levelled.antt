@@ -9,7 +9,7 @@ use Rattle.cb_levels.specs.declared.levels.Levels.{Levels}
 use Rattle.cb_levels.specs.declared.verdict.LevelFault.{LevelFault}
 use Rattle.cb_levels.specs.declared.verdict.LevelFault.TheVariants as level_faults
 use Rattle.cb_levels.specs.declared.verdict.Proved.{Proved}
-use Rattle.cb_levels.specs.Checks.{TellsFault, ShowsReach}
+use Rattle.cb_levels.specs.Checks.{TellsLevelFault, ShowsReach}
 use Rattle.cb_levels.specs.Faults.{IsLevelFault}
 use Rattle.cb_levels.specs.Format.{SpellsLevels}
 use Rattle.cb_levels.specs.Valid.{AreLevelsOf, AreValidLevels}
@@ -18,11 +18,11 @@ use Rattle.cb_outcome.proofs.ChainsOne.{root_is_one}
 use Rattle.cb_report.specs.declared.fault.Fault.{Fault}
 use Rattle.cb_report.specs.declared.fault.Fault.TheVariants as faults
 use Rattle.cb_report.specs.FaultSources.{fault_of_level_text, fault_of_levels}
-use Rattle.cb_outcome.specs.Judged.{File, Known, network, levelled, Says, IsLevelRejection, AreLevelsFaulty, Refuses}
-use Rattle.cb_file_kinds.specs.Kinds.{file_of, IsWant, SaysAfter, StopsJudging, AreProved}
+use Rattle.cb_outcome.specs.Judged.{File, Known, network, levelled, Says, IsLevelRejection, AreLevelsFaulty, RefusesFile}
+use Rattle.cb_file_kinds.specs.Kinds.{file_in_role, IsWant, SaysAfter, StopsJudging, AreProved}
 
 -- why levels are rejected, as a fault
-pub level_rejection : (t : Topology) (levels : Levels) (why : LevelFault) → TellsFault t levels why
+pub level_rejection : (t : Topology) (levels : Levels) (why : LevelFault) → TellsLevelFault t levels why
     → IsWant (fault_of_levels why) ⊎ IsLevelRejection t levels (fault_of_levels why)
 level_rejection t levels level_faults.NoMemory tells = inl refl
 level_rejection t levels (level_faults.BadNode place) tells = inr (record { why = level_faults.BadNode place; fails = tells; is = refl })
@@ -49,10 +49,10 @@ module _ (name text : List ℕ) (short : length text ≤ byte_limit Role.levels)
   Network known = known ≡ network t
 
   abbrev TextFile : File
-  TextFile = file_of Role.levels name text
+  TextFile = file_in_role Role.levels name text
 
-  refuses : (fault : Fault) → Refuses (network t) TextFile fault → StopsJudging Network TextFile fault
-  refuses fault r = inr (λ known is. subst (λ (k : Known). Refuses k TextFile fault) (sym is) r)
+  refuses : (fault : Fault) → RefusesFile (network t) TextFile fault → StopsJudging Network TextFile fault
+  refuses fault r = inr (λ known is. subst (λ (k : Known). RefusesFile k TextFile fault) (sym is) r)
 
   pub levels_long : (line : ℕ) → IsFirstLong text line → StopsJudging Network TextFile (faults.LimitLine name line)
   levels_long line first = refuses (faults.LimitLine name line) (inr (inl (record { bytes = short; limited = tt; line = line; first = first; is = refl })))

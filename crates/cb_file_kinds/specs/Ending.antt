@@ -6,12 +6,12 @@ use Rattle.cb_report.specs.declared.fault.Fault.{Fault}
 use Rattle.cb_report.specs.declared.fault.Fault.TheVariants as faults
 use Rattle.cb_report.specs.Text.{bytes_of_text}
 use Rattle.cb_outcome.specs.Outcome.{Outcome}
-use Rattle.cb_outcome.specs.Judged.{Known, nothing, Refuses, PassFrom}
+use Rattle.cb_outcome.specs.Judged.{Known, nothing, RefusesFile, PassFrom}
 use Rattle.cb_outcome.specs.Contents.{Left, Reads, names_of, with_texts, files_from}
 use Rattle.cb_outcome.specs.Command.{Command, reads_of, JobGives}
 use Rattle.cb_outcome.specs.Reading.{WhereReported, ReadsTo}
 use Rattle.cb_file_kinds.specs.declared.output.Output.{Output}
-use Rattle.cb_file_kinds.specs.Kinds.{file_of, IsWant, FailsToRead}
+use Rattle.cb_file_kinds.specs.Kinds.{file_in_role, IsWant, FailsToRead}
 
 -- the names of these files
 abbrev pub names : List (Role × List ℕ) → List (List ℕ)
@@ -28,7 +28,7 @@ abbrev pub network_files : List ℕ → List ℕ → List (Role × List ℕ)
 network_files model topology = (Role.model, model) ∷ (Role.topology, topology) ∷ []
 
 -- All files pass, after which the job gives these bytes, with this fault, if there is one; all were read, and no log follows them.
-pub record Makes (c : Command) (old new : FilesReport) (bytes : List ℕ) (fault : Option Fault) : Type 0 where
+pub record MakesOutput (c : Command) (old new : FilesReport) (bytes : List ℕ) (fault : Option Fault) : Type 0 where
   pub known : Known
   pub said : WhereReported old (λ left. PassFrom nothing (files_from left (reads_of c)) known)
   pub gives : (left : Left) (whole : ℕ) → JobGives left c known whole (record { out = bytes; fault = fault; whole = whole })
@@ -45,10 +45,10 @@ pub record WantsMemory (reads : Reads) (old new : FilesReport) (fault : Fault) :
 pub record IsRefusedThere (earlier : List (Role × List ℕ)) (file : Role × List ℕ) (known : Known) (old : FilesReport) (fault : Fault) : Type 0 where
   pub text : List ℕ
   pub text_is : WhereReported old (λ left. text ≡ contents left (names earlier) file.1)
-  pub refuses : Refuses known (file_of file.0 file.1 text) fault
+  pub refuses : RefusesFile known (file_in_role file.0 file.1 text) fault
 
 -- a file stops the run: those before it say something, and a read of it failed or it is refused
-pub record StopsAt (reads : Reads) (old new : FilesReport) (fault : Fault) : Type 0 where
+pub record FileStops (reads : Reads) (old new : FilesReport) (fault : Fault) : Type 0 where
   pub earlier : List (Role × List ℕ)
   pub file : Role × List ℕ
   pub later : List (Role × List ℕ)
@@ -59,9 +59,9 @@ pub record StopsAt (reads : Reads) (old new : FilesReport) (fault : Fault) : Typ
   pub why : FailsToRead file.1 old new fault ⊎ IsRefusedThere earlier file known old fault
 
 -- what is read begins with these files, and the run ends with the fault
-abbrev pub StopsWithin : List (Role × List ℕ) → FilesReport → FilesReport → Fault → Type 0
-StopsWithin files old new fault = (reads : Reads) (later : List (Role × List ℕ)) → reads.judged ≡ files ++ later
-    → WantsMemory reads old new fault ⊎ StopsAt reads old new fault
+abbrev pub RunEndsWith : List (Role × List ℕ) → FilesReport → FilesReport → Fault → Type 0
+RunEndsWith files old new fault = (reads : Reads) (later : List (Role × List ℕ)) → reads.judged ≡ files ++ later
+    → WantsMemory reads old new fault ⊎ FileStops reads old new fault
 
 -- the outcome of an output, once the files were read
 abbrev pub outcome_of : Output → ℕ → Outcome
@@ -69,8 +69,8 @@ outcome_of output whole = record { out = bytes_of_text output.text; fault = outp
 
 -- what results from a command
 abbrev pub Comes : Command → FilesReport → FilesReport → Result Output Fault → Type 0
-Comes c old new (Ok output) = Makes c old new (bytes_of_text output.text) output.fault
-Comes c old new (Err fault) = WantsMemory (reads_of c) old new fault ⊎ StopsAt (reads_of c) old new fault
+Comes c old new (Ok output) = MakesOutput c old new (bytes_of_text output.text) output.fault
+Comes c old new (Err fault) = WantsMemory (reads_of c) old new fault ⊎ FileStops (reads_of c) old new fault
 
 -- what is wrong, where something is
 abbrev pub wrong : Result (Unit {0}) Fault → Option Fault

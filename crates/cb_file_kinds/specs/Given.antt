@@ -8,7 +8,7 @@ use Rattle.cb_cert.specs.declared.certificate.Span.{Span}
 use Rattle.cb_cert.specs.Format.{IsCertificate, SpellsCertificate}
 use Rattle.cb_validity.specs.Valid.{IsValid}
 use Rattle.cb_validity.specs.declared.verdict.Accepted.{Accepted}
-use Rattle.cb_validity.specs.Verdicts.{Shows}
+use Rattle.cb_validity.specs.Verdicts.{CertificateShows}
 use Rattle.cb_topo.specs.Numbered.{topology_of}
 use Rattle.cb_report.specs.CertificateTexts.{accepted_text}
 use Rattle.cb_outcome.specs.Judged.{Known, certified}
@@ -34,27 +34,27 @@ abbrev pub IsGivenBySome : GivenBook → Type 0
 IsGivenBySome given = (t : Topology) × (c : Certificate) × IsGivenBy t c given
 
 -- the line says what the certificate shows
-pub record IsLineOf (t : Topology) (c : Certificate) (line : List ℕ) : Type 0 where
+pub record IsAcceptedLine (t : Topology) (c : Certificate) (line : List ℕ) : Type 0 where
   pub accepted : Accepted
-  pub shows : Shows t c accepted
+  pub shows : CertificateShows t c accepted
   pub is : line ≡ accepted_text accepted
 
 -- the certificate is valid, and shows this; the graph is of the topology
-pub record IsShown (t : Topology) (c : Certificate) (shown : Shown) : Type 0 where
+pub record IsCertificateShown (t : Topology) (c : Certificate) (shown : Shown) : Type 0 where
   pub valid : IsValid t c
-  pub shows : Shows t c shown.accepted
+  pub shows : CertificateShows t c shown.accepted
   pub graph : topology_of shown.graph ≡ t
 
 -- the text spells the certificate, and its lines aren't too long
 pub record IsValidFrom (t : Topology) (text : List ℕ) (valid : ValidCertificate) : Type 0 where
   pub lines : HasShortLines text
   pub spelled : SpellsCertificate text valid.certificate
-  pub shown : IsShown t valid.certificate valid.shown
+  pub shown : IsCertificateShown t valid.certificate valid.shown
 
 -- it is the codebook of the certificate, with its line
 pub record IsShownBy (t : Topology) (c : Certificate) (shown : ShownBook) : Type 0 where
   pub given : IsGivenBy t c shown.book
-  pub line : IsLineOf t c shown.line.items
+  pub line : IsAcceptedLine t c shown.line.items
 
 -- the book that was shown, by what is known
 abbrev pub IsKnownBook : Topology → ShownBook → Known → Type 0

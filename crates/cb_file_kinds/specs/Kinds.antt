@@ -5,7 +5,7 @@ use Rattle.cb_network.specs.Topology.{Topology}
 use Rattle.cb_cert.specs.declared.certificate.Certificate.{Certificate}
 use Rattle.cb_validity.specs.declared.verdict.Accepted.{Accepted}
 use Rattle.cb_validity.specs.Valid.{IsValid}
-use Rattle.cb_validity.specs.Verdicts.{Shows}
+use Rattle.cb_validity.specs.Verdicts.{CertificateShows}
 use Rattle.cb_levels.specs.declared.levels.Levels.{Levels}
 use Rattle.cb_levels.specs.declared.verdict.Proved.{Proved}
 use Rattle.cb_levels.specs.Checks.{ShowsReach}
@@ -15,11 +15,11 @@ use Rattle.cb_report.specs.declared.fault.Fault.{Fault}
 use Rattle.cb_report.specs.declared.fault.Fault.TheVariants as faults
 use Rattle.cb_report.specs.declared.status.Status.TheVariants.{Memory}
 use Rattle.cb_report.specs.Faults.{status_of}
-use Rattle.cb_outcome.specs.Judged.{File, Known, Says, Refuses}
+use Rattle.cb_outcome.specs.Judged.{File, Known, Says, RefusesFile}
 
 -- a file of this role and name, with this text
-abbrev pub file_of : Role → List ℕ → List ℕ → File
-file_of role name text = record { role = role; name = name; text = text }
+abbrev pub file_in_role : Role → List ℕ → List ℕ → File
+file_in_role role name text = record { role = role; name = name; text = text }
 
 -- the fault is out of memory
 abbrev pub IsWant : Fault → Type 0
@@ -31,7 +31,7 @@ SaysAfter Before After file = (known : Known) → Before known → (next : Known
 
 -- after each that is known before, the file is refused for this
 abbrev pub RefusesAfter : (Known → Type 0) → File → Fault → Type 0
-RefusesAfter Before file fault = (known : Known) → Before known → Refuses known file fault
+RefusesAfter Before file fault = (known : Known) → Before known → RefusesFile known file fault
 
 -- a file isn't judged to say something: memory ran out, or it is refused
 abbrev pub StopsJudging : (Known → Type 0) → File → Fault → Type 0
@@ -47,7 +47,7 @@ pub record ReadsOnly (name : List ℕ) (old new : FilesReport) : Type 0 where
 pub record ReadsSaying (role : Role) (name : List ℕ) (Before After : Known → Type 0) (old new : FilesReport) : Type 0 where
   pub text : List ℕ
   pub read : ReadsAll old new name text
-  pub says : SaysAfter Before After (file_of role name text)
+  pub says : SaysAfter Before After (file_in_role role name text)
 
 -- the text is what was left of the name, where that is reported
 abbrev pub IsTextOf : FilesReport → List ℕ → List ℕ → Type 0
@@ -59,19 +59,19 @@ pub record FailsToRead (name : List ℕ) (old new : FilesReport) (fault : Fault)
   pub failed : ReadFailed old new name
 
 -- the text of the name is refused for this
-pub record IsRefused (role : Role) (name : List ℕ) (Before : Known → Type 0) (old : FilesReport) (fault : Fault) : Type 0 where
+pub record IsTextRefused (role : Role) (name : List ℕ) (Before : Known → Type 0) (old : FilesReport) (fault : Fault) : Type 0 where
   pub text : List ℕ
   pub text_is : IsTextOf old name text
-  pub refuses : RefusesAfter Before (file_of role name text) fault
+  pub refuses : RefusesAfter Before (file_in_role role name text) fault
 
 -- the file stops the run: memory ran out, a read failed, or it is refused
 abbrev pub StopsReading : Role → List ℕ → (Known → Type 0) → FilesReport → FilesReport → Fault → Type 0
-StopsReading role name Before old new fault = IsWant fault ⊎ (FailsToRead name old new fault ⊎ IsRefused role name Before old fault)
+StopsReading role name Before old new fault = IsWant fault ⊎ (FailsToRead name old new fault ⊎ IsTextRefused role name Before old fault)
 
 -- the certificate is valid, and shows this
-pub record IsAccepted (t : Topology) (c : Certificate) (accepted : Accepted) : Type 0 where
+pub record IsCertificateAccepted (t : Topology) (c : Certificate) (accepted : Accepted) : Type 0 where
   pub valid : IsValid t c
-  pub shows : Shows t c accepted
+  pub shows : CertificateShows t c accepted
 
 -- the levels are those of the problem that is shown, and show this
 pub record AreProved (t : Topology) (levels : Levels) (proved : Proved) : Type 0 where

@@ -1,12 +1,12 @@
 //! Certificate files.
 ghost use Rattle.std.specs.Prelude.{◌≡◌, ◌⊎◌, ◌≤◌, ℕ, List, length, IfOk, IfErr};
 ghost use Rattle.cb_cert.specs.Format.{IsCertificate};
-ghost use Rattle.cb_validity.specs.Verdicts.{Shows};
+ghost use Rattle.cb_validity.specs.Verdicts.{CertificateShows};
 ghost use Rattle.cb_topo.specs.Numbered.{topology_of};
 ghost use Rattle.cb_outcome.specs.Roles.{Wanted, Role, byte_limit};
 ghost use Rattle.cb_outcome.specs.Judged.{network, certified, IsRejection};
-ghost use Rattle.cb_file_kinds.specs.Kinds.{IsWant, IsAccepted, file_of, StopsJudging};
-ghost use Rattle.cb_file_kinds.specs.Given.{IsShown, IsValidFrom};
+ghost use Rattle.cb_file_kinds.specs.Kinds.{IsWant, IsCertificateAccepted, file_in_role, StopsJudging};
+ghost use Rattle.cb_file_kinds.specs.Given.{IsCertificateShown, IsValidFrom};
 
 use crate::kind::FileKind;
 use cb_cert::{Certificate, read};
@@ -51,7 +51,7 @@ impl<'s, L: Ledger> FileKind for CertificateFile<'s, L> {
 
     ghost before = { λ file known. known ≡ network (topology_of file.topology) };
 
-    ghost after = { λ file value known. (known ≡ certified (topology_of file.topology) value.certificate) × Shows (topology_of file.topology) value.certificate value.shown.accepted };
+    ghost after = { λ file value known. (known ≡ certified (topology_of file.topology) value.certificate) × CertificateShows (topology_of file.topology) value.certificate value.shown.accepted };
 
     fn most_bytes(&self) -> usize {
         MOST_BYTES
@@ -77,7 +77,7 @@ pub(crate) fn read_valid<'w, L: Ledger>(
 ) -> Result<ValidCertificate, Fault<'w>>
     requires { length text.now ≤ byte_limit (Role.certificate Wanted.any) }
     ensures valid { IfOk result (IsValidFrom (topology_of topology) text.now) }
-    ensures stops { IfErr result (λ fault. (wanted : Wanted) → StopsJudging (λ known. known ≡ network (topology_of topology)) (file_of (Role.certificate wanted) name.entry text.now) fault) }
+    ensures stops { IfErr result (λ fault. (wanted : Wanted) → StopsJudging (λ known. known ≡ network (topology_of topology)) (file_in_role (Role.certificate wanted) name.entry text.now) fault) }
 {
     if let Some(line) = first_long(text) {
         return Err(Fault::LimitLine { name, line });
@@ -100,7 +100,7 @@ fn shown_by<'w, L: Ledger>(
     steps: &mut Steps<L>,
 ) -> Result<Shown, Fault<'w>>
     requires { IsCertificate certificate.now }
-    ensures shown { IfOk result (IsShown (topology_of topology) certificate.now) }
+    ensures shown { IfOk result (IsCertificateShown (topology_of topology) certificate.now) }
     ensures rejected { IfErr result (λ fault. IsWant fault ⊎ IsRejection (topology_of topology) certificate.now fault) }
 {
     let mut graph = Graph::new(alloc, topology)?;
@@ -122,7 +122,7 @@ fn checked<'w, L: Ledger>(
 ) -> Result<Accepted, Fault<'w>>
     requires { IsCertificate certificate.now }
     ensures same { graph.new ≡ graph.old }
-    ensures accepted { IfOk result (IsAccepted (topology_of graph.old) certificate.now) }
+    ensures accepted { IfOk result (IsCertificateAccepted (topology_of graph.old) certificate.now) }
     ensures rejected { IfErr result (λ fault. IsWant fault ⊎ IsRejection (topology_of graph.old) certificate.now fault) }
 {
     Ok(check(alloc, graph, certificate, steps)?)

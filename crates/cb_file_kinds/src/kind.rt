@@ -2,7 +2,7 @@
 ghost use Rattle.std.specs.Prelude.{◌≡◌, ◌≤◌, length, IfOk, IfErr};
 ghost use Rattle.cb_outcome.specs.Roles.{Role, byte_limit};
 ghost use Rattle.cb_outcome.specs.Judged.{Known};
-ghost use Rattle.cb_file_kinds.specs.Kinds.{file_of, SaysAfter, StopsJudging, ReadsOnly, ReadsSaying, StopsReading};
+ghost use Rattle.cb_file_kinds.specs.Kinds.{file_in_role, SaysAfter, StopsJudging, ReadsOnly, ReadsSaying, StopsReading};
 
 use cb_io::{Files, ReadStop, read_whole};
 use cb_report::Fault;
@@ -37,8 +37,8 @@ pub trait FileKind: Drop {
         text: &[u8],
     ) -> Result<Self::Value, Fault<'w>>
         requires { length text.now ≤ byte_limit role }
-        ensures says { IfOk result (λ value. SaysAfter (before self) (after self value) (file_of role name.entry text.now)) }
-        ensures stops { IfErr result (StopsJudging (before self) (file_of role name.entry text.now)) };
+        ensures says { IfOk result (λ value. SaysAfter (before self) (after self value) (file_in_role role name.entry text.now)) }
+        ensures stops { IfErr result (StopsJudging (before self) (file_in_role role name.entry text.now)) };
 }
 
 /// Reads all bytes left of a name, unless there are too many, and judges them.

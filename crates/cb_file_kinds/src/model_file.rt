@@ -1,7 +1,7 @@
 //! Model files, as trees and as models.
 ghost use Rattle.std.specs.Prelude.{◌≡◌, IfOk, IfSome, IfNone};
 ghost use Rattle.cb_grammar.specs.declared.tree.Tree.{Tree as TreeValue};
-ghost use Rattle.cb_rules.specs.Fault.{IsFault, KeepsAll};
+ghost use Rattle.cb_rules.specs.Fault.{IsFirstBroken, KeepsAll};
 ghost use Rattle.cb_check.specs.Stands.{Stands};
 ghost use Rattle.cb_outcome.specs.Roles.{Role};
 ghost use Rattle.cb_outcome.specs.Judged.{nothing, parsed};
@@ -44,7 +44,7 @@ impl FileKind for TreeFile {
 
 // The first type rule that the tree breaks.
 fn broken_rule(alloc: Global, tree: &Tree) -> Result<Option<BrokenRule>, AllocError>
-    ensures found { IfOk result (λ fault. IfSome fault (IsFault tree.now)) }
+    ensures found { IfOk result (λ fault. IfSome fault (IsFirstBroken tree.now)) }
     ensures none { IfOk result (λ fault. IfNone fault (KeepsAll tree.now)) }
 {
     let directory = Directory::of(alloc, tree)?;

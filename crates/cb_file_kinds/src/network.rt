@@ -2,7 +2,7 @@
 ghost use Rattle.std.specs.Prelude.{IfOk, IfErr};
 ghost use Rattle.cb_topo.specs.Numbered.{topology_of};
 ghost use Rattle.cb_outcome.specs.Judged.{network};
-ghost use Rattle.cb_file_kinds.specs.Ending.{Passed, StopsWithin, network_files};
+ghost use Rattle.cb_file_kinds.specs.Ending.{Passed, RunEndsWith, network_files};
 
 use crate::kind::read_as;
 use crate::model_file::ModelFile;
@@ -21,7 +21,7 @@ pub fn read_network<'w, F: Files>(
     topology: FileName<'w>,
 ) -> Result<Topology, Fault<'w>>
     ensures passed { IfOk result (λ made. Passed (network_files model.entry topology.entry) (network (topology_of made)) (F.tells files.old) (F.tells files.new)) }
-    ensures stops { IfErr result (StopsWithin (network_files model.entry topology.entry) (F.tells files.old) (F.tells files.new)) }
+    ensures stops { IfErr result (RunEndsWith (network_files model.entry topology.entry) (F.tells files.old) (F.tells files.new)) }
 {
     let model = read_as(alloc, files, model, ModelFile)?;
     read_as(alloc, files, topology, TopologyFile { model })

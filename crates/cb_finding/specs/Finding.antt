@@ -12,10 +12,10 @@ use Rattle.cb_coding.specs.declared.book.Answer.{Answer}
 use Rattle.cb_coding.specs.declared.book.Pair.{Pair}
 use Rattle.cb_coding.specs.declared.group.Group.{Group}
 use Rattle.cb_model.specs.declared.wish.Wish.{Wish}
-use Rattle.cb_coding.specs.Answers.{IsAnswerWhere, IsWithin, SomeReach, radius}
+use Rattle.cb_coding.specs.Answers.{IsAnswerWhere, IsWithinRadius, SomeReach, radius}
 use Rattle.cb_coding.specs.Distance.{all_columns}
 use Rattle.cb_coding.specs.Groups.{codes_of}
-use Rattle.cb_coding.specs.Pairs.{IsLeast, least_or_one}
+use Rattle.cb_coding.specs.Pairs.{IsClosestPair, least_or_one}
 use Rattle.cb_coding.specs.Used.{HaveRadii}
 use Rattle.cb_finding.specs.declared.finding.Finding.{Finding}
 use Rattle.cb_network.specs.Topology.{Topology}
@@ -70,7 +70,7 @@ ReportsFirst radius_of answer r = (i : ℕ) × (slice_get answer.groups 0 ≡ So
 
 -- the finding over columns at which the codes are d apart
 abbrev pub IsFinding : List NodeName → List Group → List ℕ → ℕ → List NodeName → Finding → Type 0
-IsFinding columns groups book_columns d raised finding = IsFindingWhere (ReportsRadius d) (IsWithin d) columns groups book_columns raised finding
+IsFinding columns groups book_columns d raised finding = IsFindingWhere (ReportsRadius d) (IsWithinRadius d) columns groups book_columns raised finding
 
 -- the finding where each group has a radius of its own
 abbrev pub IsFindingBy : List NodeName → List Group → List ℕ → (ℕ → ℕ) → List NodeName → Finding → Type 0
@@ -90,5 +90,5 @@ pub record IsBurst (t : Topology) (raised : List NodeName) (finding : Finding) :
   pub groups : List Group
   pub matrix : IsMatrix t columns groups
   pub least : Option Pair
-  pub least_is : IsLeast (length columns) (codes_of groups) least
+  pub least_is : IsClosestPair (length columns) (codes_of groups) least
   pub found : IsFinding columns groups (all_columns (length columns)) (least_or_one least) raised finding

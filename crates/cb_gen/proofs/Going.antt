@@ -4,8 +4,8 @@ use Rattle.std.specs.Prelude.{if◌then◌else◌}
 use Rattle.std.proofs.lemmas.List.{append-nil}
 use Rattle.std.specs.declared.result.Result.TheVariants.{Ok, Err}
 use Rattle.cb_gen.specs.Draws.{state_after}
-use Rattle.cb_gen.specs.Log.{MadeUpLine, Edit, Alarm, Tick, drawn_edit_line, drawn_alarm_line, tick_line, lines_text, round, rounds}
-use Rattle.cb_gen.specs.Writing.{GoesOn}
+use Rattle.cb_gen.specs.Log.{MadeUpLine, Edit, Alarm, Tick, drawn_edit_line, drawn_alarm_line, tick_text, lines_text, round, rounds}
+use Rattle.cb_gen.specs.Writing.{WritesEntries}
 use Rattle.cb_gen.specs.declared.log.Log.{Log}
 
 -- what follows where a call is done
@@ -37,7 +37,7 @@ alarm_first : (sites at x : ℕ) (later : List MadeUpLine)
 unfolding lines_text
 alarm_first sites at x later = refl
 
-tick_first : (sites at x : ℕ) (later : List MadeUpLine) → lines_text sites at x (Tick ∷ later) ≡ tick_line (at + 40) ++ lines_text sites (at + 40) x later
+tick_first : (sites at x : ℕ) (later : List MadeUpLine) → lines_text sites at x (Tick ∷ later) ≡ tick_text (at + 40) ++ lines_text sites (at + 40) x later
 unfolding lines_text
 tick_first sites at x later = refl
 
@@ -45,7 +45,7 @@ tick_first sites at x later = refl
 module _ (sites : ℕ) (before after : Log) where
   one_goes : (entry : MadeUpLine) (line : List ℕ) (at x : ℕ)
       → ((later : List MadeUpLine) → lines_text sites before.at before.draws.state (entry ∷ later) ≡ line ++ lines_text sites at x later)
-      → after.text.items ≡ before.text.items ++ line → after.at ≡ at → after.draws.state ≡ x → GoesOn sites before after (entry ∷ [])
+      → after.text.items ≡ before.text.items ++ line → after.at ≡ at → after.draws.state ≡ x → WritesEntries sites before after (entry ∷ [])
   one_goes entry line at x first is time state later =
       ap (λ (xs : List ℕ). before.text.items ++ xs) (first later)
       ∙ (written before.text.items after.text.items line (lines_text sites at x later) is
@@ -53,32 +53,32 @@ module _ (sites : ℕ) (before after : Log) where
       ∙ ap (λ (s : ℕ). after.text.items ++ lines_text sites after.at s later) (sym state)))
 
   pub edit_goes : after.text.items ≡ before.text.items ++ drawn_edit_line sites before.at before.draws.state → after.at ≡ before.at + 1
-      → after.draws.state ≡ state_after 2 before.draws.state → GoesOn sites before after (Edit ∷ [])
+      → after.draws.state ≡ state_after 2 before.draws.state → WritesEntries sites before after (Edit ∷ [])
   edit_goes = one_goes Edit (drawn_edit_line sites before.at before.draws.state) (before.at + 1) (state_after 2 before.draws.state)
       (edit_first sites before.at before.draws.state)
 
   pub alarm_goes : after.text.items ≡ before.text.items ++ drawn_alarm_line sites before.at before.draws.state → after.at ≡ before.at + 1
-      → after.draws.state ≡ state_after 3 before.draws.state → GoesOn sites before after (Alarm ∷ [])
+      → after.draws.state ≡ state_after 3 before.draws.state → WritesEntries sites before after (Alarm ∷ [])
   alarm_goes = one_goes Alarm (drawn_alarm_line sites before.at before.draws.state) (before.at + 1) (state_after 3 before.draws.state)
       (alarm_first sites before.at before.draws.state)
 
-  pub tick_goes : after.text.items ≡ before.text.items ++ tick_line (before.at + 40) → after.at ≡ before.at + 40
-      → after.draws.state ≡ before.draws.state → GoesOn sites before after (Tick ∷ [])
-  tick_goes = one_goes Tick (tick_line (before.at + 40)) (before.at + 40) before.draws.state (tick_first sites before.at before.draws.state)
+  pub tick_goes : after.text.items ≡ before.text.items ++ tick_text (before.at + 40) → after.at ≡ before.at + 40
+      → after.draws.state ≡ before.draws.state → WritesEntries sites before after (Tick ∷ [])
+  tick_goes = one_goes Tick (tick_text (before.at + 40)) (before.at + 40) before.draws.state (tick_first sites before.at before.draws.state)
 
 -- one list of entries, and then another
-two_go : (sites : ℕ) (a b c : Log) (xs ys : List MadeUpLine) → GoesOn sites a b xs → GoesOn sites b c ys → GoesOn sites a c (xs ++ ys)
+two_go : (sites : ℕ) (a b c : Log) (xs ys : List MadeUpLine) → WritesEntries sites a b xs → WritesEntries sites b c ys → WritesEntries sites a c (xs ++ ys)
 two_go sites a b c xs ys first second later =
     ap (λ es. a.text.items ++ lines_text sites a.at a.draws.state es) (append_assoc xs ys later) ∙ (first (ys ++ later) ∙ second later)
 
 -- a round
-pub round_goes : (sites : ℕ) (a b c d : Log) → GoesOn sites a b (replicate 50 Edit) → GoesOn sites b c (replicate 100 Alarm) → GoesOn sites c d (Tick ∷ [])
-    → GoesOn sites a d round
+pub round_goes : (sites : ℕ) (a b c d : Log) → WritesEntries sites a b (replicate 50 Edit) → WritesEntries sites b c (replicate 100 Alarm) → WritesEntries sites c d (Tick ∷ [])
+    → WritesEntries sites a d round
 unfolding round
 round_goes sites a b c d edits alarms tick =
     two_go sites a b d (replicate 50 Edit) (replicate 100 Alarm ++ Tick ∷ []) edits (two_go sites b c d (replicate 100 Alarm) (Tick ∷ []) alarms tick)
 
--- of so many parts so many are written: the others are left
+-- how many parts of how many are written: the others are left
 abbrev pub IsLeft : ℕ → Log → Log → (ℕ → List MadeUpLine) → ℕ → ℕ → Type 0
 IsLeft sites before now parts count done =
     (later : List MadeUpLine)
@@ -105,7 +105,7 @@ left_first sites log parts count later =
 
 -- one more is written
 pub left_more : (sites : ℕ) (before now next : Log) (parts : ℕ → List MadeUpLine) (part : List MadeUpLine) (count done : ℕ) → Repeats parts part → done < count
-    → IsLeft sites before now parts count done → GoesOn sites now next part → IsLeft sites before next parts count (done + 1)
+    → IsLeft sites before now parts count done → WritesEntries sites now next part → IsLeft sites before next parts count (done + 1)
 left_more sites before now next parts part count done repeats within was goes later =
     let one : count - done ≡ suc (count - (done + 1)) = omega (arith, within) in
     let rest = parts (count - (done + 1)) in
@@ -117,7 +117,7 @@ left_more sites before now next parts part count done repeats within was goes la
 
 -- in the end none is left
 pub left_none : (sites : ℕ) (before now : Log) (parts : ℕ → List MadeUpLine) (part : List MadeUpLine) (count done : ℕ) → Repeats parts part → count ≤ done
-    → IsLeft sites before now parts count done → GoesOn sites before now (parts count)
+    → IsLeft sites before now parts count done → WritesEntries sites before now (parts count)
 left_none sites before now parts part count done repeats all was later =
     let none : count - done ≡ zero = omega (arith, all) in
     was later
@@ -135,7 +135,7 @@ nothing sites at x = refl
 
 -- a log that was written whole
 pub whole : (number sites start : ℕ) (before after : Log) (entries : List MadeUpLine) → number ≡ sites → before.text.items ≡ [] → before.at ≡ 0
-    → before.draws.state ≡ start → GoesOn number before after entries → after.text.items ≡ lines_text sites 0 start entries
+    → before.draws.state ≡ start → WritesEntries number before after entries → after.text.items ≡ lines_text sites 0 start entries
 whole number sites start before after entries same empty early begins goes =
     sym (
     sym (ap (λ (n : ℕ). lines_text n 0 start entries) same)

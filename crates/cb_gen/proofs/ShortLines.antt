@@ -10,7 +10,7 @@ use Rattle.std.proofs.lemmas.List.Splits.{slice_split_at}
 use Rattle.std.proofs.lemmas.List.Elements.{All-nil, All-cons, All-append}
 use Rattle.cb_text.specs.Lines.{lines_of, lines_of_parts, IsShort, HasShortLines}
 use Rattle.cb_text.proofs.Cuts.{Lacks}
-use Rattle.cb_gen.specs.Topology.{create_line, link_line, created, linked_with, linked, of_sites, topology_text}
+use Rattle.cb_gen.specs.Topology.{create_line, link_line, created, linked_with, ring_links, of_sites, topology_text}
 
 -- there is always a first part
 parts_cons : (text : List ℕ) → (part : List ℕ) × (parts : List (List ℕ)) × (slice_split (λ b. nat_eq b 10) text ≡ part ∷ parts)
@@ -59,7 +59,7 @@ lacks_by (b ∷ bytes) e = elim (cases_Bool (nat_eq b 10)) [
 
 -- ---- parts of a line
 
--- the bytes have no LF, and are at most so many
+-- the bytes have no LF, and there are at most n
 record IsPart (most : ℕ) (bytes : List ℕ) : Type 0 where
   lacks : Lacks 10 bytes
   few : length bytes ≤ most
@@ -152,17 +152,17 @@ sites_keep text (suc n) each =
 topology_is_short : (sites : ℕ) → 1 ≤ sites → sites ≤ 256 → HasShortLines (topology_text sites)
 topology_is_short sites some few =
     let creates = sites_keep created sites (λ i low. created_keeps i (omega arith)) in
-    let links = sites_keep (linked sites) sites (λ i low.
+    let links = sites_keep (ring_links sites) sites (λ i low.
     let next = mod-lt (i + 1) {m = sites} (omega arith) in linked_keeps i ((i + 1) % sites) (omega arith) (omega arith)) in
-    let whole = keeps_both (of_sites created sites) (of_sites (linked sites) sites) creates links [] (All-nil IsShort) in
+    let whole = keeps_both (of_sites created sites) (of_sites (ring_links sites) sites) creates links [] (All-nil IsShort) in
     subst HasShortLines (append-nil (topology_text sites)) whole
 
 -- the text as it is written: first all instances, and then all links
 pub written_is_short : (sites one two : ℕ) (start middle whole : List ℕ) → 1 ≤ sites → sites ≤ 256 → one ≡ sites → two ≡ sites → start ≡ []
-    → middle ≡ start ++ of_sites created one → whole ≡ middle ++ of_sites (linked two) two → HasShortLines whole
+    → middle ≡ start ++ of_sites created one → whole ≡ middle ++ of_sites (ring_links two) two → HasShortLines whole
 written_is_short sites one two start middle whole some few one_is two_is empty first second =
     let instances : middle ≡ of_sites created sites =
     first ∙ (ap (λ (xs : List ℕ). xs ++ of_sites created one) empty ∙ ap (λ (n : ℕ). of_sites created n) one_is) in
     let all : whole ≡ topology_text sites =
-    second ∙ (ap (λ (xs : List ℕ). xs ++ of_sites (linked two) two) instances ∙ ap (λ (n : ℕ). of_sites created sites ++ of_sites (linked n) n) two_is) in
+    second ∙ (ap (λ (xs : List ℕ). xs ++ of_sites (ring_links two) two) instances ∙ ap (λ (n : ℕ). of_sites created sites ++ of_sites (ring_links n) n) two_is) in
     subst HasShortLines (sym all) (topology_is_short sites some few)

@@ -35,8 +35,8 @@ abbrev pub alarm_line : ℕ → ℕ → ℕ → ℕ → List ℕ
 alarm_line at source kind site =
     codes "{\"at\":" ++ decimal at ++ codes ",\"from\":\"c" ++ decimal source ++ alarm_words kind ++ decimal site ++ codes "\"}\n"
 
-abbrev pub tick_line : ℕ → List ℕ
-tick_line at = codes "{\"at\":" ++ decimal at ++ codes ",\"tick\":true}\n"
+abbrev pub tick_text : ℕ → List ℕ
+tick_text at = codes "{\"at\":" ++ decimal at ++ codes ",\"tick\":true}\n"
 
 -- what stands on a line
 pub data MadeUpLine : Type 0 where
@@ -66,7 +66,7 @@ unfoldable pub lines_text : ℕ → ℕ → ℕ → List MadeUpLine → List ℕ
 lines_text sites at x [] = []
 lines_text sites at x (Edit ∷ later) = drawn_edit_line sites at x ++ lines_text sites (at + 1) (state_after 2 x) later
 lines_text sites at x (Alarm ∷ later) = drawn_alarm_line sites at x ++ lines_text sites (at + 1) (state_after 3 x) later
-lines_text sites at x (Tick ∷ later) = tick_line (at + 40) ++ lines_text sites (at + 40) x later
+lines_text sites at x (Tick ∷ later) = tick_text (at + 40) ++ lines_text sites (at + 40) x later
 
 -- the log: 20 rounds from time 0 on
 abbrev pub log_text : ℕ → ℕ → List ℕ

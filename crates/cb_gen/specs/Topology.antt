@@ -21,8 +21,8 @@ linked_with i j =
     ++ link_line (codes "l") i (codes " ends q") j
 
 -- the next site in a ring of that many sites: the first comes after the last
-abbrev pub linked : ℕ → ℕ → List ℕ
-linked sites i = linked_with i ((i + 1) % sites)
+abbrev pub ring_links : ℕ → ℕ → List ℕ
+ring_links sites i = linked_with i ((i + 1) % sites)
 
 -- the texts of the sites below a number, one after the other
 abbrev pub of_sites : (ℕ → List ℕ) → ℕ → List ℕ
@@ -31,4 +31,4 @@ of_sites text (suc n) = of_sites text n ++ text n
 
 -- all instances, and then all links
 abbrev pub topology_text : ℕ → List ℕ
-topology_text sites = of_sites created sites ++ of_sites (linked sites) sites
+topology_text sites = of_sites created sites ++ of_sites (ring_links sites) sites

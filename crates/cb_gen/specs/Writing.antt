@@ -4,8 +4,8 @@ use Rattle.cb_gen.specs.Log.{MadeUpLine, lines_text}
 use Rattle.cb_gen.specs.declared.log.Log.{Log}
 
 -- these entries were written: whatever comes later, the text as a whole stays the same
-abbrev pub GoesOn : ℕ → Log → Log → List MadeUpLine → Type 0
-GoesOn sites before after entries =
+abbrev pub WritesEntries : ℕ → Log → Log → List MadeUpLine → Type 0
+WritesEntries sites before after entries =
     (later : List MadeUpLine)
     → before.text.items ++ lines_text sites before.at before.draws.state (entries ++ later)
     ≡ after.text.items ++ lines_text sites after.at after.draws.state later

@@ -1,8 +1,8 @@
 //! The log.
 ghost use Rattle.std.specs.Prelude.{◌≡◌, ◌+◌, ◌<◌, ◌≤◌, ◌^◌, ◌++◌, [], IfOk, OnOk, replicate};
 ghost use Rattle.cb_gen.specs.Draws.{state_after};
-ghost use Rattle.cb_gen.specs.Log.{Edit, Alarm, drawn_alarm_line, drawn_edit_line, tick_line, round as entries_of_round, rounds, log_text as text_of_log};
-ghost use Rattle.cb_gen.specs.Writing.{GoesOn};
+ghost use Rattle.cb_gen.specs.Log.{Edit, Alarm, drawn_alarm_line, drawn_edit_line, tick_text, round as entries_of_round, rounds, log_text as text_of_log};
+ghost use Rattle.cb_gen.specs.Writing.{WritesEntries};
 
 use crate::alarm::push_alarm;
 use crate::draws::Draws;
@@ -48,7 +48,7 @@ impl Log {
         requires some { 0 < sites }
         requires early { self.now.at ≡ 0 }
         requires few { count < 2 ^ 16 }
-        ensures { OnOk result (GoesOn sites self.old self.new (rounds count)) }
+        ensures { OnOk result (WritesEntries sites self.old self.new (rounds count)) }
     {
         for _ in 0..count {
             self.push_round(sites)?;
@@ -60,7 +60,7 @@ impl Log {
     fn push_round(&mut self, sites: u64) -> Result<(), AllocError>
         requires some { 0 < sites }
         requires early { self.now.at < 2 ^ 32 }
-        ensures lines { OnOk result (GoesOn sites self.old self.new entries_of_round) }
+        ensures lines { OnOk result (WritesEntries sites self.old self.new entries_of_round) }
         ensures time { OnOk result (self.new.at ≡ self.old.at + 190) }
     {
         self.push_edits(50, sites)?;
@@ -73,7 +73,7 @@ impl Log {
         requires some { 0 < sites }
         requires early { self.now.at < 2 ^ 33 }
         requires few { count < 2 ^ 16 }
-        ensures lines { OnOk result (GoesOn sites self.old self.new (replicate count Edit)) }
+        ensures lines { OnOk result (WritesEntries sites self.old self.new (replicate count Edit)) }
         ensures time { OnOk result (self.new.at ≡ self.old.at + count) }
     {
         for _ in 0..count {
@@ -87,7 +87,7 @@ impl Log {
         requires some { 0 < sites }
         requires early { self.now.at < 2 ^ 33 }
         requires few { count < 2 ^ 16 }
-        ensures lines { OnOk result (GoesOn sites self.old self.new (replicate count Alarm)) }
+        ensures lines { OnOk result (WritesEntries sites self.old self.new (replicate count Alarm)) }
         ensures time { OnOk result (self.new.at ≡ self.old.at + count) }
     {
         for _ in 0..count {
@@ -99,7 +99,7 @@ impl Log {
     // Adds a tick.
     fn push_next_tick(&mut self) -> Result<(), AllocError>
         requires early { self.now.at < 2 ^ 34 }
-        ensures text { OnOk result (self.new.text.items ≡ self.old.text.items ++ tick_line (self.old.at + 40)) }
+        ensures text { OnOk result (self.new.text.items ≡ self.old.text.items ++ tick_text (self.old.at + 40)) }
         ensures time { OnOk result (self.new.at ≡ self.old.at + 40) }
         ensures state { OnOk result (self.new.draws.state ≡ self.old.draws.state) }
     {

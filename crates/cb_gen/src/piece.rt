@@ -1,6 +1,6 @@
 //! Pieces of texts, each written at the end of one.
 ghost use Rattle.std.specs.Prelude.{◌≡◌, ◌++◌, decimal, OnOk};
-ghost use Rattle.cb_gen.specs.Log.{tick_line};
+ghost use Rattle.cb_gen.specs.Log.{tick_text};
 
 use itoa::Buffer;
 use std::alloc::AllocError;
@@ -16,7 +16,7 @@ pub(crate) fn push_number(out: &mut Vec<u8>, words: &[u8], number: u64) -> Resul
 
 /// Adds the line of a tick.
 pub(crate) fn push_tick(out: &mut Vec<u8>, at: u64) -> Result<(), AllocError>
-    ensures { OnOk result (out.new.items ≡ out.old.items ++ tick_line at) }
+    ensures { OnOk result (out.new.items ≡ out.old.items ++ tick_text at) }
 {
     push_number(out, b"{\"at\":", at)?;
     out.extend_from_slice(b",\"tick\":true}\n")

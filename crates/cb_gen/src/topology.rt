@@ -1,7 +1,7 @@
 //! The topology: sites in a ring.
 ghost use Rattle.std.specs.Prelude.{◌≡◌, ◌++◌, ◌<◌, ◌≤◌, IfOk, OnOk};
 ghost use Rattle.cb_text.specs.Lines.{HasShortLines};
-ghost use Rattle.cb_gen.specs.Topology.{create_line, created, link_line, linked, linked_with, of_sites, topology_text as text_of_topology};
+ghost use Rattle.cb_gen.specs.Topology.{create_line, created, link_line, ring_links, linked_with, of_sites, topology_text as text_of_topology};
 
 use crate::piece::push_number;
 use std::alloc::{AllocError, Global};
@@ -31,7 +31,7 @@ fn push_all_created(out: &mut Vec<u8>, sites: u64) -> Result<(), AllocError>
 
 // Adds the lines that link all sites.
 fn push_all_linked(out: &mut Vec<u8>, sites: u64) -> Result<(), AllocError>
-    ensures { OnOk result (out.new.items ≡ out.old.items ++ of_sites (linked sites) sites) }
+    ensures { OnOk result (out.new.items ≡ out.old.items ++ of_sites (ring_links sites) sites) }
 {
     for site in 0..sites {
         push_linked(out, site, (site + 1) % sites)?;

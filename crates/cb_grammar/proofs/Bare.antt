@@ -23,7 +23,7 @@ use Rattle.cb_grammar.specs.declared.machine.Part.TheVariants as parts
 use Rattle.cb_grammar.specs.declared.machine.State.{State}
 use Rattle.cb_grammar.specs.Bare.{bare, bare_name, bare_step, bare_parent, bare_member, bare_class, bare_tree}
 use Rattle.cb_grammar.proofs.Prefix.{classes_of, tree_of}
-use Rattle.cb_grammar.specs.Grammar.{tree_tokens, IsTreeOf, PathsFit}
+use Rattle.cb_grammar.specs.Grammar.{tree_tokens, IsTreeOfTokens, PathsFit}
 use Rattle.cb_grammar.specs.Table.{begun, next_event, next_relation, next_rule, next, next_head, next_inside, next_part, next_state, after_grown, with_part, longer}
 use Rattle.cb_grammar.specs.Read.{so_far, HasShortPaths}
 use Rattle.cb_grammar.proofs.Grows.{Grows, grows, stays_sound}
@@ -221,21 +221,21 @@ EndsOption None = ⊥
 EndsOption (Some s) = Ends s.part
 
 part_done : (cs : List ClassDecl) (part : Part) (ks : List Lexeme) → Ends (bare_part part) → so_far (record { classes = cs; part = part }) ≡ ks → HasShortPaths (record { classes = cs; part = part }) →
-    IsTreeOf (tree_of cs) ks
+    IsTreeOfTokens (tree_of cs) ks
 part_done cs parts.Between ks ends is sound = record { fits = sound.classes; tokens = sym (append-nil (tree_tokens (tree_of cs))) ∙ is }
 part_done cs part ks ends is sound = absurd ends
 
 -- these are the tokens of a tree with these classes but for their places
 abbrev IsBareTree : List Lexeme → List ClassDecl → Type 0
-IsBareTree ks cs = (again : Tree) × IsTreeOf again ks × (bare_tree again ≡ bare_tree (tree_of cs))
+IsBareTree ks cs = (again : Tree) × IsTreeOfTokens again ks × (bare_tree again ≡ bare_tree (tree_of cs))
 
 done : (o : Option State) (ks : List Lexeme) (cs : List ClassDecl) → bare_option o ≡ bare_option (between cs) → ReadsAll o ks → IsBareTree ks cs
 done None ks cs same is = absurd (subst EndsOption (sym same) tt)
 done (Some s) ks cs same is = (tree_of s.classes, part_done s.classes s.part ks (subst EndsOption (sym same) tt) is.0 is.1, ap (λ o. tree_of (classes_of o)) same)
 
-pub same_but_places : (ks : List Lexeme) (tree : Tree) → PathsFit tree → map bare ks ≡ map bare (tree_tokens tree) → (again : Tree) × IsTreeOf again ks × (bare_tree again ≡ bare_tree tree)
+pub same_but_places : (ks : List Lexeme) (tree : Tree) → PathsFit tree → map bare ks ≡ map bare (tree_tokens tree) → (again : Tree) × IsTreeOfTokens again ks × (bare_tree again ≡ bare_tree tree)
 same_but_places ks tree fits same =
-    let whole : IsTreeOf tree (tree_tokens tree) = record { fits = fits; tokens = refl } in
+    let whole : IsTreeOfTokens tree (tree_tokens tree) = record { fits = fits; tokens = refl } in
     let there : bare_option (run start ks) ≡ bare_option (between tree.classes) =
     sym (bare_run ks start) ∙ ap (run start) same ∙ bare_run (tree_tokens tree) start ∙ ap bare_option (tree_runs tree (tree_tokens tree) whole) in
     done (run start ks) ks tree.classes there (run_reads ks (record { classes = []; part = parts.Between }) (record { classes = λ k d low. absurd (omega arith); part = tt }))

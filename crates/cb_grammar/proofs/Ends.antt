@@ -23,7 +23,7 @@ use Rattle.cb_grammar.specs.declared.place.MemberSoFar.TheVariants as places
 use Rattle.cb_grammar.specs.declared.machine.Part.{Part}
 use Rattle.cb_grammar.specs.declared.machine.Part.TheVariants as parts
 use Rattle.cb_grammar.specs.declared.machine.State.{State}
-use Rattle.cb_grammar.specs.Grammar.{step_tokens, named_step, member_tokens, class_tokens, parent_tokens, PathFits, ClassFits, IsPrefix}
+use Rattle.cb_grammar.specs.Grammar.{step_tokens, named_step, member_tokens, class_tokens, parent_tokens, PathFits, ClassFits, IsModelPrefix}
 use Rattle.cb_grammar.specs.Read.{in_event, in_relation, in_rule, in_place, in_part, so_far, RuleSound, PlaceSound, PartSound, HasShortPaths}
 use Rattle.cb_grammar.proofs.Grows.{rule_head, flat_longer, ends_path, none_fits}
 
@@ -127,7 +127,7 @@ part_goes_on (parts.Child n p) is = (new n (Some p), lexemes.Open ∷ lexemes.Cl
 part_goes_on (parts.Inside c p) is = body_goes_on c p is.0 (place_goes_on p is.1)
 
 -- some model begins with what a state has read
-pub is_prefix : (s : State) → HasShortPaths s → IsPrefix (so_far s)
+pub is_prefix : (s : State) → HasShortPaths s → IsModelPrefix (so_far s)
 is_prefix s is =
     let e = part_goes_on s.part is.part in (
       e.1,

@@ -7,7 +7,7 @@ use Rattle.cb_grammar.specs.declared.lexeme.Lexeme.{Lexeme}
 use Rattle.cb_grammar.specs.declared.machine.Part.{Part}
 use Rattle.cb_grammar.specs.declared.machine.Part.TheVariants as parts
 use Rattle.cb_grammar.specs.declared.machine.State.{State}
-use Rattle.cb_grammar.specs.Grammar.{IsTreeOf, IsModel, IsPrefix}
+use Rattle.cb_grammar.specs.Grammar.{IsTreeOfTokens, IsModel, IsModelPrefix}
 use Rattle.cb_grammar.specs.Table.{next_state}
 use Rattle.cb_grammar.specs.Read.{so_far, HasShortPaths}
 use Rattle.cb_grammar.proofs.Grows.{Grows, grows, stays_sound}
@@ -19,7 +19,7 @@ Stopped None = Unit {0}
 Stopped (Some s) = ⊥
 
 -- where the machine refuses a token, no model has it
-pub no_prefix : (s : State) (k : Lexeme) → HasShortPaths s → next_state s k ≡ None → IsPrefix (so_far s ++ k ∷ []) → ⊥
+pub no_prefix : (s : State) (k : Lexeme) → HasShortPaths s → next_state s k ≡ None → IsModelPrefix (so_far s ++ k ∷ []) → ⊥
 no_prefix s k is none prefix =
     let ends : run start (so_far s ++ k ∷ [] ++ prefix.0) ≡ None =
     ap (run start) (append_assoc (so_far s) (k ∷ []) prefix.0) ∙ run-append (so_far s) (k ∷ prefix.0) start
@@ -27,11 +27,11 @@ no_prefix s k is none prefix =
     subst Stopped (sym ends ∙ tree_runs prefix.1.0 (so_far s ++ k ∷ [] ++ prefix.0) prefix.1.1) tt
 
 -- what is read of a token that a model has
-pub reads_on : (s s' : State) (k : Lexeme) → HasShortPaths s → next_state s k ≡ Some s' → HasShortPaths s' × (so_far s' ≡ so_far s ++ k ∷ []) × IsPrefix (so_far s ++ k ∷ [])
+pub reads_on : (s s' : State) (k : Lexeme) → HasShortPaths s → next_state s k ≡ Some s' → HasShortPaths s' × (so_far s' ≡ so_far s ++ k ∷ []) × IsModelPrefix (so_far s ++ k ∷ [])
 reads_on s s' k is next =
     let sound : HasShortPaths s' = subst (λ o. IfSome o HasShortPaths) next (stays_sound s k is) in
     let more : so_far s' ≡ so_far s ++ k ∷ [] = subst (λ o. Grows o (so_far s ++ k ∷ [])) next (grows s k) in
-    (sound, more, subst IsPrefix more (is_prefix s' sound))
+    (sound, more, subst IsModelPrefix more (is_prefix s' sound))
 
 abbrev pub IsBetween : Part → Type 0
 IsBetween parts.Between = Unit {0}
@@ -58,5 +58,5 @@ abbrev pub tree_of : List ClassDecl → Tree
 tree_of cs = record { classes = cs }
 
 -- a model's tokens are those of no other tree
-pub one_tree : (ks : List Lexeme) (t t' : Tree) → IsTreeOf t ks → IsTreeOf t' ks → t ≡ t'
+pub one_tree : (ks : List Lexeme) (t t' : Tree) → IsTreeOfTokens t ks → IsTreeOfTokens t' ks → t ≡ t'
 one_tree ks t t' is is' = ap (λ o. tree_of (classes_of o)) (sym (tree_runs t ks is) ∙ tree_runs t' ks is')

@@ -23,7 +23,7 @@ use Rattle.cb_grammar.specs.declared.place.MemberSoFar.TheVariants as places
 use Rattle.cb_grammar.specs.declared.machine.Part.{Part}
 use Rattle.cb_grammar.specs.declared.machine.Part.TheVariants as parts
 use Rattle.cb_grammar.specs.declared.machine.State.{State}
-use Rattle.cb_grammar.specs.Grammar.{step_tokens, named_step, member_tokens, class_tokens, parent_tokens, tree_tokens, PathFits, ClassFits, IsTreeOf}
+use Rattle.cb_grammar.specs.Grammar.{step_tokens, named_step, member_tokens, class_tokens, parent_tokens, tree_tokens, PathFits, ClassFits, IsTreeOfTokens}
 use Rattle.cb_grammar.specs.declared.place.Grown.{Grown}
 use Rattle.cb_grammar.specs.declared.place.Grown.TheVariants.{More, Whole, Wrong}
 use Rattle.cb_grammar.specs.Table.{next_state, after_grown, longer}
@@ -159,7 +159,7 @@ classes_run (c ∷ more) cs rest fits =
     ∙ classes_run more (cs ++ c ∷ []) rest (rest_of_all ClassFits c more fits) ∙ ap (λ l. run (between l) rest) (append_assoc cs (c ∷ []) more))
 
 -- a tree's tokens give the tree
-pub tree_runs : (tree : Tree) (ks : List Lexeme) → IsTreeOf tree ks → run start ks ≡ between tree.classes
+pub tree_runs : (tree : Tree) (ks : List Lexeme) → IsTreeOfTokens tree ks → run start ks ≡ between tree.classes
 tree_runs tree ks is = ap (run start) (sym is.tokens) ∙ rw (← append-nil (tree_tokens tree)) (classes_run tree.classes [] [] is.fits)
 
 -- what a place has read leads to the place

@@ -88,17 +88,17 @@ next (places.HideName n) lexemes.Semicolon = Whole (members.Hide n)
 next p k = Wrong
 
 -- the body of a class begins
-abbrev pub opened : Token → Option Token → Part
-opened n p = parts.Inside (record { name = n; parent = p; members = [] }) places.Start
+abbrev pub body_start : Token → Option Token → Part
+body_start n p = parts.Inside (record { name = n; parent = p; members = [] }) places.Start
 
 -- a class's head after one token more
 abbrev pub next_head : Part → Lexeme → Option Part
 next_head parts.Between lexemes.Class = Some parts.Word
 next_head parts.Word (lexemes.Name t) = Some (parts.Named t)
 next_head (parts.Named n) lexemes.Extends = Some (parts.Extends n)
-next_head (parts.Named n) lexemes.Open = Some (opened n None)
+next_head (parts.Named n) lexemes.Open = Some (body_start n None)
 next_head (parts.Extends n) (lexemes.Name t) = Some (parts.Child n t)
-next_head (parts.Child n p) lexemes.Open = Some (opened n (Some p))
+next_head (parts.Child n p) lexemes.Open = Some (body_start n (Some p))
 next_head part k = None
 
 -- the state after a class's member has grown

@@ -28,7 +28,7 @@ use Rattle.cb_nodes.specs.Table.{IsNode, node_of}
 use Rattle.cb_successors.specs.Rows.{Has}
 use Rattle.cb_topo.specs.Numbered.{Numbered, topology_of, IsNodeNamed, IsWhole}
 use Rattle.cb_graph.specs.Edges.{EdgeAt, number}
-use Rattle.cb_graph.specs.Instances.{Adds}
+use Rattle.cb_graph.specs.Instances.{AddsNumbersOf}
 use Rattle.cb_graph.specs.Walks.{LeadsAt, IsWhereLeads, IsEventNumber, BringsAbout}
 use Rattle.cb_graph.proofs.Listing.{set_gains}
 use Rattle.cb_graph.proofs.Walking.{one_name, leads_are_leads}
@@ -85,7 +85,7 @@ one_event t typed c name e f a b =
 
 -- what a rule brings about is added
 pub effects_gained : (n : Numbered) (i : InstanceId) (cause : EventId) (rule : Rule) → rule.cause ≡ cause → (path : List Place) → path ≡ rule.path → (here : List Bool) → IsWhereLeads n.net i path here
-    → (members : List InstanceId) → ((id : InstanceId) → Contains members id ↔ Has here id.0) → (before now : ℕ → Type 0) → Adds before now members (IsEventNumber n rule.effect)
+    → (members : List InstanceId) → ((id : InstanceId) → Contains members id ↔ Has here id.0) → (before now : ℕ → Type 0) → AddsNumbersOf before now members (IsEventNumber n rule.effect)
     → (k : ℕ) → now k ↔ (before k ⊎ BringsAbout n i cause rule k)
 effects_gained n i cause rule caused path same here at members are before now gains k = (
   λ h. elim ((gains k).0 h) [
@@ -230,11 +230,11 @@ module _ (n : Numbered) (whole : IsWhole n) where
           )
 
       -- where what the rules bring about is added, the edges are
-      pub edges_gained : (i : InstanceId) (e : EventId) → named.node.instance ≡ i → named.node.event ≡ e → (before now : ℕ → Type 0) → Adds before now rules (BringsAbout n i e)
+      pub edges_gained : (i : InstanceId) (e : EventId) → named.node.instance ≡ i → named.node.event ≡ e → (before now : ℕ → Type 0) → AddsNumbersOf before now rules (BringsAbout n i e)
           → (k : ℕ) → now k ↔ (before k ⊎ EdgeAt n node.0 k)
       edges_gained i e at_i at_e before now gains k =
           let to : BringsAbout n i e ≡ BringsAbout n named.node.instance named.node.event = λ j. BringsAbout n (sym at_i j) (sym at_e j) in
-          let own : Adds before now rules (BringsAbout n named.node.instance named.node.event) = subst (λ P. Adds before now rules P) to gains in (
+          let own : AddsNumbersOf before now rules (BringsAbout n named.node.instance named.node.event) = subst (λ P. AddsNumbersOf before now rules P) to gains in (
             λ h. elim ((own k).0 h) [ inl g ↦ inl g | inr g ↦ inr (edge_to k g.0 g.1 g.2) ],
             λ s. (own k).1 (elim s [ inl g ↦ inl g | inr at ↦ inr (edge_by k at) ]),
           )

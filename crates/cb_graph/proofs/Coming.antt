@@ -11,12 +11,12 @@ use Rattle.cb_network.specs.Sound.{Sound, IsInverse}
 use Rattle.cb_network.proofs.Links.{inverse_back}
 use Rattle.cb_network.proofs.Runs.{back_ahead}
 use Rattle.cb_instances.specs.declared.id.InstanceId.{InstanceId}
-use Rattle.cb_instances.specs.Net.{Net, IsLive, LinkAt}
+use Rattle.cb_instances.specs.Net.{Net, IsLiveInstance, LinkAt}
 use Rattle.cb_successors.specs.Rows.{Has}
 use Rattle.cb_graph.specs.declared.moves.Moves.{Moves}
 use Rattle.cb_graph.specs.declared.moves.Moves.TheVariants.{Pair, AllOf}
-use Rattle.cb_graph.specs.Instances.{Gains, IsNumber}
-use Rattle.cb_graph.specs.Walks.{IsLinked, HasPlaces, HasLive, AllLive, RunsAt, IsRunTo, instance}
+use Rattle.cb_graph.specs.Instances.{RowGains, IsNumber}
+use Rattle.cb_graph.specs.Walks.{IsLinked, CoversInstances, HasLive, AllLive, RunsAt, IsRunTo, instance}
 use Rattle.cb_graph.specs.Touched.{HaveEnds, StartsAt, ComesAt, IsWhereComes}
 use Rattle.cb_graph.proofs.Walking.{still_places}
 
@@ -41,11 +41,11 @@ leads_back n regular sound r s inverse i j = (
 
 -- a walk back as far as it has come
 pub record IsComing (n : Net) (moves : Moves) (path : List Place) (here spare : List Bool) : Type 0 where
-  pub here_places : HasPlaces n here
-  pub spare_places : HasPlaces n spare
+  pub here_places : CoversInstances n here
+  pub spare_places : CoversInstances n spare
   pub at : IsWhereComes n moves path here
 
-pub coming_begun : (n : Net) (moves : Moves) (path : List Place) (here spare : List Bool) → path ≡ [] → HasPlaces n here → HasPlaces n spare → ((k : ℕ) → ¬ Has here k)
+pub coming_begun : (n : Net) (moves : Moves) (path : List Place) (here spare : List Bool) → path ≡ [] → CoversInstances n here → CoversInstances n spare → ((k : ℕ) → ¬ Has here k)
     → IsComing n moves path here spare
 coming_begun n moves path here spare none here_places spare_places empty = subst (λ p. IsComing n moves p here spare) (sym none) (record {
   here_places = here_places;
@@ -54,21 +54,21 @@ coming_begun n moves path here spare none here_places spare_places empty = subst
 })
 
 -- the links that move start at live instances
-pub start_live : (n : Net) (moves : Moves) → HaveEnds n moves → (q : RelId) (i : InstanceId) → StartsAt n moves q i → IsLive n i
-start_live n (Pair from r to s) ends q i (inl start) = subst (IsLive n) (sym start.1) ends.0
-start_live n (Pair from r to s) ends q i (inr start) = subst (IsLive n) (sym start.1) ends.1
+pub start_live : (n : Net) (moves : Moves) → HaveEnds n moves → (q : RelId) (i : InstanceId) → StartsAt n moves q i → IsLiveInstance n i
+start_live n (Pair from r to s) ends q i (inl start) = subst (IsLiveInstance n) (sym start.1) ends.0
+start_live n (Pair from r to s) ends q i (inr start) = subst (IsLiveInstance n) (sym start.1) ends.1
 start_live n (AllOf id) ends q i link = (link.from, link.from_is)
 
 -- a run of links that ends at a live instance begins at one
-run_from_live : (n : Net) (r : RelId) (plus : Bool) (i j : InstanceId) → IsLive n j → RunsAt n r plus i j → IsLive n i
-run_from_live n r false i j live same = subst (IsLive n) (sym same) live
-run_from_live n r true i j live run = elim run.0 as (λ xs. Run (λ x y. LinkAt n x r y) i xs j → IsLive n i) [
-  | [] ↦ λ same. subst (IsLive n) (sym same) live
+run_from_live : (n : Net) (r : RelId) (plus : Bool) (i j : InstanceId) → IsLiveInstance n j → RunsAt n r plus i j → IsLiveInstance n i
+run_from_live n r false i j live same = subst (IsLiveInstance n) (sym same) live
+run_from_live n r true i j live run = elim run.0 as (λ xs. Run (λ x y. LinkAt n x r y) i xs j → IsLiveInstance n i) [
+  | [] ↦ λ same. subst (IsLiveInstance n) (sym same) live
   | x ∷ xs ↦ λ links. (links.0.from, links.0.from_is)
 ] run.1
 
 -- a walk comes along live instances
-pub comes_live : (n : Net) (moves : Moves) → HaveEnds n moves → (i : InstanceId) (path : List Place) → ComesAt n moves i path → IsLive n i
+pub comes_live : (n : Net) (moves : Moves) → HaveEnds n moves → (i : InstanceId) (path : List Place) → ComesAt n moves i path → IsLiveInstance n i
 comes_live n moves ends i [] none = absurd none
 comes_live n moves ends i (place ∷ rest) (last, run, comes) = run_from_live n place.rel place.plus i last (elim comes [
   | inl start ↦ start_live n moves ends place.rel last start
@@ -77,7 +77,7 @@ comes_live n moves ends i (place ∷ rest) (last, run, comes) = run_from_live n 
 
 -- where the list is that of the links back, the row gains where they start
 pub starts_gained : (n : Net) (id : InstanceId) (r s : RelId) (list : List InstanceId) (old new : List Bool) → ((i j : InstanceId) → LinkAt n i s j ↔ LinkAt n j r i)
-    → ((j : InstanceId) → Contains list j ↔ LinkAt n id s j) → Gains old new list IsNumber → (k : ℕ) → Has new k ↔ (Has old k ⊎ StartsAt n (AllOf id) r (instance k))
+    → ((j : InstanceId) → Contains list j ↔ LinkAt n id s j) → RowGains old new list IsNumber → (k : ℕ) → Has new k ↔ (Has old k ⊎ StartsAt n (AllOf id) r (instance k))
 starts_gained n id r s list old new back are gains k = (
   λ h. elim ((gains k).0 h) [
     | inl g ↦ inl g
@@ -92,7 +92,7 @@ module _ (n : Net) (moves : Moves) (path : List Place) (here spare : List Bool) 
   comers_live ends id c = comes_live n moves ends id path ((walk.at id.0).0 ((are id).0 c))
 
   module _ (place : Place) (s : RelId) (back : (i j : InstanceId) → LinkAt n i s j ↔ LinkAt n j place.rel i) (none linked started : List Bool) (empty : (k : ℕ) → ¬ Has none k)
-      (gains : Gains none linked members (IsLinked n s)) (starts : (k : ℕ) → Has started k ↔ (Has linked k ⊎ StartsAt n moves place.rel (instance k))) where
+      (gains : RowGains none linked members (IsLinked n s)) (starts : (k : ℕ) → Has started k ↔ (Has linked k ⊎ StartsAt n moves place.rel (instance k))) where
     -- a link that moves starts here, or a link leads from here to an instance from which the rest of the path leads to a link that moves
     abbrev ComesHere : InstanceId → Type 0
     ComesHere i = StartsAt n moves place.rel i ⊎ ((j : InstanceId) × LinkAt n i place.rel j × ComesAt n moves j path)
@@ -142,7 +142,7 @@ left_more path m r is = drop_more path m r (slice_get_within path m r is) ∙ (�
 pub coming_next : (n : Net) (moves : Moves) (path : List Place) (m : ℕ) (here spare : List Bool) → IsComing n moves (drop (m + 1) path) here spare
     → (members : List InstanceId) → ((id : InstanceId) → Contains members id ↔ Has here id.0)
     → (place : Place) (s : RelId) → slice_get path m ≡ Some place → ((i j : InstanceId) → LinkAt n i s j ↔ LinkAt n j place.rel i) → (none linked started next : List Bool)
-    → ((k : ℕ) → ¬ Has none k) → length none ≡ length spare → length linked ≡ length none → Gains none linked members (IsLinked n s) → length started ≡ length linked
+    → ((k : ℕ) → ¬ Has none k) → length none ≡ length spare → length linked ≡ length none → RowGains none linked members (IsLinked n s) → length started ≡ length linked
     → ((k : ℕ) → Has started k ↔ (Has linked k ⊎ StartsAt n moves place.rel (instance k))) → length next ≡ length started
     → ((k : ℕ) → Has next k ↔ IsRunTo n s place.plus started k) → IsComing n moves (drop m path) next here
 coming_next n moves path m here spare walk members are place s is back none linked started next empty len len' gains len'' starts len''' runs =

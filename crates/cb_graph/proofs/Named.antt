@@ -14,11 +14,11 @@ use Rattle.cb_network.specs.Causes.{Run, Ahead}
 use Rattle.cb_network.specs.Regular.{IsRegular}
 use Rattle.cb_network.proofs.Kept.{class_of}
 use Rattle.cb_network.proofs.Sets.{got_remove}
-use Rattle.cb_change.specs.Before.{MovesLink, ComesTo, IsEitherWay}
+use Rattle.cb_change.specs.Before.{MovesLink, LeadsToChange, IsEitherWay}
 use Rattle.cb_change.specs.Laws.{IsStep}
 use Rattle.cb_change.proofs.Moved.{one_pair}
 use Rattle.cb_instances.specs.declared.id.InstanceId.{InstanceId}
-use Rattle.cb_instances.specs.Net.{Net, IsNamed, LinkAt, IsWhole}
+use Rattle.cb_instances.specs.Net.{Net, IsNamed, LinkAt, IsWholeNet}
 use Rattle.cb_graph.specs.declared.moves.Moves.{Moves}
 use Rattle.cb_graph.specs.declared.moves.Moves.TheVariants.{Pair, AllOf}
 use Rattle.cb_graph.specs.Touched.{ArePair, AreMovedBy, StartsAt, ComesAt, Remains}
@@ -34,8 +34,8 @@ pub record MoveThese (n : Net) (moves : Moves) (by_name : List ℕ → RelId →
   pub left : (i : InstanceId) (a : List ℕ) (c : ClassId) → IsNamed n i a → HasClass n.topology a c → Remains moves i → IsLiveName new a
   pub leaves : (i : InstanceId) (a : List ℕ) → IsNamed n i a → IsLiveName new a → Remains moves i
 
-module _ (n : Net) (whole : IsWhole n) (moves : Moves) (by_name : List ℕ → RelId → List ℕ → Type 0) (new : Topology) (these : MoveThese n moves by_name new) where
-  pub comes_by_name : (i : InstanceId) (a : List ℕ) (path : List Place) → IsNamed n i a → ComesAt n moves i path → ComesTo n.topology by_name a path
+module _ (n : Net) (whole : IsWholeNet n) (moves : Moves) (by_name : List ℕ → RelId → List ℕ → Type 0) (new : Topology) (these : MoveThese n moves by_name new) where
+  pub comes_by_name : (i : InstanceId) (a : List ℕ) (path : List Place) → IsNamed n i a → ComesAt n moves i path → LeadsToChange n.topology by_name a path
   comes_by_name i a [] named none = none
   comes_by_name i a (place ∷ rest) named (last, run, comes) =
       let (b, last_named, ahead) = runs_names n whole place.rel place.plus i last run a named in
@@ -66,7 +66,7 @@ module _ (n : Net) (whole : IsWhole n) (moves : Moves) (by_name : List ℕ → R
     ahead_ends true i a b named remains ahead = run_ends i a ahead.0 b named remains ahead.1
     ahead_ends false i a b named remains same = inr (i, refl, subst (IsNamed n i) same named, remains)
 
-  pub comes_by_number : (i : InstanceId) (a : List ℕ) (path : List Place) → IsNamed n i a → Remains moves i → ComesTo n.topology by_name a path → ComesAt n moves i path
+  pub comes_by_number : (i : InstanceId) (a : List ℕ) (path : List Place) → IsNamed n i a → Remains moves i → LeadsToChange n.topology by_name a path → ComesAt n moves i path
   comes_by_number i a [] named remains none = none
   comes_by_number i a (place ∷ rest) named remains (x, ahead, y, comes) =
       elim (ahead_ends place.rel place.plus i a x named remains ahead) [
@@ -86,7 +86,7 @@ module _ (n : Net) (whole : IsWhole n) (moves : Moves) (by_name : List ℕ → R
 abbrev MovesPair : Topology → List ℕ → List ℕ → List ℕ → List ℕ → RelId → List ℕ → Type 0
 MovesPair t a rel b x q y = (r : RelId) × (s : RelId) × NamesPair t a rel r s × IsEitherWay x q y a r s b
 
-module _ (n : Net) (whole : IsWhole n) (regular : IsRegular n.topology.model) where
+module _ (n : Net) (whole : IsWholeNet n) (regular : IsRegular n.topology.model) where
   module _ (a rel b : List ℕ) (from : InstanceId) (r : RelId) (to : InstanceId) (s : RelId) (pair : ArePair n a rel b from r to s) where
     pair_starts : (i : InstanceId) (x : List ℕ) (q : RelId) (y : List ℕ) → IsNamed n i x → MovesPair n.topology a rel b x q y → StartsAt n (Pair from r to s) q i
     pair_starts i x q y named (r', s', names, either) =

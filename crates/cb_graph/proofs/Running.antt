@@ -9,16 +9,16 @@ use Rattle.cb_model.proofs.Numbers.{contains_at}
 use Rattle.cb_network.specs.Causes.{Ahead}
 use Rattle.cb_network.proofs.Runs.{along, ahead_along, one_more}
 use Rattle.cb_instances.specs.declared.id.InstanceId.{InstanceId}
-use Rattle.cb_instances.specs.Net.{Net, IsLive, LinkAt}
+use Rattle.cb_instances.specs.Net.{Net, IsLiveInstance, LinkAt}
 use Rattle.cb_successors.specs.Rows.{Has}
-use Rattle.cb_graph.specs.Instances.{IsListed, IsPrefix, Gains, IsNumber}
+use Rattle.cb_graph.specs.Instances.{IsListed, IsPrefix, RowGains, IsNumber}
 use Rattle.cb_graph.specs.Walks.{HasLive, RunsAt, IsRunTo, instance}
 
 -- a run of links from a live instance ends at a live one
-pub run_live : (n : Net) (r : RelId) (plus : Bool) (i j : InstanceId) → IsLive n i → RunsAt n r plus i j → IsLive n j
-run_live n r plus i j live run = ahead_along (λ x y. LinkAt n x r y) (IsLive n) (λ x y _ link. (link.to, link.to_is)) plus i j live run
+pub run_live : (n : Net) (r : RelId) (plus : Bool) (i j : InstanceId) → IsLiveInstance n i → RunsAt n r plus i j → IsLiveInstance n j
+run_live n r plus i j live run = ahead_along (λ x y. LinkAt n x r y) (IsLiveInstance n) (λ x y _ link. (link.to, link.to_is)) plus i j live run
 
-pub runs_live : (n : Net) (r : RelId) (plus : Bool) (row : List Bool) → HasLive n row → (k : ℕ) → IsRunTo n r plus row k → IsLive n (instance k)
+pub runs_live : (n : Net) (r : RelId) (plus : Bool) (row : List Bool) → HasLive n row → (k : ℕ) → IsRunTo n r plus row k → IsLiveInstance n (instance k)
 runs_live n r plus row live k (i, has, run) = run_live n r plus i (instance k) (live i has) run
 
 -- an item of a list has a position in it
@@ -54,7 +54,7 @@ module _ (n : Net) (r : RelId) (old : List Bool) where
 
     -- with the links of one more
     pub running_more : (x : InstanceId) → slice_get list place ≡ Some x → (links : List InstanceId) → ((j : InstanceId) → Contains links j ↔ LinkAt n x r j)
-        → (list' : List InstanceId) (row' : List Bool) → IsListed list' row' → length row' ≡ length row → Gains row row' links IsNumber → IsPrefix list list'
+        → (list' : List InstanceId) (row' : List Bool) → IsListed list' row' → length row' ≡ length row → RowGains row row' links IsNumber → IsPrefix list list'
         → IsRunning n r old (place + 1) list' row'
     running_more x here links are list' row' listed len gains prefix = record {
       listed = listed;

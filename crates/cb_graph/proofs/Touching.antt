@@ -21,7 +21,7 @@ use Rattle.cb_change.proofs.Kept.{never_meets}
 use Rattle.cb_change.proofs.Moved.{moved}
 use Rattle.cb_change.proofs.Steps.{links_kept}
 use Rattle.cb_instances.specs.declared.id.InstanceId.{InstanceId}
-use Rattle.cb_instances.specs.Net.{Net, IsNamed, IsLive, name_at, name_or, event_name}
+use Rattle.cb_instances.specs.Net.{Net, IsNamed, IsLiveInstance, name_at, name_or, event_name}
 use Rattle.cb_nodes.specs.declared.node.Node.{Node}
 use Rattle.cb_nodes.specs.Table.{node_of}
 use Rattle.cb_successors.specs.Rows.{Has}
@@ -30,14 +30,14 @@ use Rattle.cb_network.proofs.Typed.{typed_is_regular}
 use Rattle.cb_graph.specs.declared.moves.Moves.{Moves}
 use Rattle.cb_graph.specs.declared.moves.Moves.TheVariants.{Pair, AllOf}
 use Rattle.cb_graph.specs.Edges.{number}
-use Rattle.cb_graph.specs.Instances.{Gains}
+use Rattle.cb_graph.specs.Instances.{RowGains}
 use Rattle.cb_graph.specs.Touched.{IsTouchedNumber, AreMovedBy, HaveEnds, ComesAt, IsWhereComes, Remains, RemainsWith, IsCauseNumber, TouchesBy}
 use Rattle.cb_graph.specs.Walks.{IsEventNumber}
 use Rattle.cb_graph.proofs.Bridge.{one_class, one_event, one_at, event_at}
 use Rattle.cb_graph.proofs.Named.{edit_moves, comes_by_name, comes_by_number}
 
 -- an instance has the rules of its class
-module _ (n : Net) (moves : Moves) (rule : ℕ) (i : InstanceId) (live : IsLive n i) (class : ClassId) (known : (name : List ℕ) → IsNamed n i name → HasClass n.topology name class) where
+module _ (n : Net) (moves : Moves) (rule : ℕ) (i : InstanceId) (live : IsLiveInstance n i) (class : ClassId) (known : (name : List ℕ) → IsNamed n i name → HasClass n.topology name class) where
   class_here : HasClass n.topology (name_at n i) class
   class_here = subst (λ a. HasClass n.topology a class) (sym (ap name_or live.1)) (known live.0 live.1)
 
@@ -61,7 +61,7 @@ module _ (n : Numbered) (moves : Moves) where
 
     -- a row gains what one rule touches
     pub rule_gained : (here : List Bool) → IsWhereComes n.net moves row.path here → (members : List InstanceId)
-        → ((id : InstanceId) → Contains members id ↔ Has here id.0) → (old new : List Bool) → Gains old new members (IsCauseNumber n moves rule row.cause)
+        → ((id : InstanceId) → Contains members id ↔ Has here id.0) → (old new : List Bool) → RowGains old new members (IsCauseNumber n moves rule row.cause)
         → (k : ℕ) → Has new k ↔ (Has old k ⊎ TouchesBy n moves rule k)
     rule_gained here where_comes members are old new gains k = (
       λ h. elim ((gains k).0 h) [

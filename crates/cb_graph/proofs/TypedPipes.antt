@@ -20,10 +20,10 @@ use Rattle.cb_model.specs.declared.tables.RuleRow.{RuleRow}
 use Rattle.cb_model.specs.declared.tables.BlockRow.{BlockRow}
 use Rattle.cb_model.specs.declared.tables.HideRow.{HideRow}
 use Rattle.cb_model.specs.Classes.{ancestor, parent_of, parent_of_some, HasEvent, HasRelation}
-use Rattle.cb_model.specs.WellTyped.{IsClass, IsEvent, IsRelation, IsPlace, HasPlaces, HasNames, HasInverse, InheritsRule, Declares, Member, Reaches, MayRepeat, KeepsTypeRules, WellTyped}
+use Rattle.cb_model.specs.WellTyped.{IsClass, IsEvent, IsRelation, IsPlace, HasPlaces, HasNames, HasInverse, InheritsRule, ClassDeclares, Member, PathReaches, MayRepeat, KeepsTypeRules, WellTyped}
 use Rattle.cb_model.specs.WellTyped as members
 use Rattle.cb_model.proofs.Numbers.{at_most_numbered}
-use Rattle.cb_graph.specs.Pipes.{pipes, pipe_classes, pipe_events, pipe_relations, pipe_rules, next}
+use Rattle.cb_graph.specs.Pipes.{pipes, pipe_classes, pipe_events, pipe_relations, pipe_rules, next_step}
 
 -- each item in turn is such that P
 abbrev Each : {X : Type 0} → (X → Type 0) → List X → Type 0
@@ -51,8 +51,8 @@ have_places = record {
   relations = all_of (λ (row : RelRow). IsClass pipes row.class × IsClass pipes row.target × IsRelation pipes row.inverse) pipe_relations
       ((omega arith, omega arith, omega arith), ((omega arith, omega arith, omega arith), tt));
   rules = all_of (λ (row : RuleRow). IsClass pipes row.class × IsEvent pipes row.cause × All (IsPlace pipes) row.path × IsEvent pipes row.effect) pipe_rules (
-    (omega arith, omega arith, all_of (IsPlace pipes) (next ∷ []) (omega arith, tt), omega arith),
-    ((omega arith, omega arith, all_of (IsPlace pipes) (next ∷ next ∷ []) (omega arith, (omega arith, tt)), omega arith), tt),
+    (omega arith, omega arith, all_of (IsPlace pipes) (next_step ∷ []) (omega arith, tt), omega arith),
+    ((omega arith, omega arith, all_of (IsPlace pipes) (next_step ∷ next_step ∷ []) (omega arith, (omega arith, tt)), omega arith), tt),
   );
   blocks = All-nil (λ (row : BlockRow). IsClass pipes row.class × (row.rule < length pipes.rules));
   hides = All-nil (λ (row : HideRow). IsClass pipes row.class × IsEvent pipes row.event);
@@ -99,7 +99,7 @@ decode name =
 same_some : {X : Type 0} (x y : X) → Some x ≡ Some y → x ≡ y
 same_some x y is = cc
 
-declared_once : (c : ClassId) (m : Member) (name : List ℕ) → Declares pipes c m name → decode name ≡ m
+declared_once : (c : ClassId) (m : Member) (name : List ℕ) → ClassDeclares pipes c m name → decode name ≡ m
 unfolding decode
 declared_once c (members.event zero) name (row, is, of_c, called) = ap decode (sym called ∙ ap (λ (r : EventRow). r.name) (same_some _ _ (sym is)))
 declared_once c (members.event (suc zero)) name (row, is, of_c, called) = ap decode (sym called ∙ ap (λ (r : EventRow). r.name) (same_some _ _ (sym is)))
@@ -122,7 +122,7 @@ has_leak = record { row = _; is = refl; from_c = (0, refl) }
 abbrev has_dry : HasEvent pipes pipe (record { 0 = 1 })
 has_dry = record { row = _; is = refl; from_c = (0, refl) }
 
-abbrev has_next : HasRelation pipes pipe next.rel
+abbrev has_next : HasRelation pipes pipe next_step.rel
 has_next = record { row = _; is = refl; from_c = (0, refl) }
 
 keep_rules : KeepsTypeRules pipes
@@ -133,11 +133,11 @@ keep_rules = record {
   member_names = λ c d one other name is_a here there. sym (declared_once c one name here) ∙ declared_once d other name there;
   inverses = λ r row is. inverses_lead_back r.0 row is;
   causes = all_of (λ (row : RuleRow). HasEvent pipes row.class row.cause) pipe_rules (has_leak, (has_leak, tt));
-  effects = all_of (λ (row : RuleRow). (d : ClassId) × Reaches pipes row.class row.path d × HasEvent pipes d row.effect) pipe_rules
+  effects = all_of (λ (row : RuleRow). (d : ClassId) × PathReaches pipes row.class row.path d × HasEvent pipes d row.effect) pipe_rules
       ((pipe, (has_next, refl), has_dry), ((pipe, (has_next, (has_next, refl)), has_dry), tt));
   repeats = all_of (λ (row : RuleRow). All (MayRepeat pipes) row.path) pipe_rules (
-    all_of (MayRepeat pipes) (next ∷ []) (λ e. cc, tt),
-    (all_of (MayRepeat pipes) (next ∷ next ∷ []) (λ e. cc, (λ e. cc, tt)), tt),
+    all_of (MayRepeat pipes) (next_step ∷ []) (λ e. cc, tt),
+    (all_of (MayRepeat pipes) (next_step ∷ next_step ∷ []) (λ e. cc, (λ e. cc, tt)), tt),
   );
   blocked = All-nil (λ (row : BlockRow). InheritsRule pipes row.class row.rule);
   hidden = All-nil (λ (row : HideRow). (has : HasEvent pipes row.class row.event) × (has.row.symptom ≡ true));

@@ -7,10 +7,10 @@ use Rattle.cb_network.specs.Topology.{HasLink}
 use Rattle.cb_network.specs.Causes.{Run, Ahead, Leads}
 use Rattle.cb_network.proofs.Runs.{first_of, last_of}
 use Rattle.cb_instances.specs.declared.id.InstanceId.{InstanceId}
-use Rattle.cb_instances.specs.Net.{Net, IsNamed, IsLive, LinkAt, IsWhole}
+use Rattle.cb_instances.specs.Net.{Net, IsNamed, IsLiveInstance, LinkAt, IsWholeNet}
 use Rattle.cb_successors.specs.Rows.{Has}
-use Rattle.cb_graph.specs.Instances.{Gains, IsNumber}
-use Rattle.cb_graph.specs.Walks.{RunsAt, LeadsAt, IsRunTo, IsLinked, IsWhereLeads, HasPlaces, HasLive, AllLive, instance}
+use Rattle.cb_graph.specs.Instances.{RowGains, IsNumber}
+use Rattle.cb_graph.specs.Walks.{RunsAt, LeadsAt, IsRunTo, IsLinked, IsWhereLeads, CoversInstances, HasLive, AllLive, instance}
 
 -- a number has one name
 pub one_name : (n : Net) (i : InstanceId) (a b : List ℕ) → IsNamed n i a → IsNamed n i b → a ≡ b
@@ -35,13 +35,13 @@ leads_more n i (q ∷ path) place j = (
 )
 
 -- from a live instance a path leads to live ones
-pub leads_live : (n : Net) (path : List Place) (i j : InstanceId) → IsLive n i → LeadsAt n i path j → IsLive n j
-leads_live n [] i j live l = subst (IsLive n) l live
+pub leads_live : (n : Net) (path : List Place) (i j : InstanceId) → IsLiveInstance n i → LeadsAt n i path j → IsLiveInstance n j
+leads_live n [] i j live l = subst (IsLiveInstance n) l live
 leads_live n (place ∷ path) i j live (last, run, next, link, rest) = leads_live n path next j (link.to, link.to_is) rest
 
 -- where the list is that of the links, the row gains what is linked
 pub links_gained : (n : Net) (i : InstanceId) (r : RelId) (list : List InstanceId) (old new : List Bool) → ((j : InstanceId) → Contains list j ↔ LinkAt n i r j)
-    → Gains old new list IsNumber → (k : ℕ) → Has new k ↔ (Has old k ⊎ IsLinked n r i k)
+    → RowGains old new list IsNumber → (k : ℕ) → Has new k ↔ (Has old k ⊎ IsLinked n r i k)
 links_gained n i r list old new are gains k = (
   λ h. elim ((gains k).0 h) [ inl g ↦ inl g | inr g ↦ inr (subst (λ m. LinkAt n i r (instance m)) g.2 ((are g.0).0 g.1)) ],
   λ s. (gains k).1 (elim s [ inl g ↦ inl g | inr l ↦ inr (instance k, (are (instance k)).1 l, refl) ]),
@@ -49,17 +49,17 @@ links_gained n i r list old new are gains k = (
 
 -- a walk as far as it has come
 pub record IsWalk (n : Net) (from : InstanceId) (path : List Place) (here spare : List Bool) : Type 0 where
-  pub here_places : HasPlaces n here
-  pub spare_places : HasPlaces n spare
+  pub here_places : CoversInstances n here
+  pub spare_places : CoversInstances n spare
   pub at : IsWhereLeads n from path here
 
-pub still_places : (n : Net) (row row' : List Bool) → HasPlaces n row → length row' ≡ length row → HasPlaces n row'
+pub still_places : (n : Net) (row row' : List Bool) → CoversInstances n row → length row' ≡ length row → CoversInstances n row'
 still_places n row row' places len = record {
-  room = let le = places.room in omega arith;
+  capacity = let le = places.capacity in omega arith;
   each = λ id live. let lt = places.each id live in omega arith;
 }
 
-pub walk_begun : (n : Net) (from : InstanceId) (none here spare : List Bool) → HasPlaces n none → HasPlaces n spare → ((k : ℕ) → ¬ Has none k)
+pub walk_begun : (n : Net) (from : InstanceId) (none here spare : List Bool) → CoversInstances n none → CoversInstances n spare → ((k : ℕ) → ¬ Has none k)
     → length here ≡ length none → ((k : ℕ) → Has here k ↔ (Has none k ⊎ (from.0 ≡ k))) → IsWalk n from [] here spare
 walk_begun n from none here spare places spare_places empty len each = record {
   here_places = still_places n none here places len;
@@ -71,19 +71,19 @@ walk_begun n from none here spare places spare_places empty len each = record {
 }
 
 -- what is linked is live
-pub linked_live : (n : Net) (r : RelId) (members : List InstanceId) (none linked : List Bool) → ((k : ℕ) → ¬ Has none k) → Gains none linked members (IsLinked n r) → HasLive n linked
+pub linked_live : (n : Net) (r : RelId) (members : List InstanceId) (none linked : List Bool) → ((k : ℕ) → ¬ Has none k) → RowGains none linked members (IsLinked n r) → HasLive n linked
 linked_live n r members none linked empty gains id has = elim ((gains id.0).0 has) [
   | inl g ↦ absurd (empty id.0 g)
   | inr g ↦ (g.2.to, g.2.to_is)
 ]
 
-module _ (n : Net) (from : InstanceId) (path : List Place) (here spare : List Bool) (live : IsLive n from) (walk : IsWalk n from path here spare)
+module _ (n : Net) (from : InstanceId) (path : List Place) (here spare : List Bool) (live : IsLiveInstance n from) (walk : IsWalk n from path here spare)
     (members : List InstanceId) (are : (id : InstanceId) → Contains members id ↔ Has here id.0) where
   pub members_live : AllLive n members
   members_live id c = leads_live n path from id live ((walk.at id.0).0 ((are id).0 c))
 
   pub walk_more : (place : Place) (none linked next : List Bool) → ((k : ℕ) → ¬ Has none k) → length none ≡ length spare → length linked ≡ length none
-      → Gains none linked members (IsLinked n place.rel) → length next ≡ length linked → ((k : ℕ) → Has next k ↔ IsRunTo n place.rel place.plus linked k)
+      → RowGains none linked members (IsLinked n place.rel) → length next ≡ length linked → ((k : ℕ) → Has next k ↔ IsRunTo n place.rel place.plus linked k)
       → IsWalk n from (path ++ place ∷ []) next here
   walk_more place none linked next empty len len' gains len'' runs = record {
     here_places = still_places n spare next walk.spare_places (len'' ∙ (len' ∙ len));
@@ -102,7 +102,7 @@ module _ (n : Net) (from : InstanceId) (path : List Place) (here spare : List Bo
   }
 
 -- the path from i to j, at the names of both
-module _ (n : Net) (whole : IsWhole n) where
+module _ (n : Net) (whole : IsWholeNet n) where
   pub link_named : (r : RelId) (i j : InstanceId) (link : LinkAt n i r j) (a : List ℕ) → IsNamed n i a → HasLink n.topology a r link.to
   link_named r i j link a is = subst (λ z. HasLink n.topology z r link.to) (one_name n i link.from a link.from_is is) link.linked
 

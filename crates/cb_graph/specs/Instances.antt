@@ -14,16 +14,16 @@ abbrev pub IsPrefix : {X : Type 0} → List X → List X → Type 0
 IsPrefix {X} old new = (place : ℕ) (x : X) → slice_get old place ≡ Some x → slice_get new place ≡ Some x
 
 -- what holds of a number now held before, or the relation P has it with some item of the list
-abbrev pub Adds : {X : Type 0} → (ℕ → Type 0) → (ℕ → Type 0) → List X → (X → ℕ → Type 0) → Type 0
-Adds {X} before now items P = (k : ℕ) → now k ↔ (before k ⊎ ((x : X) × Contains items x × P x k))
+abbrev pub AddsNumbersOf : {X : Type 0} → (ℕ → Type 0) → (ℕ → Type 0) → List X → (X → ℕ → Type 0) → Type 0
+AddsNumbersOf {X} before now items P = (k : ℕ) → now k ↔ (before k ⊎ ((x : X) × Contains items x × P x k))
 
 -- the row has what it had, and what is so for some item of the list
-abbrev pub Gains : {X : Type 0} → List Bool → List Bool → List X → (X → ℕ → Type 0) → Type 0
-Gains old new items P = Adds (Has old) (Has new) items P
+abbrev pub RowGains : {X : Type 0} → List Bool → List Bool → List X → (X → ℕ → Type 0) → Type 0
+RowGains old new items P = AddsNumbersOf (Has old) (Has new) items P
 
 -- the list of numbers has what it had, and what is so for some item of the other
 abbrev pub AddsItems : {X : Type 0} → List ℕ → List ℕ → List X → (X → ℕ → Type 0) → Type 0
-AddsItems old new items P = Adds (Contains old) (Contains new) items P
+AddsItems old new items P = AddsNumbersOf (Contains old) (Contains new) items P
 
 -- the instance has this number
 abbrev pub IsNumber : InstanceId → ℕ → Type 0

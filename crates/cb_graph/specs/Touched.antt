@@ -13,7 +13,7 @@ use Rattle.cb_network.specs.Topology.{Topology, HasClass, IsLive as IsLiveName}
 use Rattle.cb_network.specs.Edits.{NamesPair, HasRelationAt}
 use Rattle.cb_change.specs.Touched.{IsTouched}
 use Rattle.cb_instances.specs.declared.id.InstanceId.{InstanceId}
-use Rattle.cb_instances.specs.Net.{Net, IsNamed, IsLive, LinkAt, name_at}
+use Rattle.cb_instances.specs.Net.{Net, IsNamed, IsLiveInstance, LinkAt, name_at}
 use Rattle.cb_successors.specs.Rows.{Has}
 use Rattle.cb_topo.specs.Numbered.{Numbered, topology_of, IsNodeNamed}
 use Rattle.cb_graph.specs.declared.moves.Moves.{Moves}
@@ -26,7 +26,7 @@ abbrev pub IsTouchedNumber : Numbered → Topology → ℕ → Type 0
 IsTouchedNumber old new k = (name : NodeName) × IsNodeNamed old (number k) name × IsTouched (topology_of old) new name
 
 -- the instances are live, and the first one's class has the relation, or at least it can't be otherwise
-pub record AreThere (t : Topology) (a rel b : List ℕ) : Type 0 where
+pub record AreLinkable (t : Topology) (a rel b : List ℕ) : Type 0 where
   pub live : ¬ ¬ (IsLiveName t a × IsLiveName t b)
   pub has : ¬ ¬ HasRelationAt t a rel
 
@@ -55,8 +55,8 @@ AreMovedBy n edit moves = ⊥
 
 -- the instances at their ends are live
 abbrev pub HaveEnds : Net → Moves → Type 0
-HaveEnds n (Pair from r to s) = IsLive n from × IsLive n to
-HaveEnds n (AllOf id) = IsLive n id
+HaveEnds n (Pair from r to s) = IsLiveInstance n from × IsLiveInstance n to
+HaveEnds n (AllOf id) = IsLiveInstance n id
 
 -- one of the links leads from the instance by the relation, to one that stays if the instance goes
 abbrev pub StartsAt : Net → Moves → RelId → InstanceId → Type 0

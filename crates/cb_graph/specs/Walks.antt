@@ -7,7 +7,7 @@ use Rattle.cb_model.specs.declared.rule.Rule.{Rule}
 use Rattle.cb_model.specs.declared.tables.Place.{Place}
 use Rattle.cb_network.specs.Causes.{Ahead}
 use Rattle.cb_instances.specs.declared.id.InstanceId.{InstanceId}
-use Rattle.cb_instances.specs.Net.{Net, LinkAt, IsLive}
+use Rattle.cb_instances.specs.Net.{Net, LinkAt, IsLiveInstance}
 use Rattle.cb_nodes.specs.Table.{IsNode, node_of}
 use Rattle.cb_successors.specs.Rows.{Has}
 use Rattle.cb_topo.specs.Numbered.{Numbered}
@@ -40,17 +40,17 @@ abbrev pub IsWhereLeads : Net → InstanceId → List Place → List Bool → Ty
 IsWhereLeads n from path row = (k : ℕ) → Has row k ↔ LeadsAt n from path (instance k)
 
 -- the row has a position for each instance, and as many as its numbers may need
-pub record HasPlaces (n : Net) (row : List Bool) : Type 0 where
-  pub room : n.room ≤ length row
-  pub each : (id : InstanceId) → IsLive n id → id.0 < length row
+pub record CoversInstances (n : Net) (row : List Bool) : Type 0 where
+  pub capacity : n.capacity ≤ length row
+  pub each : (id : InstanceId) → IsLiveInstance n id → id.0 < length row
 
 -- the instances of the row are live
 abbrev pub HasLive : Net → List Bool → Type 0
-HasLive n row = (id : InstanceId) → Has row id.0 → IsLive n id
+HasLive n row = (id : InstanceId) → Has row id.0 → IsLiveInstance n id
 
 -- the instances are live
 abbrev pub AllLive : Net → List InstanceId → Type 0
-AllLive n list = (id : InstanceId) → Contains list id → IsLive n id
+AllLive n list = (id : InstanceId) → Contains list id → IsLiveInstance n id
 
 -- this is the number of the event at the instance
 abbrev pub IsEventNumber : Numbered → EventId → InstanceId → ℕ → Type 0

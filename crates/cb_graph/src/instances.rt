@@ -3,8 +3,8 @@ ghost use Rattle.std.specs.Prelude.{◌≡◌, ◌<◌, ◌≤◌, ◌-◌, ◌+
 ghost use Rattle.std.specs.List.{Contains};
 ghost use Rattle.cb_instances.specs.declared.id.InstanceId.{InstanceId as Id};
 ghost use Rattle.cb_successors.specs.Rows.{Has};
-ghost use Rattle.cb_graph.specs.Instances.{IsListed as Lists, IsPrefix, Gains, IsNumber};
-ghost use Rattle.cb_graph.specs.Walks.{HasPlaces, HasLive, IsRunTo};
+ghost use Rattle.cb_graph.specs.Instances.{IsListed as Lists, IsPrefix, RowGains, IsNumber};
+ghost use Rattle.cb_graph.specs.Walks.{CoversInstances, HasLive, IsRunTo};
 
 use cb_bits::Row;
 use cb_instances::InstanceId;
@@ -46,10 +46,10 @@ fn clear_all(list: &[InstanceId], row: &mut Row)
 // Adds the instance to the row, and at the end of the list, unless the row has it.
 fn add_one(id: InstanceId, list: &mut Vec<InstanceId>, row: &mut Row)
     requires listed { Lists list.old.items row.old }
-    requires room { length row.old ≤ vec_capacity list.old }
+    requires capacity { length row.old ≤ vec_capacity list.old }
     requires place { id.0 < length row.old }
     ensures listed { Lists list.new.items row.new }
-    ensures room { length row.new ≤ vec_capacity list.new }
+    ensures capacity { length row.new ≤ vec_capacity list.new }
     ensures length { length row.new ≡ length row.old }
     ensures each { (k : ℕ) → Has row.new k ↔ (Has row.old k ⊎ (id.0 ≡ k)) }
     ensures prefix { IsPrefix list.old.items list.new.items }
@@ -64,12 +64,12 @@ fn add_one(id: InstanceId, list: &mut Vec<InstanceId>, row: &mut Row)
 // keeps the positions of what it had, since a caller may be going over it.
 fn add_each(ids: &[InstanceId], list: &mut Vec<InstanceId>, row: &mut Row)
     requires listed { Lists list.old.items row.old }
-    requires room { length row.old ≤ vec_capacity list.old }
+    requires capacity { length row.old ≤ vec_capacity list.old }
     requires places { (id : Id) → Contains ids.now id → id.0 < length row.old }
     ensures listed { Lists list.new.items row.new }
-    ensures room { length row.new ≤ vec_capacity list.new }
+    ensures capacity { length row.new ≤ vec_capacity list.new }
     ensures length { length row.new ≡ length row.old }
-    ensures each { Gains row.old row.new ids.now IsNumber }
+    ensures each { RowGains row.old row.new ids.now IsNumber }
     ensures prefix { IsPrefix list.old.items list.new.items }
 {
     for id in ids {
@@ -81,11 +81,11 @@ fn add_each(ids: &[InstanceId], list: &mut Vec<InstanceId>, row: &mut Row)
 // way. The list is the queue of a search in breadth, so each instance is followed once.
 fn run_along(topology: &Topology, rel: RelId, list: &mut Vec<InstanceId>, row: &mut Row)
     requires listed { Lists list.old.items row.old }
-    requires room { length row.old ≤ vec_capacity list.old }
-    requires places { HasPlaces topology.now.net row.old }
+    requires capacity { length row.old ≤ vec_capacity list.old }
+    requires places { CoversInstances topology.now.net row.old }
     requires live { HasLive topology.now.net row.old }
     ensures listed { Lists list.new.items row.new }
-    ensures room { length row.new ≤ vec_capacity list.new }
+    ensures capacity { length row.new ≤ vec_capacity list.new }
     ensures length { length row.new ≡ length row.old }
     ensures exactly { (k : ℕ) → Has row.new k ↔ IsRunTo topology.now.net rel true row.old k }
 {
@@ -142,7 +142,7 @@ impl InstanceSet {
     /// With the plus, adds all that links by the relation lead to from the members, through any number of instances;
     /// without it, nothing. It takes no memory, and follows each instance once, whatever cycles there are.
     pub fn run_on(&mut self, topology: &Topology, rel: RelId, plus: bool)
-        requires places { HasPlaces topology.now.net self.old }
+        requires places { CoversInstances topology.now.net self.old }
         requires live { HasLive topology.now.net self.old }
         ensures length { length self.new ≡ length self.old }
         ensures exactly { (k : ℕ) → Has self.new k ↔ IsRunTo topology.now.net rel plus self.old k }

@@ -5,11 +5,11 @@ ghost use Rattle.cb_model.specs.WellTyped.{IsRelation, IsPlace};
 ghost use Rattle.cb_network.specs.declared.edit.Edit.{Edit as AnyEdit};
 ghost use Rattle.cb_network.specs.Topology.{Topology as Instances};
 ghost use Rattle.cb_change.specs.Laws.{IsStep};
-ghost use Rattle.cb_instances.specs.Net.{IsLive};
+ghost use Rattle.cb_instances.specs.Net.{IsLiveInstance};
 ghost use Rattle.cb_successors.specs.Rows.{Has};
 ghost use Rattle.cb_topo.specs.Numbered.{topology_of};
-ghost use Rattle.cb_graph.specs.Instances.{Gains};
-ghost use Rattle.cb_graph.specs.Walks.{HasPlaces, AllLive, instance};
+ghost use Rattle.cb_graph.specs.Instances.{RowGains};
+ghost use Rattle.cb_graph.specs.Walks.{CoversInstances, AllLive, instance};
 ghost use Rattle.cb_graph.specs.Touched.{IsTouchedNumber, AreMovedBy, HaveEnds, StartsAt, IsWhereComes, RemainsWith, IsCauseNumber, TouchesBy};
 
 use crate::instances::InstanceSet;
@@ -37,7 +37,7 @@ fn add_start(start: InstanceId, by: RelId, rel: RelId, out: &mut InstanceSet)
 fn add_starts(topology: &Topology, moves: Moves, rel: RelId, out: &mut InstanceSet)
     requires moves { HaveEnds topology.now.net moves }
     requires rel { IsRelation (topology_of topology.now).model rel }
-    requires out { HasPlaces topology.now.net out.old }
+    requires out { CoversInstances topology.now.net out.old }
     ensures length { length out.new ≡ length out.old }
     ensures each { (k : ℕ) → Has out.new k ↔ (Has out.old k ⊎ StartsAt topology.now.net moves rel (instance k)) }
 {
@@ -68,10 +68,10 @@ fn come_to(
 )
     requires moves { HaveEnds topology.now.net moves }
     requires path { All (IsPlace (topology_of topology.now).model) path.now }
-    requires here { HasPlaces topology.now.net here.old }
-    requires spare { HasPlaces topology.now.net spare.old }
-    ensures here { HasPlaces topology.now.net here.new }
-    ensures spare { HasPlaces topology.now.net spare.new }
+    requires here { CoversInstances topology.now.net here.old }
+    requires spare { CoversInstances topology.now.net spare.old }
+    ensures here { CoversInstances topology.now.net here.new }
+    ensures spare { CoversInstances topology.now.net spare.new }
     ensures exactly { IsWhereComes topology.now.net moves path.now here.new }
 {
     here.clear();
@@ -89,7 +89,7 @@ fn come_to(
 // Whether the class of the instance has the rule, and the instance stays.
 fn remains_with(topology: &Topology, moves: Moves, rule: usize, id: InstanceId) -> bool
     requires rule { rule < length (topology_of topology.now).model.rules }
-    requires id { IsLive topology.now.net id }
+    requires id { IsLiveInstance topology.now.net id }
     ensures { IsTrue result ↔ RemainsWith topology.now.net moves rule id }
 {
     topology.model().has_rule(topology.class_of(id), rule) && moves.leaves(id)
@@ -108,7 +108,7 @@ fn add_causes(
     requires rule { rule < length (topology_of topology.now).model.rules }
     requires out { length topology.now.nodes ≤ length out.old }
     ensures length { length out.new ≡ length out.old }
-    ensures each { Gains out.old out.new list.now (IsCauseNumber topology.now moves rule cause) }
+    ensures each { RowGains out.old out.new list.now (IsCauseNumber topology.now moves rule cause) }
 {
     for id in list {
         if remains_with(topology, moves, rule, *id) {
@@ -128,11 +128,11 @@ fn add_rule(
 )
     requires moves { HaveEnds topology.now.net moves }
     requires rule { rule < length (topology_of topology.now).model.rules }
-    requires here { HasPlaces topology.now.net here.old }
-    requires spare { HasPlaces topology.now.net spare.old }
+    requires here { CoversInstances topology.now.net here.old }
+    requires spare { CoversInstances topology.now.net spare.old }
     requires out { length topology.now.nodes ≤ length out.old }
-    ensures here { HasPlaces topology.now.net here.new }
-    ensures spare { HasPlaces topology.now.net spare.new }
+    ensures here { CoversInstances topology.now.net here.new }
+    ensures spare { CoversInstances topology.now.net spare.new }
     ensures length { length out.new ≡ length out.old }
     ensures each { (k : ℕ) → Has out.new k ↔ (Has out.old k ⊎ TouchesBy topology.now moves rule k) }
 {
@@ -150,11 +150,11 @@ pub(crate) fn add_touched(
     out: &mut Row,
 )
     requires moves { HaveEnds topology.now.net moves }
-    requires here { HasPlaces topology.now.net here.old }
-    requires spare { HasPlaces topology.now.net spare.old }
+    requires here { CoversInstances topology.now.net here.old }
+    requires spare { CoversInstances topology.now.net spare.old }
     requires out { length topology.now.nodes ≤ length out.old }
-    ensures here { HasPlaces topology.now.net here.new }
-    ensures spare { HasPlaces topology.now.net spare.new }
+    ensures here { CoversInstances topology.now.net here.new }
+    ensures spare { CoversInstances topology.now.net spare.new }
     ensures length { length out.new ≡ length out.old }
     ensures exactly { (edit : AnyEdit) (new : Instances) → AreMovedBy topology.now.net edit moves → IsStep (topology_of topology.now) edit new
         → (k : ℕ) → Has out.new k ↔ (Has out.old k ⊎ IsTouchedNumber topology.now new k) }

@@ -2,9 +2,9 @@
 ghost use Rattle.std.specs.Prelude.{◌≡◌, ◌<◌, length};
 ghost use Rattle.std.specs.List.{Contains};
 ghost use Rattle.cb_instances.specs.declared.id.InstanceId.{InstanceId as Id};
-ghost use Rattle.cb_instances.specs.Net.{IsLive};
-ghost use Rattle.cb_graph.specs.Instances.{Gains, IsNumber};
-ghost use Rattle.cb_graph.specs.Walks.{LeadsAt, IsWhereLeads, HasPlaces, AllLive, IsLinked};
+ghost use Rattle.cb_instances.specs.Net.{IsLiveInstance};
+ghost use Rattle.cb_graph.specs.Instances.{RowGains, IsNumber};
+ghost use Rattle.cb_graph.specs.Walks.{LeadsAt, IsWhereLeads, CoversInstances, AllLive, IsLinked};
 
 use crate::instances::InstanceSet;
 use cb_instances::InstanceId;
@@ -15,7 +15,7 @@ use cb_topo::Topology;
 pub(crate) fn add_all(list: &[InstanceId], out: &mut InstanceSet)
     requires { (id : Id) → Contains list.now id → id.0 < length out.old }
     ensures length { length out.new ≡ length out.old }
-    ensures each { Gains out.old out.new list.now IsNumber }
+    ensures each { RowGains out.old out.new list.now IsNumber }
 {
     for id in list {
         out.add(*id);
@@ -25,9 +25,9 @@ pub(crate) fn add_all(list: &[InstanceId], out: &mut InstanceSet)
 /// Adds what the relation leads to from the listed instances.
 pub(crate) fn add_links(topology: &Topology, list: &[InstanceId], rel: RelId, out: &mut InstanceSet)
     requires live { AllLive topology.now.net list.now }
-    requires out { HasPlaces topology.now.net out.old }
+    requires out { CoversInstances topology.now.net out.old }
     ensures length { length out.new ≡ length out.old }
-    ensures each { Gains out.old out.new list.now (IsLinked topology.now.net rel) }
+    ensures each { RowGains out.old out.new list.now (IsLinked topology.now.net rel) }
 {
     for id in list {
         add_all(topology.links(*id, rel), out);
@@ -43,11 +43,11 @@ pub(crate) fn follow(
     here: &mut InstanceSet,
     spare: &mut InstanceSet,
 )
-    requires from { IsLive topology.now.net from }
-    requires here { HasPlaces topology.now.net here.old }
-    requires spare { HasPlaces topology.now.net spare.old }
-    ensures here { HasPlaces topology.now.net here.new }
-    ensures spare { HasPlaces topology.now.net spare.new }
+    requires from { IsLiveInstance topology.now.net from }
+    requires here { CoversInstances topology.now.net here.old }
+    requires spare { CoversInstances topology.now.net spare.old }
+    ensures here { CoversInstances topology.now.net here.new }
+    ensures spare { CoversInstances topology.now.net spare.new }
     ensures exactly { IsWhereLeads topology.now.net from path.now here.new }
 {
     here.clear();

@@ -1,4 +1,4 @@
--- The codes after one that needn't be looked at: those that have none of so many of its columns.
+-- The codes after one that needn't be compared: those that have none of a number of its columns.
 use Rattle.std.proofs.Common.{◌≡◌, ◌↔◌, IsTrue, ℕ, zero, suc, ◌+◌, ◌-◌, ◌<◌, ◌≤◌, ◌⊎◌, List, length, get_or, Bool, true, false, cond, refl, sym, ap, subst, inl, inr, arith}
 use Rattle.std.specs.List.{All, Contains}
 use Rattle.std.proofs.lemmas.Bool.{cases_lt, cases_eq, cases_Bool, both_ways}
@@ -49,7 +49,7 @@ module _ (rows : List (List Bool)) (column : ℕ) (places : List ℕ) (are : pla
       (kept_by_filter (λ k. bit (code_at rows k) column) (all_columns (length rows)) j (in_all_columns (length rows) j lt) has)
 
 module _ (codes : Coded) (first d : ℕ) where
-  -- each code after the first, before the end, is far, or differs from it in so many of the columns below one
+  -- each code after the first, before the end, is far, or differs from it in that number of the columns below one
   abbrev pub AreFarOrDiffer : ℕ → ℕ → ℕ → Type 0
   AreFarOrDiffer below count end = (j : ℕ) → first < j → j < end → (d ≤ far codes first j) ⊎ (count ≤ apart (all_columns below) codes.rows first j)
 

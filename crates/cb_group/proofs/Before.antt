@@ -12,7 +12,7 @@ use Rattle.cb_model.specs.Order.{Rises}
 use Rattle.cb_model.proofs.Rising.{contains_cases, contains_head, contains_tail, nothing_in_empty}
 use Rattle.cb_coding.specs.declared.group.Problem.{Problem}
 use Rattle.cb_coding.specs.declared.group.Group.{Group}
-use Rattle.cb_coding.specs.Groups.{AreProblems, IsGroup, AreGroups, members_of, group_of, same_code, is_zero, zeros, members_cmp}
+use Rattle.cb_coding.specs.Groups.{AreCodedProblems, IsGroup, AreGroups, members_of, group_of, same_code, is_zero, zeros, members_cmp}
 use Rattle.cb_coding.proofs.One.{same_code_true, same_code_itself, group_is}
 use Rattle.cb_coding.proofs.GroupLaws.{zeros_are_zero, zero_is_zeros}
 
@@ -93,7 +93,7 @@ module _ (width : ℕ) (problems : List Problem) where
     rise = before.rise;
   }
 
-  module _ (are : AreProblems width problems) (i : ℕ) (p : Problem) (at : slice_get problems i ≡ Some p) (groups : List Group)
+  module _ (are : AreCodedProblems width problems) (i : ℕ) (p : Problem) (at : slice_get problems i ≡ Some p) (groups : List Group)
       (before : GroupsBefore width problems i groups) where
     -- a problem that comes now or came before
     now_or_before : (Q : Problem → Type 0) → Q p → ((k : ℕ) (q : Problem) → k < i → slice_get problems k ≡ Some q → Q q)

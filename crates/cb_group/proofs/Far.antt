@@ -9,7 +9,7 @@ use Rattle.cb_coding.specs.Distance.{differ, bit, distance, all_columns, code_at
 use Rattle.cb_coding.specs.Pairs.{IsPair, Good, IsFirstClose}
 use Rattle.cb_codes.specs.Codes.{Coded}
 use Rattle.cb_group.specs.Chosen.{IsOver, AreOver, AreChosen}
-use Rattle.cb_group.specs.Close.{far, AreAllFar, IsCloseWith, IsFirstCloseIfAny}
+use Rattle.cb_group.specs.Close.{far, AreAllFar, IsFirstCloseFrom, IsFirstCloseIfAny}
 
 abbrev once : Bool → ℕ
 once b = cond b 1 0
@@ -111,7 +111,7 @@ module _ (codes : Coded) (d : ℕ) where
   pub far_good : (to : ℕ) → AreFarTo codes d to → length codes.rows ≤ to → Good codes.rows (all_columns codes.width) d
   far_good to are end = λ i j pair. are i (let a = pair.0 in let b = pair.1 in omega arith) j pair.0 pair.1
 
-  pub first_is : (first : ℕ) (pair : Pair) → AreFarTo codes d first → IsCloseWith codes first d pair
+  pub first_is : (first : ℕ) (pair : Pair) → AreFarTo codes d first → IsFirstCloseFrom codes first d pair
       → IsFirstClose (all_columns codes.width) codes.rows d pair
   first_is first pair are is =
       let same = is.first_is in

@@ -13,7 +13,7 @@ use Rattle.cb_model.specs.declared.node.NodeName.{NodeName}
 use Rattle.cb_model.proofs.Numbers.{slice_get-set_other, slice_get-set_same}
 use Rattle.cb_coding.specs.declared.group.Problem.{Problem}
 use Rattle.cb_coding.specs.declared.group.Group.{Group}
-use Rattle.cb_group.specs.Adding.{group, AreWide, AreWordsOf, IsNew, Joins, Opens}
+use Rattle.cb_group.specs.Adding.{group_of_code, AreWide, AreWordsOf, IsNewCode, JoinsGroup, OpensGroup}
 use Rattle.cb_group.proofs.Before.{fails_everywhere}
 use Rattle.cb_coding.proofs.Pushed.{pushed_cases, item_there, passes_nowhere}
 
@@ -31,7 +31,7 @@ module _ (words : List ℕ) (code : List Bool) (packs : Packs code words) where
       (_, slice_get-get_or (k ∷ ks) i k found.0, subst (Packs code) ((bytes_eq-Decides words _).0 found.1) packs)
 
   -- and where none are found the code has none of them
-  pub none_is : (keys : List (Vec ℕ)) (r : Option ℕ) → is_some r ≡ list_any is_of keys → IfNone r (IsNew code keys)
+  pub none_is : (keys : List (Vec ℕ)) (r : Option ℕ) → is_some r ≡ list_any is_of keys → IfNone r (IsNewCode code keys)
   none_is keys None is = λ key among of_key.
       let same = one_packing code words key.items packs of_key in
       both_ways _ (fails_everywhere is_of keys (sym is) key among) ((bytes_eq-Decides words key.items).1 same)
@@ -57,7 +57,7 @@ more_words groups keys g key are packs =
     }
 
 -- words of a code that has none of these are none of these
-pub new_is_absent : (code : List Bool) (key : Vec ℕ) (keys : List (Vec ℕ)) → Packs code key.items → IsNew code keys
+pub new_is_absent : (code : List Bool) (key : Vec ℕ) (keys : List (Vec ℕ)) → Packs code key.items → IsNewCode code keys
     → list_any (λ (other : Vec ℕ). bytes_eq key.items other.items) keys ≡ false
 new_is_absent code key keys packs none =
     passes_nowhere (λ (other : Vec ℕ). bytes_eq key.items other.items) keys (λ i other at.
@@ -71,9 +71,9 @@ goes_last there keys new key is absent = is ∙ rw absent refl
 
 -- a group that keeps its code keeps its words
 pub same_words : (groups : List Group) (keys : List (Vec ℕ)) (place : ℕ) (was : Group) (members : List NodeName) → slice_get groups place ≡ Some was
-    → AreWordsOf groups keys → AreWordsOf (slice_set groups place (group was.code members)) keys
+    → AreWordsOf groups keys → AreWordsOf (slice_set groups place (group_of_code was.code members)) keys
 same_words groups keys place was members at are =
-    let new = group was.code members in
+    let new = group_of_code was.code members in
     record {
       all = are.all ∙ sym (length-set groups place new);
       each = λ i g key there key_at. elim (cases_eq place i) [
@@ -89,17 +89,17 @@ module _ (groups : List Group) (keys : List (Vec ℕ)) (are : AreWordsOf groups 
   -- the words that are found lead to the group of the code
   pub joins_found : (place : ℕ) (was : Group) (found : (key : Vec ℕ) × (slice_get keys place ≡ Some key) × Packs p.code key.items)
       → slice_get groups place ≡ Some was → (members : List NodeName) → members ≡ was.members ++ p.name ∷ []
-      → Joins p groups (slice_set groups place (group was.code members))
+      → JoinsGroup p groups (slice_set groups place (group_of_code was.code members))
   joins_found place was found at members is = record {
     place = place;
     joined = was;
     at = at;
     same = one_row was.code p.code found.0.items (wide place was at) (are.each place was found.0 at found.1) found.2;
-    new_is = ap (λ ns. slice_set groups place (group was.code ns)) is;
+    new_is = ap (λ ns. slice_set groups place (group_of_code was.code ns)) is;
   }
 
   -- and where none are found no group has the code
-  pub opens_new : IsNew p.code keys → (new : List Group) → new ≡ groups ++ group p.code (p.name ∷ []) ∷ [] → Opens p groups new
+  pub opens_new : IsNewCode p.code keys → (new : List Group) → new ≡ groups ++ group_of_code p.code (p.name ∷ []) ∷ [] → OpensGroup p groups new
   opens_new none new is = record {
     none = λ i g at same.
         let key = item_there keys i (let within = slice_get_within groups i g at in let all = are.all in omega arith) in

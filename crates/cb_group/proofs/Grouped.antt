@@ -9,9 +9,9 @@ use Rattle.cb_model.proofs.Numbers.{slice_get-set_other, slice_get-set_same, all
 use Rattle.cb_model.proofs.Spread.{map_at, map_there}
 use Rattle.cb_coding.specs.declared.group.Problem.{Problem}
 use Rattle.cb_coding.specs.declared.group.Group.{Group}
-use Rattle.cb_coding.specs.Groups.{AreProblems, AreGroups, members_of, group_of, same_code, zeros, codes_of}
+use Rattle.cb_coding.specs.Groups.{AreCodedProblems, AreGroups, members_of, group_of, same_code, zeros, codes_of}
 use Rattle.cb_coding.proofs.One.{same_code_true, same_code_itself}
-use Rattle.cb_group.specs.Adding.{group, AreWide, Joins, Opens, AddsProblem}
+use Rattle.cb_group.specs.Adding.{group_of_code, AreWide, JoinsGroup, OpensGroup, AddsToGroups}
 use Rattle.cb_group.proofs.Before.{GroupsBefore, none_yet, all_groups, has_group, opens_group, is_new}
 use Rattle.cb_coding.proofs.Pushed.{pushed_cases, taken_is, map_set_same, passes_there, passes_nowhere}
 
@@ -44,7 +44,7 @@ are_of_codes : (problems : List Problem) (groups : List Group) → ((k : ℕ) (g
     → map (group_of problems) (codes_of groups) ≡ groups
 are_of_codes problems [] each = refl
 are_of_codes problems (g ∷ groups) each =
-    let here : group_of problems g.code ≡ g = ap (group g.code) (sym (each 0 g refl)) in
+    let here : group_of problems g.code ≡ g = ap (group_of_code g.code) (sym (each 0 g refl)) in
     ap (λ h. h ∷ map (group_of problems) (codes_of groups)) here ∙ ap (λ hs. g ∷ hs) (are_of_codes problems groups (λ k h at. each (suc k) h at))
 
 -- the groups of the problems before place i: their codes are those that all groups begin with, each once, and their
@@ -57,14 +57,14 @@ pub record AreGrouped (width : ℕ) (problems : List Problem) (i : ℕ) (groups 
   pub few : length groups ≤ i + 1
 
 module _ (width : ℕ) (problems : List Problem) where
-  alone : (k : ℕ) (g : Group) → slice_get (group (zeros width) [] ∷ []) k ≡ Some g → (k ≡ 0) × (group (zeros width) [] ≡ g)
-  alone k g at = elim (pushed_cases [] (group (zeros width) []) g k at) [
+  alone : (k : ℕ) (g : Group) → slice_get (group_of_code (zeros width) [] ∷ []) k ≡ Some g → (k ≡ 0) × (group_of_code (zeros width) [] ≡ g)
+  alone k g at = elim (pushed_cases [] (group_of_code (zeros width) []) g k at) [
     | inl none ↦ absurd (cc none)
     | inr here ↦ here
   ]
 
   -- quiet alone
-  pub quiet_grouped : AreGrouped width problems 0 (group (zeros width) [] ∷ [])
+  pub quiet_grouped : AreGrouped width problems 0 (group_of_code (zeros width) [] ∷ [])
   quiet_grouped = record {
     before = none_yet width problems;
     each = λ k g at. (let is = alone k g at in ap (λ (h : Group). h.members) (sym is.1) ∙ ap (λ (h : Group). members_of [] h.code) is.1);
@@ -80,7 +80,7 @@ module _ (width : ℕ) (problems : List Problem) where
       let same = are_of_codes problems groups (λ k g at. are.each k g at ∙ ap (λ ps. members_of ps g.code) whole) in
       subst (AreGroups width problems) same (all_groups width problems i le _ are.before)
 
-  module _ (are_problems : AreProblems width problems) (i : ℕ) (p : Problem) (at : slice_get problems i ≡ Some p) (groups new : List Group)
+  module _ (are_problems : AreCodedProblems width problems) (i : ℕ) (p : Problem) (at : slice_get problems i ≡ Some p) (groups new : List Group)
       (are : AreGrouped width problems i groups) where
     abbrev full : List Group
     full = map (group_of problems) (codes_of groups)
@@ -106,9 +106,9 @@ module _ (width : ℕ) (problems : List Problem) where
     code_there k g there = map_there (group_of problems) (codes_of groups) k g.code (map_there (λ (h : Group). h.code) groups k g there)
 
     -- where the problem joins the group that has its code
-    module _ (joins : Joins p groups new) where
+    module _ (joins : JoinsGroup p groups new) where
       abbrev new_group : Group
-      new_group = group joins.joined.code (joins.joined.members ++ p.name ∷ [])
+      new_group = group_of_code joins.joined.code (joins.joined.members ++ p.name ∷ [])
 
       abbrev written : List Group
       written = slice_set groups joins.place new_group
@@ -157,9 +157,9 @@ module _ (width : ℕ) (problems : List Problem) where
       }
 
     -- where no group has its code
-    module _ (opens : Opens p groups new) where
+    module _ (opens : OpensGroup p groups new) where
       abbrev opened_group : Group
-      opened_group = group p.code (p.name ∷ [])
+      opened_group = group_of_code p.code (p.name ∷ [])
 
       none : list_any (λ g. same_code p.code g.code) full ≡ false
       none =
@@ -206,7 +206,7 @@ module _ (width : ℕ) (problems : List Problem) where
       }
 
     -- one problem more
-    pub one_more_grouped : AddsProblem p groups new → AreGrouped width problems (i + 1) new
+    pub one_more_grouped : AddsToGroups p groups new → AreGrouped width problems (i + 1) new
     one_more_grouped adds = elim adds [
       | inl joins ↦ subst (AreGrouped width problems (i + 1)) (sym joins.new_is) (joined joins)
       | inr opens ↦ subst (AreGrouped width problems (i + 1)) (sym opens.new_is) (opened opens)

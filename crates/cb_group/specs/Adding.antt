@@ -8,8 +8,8 @@ use Rattle.cb_coding.specs.declared.group.Problem.{Problem}
 use Rattle.cb_coding.specs.declared.group.Group.{Group}
 
 -- a code with these problems
-abbrev pub group : List Bool → List NodeName → Group
-group code members = record { code = code; members = members }
+abbrev pub group_of_code : List Bool → List NodeName → Group
+group_of_code code members = record { code = code; members = members }
 
 -- the codes of all groups have that width
 abbrev pub AreWide : ℕ → List Group → Type 0
@@ -21,22 +21,22 @@ pub record AreWordsOf (groups : List Group) (keys : List (Vec ℕ)) : Type 0 whe
   pub each : (i : ℕ) (g : Group) (key : Vec ℕ) → slice_get groups i ≡ Some g → slice_get keys i ≡ Some key → Packs g.code key.items
 
 -- none of these are the words of the code
-abbrev pub IsNew : List Bool → List (Vec ℕ) → Type 0
-IsNew code keys = (key : Vec ℕ) → Contains keys key → ¬ Packs code key.items
+abbrev pub IsNewCode : List Bool → List (Vec ℕ) → Type 0
+IsNewCode code keys = (key : Vec ℕ) → Contains keys key → ¬ Packs code key.items
 
 -- the problem joins the group at a position, which has its code
-pub record Joins (p : Problem) (old new : List Group) : Type 0 where
+pub record JoinsGroup (p : Problem) (old new : List Group) : Type 0 where
   pub place : ℕ
   pub joined : Group
   pub at : slice_get old place ≡ Some joined
   pub same : joined.code ≡ p.code
-  pub new_is : new ≡ slice_set old place (group joined.code (joined.members ++ p.name ∷ []))
+  pub new_is : new ≡ slice_set old place (group_of_code joined.code (joined.members ++ p.name ∷ []))
 
 -- no group has the problem's code, and it opens one
-pub record Opens (p : Problem) (old new : List Group) : Type 0 where
+pub record OpensGroup (p : Problem) (old new : List Group) : Type 0 where
   pub none : (i : ℕ) (g : Group) → slice_get old i ≡ Some g → ¬ (g.code ≡ p.code)
-  pub new_is : new ≡ old ++ group p.code (p.name ∷ []) ∷ []
+  pub new_is : new ≡ old ++ group_of_code p.code (p.name ∷ []) ∷ []
 
 -- a problem is added to the groups
-abbrev pub AddsProblem : Problem → List Group → List Group → Type 0
-AddsProblem p old new = Joins p old new ⊎ Opens p old new
+abbrev pub AddsToGroups : Problem → List Group → List Group → Type 0
+AddsToGroups p old new = JoinsGroup p old new ⊎ OpensGroup p old new

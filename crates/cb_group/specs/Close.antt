@@ -10,7 +10,7 @@ abbrev pub far : Coded → ℕ → ℕ → ℕ
 far codes i j = apart (all_columns codes.width) codes.rows i j
 
 -- the code at the second position stands after the first, and is less than d from it
-pub record IsClose (codes : Coded) (first d second : ℕ) : Type 0 where
+pub record IsLaterClose (codes : Coded) (first d second : ℕ) : Type 0 where
   pub after : first < second
   pub within : second < length codes.rows
   pub close : far codes first second < d
@@ -21,7 +21,7 @@ AreAllFar codes first d end = (j : ℕ) → first < j → j < end → d ≤ far 
 
 -- a close code, or the end of all
 abbrev pub IsCloseOrEnd : Coded → ℕ → ℕ → ℕ → Type 0
-IsCloseOrEnd codes first d place = IsClose codes first d place ⊎ (place ≡ length codes.rows)
+IsCloseOrEnd codes first d place = IsLaterClose codes first d place ⊎ (place ≡ length codes.rows)
 
 -- the first close code, or the end of all
 pub record IsFirstAfter (codes : Coded) (first d place : ℕ) : Type 0 where
@@ -29,9 +29,9 @@ pub record IsFirstAfter (codes : Coded) (first d place : ℕ) : Type 0 where
   pub before : AreAllFar codes first d place
 
 -- the second of the pair is the first code after this one that is less than d from it
-pub record IsCloseWith (codes : Coded) (first d : ℕ) (pair : Pair) : Type 0 where
+pub record IsFirstCloseFrom (codes : Coded) (first d : ℕ) (pair : Pair) : Type 0 where
   pub first_is : pair.first ≡ first
-  pub close : IsClose codes first d pair.second
+  pub close : IsLaterClose codes first d pair.second
   pub distance_is : pair.distance ≡ far codes first pair.second
   pub before : AreAllFar codes first d pair.second
 

@@ -51,7 +51,7 @@ fn places_of(alloc: Global, columns: &[u32], width: usize) -> Result<Vec<List<us
     Ok(places)
 }
 
-// So many empty lists.
+// `count` empty lists.
 fn empty_lists(alloc: Global, count: usize) -> Result<Vec<List<usize>>, AllocError>
     ensures { IfOk result (λ lists. lists.items ≡ replicate count []) }
 {

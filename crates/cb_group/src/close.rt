@@ -8,7 +8,7 @@ ghost use Rattle.cb_coding.specs.Distance.{all_columns};
 ghost use Rattle.cb_coding.specs.Groups.{codes_of};
 ghost use Rattle.cb_coding.specs.Pairs.{Good, IsFirstClose};
 ghost use Rattle.cb_codes.specs.Holders.{holders_of};
-ghost use Rattle.cb_group.specs.Close.{far, IsFirstCloseIfAny, IsCloseWith, AreAllFar, IsFirstAfter, IsCloseOrEnd};
+ghost use Rattle.cb_group.specs.Close.{far, IsFirstCloseIfAny, IsFirstCloseFrom, AreAllFar, IsFirstAfter, IsCloseOrEnd};
 
 use crate::chosen::chosen;
 use cb_codes::Codes;
@@ -50,7 +50,7 @@ fn pair_of(codes: &Codes, first: usize, second: usize, distance: u32) -> Option<
     requires few { length codes.now.rows < 2 ^ 32 }
     requires first { first < length codes.now.rows }
     requires second { IsFirstAfter codes.now first distance second }
-    ensures found { IfSome result (IsCloseWith codes.now first distance) }
+    ensures found { IfSome result (IsFirstCloseFrom codes.now first distance) }
     ensures none { IfNone result (AreAllFar codes.now first distance (length codes.now.rows)) }
 {
     if codes.len() <= second {

@@ -2,8 +2,8 @@
 ghost use Rattle.std.specs.Prelude.{◌≡◌, ◌≤◌, ◌+◌, ℕ, [], ◌∷◌, ◌++◌, IfOk, OnOk, IfSome, IfNone, Some, length, slice_get};
 ghost use Rattle.std.specs.Global.{Vec as Items};
 ghost use Rattle.cb_bits.specs.Bits.{Packs};
-ghost use Rattle.cb_coding.specs.Groups.{AreProblems, AreGroups, zeros as no_symptom};
-ghost use Rattle.cb_group.specs.Adding.{group as group_with, AreWordsOf, AreWide, IsNew, AddsProblem};
+ghost use Rattle.cb_coding.specs.Groups.{AreCodedProblems, AreGroups, zeros as no_symptom};
+ghost use Rattle.cb_group.specs.Adding.{group_of_code as group_with, AreWordsOf, AreWide, IsNewCode, AddsToGroups};
 
 use cb_bits::Row;
 use cb_coding::{Group, Problem};
@@ -17,7 +17,7 @@ pub fn groups(
     problems: &List<Problem>,
     width: usize,
 ) -> Result<List<Group>, AllocError>
-    requires { AreProblems width problems.now }
+    requires { AreCodedProblems width problems.now }
     ensures groups { IfOk result (AreGroups width problems.now) }
     ensures few { IfOk result (λ groups. length groups ≤ length problems.now + 1) }
 {
@@ -54,7 +54,7 @@ impl Grouping {
         requires words { AreWordsOf self.old.groups.items self.old.words.keys }
         requires width { AreWide (length problem.now.code) self.old.groups.items }
         ensures words { OnOk result (AreWordsOf self.new.groups.items self.new.words.keys) }
-        ensures added { OnOk result (AddsProblem problem.now self.old.groups.items self.new.groups.items) }
+        ensures added { OnOk result (AddsToGroups problem.now self.old.groups.items self.new.groups.items) }
     {
         let name = problem.name.copy(alloc)?;
         match place_of(&self.words, &problem.code) {
@@ -71,7 +71,7 @@ impl Grouping {
     // Opens a group, which has a code that no other group has.
     fn open(&mut self, alloc: Global, code: Row, members: List<NodeName>) -> Result<(), AllocError>
         requires words { AreWordsOf self.old.groups.items self.old.words.keys }
-        requires new { IsNew code self.old.words.keys }
+        requires new { IsNewCode code self.old.words.keys }
         ensures words { OnOk result (AreWordsOf self.new.groups.items self.new.words.keys) }
         ensures opened { OnOk result (self.new.groups.items ≡ self.old.groups.items ++ group_with code members ∷ []) }
     {
@@ -85,7 +85,7 @@ impl Grouping {
 // The position of the words of a code.
 fn place_of(words: &IndexSet<Vec<u64>>, code: &Row) -> Option<usize>
     ensures found { IfSome result (λ i. (key : Items ℕ) × (slice_get words.now.keys i ≡ Some key) × Packs code.now key.items) }
-    ensures none { IfNone result (IsNew code.now words.now.keys) }
+    ensures none { IfNone result (IsNewCode code.now words.now.keys) }
 {
     words.get_index_of(code.words())
 }

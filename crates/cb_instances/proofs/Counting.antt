@@ -11,7 +11,7 @@ use Rattle.cb_model.proofs.Rising.{name_cmp_total}
 use Rattle.cb_network.proofs.Kept.{class_of}
 use Rattle.cb_instances.specs.declared.id.InstanceId.{InstanceId}
 use Rattle.cb_instances.specs.declared.instance.Instance.{Instance}
-use Rattle.cb_instances.specs.Shown.{entries_in, topology_of}
+use Rattle.cb_instances.specs.Shown.{instance_entries, topology_of_slots}
 use Rattle.cb_instances.specs.Slots.{Slots}
 use Rattle.cb_instances.proofs.Showing.{HaveOwnNames, shows_instances}
 
@@ -29,15 +29,15 @@ later slots o own_names i j name a b =
 abbrev passes : Option Instance → ℕ
 passes o = cond (is_some o) 1 0
 
-pub counted : (tables : Tables) (slots : Slots) → HaveOwnNames slots → fin_map.len (fin_map.from_entries {R = name_cmp} (flat_map entries_in slots)) ≡ count_by is_some slots
+pub counted : (tables : Tables) (slots : Slots) → HaveOwnNames slots → fin_map.len (fin_map.from_entries {R = name_cmp} (flat_map instance_entries slots)) ≡ count_by is_some slots
 counted tables [] own_names = fin_map.len-empty name_cmp ClassId
 counted tables (None ∷ slots) own_names = counted tables slots (later slots None own_names) ∙ (let e : count_by is_some slots ≡ 0 + count_by is_some slots = omega arith in e ∙ sym (sum_by-cons passes None slots))
 counted tables (Some x ∷ slots) own_names =
     let rest = counted tables slots (later slots (Some x) own_names) in
-    let m : fin_map.FinMap name_cmp ClassId = fin_map.from_entries (flat_map entries_in slots) in
+    let m : fin_map.FinMap name_cmp ClassId = fin_map.from_entries (flat_map instance_entries slots) in
     let fresh : fin_map.contains_key m x.name ≡ false = elim (cases_Bool (fin_map.contains_key m x.name)) [
       | inl has ↦
-          let class = class_of (topology_of tables slots) x.name has in
+          let class = class_of (topology_of_slots tables slots) x.name has in
           let h = (shows_instances slots (later slots (Some x) own_names) x.name class.0).0 class.1 in
           let here : InstanceId = record { 0 = 0 } in
           let there : InstanceId = record { 0 = suc h.at.0 } in

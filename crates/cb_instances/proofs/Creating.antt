@@ -17,7 +17,7 @@ use Rattle.cb_instances.specs.declared.instance.Instance.{Instance}
 use Rattle.cb_instances.specs.Net.{slot, SetsOnly, Once, inverse_of}
 use Rattle.cb_instances.specs.Places.{Entries, IsIndexed, place_of}
 use Rattle.cb_instances.specs.Rows.{row_of}
-use Rattle.cb_instances.specs.Shown.{topology_of, name_in, Shows}
+use Rattle.cb_instances.specs.Shown.{topology_of_slots, name_in, Shows}
 use Rattle.cb_instances.specs.Slots.{head_of, Slots, At, ListsInstance}
 use Rattle.cb_instances.specs.Sound.{IsNetOf, IsTidy, StandBothWays, FitsMutes}
 use Rattle.cb_instances.proofs.Placing.{own_names, stays, either, indexed_more, named_only, same_id}
@@ -30,8 +30,8 @@ listed_live tables slots both i r j lists = let back = (both i r j lists).1 in (
 pub nothing_twice : {X : Type 0} (xs : List X) → xs ≡ [] → Once xs
 nothing_twice xs e = subst Once (sym e) (λ i j d lt le. absurd (omega arith))
 
-pub shown_of : (tables : Tables) (slots : Slots) (entries : Entries) (room : ℕ) → IsNetOf tables slots entries room → Shows slots (topology_of tables slots)
-shown_of tables slots entries room sound = shows_made tables slots (own_names slots entries sound.indexed) (λ i x at. (sound.tidy i x at).apart)
+pub shown_of : (tables : Tables) (slots : Slots) (entries : Entries) (capacity : ℕ) → IsNetOf tables slots entries capacity → Shows slots (topology_of_slots tables slots)
+shown_of tables slots entries capacity sound = shows_made tables slots (own_names slots entries sound.indexed) (λ i x at. (sound.tidy i x at).apart)
 
 module _ (tables : Tables) (old new : Slots) (id : InstanceId) (x : Instance) (free : slot old id.0 ≡ None) (sets : SetsOnly old new id (Some x))
     (bare : x.links.rows.items ≡ []) (unmuted : x.muted.items ≡ []) (both : StandBothWays tables old)
@@ -65,9 +65,9 @@ module _ (tables : Tables) (old new : Slots) (id : InstanceId) (x : Instance) (f
     | inr old_y ↦ was i y old_y
   ]
 
-  pub created_sound : (entries entries' : Entries) (room room' : ℕ) → IsNetOf tables old entries room → IsIndexed new entries' → room' ≡ max room (id.0 + 1)
-      → IsNetOf tables new entries' room'
-  created_sound entries entries' room room' sound indexed above = record {
+  pub created_sound : (entries entries' : Entries) (capacity capacity' : ℕ) → IsNetOf tables old entries capacity → IsIndexed new entries' → capacity' ≡ max capacity (id.0 + 1)
+      → IsNetOf tables new entries' capacity'
+  created_sound entries entries' capacity capacity' sound indexed above = record {
     typed = sound.typed;
     indexed = indexed;
     below = λ i y at. elim (now i y at) [
@@ -130,41 +130,41 @@ module _ (tables : Tables) (old new : Slots) (id : InstanceId) (x : Instance) (f
         );
   }
 
-  pub created_topology : (entries entries' : Entries) (room room' : ℕ) → IsNetOf tables old entries room → IsNetOf tables new entries' room'
-      → topology_of tables new ≡ with_instance (topology_of tables old) x.name x.class
-  created_topology entries entries' room room' before after =
-      shown_once new (topology_of tables new) (with_instance (topology_of tables old) x.name x.class) refl
-      (shown_of tables new entries' room' after)
-      (created_shows (topology_of tables old) (shown_of tables old entries room before))
+  pub created_topology : (entries entries' : Entries) (capacity capacity' : ℕ) → IsNetOf tables old entries capacity → IsNetOf tables new entries' capacity'
+      → topology_of_slots tables new ≡ with_instance (topology_of_slots tables old) x.name x.class
+  created_topology entries entries' capacity capacity' before after =
+      shown_once new (topology_of_slots tables new) (with_instance (topology_of_slots tables old) x.name x.class) refl
+      (shown_of tables new entries' capacity' after)
+      (created_shows (topology_of_slots tables old) (shown_of tables old entries capacity before))
 
 -- what a new instance makes of the slots
-pub record IsMade (tables : Tables) (old new : Slots) (entries entries' : Entries) (room room' : ℕ) (id : InstanceId) (name : List ℕ) (class : ClassId) : Type 0 where
+pub record IsMade (tables : Tables) (old new : Slots) (entries entries' : Entries) (capacity capacity' : ℕ) (id : InstanceId) (name : List ℕ) (class : ClassId) : Type 0 where
   pub named : SetsOnly (map name_in old) (map name_in new) id (Some name)
-  pub sound : IsNetOf tables new entries' room'
-  pub topology : topology_of tables new ≡ with_instance (topology_of tables old) name class
+  pub sound : IsNetOf tables new entries' capacity'
+  pub topology : topology_of_slots tables new ≡ with_instance (topology_of_slots tables old) name class
 
 -- a slot that was free is set, and its name is placed
-pub made : (tables : Tables) (old mid new : Slots) (entries entries' : Entries) (room room' : ℕ) (id : InstanceId) (k : ℕ) (x : Instance) (name : List ℕ)
-    → IsNetOf tables old entries room → mid ≡ old → slot mid id.0 ≡ None → k ≡ id.0 → slot new k ≡ Some x → ((j : ℕ) → j ≢ k → slot new j ≡ slot mid j)
-    → x.name ≡ name → ¬ IsLiveName (topology_of tables old) name
+pub made : (tables : Tables) (old mid new : Slots) (entries entries' : Entries) (capacity capacity' : ℕ) (id : InstanceId) (k : ℕ) (x : Instance) (name : List ℕ)
+    → IsNetOf tables old entries capacity → mid ≡ old → slot mid id.0 ≡ None → k ≡ id.0 → slot new k ≡ Some x → ((j : ℕ) → j ≢ k → slot new j ≡ slot mid j)
+    → x.name ≡ name → ¬ IsLiveName (topology_of_slots tables old) name
     → x.links.rows.items ≡ [] → x.muted.items ≡ [] → FitsMutes tables (head_of x)
     → ((q : List ℕ) → place_of entries' q ≡ cond (bytes_eq q name) (Some id.0) (place_of entries q))
-    → room' ≡ max room (id.0 + 1) → IsMade tables old new entries entries' room room' id name x.class
-made tables old mid new entries entries' room room' id k x name sound kept vacant key this others named absent bare unmuted fits finds above =
+    → capacity' ≡ max capacity (id.0 + 1) → IsMade tables old new entries entries' capacity capacity' id name x.class
+made tables old mid new entries entries' capacity capacity' id k x name sound kept vacant key this others named absent bare unmuted fits finds above =
     let free : slot old id.0 ≡ None = subst (λ (s : Slots). slot s id.0 ≡ None) kept vacant in
     let sets : SetsOnly old new id (Some x) = record {
       this = subst (λ i. slot new i ≡ Some x) key this;
       others = λ j ne. others j.0 (λ e. ne (same_id j id (e ∙ key))) ∙ ap (λ (s : Slots). slot s j.0) kept;
     } in
     let fresh : (i : InstanceId) (y : Instance) → At old i y → y.name ≡ x.name → ⊥ = λ i y at e.
-    absent (subst (λ n. IsLiveName (topology_of tables old) n) (e ∙ named) (live_of (topology_of tables old) y.name y.class (((shown_of tables old entries room sound).instances y.name y.class).1 (record { at = i; instance = y; is = at; named = refl; of_class = refl })))) in
+    absent (subst (λ n. IsLiveName (topology_of_slots tables old) n) (e ∙ named) (live_of (topology_of_slots tables old) y.name y.class (((shown_of tables old entries capacity sound).instances y.name y.class).1 (record { at = i; instance = y; is = at; named = refl; of_class = refl })))) in
     let indexed : IsIndexed new entries' = indexed_more old new id x free sets entries entries' sound.indexed fresh (λ q. finds q ∙ ap (λ n. cond (bytes_eq q n) (Some id.0) (place_of entries q)) (sym named)) in
-    let after : IsNetOf tables new entries' room' = created_sound tables old new id x free sets bare unmuted sound.both_ways fresh fits entries entries' room room' sound indexed above in
+    let after : IsNetOf tables new entries' capacity' = created_sound tables old new id x free sets bare unmuted sound.both_ways fresh fits entries entries' capacity capacity' sound indexed above in
     record {
       named = named_only old new id x name sets named;
       sound = after;
-      topology = created_topology tables old new id x free sets bare unmuted sound.both_ways fresh fits entries entries' room room' sound after
-          ∙ ap (λ n. with_instance (topology_of tables old) n x.class) named;
+      topology = created_topology tables old new id x free sets bare unmuted sound.both_ways fresh fits entries entries' capacity capacity' sound after
+          ∙ ap (λ n. with_instance (topology_of_slots tables old) n x.class) named;
     }
 
 -- an instance at which nothing is muted

@@ -19,10 +19,10 @@ use Rattle.cb_instances.specs.declared.instance.Instance.{Instance}
 use Rattle.cb_instances.specs.declared.links.LinkRow.{LinkRow}
 use Rattle.cb_instances.specs.Forgotten.{Sheds, ForgetsAll}
 use Rattle.cb_instances.specs.Joined.{AllTidy}
-use Rattle.cb_instances.specs.Net.{Net, slot, inverse_of, name_at, name_or, without}
+use Rattle.cb_instances.specs.Net.{Net, slot, inverse_of, name_at, name_or, net_without}
 use Rattle.cb_instances.specs.Places.{Entries, place_of}
 use Rattle.cb_instances.specs.Rows.{find_row, items_of, row_of}
-use Rattle.cb_instances.specs.Shown.{topology_of, seen, name_in, Shows}
+use Rattle.cb_instances.specs.Shown.{topology_of_slots, seen, name_in, Shows}
 use Rattle.cb_instances.specs.Slots.{Head, head_of, Slots, At, NamedAt, ListsInstance}
 use Rattle.cb_instances.specs.Sound.{IsNetOf, FitsMutes}
 use Rattle.cb_instances.proofs.Creating.{shown_of}
@@ -68,8 +68,8 @@ emptied_names [] i = refl
 emptied_names (o ∷ slots) zero = refl
 emptied_names (o ∷ slots) (suc i) = ap (λ ns. name_in o ∷ ns) (emptied_names slots i)
 
-module _ (tables : Tables) (old new : Slots) (entries entries' : Entries) (room : ℕ) (id : InstanceId) (x : Instance) (at : At old id x)
-    (sound : IsNetOf tables old entries room) (forgets : ForgetsAll tables (set old id.0 None) new id x.links.rows.items)
+module _ (tables : Tables) (old new : Slots) (entries entries' : Entries) (capacity : ℕ) (id : InstanceId) (x : Instance) (at : At old id x)
+    (sound : IsNetOf tables old entries capacity) (forgets : ForgetsAll tables (set old id.0 None) new id x.links.rows.items)
     (gone : place_of entries' x.name ≡ None) (kept : (q : List ℕ) → q ≢ x.name → place_of entries' q ≡ place_of entries q) where
   abbrev mid : Slots
   mid = set old id.0 None
@@ -150,7 +150,7 @@ module _ (tables : Tables) (old new : Slots) (entries entries' : Entries) (room 
   lists_stay : (i : InstanceId) (r : RelId) (j : InstanceId) → i ≢ id → j ≢ id → ListsInstance old i r j → ListsInstance new i r j
   lists_stay i r j ne ne' l = sheds.others i r j ne' (record { lister = l.lister; is = mid_other i ne ∙ l.is; listed = l.listed })
 
-  pub deleted_sound : IsNetOf tables new entries' room
+  pub deleted_sound : IsNetOf tables new entries' capacity
   deleted_sound = record {
     typed = sound.typed;
     indexed = record {
@@ -241,15 +241,15 @@ module _ (tables : Tables) (old new : Slots) (entries entries' : Entries) (room 
         );
   }
 
-  pub deleted_net : (next : ℕ) → seen tables new room id.0 ≡ without (seen tables old room next) id
+  pub deleted_net : (next : ℕ) → seen tables new capacity id.0 ≡ net_without (seen tables old capacity next) id
   deleted_net next =
-      let t : Topology = topology_of tables old in
-      let n : Net = seen tables old room next in
-      let same : topology_of tables new ≡ without_instance t x.name = shown_once new (topology_of tables new) (without_instance t x.name) refl (shown_of tables new entries' room deleted_sound) (deleted_shows t (shown_of tables old entries room sound)) in
+      let t : Topology = topology_of_slots tables old in
+      let n : Net = seen tables old capacity next in
+      let same : topology_of_slots tables new ≡ without_instance t x.name = shown_once new (topology_of_slots tables new) (without_instance t x.name) refl (shown_of tables new entries' capacity deleted_sound) (deleted_shows t (shown_of tables old entries capacity sound)) in
       let name : name_at n id ≡ x.name = ap name_or (at_seen old id x.name (x, at, refl)) in
-      let topology : topology_of tables new ≡ without_instance t (name_at n id) = same ∙ ap (without_instance t) (sym name) in
+      let topology : topology_of_slots tables new ≡ without_instance t (name_at n id) = same ∙ ap (without_instance t) (sym name) in
       let names : map name_in new ≡ set (map name_in old) id.0 None = same_names mid new sheds.heads ∙ emptied_names old id.0 in
-      λ i. record { topology = topology i; names = names i; room = room; next = id.0 }
+      λ i. record { topology = topology i; names = names i; capacity = capacity; next = id.0 }
 
 -- each name but one has the place that it had
 pub other_places : (entries entries' : Entries) (name : List ℕ) (eq : Vec ℕ Global → Vec ℕ Global → Bool) → KeepsOthers eq (λ k. bytes_eq name k.items) entries entries'

@@ -61,8 +61,8 @@ forgets_row tables old mid new id rows row so_far more = record {
 }
 
 -- the relation of a row that lists somebody is one of the tables
-pub rows_of_tables : (tables : Tables) (slots : Slots) (entries : Entries) (room : ℕ) → IsNetOf tables slots entries room → (i : InstanceId) (x : Instance) → At slots i x
+pub rows_of_tables : (tables : Tables) (slots : Slots) (entries : Entries) (capacity : ℕ) → IsNetOf tables slots entries capacity → (i : InstanceId) (x : Instance) → At slots i x
     → (row : LinkRow) (j : InstanceId) → Contains x.links.rows.items row → Contains row.to.items j → IsRelation tables row.rel
-rows_of_tables tables slots entries room sound i x at row j of_x in_row =
+rows_of_tables tables slots entries capacity sound i x at row j of_x in_row =
     let own = own_row x.links.rows.items row (sound.tidy i x at).apart of_x in
     (sound.both_ways i row.rel j (record { lister = x; is = at; listed = subst (λ o. Contains (items_of o) j) (sym own) in_row })).0

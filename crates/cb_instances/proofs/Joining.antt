@@ -4,7 +4,7 @@ use Rattle.cb_model.specs.declared.id.RelId.{RelId}
 use Rattle.cb_instances.specs.Items.{Gains, Loses}
 use Rattle.cb_instances.specs.declared.id.InstanceId.{InstanceId}
 use Rattle.cb_instances.specs.declared.instance.Instance.{Instance}
-use Rattle.cb_instances.specs.Joined.{Rewires, SameLinks, Joins, Parts}
+use Rattle.cb_instances.specs.Joined.{Rewires, SameLinks, JoinsInstances, PartsInstances}
 use Rattle.cb_instances.specs.Slots.{Slots, At, ListsInstance}
 use Rattle.cb_instances.proofs.Rewiring.{same_head, gains_lists, gains_tidy, loses_lists, loses_tidy}
 
@@ -21,7 +21,7 @@ remains old new at rel Step w i x is = let h = same_head new old (sym w.heads) i
 
 -- a link that is its own inverse
 pub joins_once : (old mid new : Slots) (from : InstanceId) (rel : RelId) (to : InstanceId) (back : RelId) → from ≡ to → rel ≡ back → (x : Instance) → At mid from x
-    → SameLinks old mid → Rewires mid new from rel (Gains to) → Joins old new from rel to back
+    → SameLinks old mid → Rewires mid new from rel (Gains to) → JoinsInstances old new from rel to back
 joins_once old mid new from rel to back e f x is same w = record {
   heads = w.heads ∙ same.heads;
   lists = λ i r j.
@@ -38,7 +38,7 @@ joins_once old mid new from rel to back e f x is same w = record {
 
 pub joins_twice : (old mid one new : Slots) (from : InstanceId) (rel : RelId) (to : InstanceId) (back : RelId) → ((from ≡ to) × (rel ≡ back) → ⊥)
     → (x : Instance) → At mid from x → (y : Instance) → At one to y
-    → SameLinks old mid → Rewires mid one from rel (Gains to) → Rewires one new to back (Gains from) → Joins old new from rel to back
+    → SameLinks old mid → Rewires mid one from rel (Gains to) → Rewires one new to back (Gains from) → JoinsInstances old new from rel to back
 joins_twice old mid one new from rel to back apart x is y is_y same v w =
     let first = gains_lists mid one from rel to x is v in
     let second = gains_lists one new to back from y is_y w in
@@ -64,7 +64,7 @@ joins_twice old mid one new from rel to back apart x is y is_y same v w =
     }
 
 pub parted : (old mid new : Slots) (from : InstanceId) (rel : RelId) (to : InstanceId) (back : RelId)
-    → Rewires old mid from rel (Loses to) → Rewires mid new to back (Loses from) → Parts old new from rel to back
+    → Rewires old mid from rel (Loses to) → Rewires mid new to back (Loses from) → PartsInstances old new from rel to back
 parted old mid new from rel to back v w = record {
   heads = w.heads ∙ v.heads;
   lists = λ tidy i r j.

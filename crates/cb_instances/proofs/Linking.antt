@@ -12,10 +12,10 @@ use Rattle.cb_network.specs.Edits.{with_link, without_link, link_of}
 use Rattle.cb_network.proofs.Sets.{link_cmp_total, link_cmp_exact, in_insert, in_remove}
 use Rattle.cb_instances.specs.declared.id.InstanceId.{InstanceId}
 use Rattle.cb_instances.specs.declared.instance.Instance.{Instance}
-use Rattle.cb_instances.specs.Joined.{head_in, SameHeads, SameLinks, Joins, Parts, IsJoin, AllTidy}
+use Rattle.cb_instances.specs.Joined.{head_in, SameHeads, SameLinks, JoinsInstances, PartsInstances, IsJoin, AllTidy}
 use Rattle.cb_instances.specs.Net.{Net, inverse_of, inverse_in, name_at, name_or, linked, unlinked}
 use Rattle.cb_instances.specs.Places.{Entries, place_of}
-use Rattle.cb_instances.specs.Shown.{topology_of, seen, name_in, Shows, HoldsLink}
+use Rattle.cb_instances.specs.Shown.{topology_of_slots, seen, name_in, Shows, HoldsLink}
 use Rattle.cb_instances.specs.Slots.{Head, head_of, Slots, At, NamedAt, ListsInstance}
 use Rattle.cb_instances.specs.Sound.{IsNetOf, StandBothWays, FitsMutes}
 use Rattle.cb_instances.proofs.Creating.{shown_of}
@@ -63,8 +63,8 @@ module _ (old new : Slots) (heads : SameHeads old new) where
   pub named_after : (i : InstanceId) (name : List ℕ) → NamedAt old i name → NamedAt new i name
   named_after i name (x, at, is) = let y = is_still i x at in (y.0, y.1, ap (λ (h : Head). h.name) (sym y.2) ∙ is)
 
-  pub relinked_sound : (tables : Tables) (entries : Entries) (room : ℕ) → IsNetOf tables old entries room → StandBothWays tables new → AllTidy new → IsNetOf tables new entries room
-  relinked_sound tables entries room sound both tidy = record {
+  pub relinked_sound : (tables : Tables) (entries : Entries) (capacity : ℕ) → IsNetOf tables old entries capacity → StandBothWays tables new → AllTidy new → IsNetOf tables new entries capacity
+  relinked_sound tables entries capacity sound both tidy = record {
     typed = sound.typed;
     indexed = record {
       listed = λ i y at.
@@ -119,27 +119,27 @@ module _ (old new : Slots) (heads : SameHeads old new) where
   }
 
   -- where the slots show the links of a changed topology, they show it
-  pub relinked_net : (tables : Tables) (entries : Entries) (room next : ℕ) (links : set.FinSet link_cmp) → IsNetOf tables old entries room → IsNetOf tables new entries room
-      → ((a : List ℕ) (r : RelId) (b : List ℕ) → HasLink (record (topology_of tables old) { links = links }) a r b ↔ HoldsLink new a r b)
-      → seen tables new room next ≡ record (seen tables old room next) { topology = record (topology_of tables old) { links = links } }
-  relinked_net tables entries room next links before after holds =
-      let t : Topology = topology_of tables old in
+  pub relinked_net : (tables : Tables) (entries : Entries) (capacity next : ℕ) (links : set.FinSet link_cmp) → IsNetOf tables old entries capacity → IsNetOf tables new entries capacity
+      → ((a : List ℕ) (r : RelId) (b : List ℕ) → HasLink (record (topology_of_slots tables old) { links = links }) a r b ↔ HoldsLink new a r b)
+      → seen tables new capacity next ≡ record (seen tables old capacity next) { topology = record (topology_of_slots tables old) { links = links } }
+  relinked_net tables entries capacity next links before after holds =
+      let t : Topology = topology_of_slots tables old in
       let u : Topology = record t { links = links } in
-      let same : topology_of tables new ≡ u = shown_once new (topology_of tables new) u refl (shown_of tables new entries room after) (relinked_shows t links (shown_of tables old entries room before) holds) in
+      let same : topology_of_slots tables new ≡ u = shown_once new (topology_of_slots tables new) u refl (shown_of tables new entries capacity after) (relinked_shows t links (shown_of tables old entries capacity before) holds) in
       let names = same_names old new heads in
-      λ i. record { topology = same i; names = names i; room = room; next = next }
+      λ i. record { topology = same i; names = names i; capacity = capacity; next = next }
 
-pub same_sound : (old new : Slots) → SameLinks old new → (tables : Tables) (entries : Entries) (room : ℕ) → IsNetOf tables old entries room → IsNetOf tables new entries room
-same_sound old new same tables entries room sound =
-    relinked_sound old new same.heads tables entries room sound
+pub same_sound : (old new : Slots) → SameLinks old new → (tables : Tables) (entries : Entries) (capacity : ℕ) → IsNetOf tables old entries capacity → IsNetOf tables new entries capacity
+same_sound old new same tables entries capacity sound =
+    relinked_sound old new same.heads tables entries capacity sound
     (λ i r j l. let back = sound.both_ways i r j ((same.lists i r j).0 l) in (back.0, (same.lists j (inverse_of tables r) i).1 back.1))
     (same.tidy sound.tidy)
 
-pub same_net : (old new : Slots) → SameLinks old new → (tables : Tables) (entries : Entries) (room next : ℕ) → IsNetOf tables old entries room
-    → seen tables new room next ≡ seen tables old room next
-same_net old new same tables entries room next sound =
-    relinked_net old new same.heads tables entries room next (topology_of tables old).links sound (same_sound old new same tables entries room sound) (λ a r b.
-    let is = (shown_of tables old entries room sound).links a r b in (
+pub same_net : (old new : Slots) → SameLinks old new → (tables : Tables) (entries : Entries) (capacity next : ℕ) → IsNetOf tables old entries capacity
+    → seen tables new capacity next ≡ seen tables old capacity next
+same_net old new same tables entries capacity next sound =
+    relinked_net old new same.heads tables entries capacity next (topology_of_slots tables old).links sound (same_sound old new same tables entries capacity sound) (λ a r b.
+    let is = (shown_of tables old entries capacity sound).links a r b in (
       λ h. let g = is.0 h in
           record { from = g.from; to = g.to; from_is = named_after old new same.heads g.from a g.from_is; to_is = named_after old new same.heads g.to b g.to_is; lists = (same.lists g.from r g.to).1 g.lists },
       λ g. is.1 (record { from = g.from; to = g.to; from_is = named_before old new same.heads g.from a g.from_is; to_is = named_before old new same.heads g.to b g.to_is; lists = (same.lists g.from r g.to).0 g.lists }),
@@ -151,11 +151,11 @@ one_name slots i k a b e (x, at, x_is) (y, at_y, y_is) =
     let same = one_at slots k x y (subst (λ z. At slots z x) e at) at_y in
     sym x_is ∙ (ap (λ (z : Instance). z.name) same ∙ y_is)
 
-module _ (tables : Tables) (old new : Slots) (entries : Entries) (room : ℕ) (from : InstanceId) (rel : RelId) (to : InstanceId) (back : RelId)
+module _ (tables : Tables) (old new : Slots) (entries : Entries) (capacity : ℕ) (from : InstanceId) (rel : RelId) (to : InstanceId) (back : RelId)
     (a b : List ℕ) (from_is : NamedAt old from a) (to_is : NamedAt old to b) (of_tables : IsRelation tables rel) (is : back ≡ inverse_of tables rel)
-    (sound : IsNetOf tables old entries room) where
+    (sound : IsNetOf tables old entries capacity) where
   abbrev t : Topology
-  t = topology_of tables old
+  t = topology_of_slots tables old
 
   abbrev p : Link
   p = link_of a rel b
@@ -169,10 +169,10 @@ module _ (tables : Tables) (old new : Slots) (entries : Entries) (room : ℕ) (f
   back_of_tables : IsRelation tables back
   back_of_tables = subst (λ s. IsRelation tables s) (sym is) (inverse_twice tables sound.typed rel of_tables).0
 
-  name_is : (next : ℕ) (i : InstanceId) (name : List ℕ) → NamedAt old i name → name_at (seen tables old room next) i ≡ name
+  name_is : (next : ℕ) (i : InstanceId) (name : List ℕ) → NamedAt old i name → name_at (seen tables old capacity next) i ≡ name
   name_is next i name at = ap name_or (at_seen old i name at)
 
-  module _ (joins : Joins old new from rel to back) where
+  module _ (joins : JoinsInstances old new from rel to back) where
     joined_both : StandBothWays tables new
     joined_both i r j l = elim ((joins.lists i r j).0 l) [
       | inl m ↦ let turn = sound.both_ways i r j m in (turn.0, (joins.lists j (inverse_of tables r) i).1 (inl turn.1))
@@ -188,14 +188,14 @@ module _ (tables : Tables) (old new : Slots) (entries : Entries) (room : ℕ) (f
       ]
     ]
 
-    pub joined_sound : ¬ ListsInstance old from rel to → IsNetOf tables new entries room
+    pub joined_sound : ¬ ListsInstance old from rel to → IsNetOf tables new entries capacity
     joined_sound none =
         let none_back : ¬ ListsInstance old to back from = λ l. none (subst (λ r. ListsInstance old from r to) inverse_back (sound.both_ways to back from l).1) in
-        relinked_sound old new joins.heads tables entries room sound joined_both (joins.tidy none none_back sound.tidy)
+        relinked_sound old new joins.heads tables entries capacity sound joined_both (joins.tidy none none_back sound.tidy)
 
     joined_holds : (x : List ℕ) (r : RelId) (y : List ℕ) → HasLink (with_link t a rel back b) x r y ↔ HoldsLink new x r y
     joined_holds x r y =
-        let shows = (shown_of tables old entries room sound).links x r y in
+        let shows = (shown_of tables old entries capacity sound).links x r y in
         let one = in_insert link_cmp_total link_cmp_exact t.links p (link_of x r y) in
         let two = in_insert link_cmp_total link_cmp_exact (set.insert t.links p) q (link_of x r y) in
         let after = named_after old new joins.heads in
@@ -235,13 +235,13 @@ module _ (tables : Tables) (old new : Slots) (entries : Entries) (room : ℕ) (f
           ],
         )
 
-    pub joined_net : (next : ℕ) → ¬ ListsInstance old from rel to → seen tables new room next ≡ linked (seen tables old room next) from rel to
+    pub joined_net : (next : ℕ) → ¬ ListsInstance old from rel to → seen tables new capacity next ≡ linked (seen tables old capacity next) from rel to
     joined_net next none =
-        let net = relinked_net old new joins.heads tables entries room next (with_link t a rel back b).links sound (joined_sound none) joined_holds in
-        let n : Net = seen tables old room next in
+        let net = relinked_net old new joins.heads tables entries capacity next (with_link t a rel back b).links sound (joined_sound none) joined_holds in
+        let n : Net = seen tables old capacity next in
         net ∙ (λ i. record n { topology = with_link t (sym (name_is next from a from_is) i) rel (is i) (sym (name_is next to b to_is) i) })
 
-  module _ (parts : Parts old new from rel to back) where
+  module _ (parts : PartsInstances old new from rel to back) where
     lists : (i : InstanceId) (r : RelId) (j : InstanceId) → ListsInstance new i r j ↔ (ListsInstance old i r j × ¬ IsJoin from rel to back i r j)
     lists = parts.lists sound.tidy
 
@@ -256,12 +256,12 @@ module _ (tables : Tables) (old new : Slots) (entries : Entries) (room : ℕ) (f
         ] in
         (turn.0, (lists j (inverse_of tables r) i).1 (turn.1, other))
 
-    pub parted_sound : IsNetOf tables new entries room
-    parted_sound = relinked_sound old new parts.heads tables entries room sound parted_both (parts.tidy sound.tidy)
+    pub parted_sound : IsNetOf tables new entries capacity
+    parted_sound = relinked_sound old new parts.heads tables entries capacity sound parted_both (parts.tidy sound.tidy)
 
     parted_holds : (x : List ℕ) (r : RelId) (y : List ℕ) → HasLink (without_link t a rel back b) x r y ↔ HoldsLink new x r y
     parted_holds x r y =
-        let shows = (shown_of tables old entries room sound).links x r y in
+        let shows = (shown_of tables old entries capacity sound).links x r y in
         let one = in_remove link_cmp_total link_cmp_exact t.links p (link_of x r y) in
         let two = in_remove link_cmp_total link_cmp_exact (set.remove t.links p) q (link_of x r y) in
         let after = named_after old new parts.heads in
@@ -294,8 +294,8 @@ module _ (tables : Tables) (old new : Slots) (entries : Entries) (room : ℕ) (f
               two.1 (not_q, one.1 (not_p, has)),
         )
 
-    pub parted_net : (next : ℕ) → seen tables new room next ≡ unlinked (seen tables old room next) from rel to
+    pub parted_net : (next : ℕ) → seen tables new capacity next ≡ unlinked (seen tables old capacity next) from rel to
     parted_net next =
-        let net = relinked_net old new parts.heads tables entries room next (without_link t a rel back b).links sound parted_sound parted_holds in
-        let n : Net = seen tables old room next in
+        let net = relinked_net old new parts.heads tables entries capacity next (without_link t a rel back b).links sound parted_sound parted_holds in
+        let n : Net = seen tables old capacity next in
         net ∙ (λ i. record n { topology = without_link t (sym (name_is next from a from_is) i) rel (is i) (sym (name_is next to b to_is) i) })

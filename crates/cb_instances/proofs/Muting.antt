@@ -14,10 +14,10 @@ use Rattle.cb_model.specs.declared.id.RelId.{RelId}
 use Rattle.cb_model.specs.declared.node.NodeName.{NodeName}
 use Rattle.cb_model.specs.declared.tables.Tables.{Tables}
 use Rattle.cb_model.specs.NodeOrder.{node_cmp}
-use Rattle.cb_model.specs.WellTyped.{WellTyped, Member, Declares}
+use Rattle.cb_model.specs.WellTyped.{WellTyped, Member, ClassDeclares}
 use Rattle.cb_model.proofs.Numbers.{at_most_listed}
 use Rattle.cb_model.proofs.Rising.{node_cmp_total, node_cmp_exact}
-use Rattle.cb_network.specs.Edits.{node_of, with_mute, without_mute}
+use Rattle.cb_network.specs.Edits.{node_name_of, with_mute, without_mute}
 use Rattle.cb_network.specs.Topology.{Topology, IsMuted}
 use Rattle.cb_network.proofs.Sets.{in_insert, in_remove}
 use Rattle.cb_instances.specs.Items.{Gains, Loses}
@@ -28,7 +28,7 @@ use Rattle.cb_instances.specs.Muted.{Remutes}
 use Rattle.cb_instances.specs.Net.{Net, slot, event_name, name_in_row, name_at, name_or, node_at, muted, unmuted, HasEventAt, IsMutedAt, inverse_of, Once}
 use Rattle.cb_instances.specs.Places.{Entries, place_of}
 use Rattle.cb_instances.specs.Rows.{row_of}
-use Rattle.cb_instances.specs.Shown.{topology_of, seen, name_in, Shows, HoldsMute}
+use Rattle.cb_instances.specs.Shown.{topology_of_slots, seen, name_in, Shows, HoldsMute}
 use Rattle.cb_instances.specs.Slots.{Slots, At, NamedAt, ListsInstance, head_of}
 use Rattle.cb_instances.specs.Sound.{IsNetOf, IsTidy, FitsMutes}
 use Rattle.cb_instances.proofs.Creating.{shown_of}
@@ -48,8 +48,8 @@ event_reported t typed c e f a b named =
     let row_a : event_name t e ≡ a.row.name = ap name_in_row a.is in
     let row_b : event_name t f ≡ b.row.name = ap name_in_row b.is in
     let name : b.row.name ≡ a.row.name = sym row_b ∙ (sym named ∙ row_a) in
-    let one : Declares t a.row.class (Member.event e.0) a.row.name = (a.row, a.is, refl, refl) in
-    let other : Declares t b.row.class (Member.event f.0) a.row.name = (b.row, b.is, refl, name) in
+    let one : ClassDeclares t a.row.class (Member.event e.0) a.row.name = (a.row, a.is, refl, refl) in
+    let other : ClassDeclares t b.row.class (Member.event f.0) a.row.name = (b.row, b.is, refl, name) in
     let same : e.0 ≡ f.0 = elim (cases_order a.from_c.0 b.from_c.0) [
       | inl n ↦ number e.0 f.0 (typed.rules.member_names a.row.class b.row.class (Member.event e.0) (Member.event f.0) a.row.name (0, sym (further t c a.row.class 0 a.from_c.0 b.from_c.0 (omega arith) a.from_c.1) ∙ b.from_c.1) one other)
       | inr (inl below) ↦ number e.0 f.0 (typed.rules.member_names a.row.class b.row.class (Member.event e.0) (Member.event f.0) a.row.name (b.from_c.0 - a.from_c.0, sym (further t c a.row.class (b.from_c.0 - a.from_c.0) a.from_c.0 b.from_c.0 (omega arith) a.from_c.1) ∙ b.from_c.1) one other)
@@ -68,7 +68,7 @@ remuted_names (o ∷ slots) (suc i) x y at e = ap (λ ns. name_in o ∷ ns) (rem
 -- the muted events of one instance are written
 pub remuted : (old : Slots) (id : InstanceId) (Step : List EventId → List EventId → Type 0) (x : Instance) (m : Vec EventId Global) → At old id x
     → vec_capacity m ≡ vec_capacity x.muted → Step x.muted.items m.items → Remutes old (set old id.0 (Some (record x { muted = m }))) id Step
-remuted old id Step x m at room step =
+remuted old id Step x m at capacity step =
     let y : Instance = record x { muted = m } in
     let now : At (set old id.0 (Some y)) id y = get_or-set_same old id.0 (Some y) None (slot_within old id.0 x at) in
     record {
@@ -78,7 +78,7 @@ remuted old id Step x m at room step =
           let same : x ≡ z = one_at old id x z at at_z in (
             m,
             subst (λ (w : Instance). At (set old id.0 (Some y)) id (record w { muted = m })) same now,
-            subst (λ (w : Instance). vec_capacity m ≡ vec_capacity w.muted) same room,
+            subst (λ (w : Instance). vec_capacity m ≡ vec_capacity w.muted) same capacity,
             subst (λ (w : Instance). Step w.muted.items m.items) same step,
           );
     }
@@ -90,10 +90,10 @@ remuted_none old id Step none = record {
   this = λ x is. let e : None ≡ Some x = sym none ∙ is in absurd (cc);
 }
 
--- where an event of the class is not muted, there is room for it
-pub room_to_mute : (t : Tables) (x : Instance) → FitsMutes t (head_of x) → (e : EventId) → HasEvent t x.class e → ¬ Contains x.muted.items e
+-- where an event of the class is not muted, there is capacity for it
+pub capacity_to_mute : (t : Tables) (x : Instance) → FitsMutes t (head_of x) → (e : EventId) → HasEvent t x.class e → ¬ Contains x.muted.items e
     → length x.muted.items < vec_capacity x.muted
-room_to_mute t x fits e has none =
+capacity_to_mute t x fits e has none =
     let listed : List ℕ = map (λ (d : EventId). d.0) fits.events in
     let more : List EventId = x.muted.items ++ e ∷ [] in
     let all : All (HasEvent t x.class) more = λ k d lt. of_class _ (Contains-get_or more k d lt) in
@@ -106,8 +106,8 @@ room_to_mute t x fits e has none =
     of_class : (d : EventId) → Contains (x.muted.items ++ e ∷ []) d → HasEvent t x.class d
     of_class d h = elim (Contains-push_cases x.muted.items e d h) [ inl was ↦ fits.of_class d was | inr is ↦ subst (HasEvent t x.class) is has ]
 
-module _ (tables : Tables) (old new : Slots) (entries : Entries) (room : ℕ) (id : InstanceId) (x : Instance) (at : At old id x)
-    (Step : List EventId → List EventId → Type 0) (w : Remutes old new id Step) (sound : IsNetOf tables old entries room) where
+module _ (tables : Tables) (old new : Slots) (entries : Entries) (capacity : ℕ) (id : InstanceId) (x : Instance) (at : At old id x)
+    (Step : List EventId → List EventId → Type 0) (w : Remutes old new id Step) (sound : IsNetOf tables old entries capacity) where
   abbrev m : Vec EventId Global
   m = (w.this x at).0
 
@@ -153,7 +153,7 @@ module _ (tables : Tables) (old new : Slots) (entries : Entries) (room : ℕ) (i
       let z = still i l.lister l.is in
       record { lister = z.0; is = z.1; listed = subst (λ (k : Links). Contains (row_of k.rows.items r) j) (sym z.2.2) l.listed }
 
-  pub remuted_sound : FitsMutes tables (head_of y) → IsNetOf tables new entries room
+  pub remuted_sound : FitsMutes tables (head_of y) → IsNetOf tables new entries capacity
   remuted_sound fits = record {
     typed = sound.typed;
     indexed = record {
@@ -191,20 +191,20 @@ module _ (tables : Tables) (old new : Slots) (entries : Entries) (room : ℕ) (i
   }
 
   remuted_net : (next : ℕ) (mutes : fin_set.FinSet node_cmp) → FitsMutes tables (head_of y)
-      → ((n : NodeName) → IsMuted (record (topology_of tables old) { mutes = mutes }) n ↔ HoldsMute tables new n)
-      → seen tables new room next ≡ record (seen tables old room next) { topology = record (topology_of tables old) { mutes = mutes } }
+      → ((n : NodeName) → IsMuted (record (topology_of_slots tables old) { mutes = mutes }) n ↔ HoldsMute tables new n)
+      → seen tables new capacity next ≡ record (seen tables old capacity next) { topology = record (topology_of_slots tables old) { mutes = mutes } }
   remuted_net next mutes fits holds =
-      let t : Topology = topology_of tables old in
+      let t : Topology = topology_of_slots tables old in
       let u : Topology = record t { mutes = mutes } in
-      let same : topology_of tables new ≡ u = shown_once new (topology_of tables new) u refl (shown_of tables new entries room (remuted_sound fits)) (remuted_shows t mutes (shown_of tables old entries room sound) holds) in
-      λ i. record { topology = same i; names = w.names i; room = room; next = next }
+      let same : topology_of_slots tables new ≡ u = shown_once new (topology_of_slots tables new) u refl (shown_of tables new entries capacity (remuted_sound fits)) (remuted_shows t mutes (shown_of tables old entries capacity sound) holds) in
+      λ i. record { topology = same i; names = w.names i; capacity = capacity; next = next }
 
   -- the node of an event at the instance
   abbrev node : EventId → NodeName
-  node e = node_of (event_name tables e) x.name
+  node e = node_name_of (event_name tables e) x.name
 
-  node_is : (next : ℕ) (e : EventId) → node_at (seen tables old room next) id e ≡ node e
-  node_is next e = ap (node_of (event_name tables e)) (ap name_or (at_seen old id x.name (x, at, refl)))
+  node_is : (next : ℕ) (e : EventId) → node_at (seen tables old capacity next) id e ≡ node e
+  node_is next e = ap (node_name_of (event_name tables e)) (ap name_or (at_seen old id x.name (x, at, refl)))
 
   -- a mute is at this instance, or where nothing changed
   mute_now : (n : NodeName) → HoldsMute tables new n → ((e : EventId) × Contains m.items e × (node e ≡ n)) ⊎ ((h : HoldsMute tables old n) × (h.at ≢ id))
@@ -237,17 +237,17 @@ module _ (tables : Tables) (old new : Slots) (entries : Entries) (room : ℕ) (i
       let name : h.instance.name ≡ x.name = h.named ∙ ap (λ (k : NodeName). k.instance) is in
       ne (own_names old entries sound.indexed h.at id x.name (h.instance, h.is, name) (x, at, refl))
 
-  capacity : vec_capacity m ≡ vec_capacity x.muted
-  capacity = (w.this x at).2
+  kept_capacity : vec_capacity m ≡ vec_capacity x.muted
+  kept_capacity = (w.this x at).2
 
   step : Step x.muted.items m.items
   step = (w.this x at).3
 
   -- an event is muted at the instance where its node is
-  pub muted_here : (e : EventId) → HasEvent tables x.class e → Contains x.muted.items e ↔ IsMuted (topology_of tables old) (node e)
+  pub muted_here : (e : EventId) → HasEvent tables x.class e → Contains x.muted.items e ↔ IsMuted (topology_of_slots tables old) (node e)
   muted_here e has = (
-    λ in_x. ((shown_of tables old entries room sound).mutes (node e)).1 (here_before e (node e) in_x refl),
-    λ is. elim (mute_was (node e) (((shown_of tables old entries room sound).mutes (node e)).0 is)) [
+    λ in_x. ((shown_of tables old entries capacity sound).mutes (node e)).1 (here_before e (node e) in_x refl),
+    λ is. elim (mute_was (node e) (((shown_of tables old entries capacity sound).mutes (node e)).0 is)) [
       | inl found ↦
           let of_class = (sound.mutes id x at).of_class found.0 found.1 in
           let same = event_reported tables sound.typed x.class found.0 e of_class has (ap (λ (k : NodeName). k.event) found.2) in
@@ -262,8 +262,8 @@ module _ (tables : Tables) (old new : Slots) (entries : Entries) (room : ℕ) (i
           ne (own_names old entries sound.indexed h.at id x.name name (x, at, refl))
 
 -- one event more
-module _ (tables : Tables) (old new : Slots) (entries : Entries) (room : ℕ) (id : InstanceId) (x : Instance) (at : At old id x) (e : EventId)
-    (has : HasEvent tables x.class e) (w : Remutes old new id (Gains e)) (sound : IsNetOf tables old entries room) where
+module _ (tables : Tables) (old new : Slots) (entries : Entries) (capacity : ℕ) (id : InstanceId) (x : Instance) (at : At old id x) (e : EventId)
+    (has : HasEvent tables x.class e) (w : Remutes old new id (Gains e)) (sound : IsNetOf tables old entries capacity) where
   gain_fits : ¬ Contains x.muted.items e → FitsMutes tables (head_of (record x { muted = (w.this x at).0 }))
   gain_fits none =
       let fits = sound.mutes id x at in
@@ -276,41 +276,41 @@ module _ (tables : Tables) (old new : Slots) (entries : Entries) (room : ℕ) (i
         once = subst Once (sym t.3) (once_more x.muted.items e fits.once none);
       }
 
-  gain_holds : (n : NodeName) → IsMuted (with_mute (topology_of tables old) (node_of (event_name tables e) x.name)) n ↔ HoldsMute tables new n
+  gain_holds : (n : NodeName) → IsMuted (with_mute (topology_of_slots tables old) (node_name_of (event_name tables e) x.name)) n ↔ HoldsMute tables new n
   gain_holds n =
-      let t = topology_of tables old in
-      let shows = (shown_of tables old entries room sound).mutes n in
-      let is = in_insert node_cmp_total node_cmp_exact t.mutes (node_of (event_name tables e) x.name) n in
+      let t = topology_of_slots tables old in
+      let shows = (shown_of tables old entries capacity sound).mutes n in
+      let is = in_insert node_cmp_total node_cmp_exact t.mutes (node_name_of (event_name tables e) x.name) n in
       let more = (w.this x at).3 in (
         λ h. elim (is.0 h) [
-          | inl here ↦ here_now tables old new entries room id x at (Gains e) w sound e n (subst (λ es. Contains es e) (sym more) (Contains-push x.muted.items e)) (sym here)
-          | inr before ↦ elim (mute_was tables old new entries room id x at (Gains e) w sound n (shows.0 before)) [
-            | inl found ↦ here_now tables old new entries room id x at (Gains e) w sound found.0 n (subst (λ es. Contains es found.0) (sym more) (Contains-append_left x.muted.items (e ∷ []) found.0 found.1)) found.2
+          | inl here ↦ here_now tables old new entries capacity id x at (Gains e) w sound e n (subst (λ es. Contains es e) (sym more) (Contains-push x.muted.items e)) (sym here)
+          | inr before ↦ elim (mute_was tables old new entries capacity id x at (Gains e) w sound n (shows.0 before)) [
+            | inl found ↦ here_now tables old new entries capacity id x at (Gains e) w sound found.0 n (subst (λ es. Contains es found.0) (sym more) (Contains-append_left x.muted.items (e ∷ []) found.0 found.1)) found.2
             | inr other ↦ other.0
           ]
         ],
-        λ g. is.1 (elim (mute_now tables old new entries room id x at (Gains e) w sound n g) [
+        λ g. is.1 (elim (mute_now tables old new entries capacity id x at (Gains e) w sound n g) [
           | inl found ↦ elim (Contains-push_cases x.muted.items e found.0 (subst (λ es. Contains es found.0) more found.1)) [
-            | inl in_x ↦ inr (shows.1 (here_before tables old new entries room id x at (Gains e) w sound found.0 n in_x found.2))
-            | inr same ↦ inl (sym found.2 ∙ ap (λ d. node_of (event_name tables d) x.name) (sym same))
+            | inl in_x ↦ inr (shows.1 (here_before tables old new entries capacity id x at (Gains e) w sound found.0 n in_x found.2))
+            | inr same ↦ inl (sym found.2 ∙ ap (λ d. node_name_of (event_name tables d) x.name) (sym same))
           ]
           | inr other ↦ inr (shows.1 other.0)
         ]),
       )
 
-  pub gained_sound : ¬ Contains x.muted.items e → IsNetOf tables new entries room
-  gained_sound none = remuted_sound tables old new entries room id x at (Gains e) w sound (gain_fits none)
+  pub gained_sound : ¬ Contains x.muted.items e → IsNetOf tables new entries capacity
+  gained_sound none = remuted_sound tables old new entries capacity id x at (Gains e) w sound (gain_fits none)
 
-  pub gained_net : (next : ℕ) → ¬ Contains x.muted.items e → seen tables new room next ≡ muted (seen tables old room next) id e
+  pub gained_net : (next : ℕ) → ¬ Contains x.muted.items e → seen tables new capacity next ≡ muted (seen tables old capacity next) id e
   gained_net next none =
-      let n : Net = seen tables old room next in
-      let t = topology_of tables old in
-      remuted_net tables old new entries room id x at (Gains e) w sound next (with_mute t (node_of (event_name tables e) x.name)).mutes (gain_fits none) gain_holds
-      ∙ ap (λ k. record n { topology = with_mute t k }) (sym (node_is tables old new entries room id x at (Gains e) w sound next e))
+      let n : Net = seen tables old capacity next in
+      let t = topology_of_slots tables old in
+      remuted_net tables old new entries capacity id x at (Gains e) w sound next (with_mute t (node_name_of (event_name tables e) x.name)).mutes (gain_fits none) gain_holds
+      ∙ ap (λ k. record n { topology = with_mute t k }) (sym (node_is tables old new entries capacity id x at (Gains e) w sound next e))
 
 -- one event less
-module _ (tables : Tables) (old new : Slots) (entries : Entries) (room : ℕ) (id : InstanceId) (x : Instance) (at : At old id x) (e : EventId)
-    (has : HasEvent tables x.class e) (w : Remutes old new id (Loses e)) (sound : IsNetOf tables old entries room) where
+module _ (tables : Tables) (old new : Slots) (entries : Entries) (capacity : ℕ) (id : InstanceId) (x : Instance) (at : At old id x) (e : EventId)
+    (has : HasEvent tables x.class e) (w : Remutes old new id (Loses e)) (sound : IsNetOf tables old entries capacity) where
   loss_fits : FitsMutes tables (head_of (record x { muted = (w.this x at).0 }))
   loss_fits =
       let fits = sound.mutes id x at in
@@ -323,60 +323,60 @@ module _ (tables : Tables) (old new : Slots) (entries : Entries) (room : ℕ) (i
         once = t.3.once fits.once;
       }
 
-  loss_holds : (n : NodeName) → IsMuted (without_mute (topology_of tables old) (node_of (event_name tables e) x.name)) n ↔ HoldsMute tables new n
+  loss_holds : (n : NodeName) → IsMuted (without_mute (topology_of_slots tables old) (node_name_of (event_name tables e) x.name)) n ↔ HoldsMute tables new n
   loss_holds n =
-      let t = topology_of tables old in
+      let t = topology_of_slots tables old in
       let fits = sound.mutes id x at in
-      let shows = (shown_of tables old entries room sound).mutes n in
-      let is = in_remove node_cmp_total node_cmp_exact t.mutes (node_of (event_name tables e) x.name) n in
+      let shows = (shown_of tables old entries capacity sound).mutes n in
+      let is = in_remove node_cmp_total node_cmp_exact t.mutes (node_name_of (event_name tables e) x.name) n in
       let loses = (w.this x at).3 in (
         λ h.
             let k = is.0 h in
-            elim (mute_was tables old new entries room id x at (Loses e) w sound n (shows.0 k.1)) [
+            elim (mute_was tables old new entries capacity id x at (Loses e) w sound n (shows.0 k.1)) [
               | inl found ↦
-                  let other : found.0 ≢ e = λ same. k.0 (sym found.2 ∙ ap (λ d. node_of (event_name tables d) x.name) same) in
-                  here_now tables old new entries room id x at (Loses e) w sound found.0 n ((loses.others found.0 other).1 found.1) found.2
+                  let other : found.0 ≢ e = λ same. k.0 (sym found.2 ∙ ap (λ d. node_name_of (event_name tables d) x.name) same) in
+                  here_now tables old new entries capacity id x at (Loses e) w sound found.0 n ((loses.others found.0 other).1 found.1) found.2
               | inr other ↦ other.0
             ],
-        λ g. is.1 (elim (mute_now tables old new entries room id x at (Loses e) w sound n g) [
+        λ g. is.1 (elim (mute_now tables old new entries capacity id x at (Loses e) w sound n g) [
           | inl found ↦
               let other : found.0 ≢ e = λ same. loses.gone fits.once (subst (Contains (w.this x at).0.items) same found.1) in
               let in_x = (loses.others found.0 other).0 found.1 in
-              let differs : n ≢ node_of (event_name tables e) x.name = λ same.
+              let differs : n ≢ node_name_of (event_name tables e) x.name = λ same.
               other (event_reported tables sound.typed x.class found.0 e (fits.of_class found.0 in_x) has (ap (λ (k : NodeName). k.event) (found.2 ∙ same))) in
-              (differs, shows.1 (here_before tables old new entries room id x at (Loses e) w sound found.0 n in_x found.2))
-          | inr other ↦ (elsewhere tables old new entries room id x at (Loses e) w sound e n other.0 other.1, shows.1 other.0)
+              (differs, shows.1 (here_before tables old new entries capacity id x at (Loses e) w sound found.0 n in_x found.2))
+          | inr other ↦ (elsewhere tables old new entries capacity id x at (Loses e) w sound e n other.0 other.1, shows.1 other.0)
         ]),
       )
 
-  pub lost_sound : IsNetOf tables new entries room
-  lost_sound = remuted_sound tables old new entries room id x at (Loses e) w sound loss_fits
+  pub lost_sound : IsNetOf tables new entries capacity
+  lost_sound = remuted_sound tables old new entries capacity id x at (Loses e) w sound loss_fits
 
-  pub lost_net : (next : ℕ) → seen tables new room next ≡ unmuted (seen tables old room next) id e
+  pub lost_net : (next : ℕ) → seen tables new capacity next ≡ unmuted (seen tables old capacity next) id e
   lost_net next =
-      let n : Net = seen tables old room next in
-      let t = topology_of tables old in
-      remuted_net tables old new entries room id x at (Loses e) w sound next (without_mute t (node_of (event_name tables e) x.name)).mutes loss_fits loss_holds
-      ∙ ap (λ k. record n { topology = without_mute t k }) (sym (node_is tables old new entries room id x at (Loses e) w sound next e))
+      let n : Net = seen tables old capacity next in
+      let t = topology_of_slots tables old in
+      remuted_net tables old new entries capacity id x at (Loses e) w sound next (without_mute t (node_name_of (event_name tables e) x.name)).mutes loss_fits loss_holds
+      ∙ ap (λ k. record n { topology = without_mute t k }) (sym (node_is tables old new entries capacity id x at (Loses e) w sound next e))
 
 -- nothing is muted anew
 pub same_mutes : (slots : Slots) (id : InstanceId) → Remutes slots slots id (λ a b. b ≡ a)
 same_mutes slots id = record { names = refl; others = λ i ne. refl; this = λ x is. (x.muted, is, refl, refl) }
 
-module _ (tables : Tables) (slots : Slots) (entries : Entries) (room next : ℕ) (n : Net) (is : seen tables slots room next ≡ n) (id : InstanceId) (x : Instance) (at : At slots id x) (e : EventId)
-    (sound : IsNetOf tables slots entries room) where
+module _ (tables : Tables) (slots : Slots) (entries : Entries) (capacity next : ℕ) (n : Net) (is : seen tables slots capacity next ≡ n) (id : InstanceId) (x : Instance) (at : At slots id x) (e : EventId)
+    (sound : IsNetOf tables slots entries capacity) where
   -- the class of the instance has the event
   pub class_has : HasEventAt n id e → HasEvent tables x.class e
   class_has has =
-      let h : HasEventAt (seen tables slots room next) id e = subst (λ (k : Net). HasEventAt k id e) (sym is) has in
-      let name : name_at (seen tables slots room next) id ≡ x.name = ap name_or (at_seen slots id x.name (x, at, refl)) in
-      let held = ((shown_of tables slots entries room sound).instances (name_at (seen tables slots room next) id) h.0).0 h.1 in
+      let h : HasEventAt (seen tables slots capacity next) id e = subst (λ (k : Net). HasEventAt k id e) (sym is) has in
+      let name : name_at (seen tables slots capacity next) id ≡ x.name = ap name_or (at_seen slots id x.name (x, at, refl)) in
+      let held = ((shown_of tables slots entries capacity sound).instances (name_at (seen tables slots capacity next) id) h.0).0 h.1 in
       let i = own_names slots entries sound.indexed held.at id x.name (held.instance, held.is, held.named ∙ name) (x, at, refl) in
       let same = one_at slots id held.instance x (subst (λ k. At slots k held.instance) i held.is) at in
       subst (λ c. HasEvent tables c e) (sym held.of_class ∙ ap (λ (z : Instance). z.class) same) h.2
 
   pub muted_at : HasEvent tables x.class e → Contains x.muted.items e ↔ IsMutedAt n id e
   muted_at has =
-      let here = muted_here tables slots slots entries room id x at (λ a b. b ≡ a) (same_mutes slots id) sound e has in
-      let node = node_is tables slots slots entries room id x at (λ a b. b ≡ a) (same_mutes slots id) sound next e in
-      subst (λ (k : Net). Contains x.muted.items e ↔ IsMutedAt k id e) is (subst (λ k. Contains x.muted.items e ↔ IsMuted (topology_of tables slots) k) (sym node) here)
+      let here = muted_here tables slots slots entries capacity id x at (λ a b. b ≡ a) (same_mutes slots id) sound e has in
+      let node = node_is tables slots slots entries capacity id x at (λ a b. b ≡ a) (same_mutes slots id) sound next e in
+      subst (λ (k : Net). Contains x.muted.items e ↔ IsMutedAt k id e) is (subst (λ k. Contains x.muted.items e ↔ IsMuted (topology_of_slots tables slots) k) (sym node) here)

@@ -98,10 +98,10 @@ module _ (old new : Slots) (at : InstanceId) (rel : RelId) (Step : List Instance
   )
 
   pub spare_elsewhere : (i : InstanceId) (r : RelId) → ((i ≡ at) × (r ≡ rel) → ⊥) → HasSpareAt old i r → HasSpareAt new i r
-  spare_elsewhere i r apart room y now =
+  spare_elsewhere i r apart capacity y now =
       let x = was_there i y now in
       let same = first_stays i r x.0 y apart x.1 now in
-      let has = room x.0 x.1 in
+      let has = capacity x.0 x.1 in
       (has.0, same ∙ has.1, has.2)
 
   -- what the list had and has

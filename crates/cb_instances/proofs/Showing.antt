@@ -14,7 +14,7 @@ use Rattle.cb_model.specs.Order.{name_cmp}
 use Rattle.cb_model.specs.NodeOrder.{node_cmp}
 use Rattle.cb_model.proofs.Rising.{contains_cases, contains_head, contains_tail, nothing_in_empty, name_cmp_total, name_cmp_exact, node_cmp_total, node_cmp_exact}
 use Rattle.cb_network.specs.Topology.{Topology, Link, link_cmp}
-use Rattle.cb_network.specs.Edits.{link_of, node_of}
+use Rattle.cb_network.specs.Edits.{link_of, node_name_of}
 use Rattle.cb_network.proofs.Sets.{link_cmp_total, link_cmp_exact}
 use Rattle.cb_instances.specs.declared.id.InstanceId.{InstanceId}
 use Rattle.cb_instances.specs.declared.instance.Instance.{Instance}
@@ -22,7 +22,7 @@ use Rattle.cb_instances.specs.declared.links.LinkRow.{LinkRow}
 use Rattle.cb_instances.specs.Net.{slot, event_name}
 use Rattle.cb_instances.specs.Rows.{find_row, row_of, items_of, OneRowEach}
 use Rattle.cb_instances.specs.Slots.{Slots, At, NamedAt}
-use Rattle.cb_instances.specs.Shown.{entries_in, links_in, links_by, links_to, mutes_in, topology_of, HoldsInstance, HoldsLink, HoldsMute, Shows}
+use Rattle.cb_instances.specs.Shown.{instance_entries, links_in, links_by, links_to, mutes_in, topology_of_slots, HoldsInstance, HoldsLink, HoldsMute, Shows}
 use Rattle.cb_instances.proofs.Gathered.{from_flat, to_flat, only, in_set, in_map}
 use Rattle.cb_instances.proofs.RowLemmas.{own_row, row_listed}
 
@@ -49,10 +49,10 @@ abbrev pub HaveOwnNames : Slots → Type 0
 HaveOwnNames slots = (i j : InstanceId) (name : List ℕ) → NamedAt slots i name → NamedAt slots j name → i ≡ j
 
 module _ (slots : Slots) (own_names : HaveOwnNames slots) where
-  entry_at : (name : List ℕ) (c : ClassId) → Contains (flat_map entries_in slots) (name, c) → HoldsInstance slots name c
-  entry_at name c has = go (from_flat entries_in slots (name, c) has)
+  entry_at : (name : List ℕ) (c : ClassId) → Contains (flat_map instance_entries slots) (name, c) → HoldsInstance slots name c
+  entry_at name c has = go (from_flat instance_entries slots (name, c) has)
     where
-      go : (o : Option Instance) × Contains slots o × Contains (entries_in o) (name, c) → HoldsInstance slots name c
+      go : (o : Option Instance) × Contains slots o × Contains (instance_entries o) (name, c) → HoldsInstance slots name c
       go (None, there, in_it) = absurd (nothing_in_empty _ in_it)
       go (Some x, there, in_it) =
           let at = at_slot slots x there in
@@ -66,15 +66,15 @@ module _ (slots : Slots) (own_names : HaveOwnNames slots) where
       sym a.of_class ∙ (ap (λ (x : Instance). x.class) same ∙ b.of_class)
 
   pub shows_instances : (name : List ℕ) (c : ClassId)
-      → (fin_map.get (fin_map.from_entries {R = name_cmp} (flat_map entries_in slots)) name ≡ Some c) ↔ HoldsInstance slots name c
+      → (fin_map.get (fin_map.from_entries {R = name_cmp} (flat_map instance_entries slots)) name ≡ Some c) ↔ HoldsInstance slots name c
   shows_instances name c =
-      let one : (q : List ℕ) (v w : ClassId) → Contains (flat_map entries_in slots) (q, v) → Contains (flat_map entries_in slots) (q, w) → v ≡ w = λ q v w a b. holds_one q v w (entry_at q v a) (entry_at q w b) in
-      let is = in_map name_cmp_total name_cmp_exact (flat_map entries_in slots) one name c in (
+      let one : (q : List ℕ) (v w : ClassId) → Contains (flat_map instance_entries slots) (q, v) → Contains (flat_map instance_entries slots) (q, w) → v ≡ w = λ q v w a b. holds_one q v w (entry_at q v a) (entry_at q w b) in
+      let is = in_map name_cmp_total name_cmp_exact (flat_map instance_entries slots) one name c in (
         λ h. entry_at name c (is.0 h),
         λ h.
             let e : (h.instance.name, h.instance.class) ≡ (name, c) = λ i. (h.named i, h.of_class i) in
-            let listed : Contains (entries_in (Some h.instance)) (name, c) = subst (Contains (entries_in (Some h.instance))) e (contains_head _ []) in
-            is.1 (to_flat entries_in slots (Some h.instance) (name, c) (in_slots slots h.at h.instance h.is) listed),
+            let listed : Contains (instance_entries (Some h.instance)) (name, c) = subst (Contains (instance_entries (Some h.instance))) e (contains_head _ []) in
+            is.1 (to_flat instance_entries slots (Some h.instance) (name, c) (in_slots slots h.at h.instance h.is) listed),
       )
 
 module _ (slots : Slots) (apart : (i : InstanceId) (x : Instance) → At slots i x → OneRowEach x.links.rows.items) where
@@ -131,18 +131,18 @@ module _ (slots : Slots) (apart : (i : InstanceId) (x : Instance) → At slots i
       (λ h. link_at (link_of a r b) (is.0 h), λ h. is.1 (link_in a r b h))
 
 module _ (tables : Tables) (slots : Slots) where
-  node_in : (name : List ℕ) (es : List EventId) (n : NodeName) → Contains (map (λ e. node_of (event_name tables e) name) es) n
-      → (e : EventId) × Contains es e × (node_of (event_name tables e) name ≡ n)
+  node_in : (name : List ℕ) (es : List EventId) (n : NodeName) → Contains (map (λ e. node_name_of (event_name tables e) name) es) n
+      → (e : EventId) × Contains es e × (node_name_of (event_name tables e) name ≡ n)
   node_in name [] n has = absurd (nothing_in_empty n has)
   node_in name (e ∷ es) n has = elim (contains_cases _ _ n has) [
     | inl is ↦ (e, contains_head e es, is)
     | inr later ↦ let rest = node_in name es n later in (rest.0, contains_tail e es rest.0 rest.1, rest.2)
   ]
 
-  in_nodes : (name : List ℕ) (es : List EventId) (e : EventId) → Contains es e → Contains (map (λ e. node_of (event_name tables e) name) es) (node_of (event_name tables e) name)
+  in_nodes : (name : List ℕ) (es : List EventId) (e : EventId) → Contains es e → Contains (map (λ e. node_name_of (event_name tables e) name) es) (node_name_of (event_name tables e) name)
   in_nodes name [] e has = absurd (nothing_in_empty e has)
   in_nodes name (d ∷ es) e has = elim (contains_cases d es e has) [
-    | inl is ↦ subst (λ z. Contains (map (λ e. node_of (event_name tables e) name) (d ∷ es)) (node_of (event_name tables z) name)) is (contains_head _ _)
+    | inl is ↦ subst (λ z. Contains (map (λ e. node_name_of (event_name tables e) name) (d ∷ es)) (node_name_of (event_name tables z) name)) is (contains_head _ _)
     | inr later ↦ contains_tail _ _ _ (in_nodes name es e later)
   ]
 
@@ -160,12 +160,12 @@ module _ (tables : Tables) (slots : Slots) where
 
       back : HoldsMute tables slots n → Contains (flat_map (mutes_in tables) slots) n
       back h =
-          let e : node_of (event_name tables h.event) h.instance.name ≡ n = λ i. record { event = h.event_named i; instance = h.named i } in
+          let e : node_name_of (event_name tables h.event) h.instance.name ≡ n = λ i. record { event = h.event_named i; instance = h.named i } in
           subst (Contains (flat_map (mutes_in tables) slots)) e
           (to_flat (mutes_in tables) slots (Some h.instance) _ (in_slots slots h.at h.instance h.is) (in_nodes h.instance.name h.instance.muted.items h.event h.muted))
 
 pub shows_made : (tables : Tables) (slots : Slots) → HaveOwnNames slots → ((i : InstanceId) (x : Instance) → At slots i x → OneRowEach x.links.rows.items)
-    → Shows slots (topology_of tables slots)
+    → Shows slots (topology_of_slots tables slots)
 shows_made tables slots own_names apart = record {
   instances = shows_instances slots own_names;
   links = shows_links slots apart;

@@ -37,6 +37,6 @@ net_encoding =
     code_by
     (Topology × (List (Option InstanceName) × (ℕ × ℕ)))
     (coded× topology_encoding (coded× (coded_list (coded_option name_encoding)) (coded× coded_ℕ coded_ℕ)))
-    (λ n. (n.topology, (n.names, (n.room, n.next))))
-    (λ p. record { topology = p.0; names = p.1.0; room = p.1.1.0; next = p.1.1.1 })
+    (λ n. (n.topology, (n.names, (n.capacity, n.next))))
+    (λ p. record { topology = p.0; names = p.1.0; capacity = p.1.1.0; next = p.1.1.1 })
     (λ _. refl)

@@ -47,13 +47,13 @@ pub record SameLinks (old new : Slots) : Type 0 where
   pub tidy : AllTidy old → AllTidy new
 
 -- the two list each other, and others as they did
-pub record Joins (old new : Slots) (from : InstanceId) (rel : RelId) (to : InstanceId) (back : RelId) : Type 0 where
+pub record JoinsInstances (old new : Slots) (from : InstanceId) (rel : RelId) (to : InstanceId) (back : RelId) : Type 0 where
   pub heads : SameHeads old new
   pub lists : (i : InstanceId) (r : RelId) (j : InstanceId) → ListsInstance new i r j ↔ (ListsInstance old i r j ⊎ IsJoin from rel to back i r j)
   pub tidy : ¬ ListsInstance old from rel to → ¬ ListsInstance old to back from → AllTidy old → AllTidy new
 
 -- the two do not list each other, and others do as they did
-pub record Parts (old new : Slots) (from : InstanceId) (rel : RelId) (to : InstanceId) (back : RelId) : Type 0 where
+pub record PartsInstances (old new : Slots) (from : InstanceId) (rel : RelId) (to : InstanceId) (back : RelId) : Type 0 where
   pub heads : SameHeads old new
   pub lists : AllTidy old → (i : InstanceId) (r : RelId) (j : InstanceId) → ListsInstance new i r j ↔ (ListsInstance old i r j × ¬ IsJoin from rel to back i r j)
   pub tidy : AllTidy old → AllTidy new

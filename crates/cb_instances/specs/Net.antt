@@ -10,7 +10,7 @@ use Rattle.cb_model.specs.declared.tables.EventRow.{EventRow}
 use Rattle.cb_model.specs.declared.tables.RelRow.{RelRow}
 use Rattle.cb_model.specs.declared.tables.Tables.{Tables}
 use Rattle.cb_network.specs.Topology.{Topology, empty_topology, HasLink, IsMuted, HasClass, IsLive as IsLiveName}
-use Rattle.cb_network.specs.Edits.{with_instance, without_instance, with_link, without_link, with_mute, without_mute, node_of}
+use Rattle.cb_network.specs.Edits.{with_instance, without_instance, with_link, without_link, with_mute, without_mute, node_name_of}
 use Rattle.cb_instances.specs.declared.id.InstanceId.{InstanceId}
 use Rattle.cb_network.specs.Words.{InstanceName, Word}
 
@@ -18,12 +18,12 @@ use Rattle.cb_network.specs.Words.{InstanceName, Word}
 pub record Net : Type 0 where
   pub topology : Topology
   pub names : List (Option InstanceName)
-  pub room : ℕ
+  pub capacity : ℕ
   pub next : ℕ
 
 -- no instance
 abbrev pub empty_net : Tables → Net
-empty_net tables = record { topology = empty_topology tables; names = []; room = 0; next = 0 }
+empty_net tables = record { topology = empty_topology tables; names = []; capacity = 0; next = 0 }
 
 -- what a number has, if it has something
 abbrev pub slot : {X : Type 0} → List (Option X) → ℕ → Option X
@@ -34,8 +34,8 @@ abbrev pub IsNamed : Net → InstanceId → InstanceName → Type 0
 IsNamed n id name = slot n.names id.0 ≡ Some name
 
 -- the number is that of an instance
-abbrev pub IsLive : Net → InstanceId → Type 0
-IsLive n id = (name : InstanceName) × IsNamed n id name
+abbrev pub IsLiveInstance : Net → InstanceId → Type 0
+IsLiveInstance n id = (name : InstanceName) × IsNamed n id name
 
 -- the number is that of no instance
 abbrev pub IsFree : Net → InstanceId → Type 0
@@ -59,7 +59,7 @@ pub record Creates (old new : Net) (id : InstanceId) (name : InstanceName) (clas
   pub free : IsFree old id
   pub named : SetsOnly old.names new.names id (Some name)
   pub made : new.topology ≡ with_instance old.topology name class
-  pub room : new.room ≡ max old.room (old.next + 1)
+  pub capacity : new.capacity ≡ max old.capacity (old.next + 1)
 
 -- no item stands twice
 abbrev pub Once : {X : Type 0} → List X → Type 0
@@ -90,11 +90,11 @@ abbrev pub unlinked : Net → InstanceId → RelId → InstanceId → Net
 unlinked n i r j = record n { topology = without_link n.topology (name_at n i) r (inverse_of n.topology.model r) (name_at n j) }
 
 -- the net without the instance, its links and its mutes; its number is the next
-abbrev pub without : Net → InstanceId → Net
-without n i = record n { topology = without_instance n.topology (name_at n i); names = slice_set n.names i.0 None; next = i.0 }
+abbrev pub net_without : Net → InstanceId → Net
+net_without n i = record n { topology = without_instance n.topology (name_at n i); names = slice_set n.names i.0 None; next = i.0 }
 
 -- names tell instances apart, and links end at instances
-pub record IsWhole (n : Net) : Type 0 where
+pub record IsWholeNet (n : Net) : Type 0 where
   pub one : (i j : InstanceId) (name : InstanceName) → IsNamed n i name → IsNamed n j name → i ≡ j
   pub named : (name : InstanceName) → IsLiveName n.topology name → (i : InstanceId) × IsNamed n i name
   pub live : (i : InstanceId) (name : InstanceName) → IsNamed n i name → IsLiveName n.topology name
@@ -110,7 +110,7 @@ event_name tables e = name_in_row (slice_get tables.events e.0)
 
 -- the node of an event at the instance of this number
 abbrev pub node_at : Net → InstanceId → EventId → NodeName
-node_at n id e = node_of (event_name n.topology.model e) (name_at n id)
+node_at n id e = node_name_of (event_name n.topology.model e) (name_at n id)
 
 -- the class of the instance has the event
 abbrev pub HasEventAt : Net → InstanceId → EventId → Type 0

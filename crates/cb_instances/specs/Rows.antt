@@ -38,6 +38,6 @@ pub record Puts (old new : List LinkRow) (rel : RelId) (to : List InstanceId) : 
   pub apart : OneRowEach old → OneRowEach new
 
 -- the relation has lost the instance, and each other relation has the row that it had
-pub record Removes (old new : List LinkRow) (rel : RelId) (to : InstanceId) : Type 0 where
+pub record RemovesLink (old new : List LinkRow) (rel : RelId) (to : InstanceId) : Type 0 where
   pub puts : Puts old new rel (row_of new rel)
   pub loses : Loses to (row_of old rel) (row_of new rel)

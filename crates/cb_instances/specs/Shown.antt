@@ -9,7 +9,7 @@ use Rattle.cb_model.specs.declared.id.RelId.{RelId}
 use Rattle.cb_model.specs.declared.node.NodeName.{NodeName}
 use Rattle.cb_model.specs.declared.tables.Tables.{Tables}
 use Rattle.cb_network.specs.Topology.{Topology, Link, HasClass, HasLink, IsMuted}
-use Rattle.cb_network.specs.Edits.{link_of, node_of}
+use Rattle.cb_network.specs.Edits.{link_of, node_name_of}
 use Rattle.cb_instances.specs.declared.id.InstanceId.{InstanceId}
 use Rattle.cb_instances.specs.declared.instance.Instance.{Instance}
 use Rattle.cb_instances.specs.declared.links.LinkRow.{LinkRow}
@@ -21,9 +21,9 @@ abbrev pub name_in : Option Instance → Option InstanceName
 name_in None = None
 name_in (Some x) = Some x.name
 
-abbrev pub entries_in : Option Instance → List (InstanceName × ClassId)
-entries_in None = []
-entries_in (Some x) = (x.name, x.class) ∷ []
+abbrev pub instance_entries : Option Instance → List (InstanceName × ClassId)
+instance_entries None = []
+instance_entries (Some x) = (x.name, x.class) ∷ []
 
 abbrev pub links_to : InstanceName → RelId → Option Instance → List Link
 links_to a r None = []
@@ -38,13 +38,13 @@ links_in slots (Some x) = flat_map (links_by slots x.name) x.links.rows.items
 
 abbrev pub mutes_in : Tables → Option Instance → List NodeName
 mutes_in tables None = []
-mutes_in tables (Some x) = map (λ e. node_of (event_name tables e) x.name) x.muted.items
+mutes_in tables (Some x) = map (λ e. node_name_of (event_name tables e) x.name) x.muted.items
 
 -- the instances in the slots, with what they list
-abbrev pub topology_of : Tables → Slots → Topology
-topology_of tables slots = record {
+abbrev pub topology_of_slots : Tables → Slots → Topology
+topology_of_slots tables slots = record {
   model = tables;
-  instances = fin_map.from_entries (flat_map entries_in slots);
+  instances = fin_map.from_entries (flat_map instance_entries slots);
   links = set.from_list (flat_map (links_in slots) slots);
   mutes = set.from_list (flat_map (mutes_in tables) slots);
 }
@@ -55,7 +55,7 @@ next_of key = min key (2 ^ 64 - 2)
 
 -- the topology that slots show, with their names
 abbrev pub seen : Tables → Slots → ℕ → ℕ → Net
-seen tables slots room next = record { topology = topology_of tables slots; names = map name_in slots; room = room; next = next }
+seen tables slots capacity next = record { topology = topology_of_slots tables slots; names = map name_in slots; capacity = capacity; next = next }
 
 -- some slot has an instance of this name and class
 pub record HoldsInstance (slots : Slots) (name : InstanceName) (c : ClassId) : Type 0 where

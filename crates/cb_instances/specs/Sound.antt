@@ -34,10 +34,10 @@ pub record FitsMutes (tables : Tables) (h : Head) : Type 0 where
   pub once : Once h.muted.items
 
 -- the tables are those of a model, every name leads to its instance, and links stand both ways, each once
-pub record IsNetOf (tables : Tables) (slots : Slots) (entries : Entries) (room : ℕ) : Type 0 where
+pub record IsNetOf (tables : Tables) (slots : Slots) (entries : Entries) (capacity : ℕ) : Type 0 where
   pub typed : WellTyped tables
   pub indexed : IsIndexed slots entries
-  pub below : (i : InstanceId) (x : Instance) → At slots i x → i.0 < room
+  pub below : (i : InstanceId) (x : Instance) → At slots i x → i.0 < capacity
   pub both_ways : StandBothWays tables slots
   pub tidy : (i : InstanceId) (x : Instance) → At slots i x → IsTidy x.links.rows.items
   pub mutes : (i : InstanceId) (x : Instance) → At slots i x → FitsMutes tables (head_of x)

@@ -5,7 +5,7 @@ ghost use Rattle.cb_model.specs.WellTyped.{IsRelation};
 ghost use Rattle.cb_instances.specs.declared.instance.Instance.{Instance as TheInstance};
 ghost use Rattle.cb_instances.specs.Net.{inverse_of};
 ghost use Rattle.cb_instances.specs.Slots.{At};
-ghost use Rattle.cb_instances.specs.Joined.{Rewires, Stays, HasSpareAt, SameLinks, Joins, Parts};
+ghost use Rattle.cb_instances.specs.Joined.{Rewires, Stays, HasSpareAt, SameLinks, JoinsInstances, PartsInstances};
 
 use crate::id::InstanceId;
 use crate::instance::Instance;
@@ -32,7 +32,7 @@ pub(crate) fn join(
 ) -> Result<(), AllocError>
     requires from { (x : TheInstance) × At slots.old.slots from x }
     requires to { (x : TheInstance) × At slots.old.slots to x }
-    ensures ok { OnOk result (Joins slots.old.slots slots.new.slots from rel to back) }
+    ensures ok { OnOk result (JoinsInstances slots.old.slots slots.new.slots from rel to back) }
     ensures err { OnErr result (SameLinks slots.old.slots slots.new.slots) }
     ensures next { slots.new.vacant_key ≡ slots.old.vacant_key }
 {
@@ -57,7 +57,7 @@ pub(crate) fn part(
 )
     requires from { (x : TheInstance) × At slots.old.slots from x }
     requires to { (x : TheInstance) × At slots.old.slots to x }
-    ensures parts { Parts slots.old.slots slots.new.slots from rel to back }
+    ensures parts { PartsInstances slots.old.slots slots.new.slots from rel to back }
     ensures next { slots.new.vacant_key ≡ slots.old.vacant_key }
 {
     take_away(slots, from, rel, to);

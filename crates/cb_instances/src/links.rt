@@ -1,7 +1,7 @@
 //! The links of one instance.
 ghost use Rattle.std.specs.Prelude.{◌≡◌, [], ◌∷◌, ◌++◌, OnOk};
 ghost use Rattle.std.specs.List.{position};
-ghost use Rattle.cb_instances.specs.Rows.{is_of, row_of, HasSpare, Puts, Removes};
+ghost use Rattle.cb_instances.specs.Rows.{is_of, row_of, HasSpare, Puts, RemovesLink};
 
 use crate::id::InstanceId;
 use crate::items::take_out;
@@ -76,7 +76,7 @@ impl Links {
 
     /// Takes the instance away from those under the relation.
     pub fn remove(&mut self, rel: RelId, to: InstanceId)
-        ensures { Removes self.old.rows.items self.new.rows.items rel to }
+        ensures { RemovesLink self.old.rows.items self.new.rows.items rel to }
     {
         if let Some(place) = self.place_of(rel) {
             take_out(&mut self.rows[place].to, to);

@@ -5,7 +5,7 @@ ghost use Rattle.std.specs.List.{Contains};
 ghost use Rattle.cb_model.specs.WellTyped.{IsClass, IsRelation};
 ghost use Rattle.cb_network.specs.Topology.{IsLive as IsLiveName, HasClass};
 ghost use Rattle.cb_instances.specs.declared.id.InstanceId.{InstanceId as Id};
-ghost use Rattle.cb_instances.specs.Net.{empty_net, IsNamed, IsLive, LinkAt, Creates, Once, inverse_of, linked, unlinked, without, muted, unmuted, HasEventAt, IsMutedAt, IsWhole};
+ghost use Rattle.cb_instances.specs.Net.{empty_net, IsNamed, IsLiveInstance, LinkAt, Creates, Once, inverse_of, linked, unlinked, net_without, muted, unmuted, HasEventAt, IsMutedAt, IsWholeNet};
 
 use crate::forget::forget;
 use crate::id::InstanceId;
@@ -25,7 +25,7 @@ pub struct Net {
     slots: Slab<Instance>,
     places: IndexMap<Vec<u8>, usize>,
     // Above the number of each instance.
-    room: usize,
+    capacity: usize,
 }
 
 impl std::marker::Model for Net {
@@ -39,9 +39,9 @@ impl std::marker::Model for Net {
     ghost use Rattle.cb_instances.specs.Shown.{seen, next_of};
     ghost use Rattle.cb_instances.specs.Sound.{IsNetOf};
 
-    ghost view = { λ s. seen s.model s.slots.slots s.room (next_of s.slots.vacant_key) };
+    ghost view = { λ s. seen s.model s.slots.slots s.capacity (next_of s.slots.vacant_key) };
 
-    ghost invariant = { λ s. IsNetOf s.model s.slots.slots s.places.entries s.room };
+    ghost invariant = { λ s. IsNetOf s.model s.slots.slots s.places.entries s.capacity };
 }
 
 impl Net {
@@ -54,14 +54,14 @@ impl Net {
             model,
             slots: Slab::new(alloc),
             places: IndexMap::new(alloc),
-            room: 0,
+            capacity: 0,
         }
     }
 
     /// The model whose classes the instances are of.
     pub fn model(&self) -> &Model
         ensures value { result.now ≡ self.now.topology.model }
-        ensures whole { IsWhole self.now }
+        ensures whole { IsWholeNet self.now }
     {
         &self.model
     }
@@ -70,7 +70,7 @@ impl Net {
     pub fn instance_named(&self, name: &[u8]) -> Option<InstanceId>
         ensures found { IfSome result (λ id. IsNamed self.now id name.now) }
         ensures absent { IfNone result (¬ IsLiveName self.now.topology name.now) }
-        ensures whole { IsWhole self.now }
+        ensures whole { IsWholeNet self.now }
     {
         match self.places.get(name) {
             Some(place) => Some(InstanceId(*place)),
@@ -80,7 +80,7 @@ impl Net {
 
     /// The name of the instance.
     pub fn name_of(&self, id: InstanceId) -> &[u8]
-        requires { IsLive self.now id }
+        requires { IsLiveInstance self.now id }
         ensures { IsNamed self.now id result.now }
     {
         self.slots[id.0].name.bytes()
@@ -88,7 +88,7 @@ impl Net {
 
     /// The class of the instance, by its number in the model.
     pub fn class_of(&self, id: InstanceId) -> ClassId
-        requires { IsLive self.now id }
+        requires { IsLiveInstance self.now id }
         ensures { (name : List ℕ) → IsNamed self.now id name → HasClass self.now.topology name result }
     {
         self.slots[id.0].class
@@ -96,7 +96,7 @@ impl Net {
 
     /// The instances that the relation leads to from this one.
     pub fn links(&self, id: InstanceId, rel: RelId) -> &[InstanceId]
-        requires { IsLive self.now id }
+        requires { IsLiveInstance self.now id }
         ensures exactly { (to : Id) → Contains result.now to ↔ LinkAt self.now id rel to }
         ensures once { Once result.now }
     {
@@ -105,8 +105,8 @@ impl Net {
 
     /// Whether the link stands. Of the two lists that tell it, the shorter is looked through.
     pub fn is_linked(&self, from: InstanceId, rel: RelId, to: InstanceId) -> bool
-        requires from { IsLive self.now from }
-        requires to { IsLive self.now to }
+        requires from { IsLiveInstance self.now from }
+        requires to { IsLiveInstance self.now to }
         requires rel { IsRelation self.now.topology.model rel }
         ensures { IsTrue result ↔ LinkAt self.now from rel to }
     {
@@ -127,11 +127,11 @@ impl Net {
     }
 
     /// Above the number of each instance.
-    pub fn room(&self) -> usize
-        ensures above { (id : Id) → IsLive self.now id → id.0 < result }
-        ensures value { result ≡ self.now.room }
+    pub fn capacity(&self) -> usize
+        ensures above { (id : Id) → IsLiveInstance self.now id → id.0 < result }
+        ensures value { result ≡ self.now.capacity }
     {
-        self.room
+        self.capacity
     }
 
     /// The number that the next instance gets.
@@ -141,12 +141,12 @@ impl Net {
         InstanceId(self.slots.vacant_key().min(usize::MAX - 1))
     }
 
-    /// What `room` is once a further instance is made.
-    pub fn room_with_one(&self) -> usize
-        ensures { result ≡ max self.now.room (self.now.next + 1) }
+    /// What `capacity` is once a further instance is made.
+    pub fn capacity_with_one(&self) -> usize
+        ensures { result ≡ max self.now.capacity (self.now.next + 1) }
     {
         let above = self.slots.vacant_key().saturating_add(1);
-        self.room.max(above)
+        self.capacity.max(above)
     }
 
     /// A new instance, under a number that was free.
@@ -174,7 +174,7 @@ impl Net {
         let key = Vec::from_slice(alloc, name)?;
         self.places.insert(key, id)?;
         self.slots.insert_reserved(instance);
-        self.room = self.room.max(above);
+        self.capacity = self.capacity.max(above);
         Ok(InstanceId(id))
     }
 
@@ -186,8 +186,8 @@ impl Net {
         rel: RelId,
         to: InstanceId,
     ) -> Result<(), AllocError>
-        requires from { IsLive self.old from }
-        requires to { IsLive self.old to }
+        requires from { IsLiveInstance self.old from }
+        requires to { IsLiveInstance self.old to }
         requires rel { IsRelation self.old.topology.model rel }
         requires absent { ¬ LinkAt self.old from rel to }
         ensures ok { OnOk result (self.new ≡ linked self.old from rel to) }
@@ -200,8 +200,8 @@ impl Net {
 
     /// Takes the link and its inverse away.
     pub fn unlink(&mut self, from: InstanceId, rel: RelId, to: InstanceId)
-        requires from { IsLive self.old from }
-        requires to { IsLive self.old to }
+        requires from { IsLiveInstance self.old from }
+        requires to { IsLiveInstance self.old to }
         requires rel { IsRelation self.old.topology.model rel }
         ensures { self.new ≡ unlinked self.old from rel to }
     {
@@ -211,8 +211,8 @@ impl Net {
 
     /// Takes the instance away, with its links and its mutes; the next instance gets its number.
     pub fn delete(&mut self, id: InstanceId)
-        requires { IsLive self.old id }
-        ensures { self.new ≡ without self.old id }
+        requires { IsLiveInstance self.old id }
+        ensures { self.new ≡ net_without self.old id }
     {
         let instance = self.slots.remove(id.0);
         self.places.swap_remove(instance.name.bytes());
@@ -221,7 +221,7 @@ impl Net {
 
     /// Whether the event is muted at the instance.
     pub fn is_muted(&self, id: InstanceId, event: EventId) -> bool
-        requires live { IsLive self.now id }
+        requires live { IsLiveInstance self.now id }
         requires event { HasEventAt self.now id event }
         ensures { IsTrue result ↔ IsMutedAt self.now id event }
     {
@@ -230,7 +230,7 @@ impl Net {
 
     /// Mutes the event at the instance. It takes no memory.
     pub fn mute(&mut self, id: InstanceId, event: EventId)
-        requires live { IsLive self.old id }
+        requires live { IsLiveInstance self.old id }
         requires event { HasEventAt self.old id event }
         requires absent { ¬ IsMutedAt self.old id event }
         ensures { self.new ≡ muted self.old id event }
@@ -240,7 +240,7 @@ impl Net {
 
     /// The event is muted at the instance no more.
     pub fn unmute(&mut self, id: InstanceId, event: EventId)
-        requires live { IsLive self.old id }
+        requires live { IsLiveInstance self.old id }
         requires event { HasEventAt self.old id event }
         ensures { self.new ≡ unmuted self.old id event }
     {

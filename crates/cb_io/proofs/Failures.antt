@@ -16,7 +16,7 @@ end_for_failure old new name buf (Ok n) read absent = read
 end_for_failure old new name buf (Err stop) kept absent =
     let none : (file_of old name).left ≡ [] = rw (absent refl) refl in
     let empty = bytes-report old name ∙ none in
-    (sym kept, λ zero room. kept ∙ empty)
+    (sym kept, λ zero capacity. kept ∙ empty)
 
 -- where no call is to fail, a read fails of a name that wasn't added
 pub absent_name : (state : FilesState) (name : List ℕ) → state.calls.failing ≡ [] → IsNextFailing state.calls ⊎ IsNone (look_up state.files name)

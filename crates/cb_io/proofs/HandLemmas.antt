@@ -5,7 +5,7 @@ use Rattle.std.proofs.lemmas.List.{take-take, drop-take, drop-drop, take_at}
 use Rattle.std.specs.Prelude.{slice_range}
 use Rattle.std.specs.List.{copy_within}
 use Rattle.std.specs.Io.KnownBytes.{Consumes, IsAtEnd}
-use Rattle.cb_io.specs.Hand.{Held, IsPart, with_text, Grows}
+use Rattle.cb_io.specs.Hand.{Held, IsPart, with_text, ReadsPiece}
 use Rattle.cb_io.specs.Outside.{FilesReport, left_of}
 use Rattle.cb_io.specs.Pieces.{piece_limit}
 
@@ -47,9 +47,9 @@ pub refilled : (items now text : List ℕ) (from to count size new_size : ℕ) (
     (moved : List ℕ) → moved ≡ copy_within items from to 0 → take (to - from) now ≡ take (to - from) moved → to - from + count ≤ length now → to - from < length now → count ≤ piece_limit →
     Consumes (left_of before name) (left_of after name) (take count (drop (to - from) now)) →
     (count ≡ 0 → 0 < length (drop (to - from) now) → IsAtEnd (left_of after name)) →
-    Grows (record { text = text; kept = slice_range items from to; size = size })
+    ReadsPiece (record { text = text; kept = slice_range items from to; size = size })
     (record { text = slice_range now 0 0; kept = slice_range now 0 (to - from + count); size = new_size }) before after name count
-refilled items now text from to count size new_size before after name whole part moved moves same within room few came end =
+refilled items now text from to count size new_size before after name whole part moved moves same within capacity few came end =
     let beyond : List ℕ = drop (to - from) now in
     let all : to - from + count - 0 ≡ to - from + count = omega arith in
     record {
@@ -58,5 +58,5 @@ refilled items now text from to count size new_size before after name whole part
       count_is = omega (arith, within, length-take count beyond, length-drop (to - from) now);
       few = few;
       came = came;
-      end = λ none. end none (omega (arith, room, length-drop (to - from) now));
+      end = λ none. end none (omega (arith, capacity, length-drop (to - from) now));
     }

@@ -11,8 +11,8 @@ use Rattle.cb_io.specs.declared.whole.ReadStop.{ReadStop}
 use Rattle.cb_io.specs.declared.whole.ReadStop.TheVariants.{ReadFault, TooMuch, NoMemory}
 use Rattle.cb_io.specs.Hand.{Held}
 use Rattle.cb_io.specs.LineGiving.{IsGivenLine, beyond_line}
-use Rattle.cb_io.specs.LineReading.{Reading, coming, IsOneLine, GivesEnded, GivesLast, GivesLine, Says, Advances}
-use Rattle.cb_io.specs.LineSearch.{HasCome, Finds, GivesUp, EndsBy, lf_count, length_with_lf, size_of}
+use Rattle.cb_io.specs.LineReading.{Reading, coming, IsOneLine, GivesEnded, GivesLast, GivesLine, AnswerSays, Advances}
+use Rattle.cb_io.specs.LineSearch.{HasCome, FindsLineEnd, GivesUp, EndsBy, lf_count, length_with_lf, size_of}
 use Rattle.cb_io.specs.Outside.{FilesReport, left_of, ReadsPrefix}
 
 -- ---- what is left of the file
@@ -119,7 +119,7 @@ module _ (kept thrown : List ℕ) (after : FilesReport) (name : List ℕ) (n : �
       are ∙ (ap (λ (l : List ℕ). l ++ kept ++ file) no_thrown ∙ (ap (λ (l : List ℕ). l ++ file) no_kept ∙ no_file))
 
 module _ (old : Reading) (hand : Held) (before after : FilesReport) (end : LineEnd)
-    (found : Finds old.kept before after old.name old.line_most (old.total_most - old.given) hand end) (room : old.given ≤ old.total_most) where
+    (found : FindsLineEnd old.kept before after old.name old.line_most (old.total_most - old.given) hand end) (capacity : old.given ≤ old.total_most) where
   module _ (left : List ℕ) (report : left_of before old.name ≡ Some left) where
     abbrev file : List ℕ
     file = (beyond found.come left report).rest
@@ -138,10 +138,10 @@ module _ (old : Reading) (hand : Held) (before after : FilesReport) (end : LineE
               (bytes_are found.come left report) old new end.is_last found.way found.in_hand (omega (arith, some, found.lost_is)) (omega (arith, found.lost_is)) refl;
           comes = comes (old.number + 1) text;
           number = refl;
-          within = omega (arith, found.within, room);
+          within = omega (arith, found.within, capacity);
         }
 
-    says_at : (new : Reading) (reported_line : Line) → IsGivenLine (looking old hand) end new reported_line → Says old new after (Ok reported_line) (old.kept ++ left)
+    says_at : (new : Reading) (reported_line : Line) → IsGivenLine (looking old hand) end new reported_line → AnswerSays old new after (Ok reported_line) (old.kept ++ left)
     says_at new (Text number) tells =
         let none : found.thrown ≡ [] = nil_from_length found.thrown (omega (arith, found.lost_is, found.long, tells.1)) in
         rw tells.3 (record {
@@ -172,20 +172,20 @@ module _ (old : Reading) (hand : Held) (before after : FilesReport) (end : LineE
         })
 
   -- what the answer says, where the files tell the bytes
-  pub says_line : (new : Reading) (reported_line : Line) → IsGivenLine (looking old hand) end new reported_line → IfSome (coming old before) (Says old new after (Ok reported_line))
-  says_line new reported_line tells = if_coming old.kept (left_of before old.name) (Says old new after (Ok reported_line)) (λ left report. says_at left report new reported_line tells)
+  pub says_line : (new : Reading) (reported_line : Line) → IsGivenLine (looking old hand) end new reported_line → IfSome (coming old before) (AnswerSays old new after (Ok reported_line))
+  says_line new reported_line tells = if_coming old.kept (left_of before old.name) (AnswerSays old new after (Ok reported_line)) (λ left report. says_at left report new reported_line tells)
 
   -- how far the answer goes on, whatever the files tell
   pub advances_line : (new : Reading) (reported_line : Line) → IsGivenLine (looking old hand) end new reported_line → Advances old new reported_line
-  advances_line new (Text number) tells = rw tells.3 (refl, omega (arith, tells.0), omega (arith, found.within, room))
-  advances_line new (Long number) tells = rw tells.3 (refl, omega (arith, tells.0), omega (arith, found.within, room))
+  advances_line new (Text number) tells = rw tells.3 (refl, omega (arith, tells.0), omega (arith, found.within, capacity))
+  advances_line new (Long number) tells = rw tells.3 (refl, omega (arith, tells.0), omega (arith, found.within, capacity))
   advances_line new End tells = rw tells.1 (last_none end.is_last end.lost end.length tells.0, refl, omega (arith, tells.0))
 
 -- ---- no line
 
-module _ (old new : Reading) (before after : FilesReport) (room : old.given ≤ old.total_most) where
+module _ (old new : Reading) (before after : FilesReport) (capacity : old.given ≤ old.total_most) where
   stops_at : (stop : ReadStop) → GivesUp old.kept before after old.name (old.total_most - old.given) stop → (left : List ℕ) → left_of before old.name ≡ Some left →
-      Says old new after (Err stop) (old.kept ++ left)
+      AnswerSays old new after (Err stop) (old.kept ++ left)
   stops_at TooMuch up left report =
       let over = up.why in
       let file = (beyond up.come left report).rest in
@@ -195,7 +195,7 @@ module _ (old new : Reading) (before after : FilesReport) (room : old.given ≤ 
         beyond = over.beyond ++ file;
         are = are ∙ (ap (λ (l : List ℕ). l ++ file) over.are ∙ append_assoc over.prefix over.beyond file);
         one = over.one;
-        full = omega (arith, over.full, room);
+        full = omega (arith, over.full, capacity);
         more = λ none. over.more (nil_from_length over.beyond (let zero = ap length none in omega (arith, zero, length-append over.beyond file)));
         prefix = up.all;
         rest = file;
@@ -214,5 +214,5 @@ module _ (old new : Reading) (before after : FilesReport) (room : old.given ≤ 
     one = up.why;
   }
 
-  pub says_stop : (stop : ReadStop) → GivesUp old.kept before after old.name (old.total_most - old.given) stop → IfSome (coming old before) (Says old new after (Err stop))
-  says_stop stop up = if_coming old.kept (left_of before old.name) (Says old new after (Err stop)) (stops_at stop up)
+  pub says_stop : (stop : ReadStop) → GivesUp old.kept before after old.name (old.total_most - old.given) stop → IfSome (coming old before) (AnswerSays old new after (Err stop))
+  says_stop stop up = if_coming old.kept (left_of before old.name) (AnswerSays old new after (Err stop)) (stops_at stop up)

@@ -14,9 +14,9 @@ use Rattle.cb_io.specs.declared.outside.FileStop.{FileStop}
 use Rattle.cb_io.specs.declared.outside.FileStop.TheVariants.{Failed, NoMemory}
 use Rattle.cb_io.specs.declared.whole.ReadStop.{ReadStop}
 use Rattle.cb_io.specs.declared.whole.ReadStop.TheVariants.{TooMuch}
-use Rattle.cb_io.specs.Hand.{Held, Grows}
+use Rattle.cb_io.specs.Hand.{Held, ReadsPiece}
 use Rattle.cb_io.specs.LineReading.{IsOneLine, BeginWith}
-use Rattle.cb_io.specs.LineSearch.{HasCome, IsLostWhole, ThrowsLong, Finds, IsOver, GivesUp}
+use Rattle.cb_io.specs.LineSearch.{HasCome, IsLostWhole, ThrowsLong, FindsLineEnd, IsOverLimit, GivesUp}
 use Rattle.cb_io.specs.Stops.{stop_of}
 use Rattle.cb_io.specs.Outside.{FilesReport, left_of, KeepsOthers, NoCountFalls}
 use Rattle.cb_io.specs.Pieces.{piece_limit}
@@ -74,28 +74,28 @@ pub nothing_read : {F : Type 0} {now before : F} (start : List ℕ) → IsOneLin
 nothing_read start (inl one) whole = absurd (whole one)
 nothing_read start (inr same) whole = same
 
--- more bytes than there is room for
-pub over : (line rest : List ℕ) (room : ℕ) → IsOneLine line → room ≤ length line → room < length (line ++ rest) → IsOver room (line ++ rest)
-over line rest room one within more = record {
-  prefix = take room (line ++ rest);
-  beyond = drop room (line ++ rest);
-  are = sym (take-append-drop room (line ++ rest));
-  one = subst IsOneLine (sym (take-append-le room line rest within))
-      (one_prefix (take room line) (drop room line) (subst IsOneLine (sym (take-append-drop room line)) one));
-  full = length-take-le room (line ++ rest) (omega arith);
-  more = λ none. let zero = ap length none in omega (arith, zero, length-drop room (line ++ rest), more);
+-- more bytes than there is capacity for
+pub over : (line rest : List ℕ) (capacity : ℕ) → IsOneLine line → capacity ≤ length line → capacity < length (line ++ rest) → IsOverLimit capacity (line ++ rest)
+over line rest capacity one within more = record {
+  prefix = take capacity (line ++ rest);
+  beyond = drop capacity (line ++ rest);
+  are = sym (take-append-drop capacity (line ++ rest));
+  one = subst IsOneLine (sym (take-append-le capacity line rest within))
+      (one_prefix (take capacity line) (drop capacity line) (subst IsOneLine (sym (take-append-drop capacity line)) one));
+  full = length-take-le capacity (line ++ rest) (omega arith);
+  more = λ none. let zero = ap length none in omega (arith, zero, length-drop capacity (line ++ rest), more);
 }
 
 -- ---- the search
 
--- so many bytes of the line were thrown away, and so many of those in hand were searched, without a LF
-pub record Sought (start : List ℕ) (before now : FilesReport) (name : List ℕ) (line_most room size : ℕ) (hand : Held) (lost searched : ℕ) : Type 0 where
+-- how many bytes of the line were dropped, and how many of those in hand were searched, without a LF
+pub record Sought (start : List ℕ) (before now : FilesReport) (name : List ℕ) (line_most capacity size : ℕ) (hand : Held) (lost searched : ℕ) : Type 0 where
   pub thrown : List ℕ
   pub lost_is : length thrown ≡ lost
   pub come : HasCome start before now name (thrown ++ hand.kept)
   pub one : IsOneLine (thrown ++ take searched hand.kept)
   pub long : IsLostWhole line_most lost
-  pub within : lost + searched ≤ room
+  pub within : lost + searched ≤ capacity
   pub in_hand : searched ≤ length hand.kept
   pub few : length hand.kept ≤ searched + piece_limit
   pub size_is : hand.size ≡ size
@@ -133,16 +133,16 @@ module _ (bytes : List ℕ) (searched : ℕ) (within : searched ≤ length bytes
 
 -- ---- the end of the line
 
-module _ {start : List ℕ} {before now : FilesReport} {name : List ℕ} {line_most room size : ℕ} {hand : Held} {lost : ℕ} where
+module _ {start : List ℕ} {before now : FilesReport} {name : List ℕ} {line_most capacity size : ℕ} {hand : Held} {lost : ℕ} where
   -- what was searched of the bytes in hand has no LF
-  pub searched_one : {searched : ℕ} → Sought start before now name line_most room size hand lost searched → IsOneLine (take searched hand.kept)
+  pub searched_one : {searched : ℕ} → Sought start before now name line_most capacity size hand lost searched → IsOneLine (take searched hand.kept)
   searched_one {searched} sought = one_back sought.thrown (take searched hand.kept) sought.one
 
-  -- a LF ends the line, and there is room for it
-  pub found_lf : {searched : ℕ} (sought : Sought start before now name line_most room size hand lost searched) (at : ℕ) (end : Result LineEnd ReadStop) →
+  -- a LF ends the line, and there is capacity for it
+  pub found_lf : {searched : ℕ} (sought : Sought start before now name line_most capacity size hand lost searched) (at : ℕ) (end : Result LineEnd ReadStop) →
       BeginWith hand.kept (take at hand.kept) (drop (at + 1) hand.kept) → searched ≤ at → at < length hand.kept →
-      IfOk end (λ e. e ≡ record { lost = lost; length = at; is_last = false }) → IfOk end (λ e. lost + at < room) →
-      IfOk end (Finds start before now name line_most room hand)
+      IfOk end (λ e. e ≡ record { lost = lost; length = at; is_last = false }) → IfOk end (λ e. lost + at < capacity) →
+      IfOk end (FindsLineEnd start before now name line_most capacity hand)
   found_lf sought at (Err stop) begin low high is within = tt
   found_lf {searched} sought at (Ok end) begin low high is within = rw is (record {
     thrown = sought.thrown;
@@ -156,10 +156,10 @@ module _ {start : List ℕ} {before now : FilesReport} {name : List ℕ} {line_m
     long = sought.long;
   })
 
-  -- a LF ends the line, and there is no room for it
-  pub over_lf : {searched : ℕ} (sought : Sought start before now name line_most room size hand lost searched) (at : ℕ) (end : Result LineEnd ReadStop) →
+  -- a LF ends the line, and there is no capacity for it
+  pub over_lf : {searched : ℕ} (sought : Sought start before now name line_most capacity size hand lost searched) (at : ℕ) (end : Result LineEnd ReadStop) →
       BeginWith hand.kept (take at hand.kept) (drop (at + 1) hand.kept) → at < length hand.kept →
-      IfErr end (λ stop. (stop ≡ TooMuch) × (room ≤ lost + at)) → IfErr end (GivesUp start before now name room)
+      IfErr end (λ stop. (stop ≡ TooMuch) × (capacity ≤ lost + at)) → IfErr end (GivesUp start before now name capacity)
   over_lf sought at (Ok end) begin high over_it = tt
   over_lf {searched} sought at (Err stop) begin high over_it =
       let line : List ℕ = sought.thrown ++ take at hand.kept in
@@ -168,25 +168,25 @@ module _ {start : List ℕ} {before now : FilesReport} {name : List ℕ} {line_m
       let one = one_both sought.thrown (take at hand.kept) (one_prefix sought.thrown (take searched hand.kept) sought.one) begin.one in
       let length_is = length-append sought.thrown (take at hand.kept) in
       let all_is = length-append sought.thrown hand.kept in
-      let full : room ≤ length line = omega (arith, over_it.1, length_is, length-take-le at hand.kept (omega arith), sought.lost_is) in
-      let more : room < length (line ++ drop at hand.kept) = rw whole (omega (arith, over_it.1, all_is, sought.lost_is, high)) in
-      rw over_it.0 (record { all = sought.thrown ++ hand.kept; come = sought.come; why = subst (IsOver room) whole (over line (drop at hand.kept) room one full more) })
+      let full : capacity ≤ length line = omega (arith, over_it.1, length_is, length-take-le at hand.kept (omega arith), sought.lost_is) in
+      let more : capacity < length (line ++ drop at hand.kept) = rw whole (omega (arith, over_it.1, all_is, sought.lost_is, high)) in
+      rw over_it.0 (record { all = sought.thrown ++ hand.kept; come = sought.come; why = subst (IsOverLimit capacity) whole (over line (drop at hand.kept) capacity one full more) })
 
-  -- no LF is in hand, and there is no room for what is
-  pub over_hand : {searched : ℕ} (sought : Sought start before now name line_most room size hand lost searched) (stop : ReadStop) →
-      IsOneLine hand.kept → (stop ≡ TooMuch) × (room < lost + length hand.kept) → GivesUp start before now name room stop
+  -- no LF is in hand, and there is no capacity for what is
+  pub over_hand : {searched : ℕ} (sought : Sought start before now name line_most capacity size hand lost searched) (stop : ReadStop) →
+      IsOneLine hand.kept → (stop ≡ TooMuch) × (capacity < lost + length hand.kept) → GivesUp start before now name capacity stop
   over_hand {searched} sought stop none over_it =
       let all : List ℕ = sought.thrown ++ hand.kept in
       let one = one_both sought.thrown hand.kept (one_prefix sought.thrown (take searched hand.kept) sought.one) none in
       let all_is = length-append sought.thrown hand.kept in
-      let more : room < length (all ++ []) = rw append-nil (omega (arith, over_it.1, all_is, sought.lost_is)) in
-      let full : room ≤ length all = omega (arith, over_it.1, all_is, sought.lost_is) in
-      rw over_it.0 (record { all = all; come = sought.come; why = subst (IsOver room) (append-nil all) (over all [] room one full more) })
+      let more : capacity < length (all ++ []) = rw append-nil (omega (arith, over_it.1, all_is, sought.lost_is)) in
+      let full : capacity ≤ length all = omega (arith, over_it.1, all_is, sought.lost_is) in
+      rw over_it.0 (record { all = all; come = sought.come; why = subst (IsOverLimit capacity) (append-nil all) (over all [] capacity one full more) })
 
   -- bytes of a line that is too long were thrown away, and all that is in hand was searched
-  pub thrown_long : {searched : ℕ} (sought : Sought start before now name line_most room size hand lost searched) (new : Held) (now_lost : ℕ) →
-      IsOneLine hand.kept → ThrowsLong line_most hand new lost now_lost → now_lost + length new.kept ≤ room → new.size ≡ hand.size →
-      Sought start before now name line_most room size new now_lost (length new.kept)
+  pub thrown_long : {searched : ℕ} (sought : Sought start before now name line_most capacity size hand lost searched) (new : Held) (now_lost : ℕ) →
+      IsOneLine hand.kept → ThrowsLong line_most hand new lost now_lost → now_lost + length new.kept ≤ capacity → new.size ≡ hand.size →
+      Sought start before now name line_most capacity size new now_lost (length new.kept)
   thrown_long {searched} sought new now_lost none throws within same =
       let none_there = one_prefix sought.thrown (take searched hand.kept) sought.one in
       let whole : sought.thrown ++ hand.kept ≡ sought.thrown ++ throws.thrown ++ new.kept =
@@ -203,8 +203,8 @@ module _ {start : List ℕ} {before now : FilesReport} {name : List ℕ} {line_m
         size_is = same ∙ sought.size_is;
       }
 
-module _ {start : List ℕ} {before now : FilesReport} {name : List ℕ} {line_most room size : ℕ} {hand : Held} {lost : ℕ}
-    (sought : Sought start before now name line_most room size hand lost (length hand.kept)) where
+module _ {start : List ℕ} {before now : FilesReport} {name : List ℕ} {line_most capacity size : ℕ} {hand : Held} {lost : ℕ}
+    (sought : Sought start before now name line_most capacity size hand lost (length hand.kept)) where
   whole_one : IsOneLine (sought.thrown ++ hand.kept)
   whole_one = subst (λ (l : List ℕ). IsOneLine (sought.thrown ++ l)) (take_all (length hand.kept) hand.kept (omega arith)) sought.one
 
@@ -214,11 +214,11 @@ module _ {start : List ℕ} {before now : FilesReport} {name : List ℕ} {line_m
 
   -- a read failed
   pub read_failed : (after : FilesReport) (stop : FileStop) → Keeps (left_of now name) (left_of after name) → KeepsOthers now after name → NoCountFalls now after →
-      GivesUp start before after name room (stop_of stop)
+      GivesUp start before after name capacity (stop_of stop)
   read_failed after Failed kept others counts = record { all = sought.thrown ++ hand.kept; come = come_kept after sought.come kept others counts; why = whole_one }
   read_failed after NoMemory kept others counts = record { all = sought.thrown ++ hand.kept; come = come_kept after sought.come kept others counts; why = whole_one }
 
-  module _ (after : FilesReport) (new : Held) (count : ℕ) (grows : Grows hand new now after name count) (others : KeepsOthers now after name) (counts : NoCountFalls now after) where
+  module _ (after : FilesReport) (new : Held) (count : ℕ) (grows : ReadsPiece hand new now after name count) (others : KeepsOthers now after name) (counts : NoCountFalls now after) where
     come_on : HasCome start before after name (sought.thrown ++ new.kept)
     come_on =
         let whole : sought.thrown ++ hand.kept ++ grows.more ≡ sought.thrown ++ new.kept =
@@ -235,7 +235,7 @@ module _ {start : List ℕ} {before now : FilesReport} {name : List ℕ} {line_m
     one_on = subst IsOneLine (ap (λ (l : List ℕ). sought.thrown ++ l) (sym old_prefix)) whole_one
 
     -- more bytes came
-    pub searched_on : new.size ≡ hand.size → Sought start before after name line_most room size new lost (length hand.kept)
+    pub searched_on : new.size ≡ hand.size → Sought start before after name line_most capacity size new lost (length hand.kept)
     searched_on same = record {
       thrown = sought.thrown;
       lost_is = sought.lost_is;
@@ -249,7 +249,7 @@ module _ {start : List ℕ} {before now : FilesReport} {name : List ℕ} {line_m
     }
 
     -- nothing came
-    pub found_end : count ≡ 0 → Finds start before after name line_most room new (record { lost = lost; length = length hand.kept; is_last = true })
+    pub found_end : count ≡ 0 → FindsLineEnd start before after name line_most capacity new (record { lost = lost; length = length hand.kept; is_last = true })
     found_end none = record {
       thrown = sought.thrown;
       lost_is = sought.lost_is;

@@ -76,7 +76,7 @@ pub Reads-after : (state : FilesState) (name buf : List ℕ) (n : ℕ)
     → ReadsBytes {E = FileStop} (files_report state) (files_report (after_read state name n)) name (Ok n) buf
 Reads-after state name buf n moved end = (
   bytes-report state name ∙ moved ∙ ap (λ l. take n buf ++ l) (sym (left-after state name n)),
-  λ zero room. left-after state name n ∙ ap (drop n) (end zero room) ∙ drop-nil n,
+  λ zero capacity. left-after state name n ∙ ap (drop n) (end zero capacity) ∙ drop-nil n,
 )
 
 -- bytes that are copied from a place on, and the rest
@@ -190,7 +190,7 @@ NoCountFalls-after_fault state name file found grown =
     rw found (NoCountFalls-with state name (record file { faults = next_count file.faults }) (rw found grown))
 
 -- no byte is moved only where none was left
-pub moved_none : (left : List ℕ) (n piece room : ℕ) → n ≡ min (min (length left) piece) room → 0 < piece → 0 < room
+pub moved_none : (left : List ℕ) (n piece capacity : ℕ) → n ≡ min (min (length left) piece) capacity → 0 < piece → 0 < capacity
     → n ≡ 0 → left ≡ []
-moved_none [] n piece room e p r zero = refl
-moved_none (b ∷ bs) n piece room e p r zero = absurd (omega arith)
+moved_none [] n piece capacity e p r zero = refl
+moved_none (b ∷ bs) n piece capacity e p r zero = absurd (omega arith)

@@ -11,7 +11,7 @@ use Rattle.std.specs.List.{list_any}
 use Rattle.std.specs.Str.{bytes_eq}
 use Rattle.std.proofs.Math.Bool.{or-true}
 use Rattle.std.proofs.lemmas.Slice.Eq.{bytes_eq-Decides}
-use Rattle.cb_io.specs.Outside.{FilesReport, SinkReport, bytes_of, contents, left_of, TakesAll, ReadsAll, ReadsEach, KeepsOthers, NoCountFalls, ReadFailed, WritesAll, WritesPrefix}
+use Rattle.cb_io.specs.Outside.{FilesReport, SinkReport, bytes_left_of, contents, left_of, TakesAll, ReadsAll, ReadsEach, KeepsOthers, NoCountFalls, ReadFailed, WritesAll, WritesPrefix}
 
 -- ---- counts
 
@@ -94,7 +94,7 @@ if_reported None known next = tt
 if_reported (Some left) known next = next left known
 
 each_none : (report : Option (List (List ℕ × List ℕ)))
-    → IfSome report (λ left. (name : List ℕ) → option_map (λ pairs. bytes_of pairs name) report ≡ Some (bytes_of left name))
+    → IfSome report (λ left. (name : List ℕ) → option_map (λ pairs. bytes_left_of pairs name) report ≡ Some (bytes_left_of left name))
 each_none None = tt
 each_none (Some left) = λ name. refl
 

@@ -21,7 +21,7 @@ abbrev pub with_text : Held → ℕ → ℕ → Held
 with_text held line beyond = record held { text = take line held.kept; kept = drop beyond held.kept }
 
 -- `count` bytes of the file were read, at most one piece, and stand after those that were kept; none only at the end of the file
-pub record Grows (old new : Held) (before after : FilesReport) (name : List ℕ) (count : ℕ) : Type 0 where
+pub record ReadsPiece (old new : Held) (before after : FilesReport) (name : List ℕ) (count : ℕ) : Type 0 where
   pub more : List ℕ
   pub kept : new.kept ≡ old.kept ++ more
   pub count_is : length more ≡ count
@@ -32,4 +32,4 @@ pub record Grows (old new : Held) (before after : FilesReport) (name : List ℕ)
 -- a read came to this: more bytes, or none
 abbrev pub Refills : {E : Type 0} → Held → Held → FilesReport → FilesReport → List ℕ → Result ℕ E → Type 0
 Refills old new before after name result =
-    MatchResult result (Grows old new before after name) (λ _. Keeps (left_of before name) (left_of after name))
+    MatchResult result (ReadsPiece old new before after name) (λ _. Keeps (left_of before name) (left_of after name))

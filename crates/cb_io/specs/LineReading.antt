@@ -96,7 +96,7 @@ pub record IsAtEnd (old new : Reading) (after : FilesReport) (bytes : List ℕ) 
   pub text : new.text ≡ []
 
 -- a prefix of the bytes was taken and is lost, and these are left of the file
-pub record Loses (old : Reading) (after : FilesReport) (bytes prefix rest : List ℕ) : Type 0 where
+pub record LosesBytes (old : Reading) (after : FilesReport) (bytes prefix rest : List ℕ) : Type 0 where
   pub are : bytes ≡ prefix ++ rest
   pub left : left_of after old.name ≡ Some rest
 
@@ -110,32 +110,32 @@ pub record RunsOver (old : Reading) (after : FilesReport) (bytes : List ℕ) : T
   pub more : beyond ≢ []
   pub prefix : List ℕ
   pub rest : List ℕ
-  pub loses : Loses old after bytes prefix rest
+  pub loses : LosesBytes old after bytes prefix rest
 
 -- the reader stopped within the line that comes
 pub record StopsWithin (old : Reading) (after : FilesReport) (bytes : List ℕ) : Type 0 where
   pub prefix : List ℕ
   pub rest : List ℕ
-  pub loses : Loses old after bytes prefix rest
+  pub loses : LosesBytes old after bytes prefix rest
   pub one : IsOneLine prefix
 
 -- what an answer says, where these bytes were to come
-abbrev pub Says : Reading → Reading → FilesReport → Result Line ReadStop → List ℕ → Type 0
-Says old new after (Ok (Text number)) bytes = GivesText old new after bytes
-Says old new after (Ok (Long number)) bytes = TellsLong old new after bytes
-Says old new after (Ok End) bytes = IsAtEnd old new after bytes
-Says old new after (Err TooMuch) bytes = RunsOver old after bytes
-Says old new after (Err ReadFault) bytes = StopsWithin old after bytes
-Says old new after (Err NoMemory) bytes = StopsWithin old after bytes
+abbrev pub AnswerSays : Reading → Reading → FilesReport → Result Line ReadStop → List ℕ → Type 0
+AnswerSays old new after (Ok (Text number)) bytes = GivesText old new after bytes
+AnswerSays old new after (Ok (Long number)) bytes = TellsLong old new after bytes
+AnswerSays old new after (Ok End) bytes = IsAtEnd old new after bytes
+AnswerSays old new after (Err TooMuch) bytes = RunsOver old after bytes
+AnswerSays old new after (Err ReadFault) bytes = StopsWithin old after bytes
+AnswerSays old new after (Err NoMemory) bytes = StopsWithin old after bytes
 
 -- the number that an answer carries is that of the line
-abbrev pub IsNumbered : Reading → Line → Type 0
-IsNumbered new (Text number) = number ≡ new.number
-IsNumbered new (Long number) = number ≡ new.number
-IsNumbered new End = Unit {0}
+abbrev pub HasLineNumber : Reading → Line → Type 0
+HasLineNumber new (Text number) = number ≡ new.number
+HasLineNumber new (Long number) = number ≡ new.number
+HasLineNumber new End = Unit {0}
 
 -- a reader that gave an answer goes on: it was not refused, has at most one piece in its buffer, and its last text is no longer than a line may be
-pub record GoesOn (new : Reading) : Type 0 where
+pub record ReadingGoesOn (new : Reading) : Type 0 where
   pub refused : new.refused ≡ false
   pub few : length new.kept ≤ piece_limit
   pub short : length new.text ≤ new.line_most

@@ -48,34 +48,34 @@ EndsBy kept after name length_is true = (length_is ≡ length kept) × IsAtEnd (
 EndsBy kept after name length_is false = kept ≡ take length_is kept ++ 10 ∷ drop (length_is + 1) kept
 
 -- the end of the line was found, and the line fits
-pub record Finds (start : List ℕ) (before after : FilesReport) (name : List ℕ) (line_most room : ℕ) (hand : Held) (end : LineEnd) : Type 0 where
+pub record FindsLineEnd (start : List ℕ) (before after : FilesReport) (name : List ℕ) (line_most capacity : ℕ) (hand : Held) (end : LineEnd) : Type 0 where
   pub thrown : List ℕ
   pub lost_is : length thrown ≡ end.lost
   pub come : HasCome start before after name (thrown ++ hand.kept)
   pub one : IsOneLine (thrown ++ take end.length hand.kept)
   pub way : EndsBy hand.kept after name end.length end.is_last
   pub in_hand : length_with_lf end ≤ length hand.kept
-  pub within : size_of end ≤ room
+  pub within : size_of end ≤ capacity
   pub few : length hand.kept ≤ length_with_lf end + piece_limit
   pub long : IsLostWhole line_most end.lost
 
--- there are more than `room` bytes, and no LF among the first `room`
-pub record IsOver (room : ℕ) (all : List ℕ) : Type 0 where
+-- there are more than `capacity` bytes, and no LF among the first `capacity`
+pub record IsOverLimit (capacity : ℕ) (all : List ℕ) : Type 0 where
   pub prefix : List ℕ
   pub beyond : List ℕ
   pub are : all ≡ prefix ++ beyond
   pub one : IsOneLine prefix
-  pub full : length prefix ≡ room
+  pub full : length prefix ≡ capacity
   pub more : beyond ≢ []
 
 -- why the end wasn't found among the bytes that came
 abbrev pub IsStop : ℕ → List ℕ → ReadStop → Type 0
-IsStop room all TooMuch = IsOver room all
-IsStop room all ReadFault = IsOneLine all
-IsStop room all NoMemory = IsOneLine all
+IsStop capacity all TooMuch = IsOverLimit capacity all
+IsStop capacity all ReadFault = IsOneLine all
+IsStop capacity all NoMemory = IsOneLine all
 
 -- the end of the line wasn't found
-pub record GivesUp (start : List ℕ) (before after : FilesReport) (name : List ℕ) (room : ℕ) (stop : ReadStop) : Type 0 where
+pub record GivesUp (start : List ℕ) (before after : FilesReport) (name : List ℕ) (capacity : ℕ) (stop : ReadStop) : Type 0 where
   pub all : List ℕ
   pub come : HasCome start before after name all
-  pub why : IsStop room all stop
+  pub why : IsStop capacity all stop

@@ -23,7 +23,7 @@ pub record FilesState : Type 0 where
 -- a sink: the bytes taken; the capacity; the greatest answer of a write; the failed writes
 pub record SinkState : Type 0 where
   pub bytes : List ℕ
-  pub room : ℕ
+  pub capacity : ℕ
   pub piece : ℕ
   pub calls : CallsState
   pub faults : ℕ
@@ -88,11 +88,11 @@ files_report state = record {
 
 -- a sink of that capacity, which has taken nothing, and takes as many bytes as fit
 abbrev pub new_sink : ℕ → SinkState
-new_sink room = record { bytes = []; room = room; piece = 2 ^ 64 - 1; calls = no_calls; faults = 0 }
+new_sink capacity = record { bytes = []; capacity = capacity; piece = 2 ^ 64 - 1; calls = no_calls; faults = 0 }
 
 -- how many bytes still fit
-abbrev pub room_left : SinkState → ℕ
-room_left sink = sink.room - length sink.bytes
+abbrev pub capacity_left : SinkState → ℕ
+capacity_left sink = sink.capacity - length sink.bytes
 
 -- the sink after a call that took these bytes
 abbrev pub after_write : SinkState → List ℕ → SinkState

@@ -25,12 +25,12 @@ abbrev pub Rose : ℕ → ℕ → Type 0
 Rose before after = next_count before ≤ after
 
 -- the bytes left of a name: none where the name isn't among the pairs
-abbrev pub bytes_of : List (List ℕ × List ℕ) → List ℕ → List ℕ
-bytes_of left name = unwrap_or (look_up left name) []
+abbrev pub bytes_left_of : List (List ℕ × List ℕ) → List ℕ → List ℕ
+bytes_left_of left name = unwrap_or (look_up left name) []
 
 -- the bytes left of a name, where that is reported
 abbrev pub left_of : FilesReport → List ℕ → Option (List ℕ)
-left_of report name = option_map (λ left. bytes_of left name) report.left
+left_of report name = option_map (λ left. bytes_left_of left name) report.left
 
 -- a read moved a prefix of what was left of the name to the start of buf, no byte only at the end, and none with an error
 abbrev pub ReadsBytes : {E : Type 0} → FilesReport → FilesReport → List ℕ → Result ℕ E → List ℕ → Type 0
@@ -79,7 +79,7 @@ OneMoreFault old new name = (new.faults name ≡ next_count (old.faults name)) �
 
 -- what a name gives that is read after these: the bytes left of it, and none where it is one of them
 abbrev pub contents : List (List ℕ × List ℕ) → List (List ℕ) → List ℕ → List ℕ
-contents left earlier name = if list_any (λ other. bytes_eq other name) earlier then [] else bytes_of left name
+contents left earlier name = if list_any (λ other. bytes_eq other name) earlier then [] else bytes_left_of left name
 
 -- these names were read whole, one after the other, and of every other name there is left what there was
 abbrev pub ReadsEach : FilesReport → FilesReport → List (List ℕ) → Type 0

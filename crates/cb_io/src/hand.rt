@@ -64,7 +64,7 @@ impl Hand {
     }
 
     // The first bytes of what was kept become the text, and those from a position on are kept.
-    pub(crate) fn give(&mut self, line: usize, beyond: usize)
+    pub(crate) fn take_text(&mut self, line: usize, beyond: usize)
         requires text { line ≤ length self.old.kept }
         requires kept { beyond ≤ length self.old.kept }
         ensures { self.new ≡ with_text self.old line beyond }
@@ -122,6 +122,6 @@ fn read_beyond<F: Files>(
     ensures counts { NoCountFalls (F.tells files.old) (F.tells files.new) }
     ensures failed { IsErrOf result FileStop.Failed → ReadFailed (F.tells files.old) (F.tells files.new) name.now }
 {
-    let room = (buffer.len() - length).min(PIECE);
-    files.read(name, &mut buffer[length..length + room])
+    let capacity = (buffer.len() - length).min(PIECE);
+    files.read(name, &mut buffer[length..length + capacity])
 }

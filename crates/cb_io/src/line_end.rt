@@ -1,7 +1,7 @@
 //! Where the next line of a file ends.
 ghost use Rattle.std.specs.Prelude.{◌≡◌, ◌+◌, ◌^◌, ◌<◌, ◌≤◌, false, length, take, drop, IfOk, IfErr, IfSome, IfNone, IsErrOf};
 ghost use Rattle.cb_io.specs.LineReading.{IsOneLine, BeginWith};
-ghost use Rattle.cb_io.specs.LineSearch.{ThrowsLong, IsLostWhole, Finds, GivesUp, length_with_lf, size_of};
+ghost use Rattle.cb_io.specs.LineSearch.{ThrowsLong, IsLostWhole, FindsLineEnd, GivesUp, length_with_lf, size_of};
 ghost use Rattle.cb_io.specs.Outside.{ReadFailed};
 ghost use Rattle.cb_io.specs.Pieces.{piece_limit};
 
@@ -53,14 +53,14 @@ fn find_lf(bytes: &[u8], searched: usize) -> Option<usize>
     Some(searched + at)
 }
 
-// The line that a LF ends, if it fits into `room`.
-fn end_at(lost: u64, length: usize, room: u64) -> Result<LineEnd, ReadStop>
-    requires { lost ≤ room }
+// The line that a LF ends, if it fits into `capacity`.
+fn end_at(lost: u64, length: usize, capacity: u64) -> Result<LineEnd, ReadStop>
+    requires { lost ≤ capacity }
     ensures end { IfOk result (λ end. end ≡ record { lost = lost; length = length; is_last = false }) }
-    ensures within { IfOk result (λ end. lost + length < room) }
-    ensures over { IfErr result (λ stop. (stop ≡ ReadStop.TooMuch) × (room ≤ lost + length)) }
+    ensures within { IfOk result (λ end. lost + length < capacity) }
+    ensures over { IfErr result (λ stop. (stop ≡ ReadStop.TooMuch) × (capacity ≤ lost + length)) }
 {
-    if length as u64 >= room - lost {
+    if length as u64 >= capacity - lost {
         return Err(ReadStop::TooMuch);
     }
     Ok(LineEnd {
@@ -71,39 +71,39 @@ fn end_at(lost: u64, length: usize, room: u64) -> Result<LineEnd, ReadStop>
 }
 
 // Throws away what is buffered of a line without its end, if the line is too long, and says how many bytes of it are lost.
-fn throw_long(hand: &mut Hand, lost: u64, line_most: usize, room: u64) -> Result<u64, ReadStop>
-    requires room { lost ≤ room }
+fn throw_long(hand: &mut Hand, lost: u64, line_most: usize, capacity: u64) -> Result<u64, ReadStop>
+    requires capacity { lost ≤ capacity }
     requires long { IsLostWhole line_most lost }
     ensures size { hand.new.size ≡ hand.old.size }
     ensures throws { IfOk result (ThrowsLong line_most hand.old hand.new lost) }
-    ensures within { IfOk result (λ now_lost. now_lost + length hand.new.kept ≤ room) }
-    ensures over { IfErr result (λ stop. (stop ≡ ReadStop.TooMuch) × (room < lost + length hand.old.kept)) }
+    ensures within { IfOk result (λ now_lost. now_lost + length hand.new.kept ≤ capacity) }
+    ensures over { IfErr result (λ stop. (stop ≡ ReadStop.TooMuch) × (capacity < lost + length hand.old.kept)) }
 {
     let length = hand.kept().len();
-    if length as u64 > room - lost {
+    if length as u64 > capacity - lost {
         return Err(ReadStop::TooMuch);
     }
     let open = lost + length as u64;
     if open <= line_most as u64 {
         return Ok(lost);
     }
-    hand.give(0, length);
+    hand.take_text(0, length);
     Ok(open)
 }
 
-// Reads on to the end of the next line. A line has at most `line_most` bytes without its LF, and `room` has at least one more.
+// Reads on to the end of the next line. A line has at most `line_most` bytes without its LF, and `capacity` has at least one more.
 pub(crate) fn find_end<F: Files>(
     hand: &mut Hand,
     files: &mut F,
     name: &str,
     line_most: usize,
-    room: u64,
+    capacity: u64,
 ) -> Result<LineEnd, ReadStop>
     requires few { length hand.old.kept ≤ piece_limit }
     requires size { line_most < hand.old.size }
     ensures size { hand.new.size ≡ hand.old.size }
-    ensures found { IfOk result (Finds hand.old.kept (F.tells files.old) (F.tells files.new) name.now line_most room hand.new) }
-    ensures stopped { IfErr result (GivesUp hand.old.kept (F.tells files.old) (F.tells files.new) name.now room) }
+    ensures found { IfOk result (FindsLineEnd hand.old.kept (F.tells files.old) (F.tells files.new) name.now line_most capacity hand.new) }
+    ensures stopped { IfErr result (GivesUp hand.old.kept (F.tells files.old) (F.tells files.new) name.now capacity) }
     ensures in_hand { (¬ IsOneLine hand.old.kept) → files.new ≡ files.old }
     ensures failed { IsErrOf result ReadStop.ReadFault → ReadFailed (F.tells files.old) (F.tells files.new) name.now }
 {
@@ -111,9 +111,9 @@ pub(crate) fn find_end<F: Files>(
     let mut searched = 0;
     'reads: loop {
         if let Some(length) = find_lf(hand.kept(), searched) {
-            return end_at(lost, length, room);
+            return end_at(lost, length, capacity);
         }
-        lost = throw_long(hand, lost, line_most, room)?;
+        lost = throw_long(hand, lost, line_most, capacity)?;
         searched = hand.kept().len();
         if hand.refill(files, name)? == 0 {
             return Ok(LineEnd {

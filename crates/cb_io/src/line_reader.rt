@@ -1,7 +1,7 @@
 //! A file line by line, over any files.
 ghost use Rattle.std.specs.Prelude.{◌≡◌, ◌+◌, ◌≤◌, length, true, false, IfOk, IfSome, OnErr, IsErrOf};
 ghost use Rattle.cb_io.specs.LineGiving.{IsGivenLine};
-ghost use Rattle.cb_io.specs.LineReading.{Reading, unread, coming, ReadsSame, Says, IsOneLine, IsNumbered, GoesOn, Advances};
+ghost use Rattle.cb_io.specs.LineReading.{Reading, unread, coming, ReadsSame, AnswerSays, IsOneLine, HasLineNumber, ReadingGoesOn, Advances};
 ghost use Rattle.cb_io.specs.LineSearch.{length_with_lf, size_of};
 ghost use Rattle.cb_io.specs.Pieces.{piece_limit};
 ghost use Rattle.cb_io.specs.Outside.{ReadsPrefix, KeepsOthers, NoCountFalls, ReadFailed};
@@ -88,9 +88,9 @@ impl<'n> LineReader<'n> {
         requires { self.old.refused ≡ false }
         ensures same { ReadsSame self.old self.new }
         // What the answer says of the bytes that come, where the files tell them.
-        ensures says { IfSome (coming self.old (F.tells files.old)) (Says self.old self.new (F.tells files.new) result) }
-        ensures number { IfOk result (IsNumbered self.new) }
-        ensures goes_on { IfOk result (λ line. GoesOn self.new) }
+        ensures says { IfSome (coming self.old (F.tells files.old)) (AnswerSays self.old self.new (F.tells files.new) result) }
+        ensures number { IfOk result (HasLineNumber self.new) }
+        ensures goes_on { IfOk result (λ line. ReadingGoesOn self.new) }
         ensures advances { IfOk result (Advances self.old self.new) }
         ensures in_hand { (¬ IsOneLine self.old.kept) → files.new ≡ files.old }
         ensures refused { OnErr result (self.new.refused ≡ true) }
@@ -101,13 +101,13 @@ impl<'n> LineReader<'n> {
         ensures counts { NoCountFalls (F.tells files.old) (F.tells files.new) }
     {
         self.refused = true;
-        let room = self.total_most - self.given;
-        let end = find_end(&mut self.hand, files, self.name, self.line_most, room)?;
-        Ok(self.give(end))
+        let capacity = self.total_most - self.given;
+        let end = find_end(&mut self.hand, files, self.name, self.line_most, capacity)?;
+        Ok(self.take_line(end))
     }
 
     // Moves after the line whose end was found, which fits.
-    fn give(&mut self, end: LineEnd) -> Line
+    fn take_line(&mut self, end: LineEnd) -> Line
         requires in_hand { length_with_lf end ≤ length self.old.kept }
         requires within { self.old.given + size_of end ≤ self.old.total_most }
         requires few { length self.old.kept ≤ length_with_lf end + piece_limit }
@@ -119,16 +119,16 @@ impl<'n> LineReader<'n> {
         let size = end.size();
         self.given += size;
         if size == 0 {
-            self.hand.give(0, beyond);
+            self.hand.take_text(0, beyond);
             return Line::End;
         }
         self.number += 1;
         let number = self.number;
         if end.lost + end.length as u64 > self.line_most as u64 {
-            self.hand.give(0, beyond);
+            self.hand.take_text(0, beyond);
             return Line::Long { number };
         }
-        self.hand.give(end.length, beyond);
+        self.hand.take_text(end.length, beyond);
         Line::Text { number }
     }
 

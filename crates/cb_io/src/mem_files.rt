@@ -64,7 +64,7 @@ impl NamedBytes {
     }
 
     // Moves at most `most` bytes to the start of `buf`.
-    fn give(&mut self, most: usize, buf: &mut [u8]) -> usize
+    fn take_bytes(&mut self, most: usize, buf: &mut [u8]) -> usize
         ensures count { result ≡ min (min (length self.old.1.left) most) (length buf.old) }
         ensures given { self.old.1.left ≡ take result buf.new ++ self.new.1.left }
         ensures left { self.new ≡ (self.old.0, record self.old.1 { left = drop result self.old.1.left }) }
@@ -185,6 +185,6 @@ impl Files for MemFiles {
             entry.add_fault();
             return Err(FileStop::Failed);
         }
-        Ok(entry.give(self.piece, buf))
+        Ok(entry.take_bytes(self.piece, buf))
     }
 }

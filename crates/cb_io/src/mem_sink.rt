@@ -2,7 +2,7 @@
 ghost use Rattle.std.specs.Prelude.{◌≡◌, ◌+◌, ◌-◌, ◌^◌, ◌<◌, ◌≤◌, ◌⊎◌, ◌↔◌, [], ◌∷◌, ◌++◌, length, take, min, IfOk, OnOk, OnErr, IsErr};
 ghost use Rattle.std.specs.Io.{WritesAtMost};
 ghost use Rattle.cb_io.specs.Outside.{Writes, WriteFailed};
-ghost use Rattle.cb_io.specs.Memory.{IsNextFailing, with_failing, new_sink, room_left, after_write, after_refused_write, sink_report};
+ghost use Rattle.cb_io.specs.Memory.{IsNextFailing, with_failing, new_sink, capacity_left, after_write, after_refused_write, sink_report};
 
 use crate::calls::Calls;
 use crate::{Failed, Sink};
@@ -14,7 +14,7 @@ use std::marker::Model;
 #[derive(Drop)]
 pub struct MemSink {
     bytes: Vec<u8>,
-    room: usize,
+    capacity: usize,
     piece: usize,
     calls: Calls,
     faults: u64,
@@ -27,19 +27,19 @@ impl Model for MemSink {
     ghost Value = { SinkState };
 
     ghost view = { λ s.
-        record { bytes = s.bytes.items; room = s.room; piece = s.piece; calls = s.calls; faults = s.faults } };
+        record { bytes = s.bytes.items; capacity = s.capacity; piece = s.piece; calls = s.calls; faults = s.faults } };
 
-    ghost invariant = { λ s. (vec_len s.bytes ≤ s.room) × (s.room ≤ vec_capacity s.bytes) × (0 < s.piece) };
+    ghost invariant = { λ s. (vec_len s.bytes ≤ s.capacity) × (s.capacity ≤ vec_capacity s.bytes) × (0 < s.piece) };
 }
 
 impl MemSink {
-    /// A sink with capacity for `room` bytes, which takes as many at once as fit.
-    pub fn new(alloc: Global, room: usize) -> Result<Self, AllocError>
-        ensures { IfOk result (λ sink. sink ≡ new_sink room) }
+    /// A sink with capacity for `capacity` bytes, which takes as many at once as fit.
+    pub fn new(alloc: Global, capacity: usize) -> Result<Self, AllocError>
+        ensures { IfOk result (λ sink. sink ≡ new_sink capacity) }
     {
         Ok(MemSink {
-            bytes: Vec::with_capacity(alloc, room)?,
-            room,
+            bytes: Vec::with_capacity(alloc, capacity)?,
+            capacity,
             piece: usize::MAX,
             calls: Calls::new(alloc),
             faults: 0,
@@ -82,13 +82,13 @@ impl Sink for MemSink {
         ensures failed { OnErr result (WriteFailed (sink_report self.old) (sink_report self.new)) }
 
         // Which calls fail, how many bytes the others take, and that nothing else changes.
-        ensures fails { IsErr result ↔ (IsNextFailing self.old.calls ⊎ (room_left self.old ≡ 0)) }
-        ensures count { IfOk result (λ n. n ≡ min (min (length bytes.now) self.old.piece) (room_left self.old)) }
+        ensures fails { IsErr result ↔ (IsNextFailing self.old.calls ⊎ (capacity_left self.old ≡ 0)) }
+        ensures count { IfOk result (λ n. n ≡ min (min (length bytes.now) self.old.piece) (capacity_left self.old)) }
         ensures ok { IfOk result (λ n. self.new ≡ after_write self.old (take n bytes.now)) }
         ensures err { OnErr result (self.new ≡ after_refused_write self.old) }
     {
         let due = self.calls.count();
-        let free = self.room - self.bytes.len();
+        let free = self.capacity - self.bytes.len();
         if due || free == 0 {
             self.faults = self.faults.saturating_add(1);
             return Err(Failed);

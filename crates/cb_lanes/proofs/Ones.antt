@@ -10,7 +10,7 @@ use Rattle.std.proofs.lemmas.Simd.{ones-mask_l, bit_mask_l, mask_l-lt, length-zi
 use Rattle.std.proofs.lemmas.Nat.{xor_lt, and_le_l}
 use Rattle.std.proofs.lemmas.Nat.Bits.{same_from_bits_below, bit_at-lt}
 use mathlib.Core.Bool.{beq}
-use Rattle.cb_lanes.specs.Words.{bit_of, count_bits, differs, differing_bits, differing_under, word_limit}
+use Rattle.cb_lanes.specs.Words.{bit_of, count_bits, bit_differs, differing_bits, differing_bits_under, word_limit}
 use Rattle.cb_lanes.proofs.Digits.{each_digit}
 use Rattle.cb_lanes.proofs.Totals.{total, total_parts, total_alike}
 use Rattle.cb_lanes.proofs.Zipped.{zip_bit, xor_bits, and_bits}
@@ -87,7 +87,7 @@ count_alike p q m n same each =
 pub differing_is : (a b : List ℕ) → length a ≡ length b → count_bits (zip2 bit_xor a b) ≡ differing_bits a b
 differing_is a b same =
     let long = length-zip2 bit_xor a b same in
-    count_alike (bit_of (zip2 bit_xor a b)) (differs a b) (64 * length (zip2 bit_xor a b)) (64 * length a) (ap (λ n. 64 * n) long)
+    count_alike (bit_of (zip2 bit_xor a b)) (bit_differs a b) (64 * length (zip2 bit_xor a b)) (64 * length a) (ap (λ n. 64 * n) long)
     (zip_bit bit_xor (λ x y. not (beq x y)) refl xor_bits a b same)
 
 module _ (a b mask : List ℕ) (same : length a ≡ length b) (masked : length a ≡ length mask) (fits_a : (k : ℕ) → slice_index_or a k 0 < 2 ^ 64)
@@ -116,8 +116,8 @@ module _ (a b mask : List ℕ) (same : length a ≡ length b) (masked : length a
       omega arith))
 
   -- the bits where two rows differ under a mask
-  pub under_is : count_bits both ≡ differing_under a b mask
+  pub under_is : count_bits both ≡ differing_bits_under a b mask
   under_is =
-      count_alike (bit_of both) (λ k. differs a b k && bit_of mask k) (64 * length both) (64 * length a) (ap (λ n. 64 * n) long_both)
+      count_alike (bit_of both) (λ k. bit_differs a b k && bit_of mask k) (64 * length both) (64 * length a) (ap (λ n. 64 * n) long_both)
       (λ k. zip_bit bit_and (λ x y. x && y) refl and_bits (zip2 bit_xor a b) mask long_xor k
       ∙ ap (λ x. x && bit_of mask k) (zip_bit bit_xor (λ x y. not (beq x y)) refl xor_bits a b same k))

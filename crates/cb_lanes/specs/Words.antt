@@ -14,16 +14,16 @@ abbrev pub count_bits : List ℕ → ℕ
 count_bits words = count_by (bit_of words) (range_with_len 0 (64 * length words))
 
 -- the bit is one in one of the two alone
-abbrev pub differs : List ℕ → List ℕ → ℕ → Bool
-differs a b k = not (beq (bit_of a k) (bit_of b k))
+abbrev pub bit_differs : List ℕ → List ℕ → ℕ → Bool
+bit_differs a b k = not (beq (bit_of a k) (bit_of b k))
 
 -- how many bits differ
 abbrev pub differing_bits : List ℕ → List ℕ → ℕ
-differing_bits a b = count_by (differs a b) (range_with_len 0 (64 * length a))
+differing_bits a b = count_by (bit_differs a b) (range_with_len 0 (64 * length a))
 
 -- how many of the bits that are one in the mask differ
-abbrev pub differing_under : List ℕ → List ℕ → List ℕ → ℕ
-differing_under a b mask = count_by (λ k. differs a b k && bit_of mask k) (range_with_len 0 (64 * length a))
+abbrev pub differing_bits_under : List ℕ → List ℕ → List ℕ → ℕ
+differing_bits_under a b mask = count_by (λ k. bit_differs a b k && bit_of mask k) (range_with_len 0 (64 * length a))
 
 -- some bit is one in both
 abbrev pub HaveCommonBit : List ℕ → List ℕ → Type 0

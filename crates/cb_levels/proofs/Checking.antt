@@ -17,7 +17,7 @@ use Rattle.cb_levels.specs.declared.levels.LevelEntry.{LevelEntry}
 use Rattle.cb_levels.specs.declared.levels.Levels.{Levels}
 use Rattle.cb_levels.specs.Listed.{IsEntryAt}
 use Rattle.cb_levels.specs.Valid.{BeginsAtProblem, AreLevelsOf, AreValidLevels}
-use Rattle.cb_levels.specs.Checks.{LevelCheck, node_check, root_check, parent_check, edge_check, new_check, level_check, closed_check, short_check, checks_of_entry, checks_of_successors, level_checks, EntryIs, IsParentEarlier, HasEdgeFromParent, IsFirstListed, IsOneAbove, IsClosedAt, IsShortAt, PassesCheck}
+use Rattle.cb_levels.specs.Checks.{LevelCheck, node_check, root_check, parent_check, edge_check, new_check, level_check, closed_check, short_check, checks_of_entry, checks_of_successors, level_checks, LevelEntryIs, IsParentEarlier, HasEdgeFromParent, IsFirstListed, IsOneAbove, AreLevelsClosedAt, IsShortAt, PassesCheck}
 
 module _ (t : Topology) (levels : Levels) where
   abbrev P : LevelCheck → Type 0
@@ -75,26 +75,26 @@ module _ (t : Topology) (levels : Levels) where
       let each : (k : ℕ) → 0 < k → k < n → All P (checks_of_entry k) =
       λ k low high. all_of_range (λ i. All P (checks_of_entry i)) 1 (n - 1) entries k (omega arith) (omega arith)
       in
-      let parent : (k : ℕ) → 0 < k → k < n → EntryIs levels k (IsParentEarlier k) =
+      let parent : (k : ℕ) → 0 < k → k < n → LevelEntryIs levels k (IsParentEarlier k) =
       λ k low high. All-head P (parent_check k) (edge_check k ∷ new_check k ∷ level_check k ∷ []) (each k low high)
       in
       let second : (k : ℕ) → 0 < k → k < n → All P (edge_check k ∷ new_check k ∷ level_check k ∷ []) =
       λ k low high. All-tail P (parent_check k) (edge_check k ∷ new_check k ∷ level_check k ∷ []) (each k low high)
       in
-      let edge : (k : ℕ) → 0 < k → k < n → EntryIs levels k (HasEdgeFromParent t levels) =
+      let edge : (k : ℕ) → 0 < k → k < n → LevelEntryIs levels k (HasEdgeFromParent t levels) =
       λ k low high. All-head P (edge_check k) (new_check k ∷ level_check k ∷ []) (second k low high)
       in
       let third : (k : ℕ) → 0 < k → k < n → All P (new_check k ∷ level_check k ∷ []) =
       λ k low high. All-tail P (edge_check k) (new_check k ∷ level_check k ∷ []) (second k low high)
       in
       let new : (k : ℕ) → 0 < k → k < n → IsFirstListed levels k = λ k low high. All-head P (new_check k) (level_check k ∷ []) (third k low high) in
-      let level : (k : ℕ) → 0 < k → k < n → EntryIs levels k (IsOneAbove levels) =
+      let level : (k : ℕ) → 0 < k → k < n → LevelEntryIs levels k (IsOneAbove levels) =
       λ k low high. All-head P (level_check k) [] (All-tail P (new_check k) (level_check k ∷ []) (third k low high))
       in
       let both : (k : ℕ) → k < n → All P (checks_of_successors k) =
       λ k high. all_of_range (λ i. All P (checks_of_successors i)) 0 n successors k (omega arith) (omega arith)
       in
-      let closed : (k : ℕ) → k < n → IsClosedAt t levels k = λ k high. All-head P (closed_check k) (short_check k ∷ []) (both k high) in
+      let closed : (k : ℕ) → k < n → AreLevelsClosedAt t levels k = λ k high. All-head P (closed_check k) (short_check k ∷ []) (both k high) in
       let short : (k : ℕ) → k < n → IsShortAt t levels k =
       λ k high. All-head P (short_check k) [] (All-tail P (closed_check k) (short_check k ∷ []) (both k high))
       in
@@ -158,7 +158,7 @@ module _ (t : Topology) (levels : Levels) where
         let e = entry_at k high in
         let has = are.parents k e.0 low e.1 in
         let from_is = has.from_is in
-        let parent : EntryIs levels k (IsParentEarlier k) = (e.0, e.1, (has.counted, has.earlier)) in
+        let parent : LevelEntryIs levels k (IsParentEarlier k) = (e.0, e.1, (has.counted, has.earlier)) in
         let with_edge : HasEdgeFromParent t levels e.0 = record {
           from = has.from;
           source = has.source;
@@ -167,16 +167,16 @@ module _ (t : Topology) (levels : Levels) where
           to_is = has.to_is;
           edge = has.edge;
         } in
-        let edge : EntryIs levels k (HasEdgeFromParent t levels) = (e.0, e.1, with_edge) in
+        let edge : LevelEntryIs levels k (HasEdgeFromParent t levels) = (e.0, e.1, with_edge) in
         let new : IsFirstListed levels k = λ before x y m below at_b at_k. let same = are.once before k x y m at_b at_k in omega arith in
-        let level : EntryIs levels k (IsOneAbove levels) = (e.0, e.1, (has.from, from_is.is, has.level)) in
+        let level : LevelEntryIs levels k (IsOneAbove levels) = (e.0, e.1, (has.from, from_is.is, has.level)) in
         All-cons P (parent_check k) (edge_check k ∷ new_check k ∷ level_check k ∷ []) parent
         (All-cons P (edge_check k) (new_check k ∷ level_check k ∷ []) edge
         (All-cons P (new_check k) (level_check k ∷ []) new (All-cons P (level_check k) [] level (All-nil P))))
 
     successors_pass : (k : ℕ) → All P (checks_of_successors k)
     successors_pass k =
-        let closed : IsClosedAt t levels k = λ entry p q at e. let near = are.closed k entry p q at e in (near.position, near.entry, near.listed) in
+        let closed : AreLevelsClosedAt t levels k = λ entry p q at e. let near = are.closed k entry p q at e in (near.position, near.entry, near.listed) in
         let short : IsShortAt t levels k = λ entry p q at e far.
         let near = are.closed k entry p q at e in
         let low = near.near in

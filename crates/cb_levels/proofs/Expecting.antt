@@ -7,7 +7,7 @@ use Rattle.std.specs.Result.{IsErrAnd}
 use Rattle.std.proofs.lemmas.List.{append_assoc, append-nil, map-append, length-append, length-map}
 use Rattle.cb_text.specs.Lines.{lines_of}
 use Rattle.cb_model.specs.declared.node.NodeName.{NodeName}
-use Rattle.cb_cert.specs.Format.{IsNode}
+use Rattle.cb_cert.specs.Format.{HasValidNames}
 use Rattle.cb_levels.specs.declared.fault.LevelText.{LevelText}
 use Rattle.cb_levels.specs.declared.fault.LevelText.TheVariants as fault
 use Rattle.cb_levels.specs.declared.levels.LevelEntry.{LevelEntry}
@@ -105,7 +105,7 @@ count_of_nodes = record {
   only = λ l f. let x = only_nodes l f in (x.0, x.1, ap level_line_text x.2);
 }
 
-pub next_node : (n : ℕ) (xs : List NodeName) → IsLevelCount n → length xs < n → All IsNode xs → Expects (node_prefix n xs) (λ x. level_line_text (line.Node x)) IsNode
+pub next_node : (n : ℕ) (xs : List NodeName) → IsLevelCount n → length xs < n → All HasValidNames xs → Expects (node_prefix n xs) (λ x. level_line_text (line.Node x)) HasValidNames
 next_node n xs counted low good = record {
   some = λ e. cc;
   first = begins_nodes n xs counted (omega arith) good;
@@ -113,7 +113,7 @@ next_node n xs counted low good = record {
   only = λ l f. let x = only_node n xs l low f in (x.0, x.1, ap level_line_text x.2);
 }
 
-pub count_of_entries : (nodes : List NodeName) → IsLevelCount (length nodes) → All IsNode nodes
+pub count_of_entries : (nodes : List NodeName) → IsLevelCount (length nodes) → All HasValidNames nodes
     → Expects (node_prefix (length nodes) nodes) (λ n. codes "entries " ++ decimal n) IsLevelCount
 count_of_entries nodes counted good = record {
   some = λ e. cc;
@@ -122,7 +122,7 @@ count_of_entries nodes counted good = record {
   only = λ l f. let x = only_entries nodes l f in (x.0, x.1, ap level_line_text x.2);
 }
 
-pub next_entry : (nodes : List NodeName) (n : ℕ) (xs : List LevelEntry) → IsLevelCount (length nodes) → All IsNode nodes → IsLevelCount n → length xs < n
+pub next_entry : (nodes : List NodeName) (n : ℕ) (xs : List LevelEntry) → IsLevelCount (length nodes) → All HasValidNames nodes → IsLevelCount n → length xs < n
     → All (IsLevelEntry (length nodes)) xs → Expects (entry_prefix nodes n xs) (λ e. level_line_text (line.Entry e)) (IsLevelEntry (length nodes))
 next_entry nodes n xs counted_nodes names counted low good = record {
   some = λ e. cc;

@@ -13,7 +13,7 @@ use Rattle.cb_levels.specs.declared.verdict.LevelFault.{LevelFault}
 use Rattle.cb_levels.specs.declared.verdict.LevelFault.TheVariants.{NotClosed, NotShort}
 use Rattle.cb_levels.specs.Listed.{ListsInLevels}
 use Rattle.cb_levels.specs.Valid.{AreValidLevels}
-use Rattle.cb_levels.specs.Checks.{LevelCheck, node_check, root_check, parent_check, edge_check, new_check, level_check, closed_check, short_check, IsTooFar, PassesCheck, IsLeastSuccessor, ReportsCheck, IsRejectedFor}
+use Rattle.cb_levels.specs.Checks.{LevelCheck, node_check, root_check, parent_check, edge_check, new_check, level_check, closed_check, short_check, IsTooFar, PassesCheck, IsLeastSuccessor, ReportsLevelCheck, IsRejectedFor}
 use Rattle.cb_levels.proofs.One.{neither_less}
 use Rattle.cb_levels.proofs.Lists.{listed_one}
 use Rattle.cb_levels.proofs.Checking.{valid_passes_all}
@@ -43,7 +43,7 @@ least_is_one t levels position P m n a b =
     (b.least m (subst (λ p. Edge t p m) node a.edge) (subst (λ e. P e m) entry a.such))
     (a.least n (subst (λ p. Edge t p n) (sym node) b.edge) (subst (λ e. P e n) (sym entry) b.such))
 
-reported_one : (t : Topology) (levels : Levels) (check : LevelCheck) (a b : LevelFault) → ReportsCheck t levels check a → ReportsCheck t levels check b → a ≡ b
+reported_one : (t : Topology) (levels : Levels) (check : LevelCheck) (a b : LevelFault) → ReportsLevelCheck t levels check a → ReportsLevelCheck t levels check b → a ≡ b
 reported_one t levels (node_check position) a b p q = p ∙ sym q
 reported_one t levels root_check a b p q = p ∙ sym q
 reported_one t levels (parent_check position) a b p q = p ∙ sym q
@@ -58,7 +58,7 @@ reported_one t levels (short_check position) a b p q =
 pub first_fail_is_one : (t : Topology) (levels : Levels) (a b : LevelFault) → IsRejectedFor t levels a → IsRejectedFor t levels b → a ≡ b
 first_fail_is_one t levels a b p q =
     let same = first_is_one (PassesCheck t levels) p.before q.before p.check q.check p.after q.after (sym p.are ∙ q.are) p.passed p.fails q.passed q.fails in
-    reported_one t levels p.check a b p.tells (subst (λ check. ReportsCheck t levels check b) (sym same) q.tells)
+    reported_one t levels p.check a b p.tells (subst (λ check. ReportsLevelCheck t levels check b) (sym same) q.tells)
 
 pub valid_is_not_rejected : (t : Topology) (levels : Levels) (why : LevelFault) → AreValidLevels t levels → ¬ IsRejectedFor t levels why
 valid_is_not_rejected t levels why valid fail =

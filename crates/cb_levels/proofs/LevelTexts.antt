@@ -8,7 +8,7 @@ use Rattle.std.proofs.lemmas.List.Elements.{All-nil, All-cons, All-append, All-m
 use Rattle.cb_text.specs.Names.{IsRun}
 use Rattle.cb_model.specs.declared.node.NodeName.{NodeName}
 use Rattle.cb_cert.specs.declared.line.CertificateLine.TheVariants as cert
-use Rattle.cb_cert.specs.Format.{IsNode, node_limit}
+use Rattle.cb_cert.specs.Format.{HasValidNames, certificate_node_limit}
 use Rattle.cb_cert.proofs.LineTexts.{cut_once, digits_lack_space, line_text_one as cert_line_one}
 use Rattle.cb_levels.specs.declared.levels.LevelEntry.{LevelEntry}
 use Rattle.cb_levels.specs.declared.levels.Levels.{Levels}
@@ -16,7 +16,7 @@ use Rattle.cb_levels.specs.declared.line.LevelLine.{LevelLine}
 use Rattle.cb_levels.specs.declared.line.LevelLine.TheVariants as line
 use Rattle.cb_levels.specs.Text.{node_part, entry_part, level_lines, level_line_text}
 use Rattle.cb_levels.specs.Format.{IsLevelEntry, IsLevels}
-use Rattle.cb_levels.specs.Numbers.{numbers_text}
+use Rattle.cb_levels.specs.Numbers.{level_numbers_text}
 
 -- the numbers of an entry have at most 64 bits
 pub record IsSmallEntry (e : LevelEntry) : Type 0 where
@@ -32,7 +32,7 @@ IsSmallLine (line.Entries n) = n < 2 ^ 64
 IsSmallLine (line.Entry e) = IsSmallEntry e
 IsSmallLine l = Unit {0}
 
-pub entry_is_small : (n : ℕ) → n ≤ node_limit → (e : LevelEntry) → IsLevelEntry n e → IsSmallEntry e
+pub entry_is_small : (n : ℕ) → n ≤ certificate_node_limit → (e : LevelEntry) → IsLevelEntry n e → IsSmallEntry e
 entry_is_small n few e is =
     let within = (is.node).1 in
     let level = is.level in
@@ -49,14 +49,14 @@ all_small levels is =
     (All-weaker (IsLevelEntry (length levels.nodes)) (λ e. IsSmallLine (line.Entry e)) (λ e good. entry_is_small (length levels.nodes) few e good) levels.entries is.each)
     in
     let entries = All-cons IsSmallLine (line.Entries (length levels.entries)) (map line.Entry levels.entries) (omega arith) each in
-    let names = All-map IsSmallLine line.Node levels.nodes (All-weaker IsNode (λ n. IsSmallLine (line.Node n)) (λ n good. good.0.run) levels.nodes is.names) in
+    let names = All-map IsSmallLine line.Node levels.nodes (All-weaker HasValidNames (λ n. IsSmallLine (line.Node n)) (λ n good. good.0.run) levels.nodes is.names) in
     let nodes = All-cons IsSmallLine (line.Nodes (length levels.nodes)) (map line.Node levels.nodes) (omega arith) names in
     All-cons IsSmallLine line.Header (node_part levels.nodes ++ (entry_part levels.entries ++ line.End ∷ [])) tt
     (All-append IsSmallLine (node_part levels.nodes) (entry_part levels.entries ++ line.End ∷ []) nodes
     (All-append IsSmallLine (entry_part levels.entries) (line.End ∷ []) entries end))
 
 -- the line of an entry is a word and three numbers
-pub entry_text : (e : LevelEntry) → level_line_text (line.Entry e) ≡ codes "entry " ++ numbers_text e
+pub entry_text : (e : LevelEntry) → level_line_text (line.Entry e) ≡ codes "entry " ++ level_numbers_text e
 entry_text e =
     let word = codes "entry " in
     let gap = codes " " in
@@ -67,7 +67,7 @@ entry_text e =
     ∙ (append_assoc (word ++ node ++ gap) level (gap ++ parent)
     ∙ (append_assoc (word ++ node) gap (level ++ (gap ++ parent)) ∙ append_assoc word node (gap ++ (level ++ (gap ++ parent)))))
 
-pub numbers_one : (x y : LevelEntry) → IsSmallEntry x → IsSmallEntry y → numbers_text x ≡ numbers_text y → x ≡ y
+pub numbers_one : (x y : LevelEntry) → IsSmallEntry x → IsSmallEntry y → level_numbers_text x ≡ level_numbers_text y → x ≡ y
 numbers_one x y small_x small_y e =
     let first = cut_once 32 (decimal x.node) (decimal x.level ++ 32 ∷ decimal x.parent) (decimal y.node) (decimal y.level ++ 32 ∷ decimal y.parent)
     (digits_lack_space x.node small_x.node) (digits_lack_space y.node small_y.node) e
@@ -82,7 +82,7 @@ numbers_one x y small_x small_y e =
 
 pub entry_text_one : (x y : LevelEntry) → IsSmallEntry x → IsSmallEntry y → level_line_text (line.Entry x) ≡ level_line_text (line.Entry y) → x ≡ y
 entry_text_one x y small_x small_y e =
-    numbers_one x y small_x small_y (append_cancel_left (codes "entry ") (numbers_text x) (numbers_text y) (sym (entry_text x) ∙ (e ∙ entry_text y)))
+    numbers_one x y small_x small_y (append_cancel_left (codes "entry ") (level_numbers_text x) (level_numbers_text y) (sym (entry_text x) ∙ (e ∙ entry_text y)))
 
 -- texts that differ in a byte
 clash : (k : ℕ) (xs ys : List ℕ) → nat_eq (get_or xs k 0) (get_or ys k 0) ≡ false → xs ≡ ys → ⊥

@@ -13,7 +13,7 @@ use Rattle.cb_levels.specs.declared.levels.LevelEntry.{LevelEntry}
 use Rattle.cb_levels.specs.declared.line.LevelLine.TheVariants as line
 use Rattle.cb_levels.specs.Text.{level_line_text}
 use Rattle.cb_levels.specs.Format.{IsLevelEntry}
-use Rattle.cb_levels.specs.Numbers.{AreAroundSpace, numbers_text}
+use Rattle.cb_levels.specs.Numbers.{AreAroundSpace, level_numbers_text}
 use Rattle.cb_levels.proofs.LevelTexts.{IsSmallEntry, entry_text}
 
 -- what stands around the first space
@@ -45,7 +45,7 @@ no_count bytes word rest least most is none n within e = none n within (append_c
 
 -- ---- the three numbers of an entry
 
-module _ (nodes : ℕ) (few : nodes ≤ 4294967295) (bytes : List ℕ) (x : LevelEntry) (good : IsLevelEntry nodes x) (is : bytes ≡ numbers_text x) where
+module _ (nodes : ℕ) (few : nodes ≤ 4294967295) (bytes : List ℕ) (x : LevelEntry) (good : IsLevelEntry nodes x) (is : bytes ≡ level_numbers_text x) where
   small : IsSmallEntry x
   small =
       let within = (good.node).1 in
@@ -62,7 +62,7 @@ module _ (nodes : ℕ) (few : nodes ≤ 4294967295) (bytes : List ℕ) (x : Leve
         cut_once 32 level parent (decimal x.level) (decimal x.parent) again.first (digits_lack_space x.level small.level) (sym again.written ∙ first_parts.1)
 
 pub three_numbers : (bytes node rest level parent : List ℕ) (x : LevelEntry) → AreAroundSpace bytes node rest → AreAroundSpace rest level parent
-    → node ≡ decimal x.node → level ≡ decimal x.level → parent ≡ decimal x.parent → bytes ≡ numbers_text x
+    → node ≡ decimal x.node → level ≡ decimal x.level → parent ≡ decimal x.parent → bytes ≡ level_numbers_text x
 three_numbers bytes node rest level parent x cut again a b c =
     cut.written
     ∙ (ap (λ (ds : List ℕ). ds ++ 32 ∷ rest) a
@@ -71,11 +71,11 @@ three_numbers bytes node rest level parent x cut again a b c =
 
 -- ---- the line of an entry
 
-pub entry_line : (bytes rest : List ℕ) (x : LevelEntry) → bytes ≡ codes "entry " ++ rest → rest ≡ numbers_text x → bytes ≡ level_line_text (line.Entry x)
+pub entry_line : (bytes rest : List ℕ) (x : LevelEntry) → bytes ≡ codes "entry " ++ rest → rest ≡ level_numbers_text x → bytes ≡ level_line_text (line.Entry x)
 entry_line bytes rest x is numbers = is ∙ (ap (λ (r : List ℕ). codes "entry " ++ r) numbers ∙ sym (entry_text x))
 
-pub no_entry_line : (bytes rest : List ℕ) (x : LevelEntry) → bytes ≡ codes "entry " ++ rest → rest ≢ numbers_text x → bytes ≢ level_line_text (line.Entry x)
-no_entry_line bytes rest x is none e = none (append_cancel_left (codes "entry ") rest (numbers_text x) (sym is ∙ (e ∙ entry_text x)))
+pub no_entry_line : (bytes rest : List ℕ) (x : LevelEntry) → bytes ≡ codes "entry " ++ rest → rest ≢ level_numbers_text x → bytes ≢ level_line_text (line.Entry x)
+no_entry_line bytes rest x is none e = none (append_cancel_left (codes "entry ") rest (level_numbers_text x) (sym is ∙ (e ∙ entry_text x)))
 
 pub no_entry_word : (bytes : List ℕ) → ((rest : List ℕ) → bytes ≢ codes "entry " ++ rest) → (x : LevelEntry) → bytes ≢ level_line_text (line.Entry x)
-no_entry_word bytes none x e = none (numbers_text x) (e ∙ entry_text x)
+no_entry_word bytes none x e = none (level_numbers_text x) (e ∙ entry_text x)

@@ -11,7 +11,7 @@ use Rattle.std.proofs.lemmas.Map.Views.{list_any-from_Contains}
 use Rattle.std.proofs.lemmas.Option.{slice_get_within, get_or_from_slice_get}
 use Rattle.cb_text.specs.Names.{IsName, IsInstance, is_name_byte, is_instance_byte, reserved_words}
 use Rattle.cb_model.specs.declared.node.NodeName.{NodeName}
-use Rattle.cb_cert.specs.Format.{IsNode}
+use Rattle.cb_cert.specs.Format.{HasValidNames}
 use Rattle.cb_validity.proofs.Passing.{all_right}
 use Rattle.cb_levels.specs.declared.levels.LevelEntry.{LevelEntry}
 use Rattle.cb_levels.specs.declared.line.LevelLine.{LevelLine}
@@ -43,7 +43,7 @@ one_letter_is_instance = record {
 abbrev any_node : NodeName
 any_node = record { event = 97 ∷ []; instance = 97 ∷ [] }
 
-any_node_is : IsNode any_node
+any_node_is : HasValidNames any_node
 any_node_is = (one_letter_is_name, one_letter_is_instance)
 
 abbrev any_entry : LevelEntry
@@ -73,7 +73,7 @@ fewer xs ys f = record { of = f.of; is = f.is; more = ys ++ f.more; are = f.are 
 pub whole_is_first : (lines : List LevelLine) → AreAllLines lines → AreFirstLines lines
 whole_is_first lines whole = record { of = whole.0; is = whole.1; more = []; are = sym whole.2 ∙ sym (append-nil lines) }
 
-pub begins_nodes : (n : ℕ) (xs : List NodeName) → IsLevelCount n → length xs ≤ n → All IsNode xs → AreFirstLines (node_prefix n xs)
+pub begins_nodes : (n : ℕ) (xs : List NodeName) → IsLevelCount n → length xs ≤ n → All HasValidNames xs → AreFirstLines (node_prefix n xs)
 begins_nodes n xs counted low good =
     let rest = replicate (n - length xs) any_node in
     let nodes = xs ++ rest in
@@ -87,7 +87,7 @@ begins_nodes n xs counted low good =
       of = record { nodes = nodes; entries = any_entry ∷ [] };
       is = record {
         nodes = counted_nodes;
-        names = All-append IsNode xs rest good (repeated IsNode (n - length xs) any_node any_node_is);
+        names = All-append HasValidNames xs rest good (repeated HasValidNames (n - length xs) any_node any_node_is);
         entries = (omega arith, omega arith);
         each = All-cons (IsLevelEntry (length nodes)) any_entry [] (any_entry_is (length nodes) counted_nodes) (All-nil (IsLevelEntry (length nodes)));
       };
@@ -96,9 +96,9 @@ begins_nodes n xs counted low good =
     }
 
 pub begins_header : AreFirstLines (line.Header ∷ [])
-begins_header = fewer (line.Header ∷ []) (line.Nodes 1 ∷ []) (begins_nodes 1 [] (omega arith, omega arith) (omega arith) (All-nil IsNode))
+begins_header = fewer (line.Header ∷ []) (line.Nodes 1 ∷ []) (begins_nodes 1 [] (omega arith, omega arith) (omega arith) (All-nil HasValidNames))
 
-pub begins_entries : (nodes : List NodeName) (n : ℕ) (xs : List LevelEntry) → IsLevelCount (length nodes) → All IsNode nodes → IsLevelCount n → length xs ≤ n
+pub begins_entries : (nodes : List NodeName) (n : ℕ) (xs : List LevelEntry) → IsLevelCount (length nodes) → All HasValidNames nodes → IsLevelCount n → length xs ≤ n
     → All (IsLevelEntry (length nodes)) xs → AreFirstLines (entry_prefix nodes n xs)
 begins_entries nodes n xs counted_nodes names counted low good =
     let E = IsLevelEntry (length nodes) in
@@ -155,13 +155,13 @@ after_nodes n xs l f =
     let count = first.0 in
     (cc, first.1 ∙ append_assoc (map line.Node xs) (l ∷ []) f.more)
 
-pub only_node : (n : ℕ) (xs : List NodeName) (l : LevelLine) → length xs < n → AreFirstLines (node_prefix n xs ++ l ∷ []) → (x : NodeName) × IsNode x × (l ≡ line.Node x)
+pub only_node : (n : ℕ) (xs : List NodeName) (l : LevelLine) → length xs < n → AreFirstLines (node_prefix n xs ++ l ∷ []) → (x : NodeName) × HasValidNames x × (l ≡ line.Node x)
 only_node n xs l low f =
     let nodes = (f.of).nodes in
     let after = after_nodes n xs l f in
     let count = after.0 in
     let next = next_item line.Node nodes xs (entry_part (f.of).entries ++ line.End ∷ []) l f.more after.1 (omega arith) in
-    (next.0, all_at IsNode nodes (f.is).names (length xs) next.0 next.1, next.2)
+    (next.0, all_at HasValidNames nodes (f.is).names (length xs) next.0 next.1, next.2)
 
 pub only_entries : (xs : List NodeName) (l : LevelLine) → AreFirstLines (node_prefix (length xs) xs ++ l ∷ []) → (n : ℕ) × IsLevelCount n × (l ≡ line.Entries n)
 only_entries xs l f =

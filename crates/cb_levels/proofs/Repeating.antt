@@ -5,7 +5,7 @@ use Rattle.std.specs.List.{All}
 use Rattle.std.proofs.lemmas.List.{append_assoc, map-append, length-append}
 use Rattle.std.proofs.lemmas.List.Elements.{All-nil, All-push}
 use Rattle.cb_model.specs.declared.node.NodeName.{NodeName}
-use Rattle.cb_cert.specs.Format.{IsNode}
+use Rattle.cb_cert.specs.Format.{HasValidNames}
 use Rattle.cb_levels.specs.declared.fault.LevelText.{LevelText}
 use Rattle.cb_levels.specs.declared.levels.LevelEntry.{LevelEntry}
 use Rattle.cb_levels.specs.declared.line.LevelLine.{LevelLine}
@@ -22,14 +22,14 @@ use Rattle.cb_levels.proofs.Expecting.{took, missed, count_of_nodes, next_node, 
 pub record NodesSoFar (old now : LevelReader) (count i : ℕ) (xs : List NodeName) : Type 0 where
   pub counted : IsLevelCount count
   pub many : length xs ≡ i
-  pub good : All IsNode xs
+  pub good : All HasValidNames xs
   pub read : (text : List ℕ) → HasReadLines text old (line.Header ∷ []) → HasReadLines text now (node_prefix count xs)
 
 pub nodes_none : (old now : LevelReader) (count : ℕ) → ReadsLine old now (codes "nodes " ++ decimal count) × IsLevelCount count → NodesSoFar old now count 0 []
 nodes_none old now count takes = record {
   counted = takes.1;
   many = refl;
-  good = All-nil IsNode;
+  good = All-nil HasValidNames;
   read = λ text read. took text old now (line.Header ∷ []) (line.Nodes count) read takes.0;
 }
 
@@ -38,20 +38,20 @@ pub no_count_of_nodes : (old : LevelReader) (why : LevelText) → MissesLine old
 no_count_of_nodes old why miss text read = missed (line.Header ∷ []) (λ n. codes "nodes " ++ decimal n) IsLevelCount count_of_nodes text old read why miss
 
 module _ (old now : LevelReader) (count i : ℕ) (xs : List NodeName) (so_far : NodesSoFar old now count i xs) where
-  pub nodes_more : (new : LevelReader) (x : NodeName) → ReadsLine now new (level_line_text (line.Node x)) × IsNode x → NodesSoFar old new count (i + 1) (xs ++ x ∷ [])
+  pub nodes_more : (new : LevelReader) (x : NodeName) → ReadsLine now new (level_line_text (line.Node x)) × HasValidNames x → NodesSoFar old new count (i + 1) (xs ++ x ∷ [])
   nodes_more new x takes = record {
     counted = so_far.counted;
     many = omega (arith, so_far.many, length-append xs (x ∷ []));
-    good = All-push IsNode xs x so_far.good takes.1;
+    good = All-push HasValidNames xs x so_far.good takes.1;
     read = λ text read.
         subst (λ ls. HasReadLines text new (line.Header ∷ line.Nodes count ∷ ls)) (sym (map-append line.Node xs (x ∷ [])))
         (took text now new (node_prefix count xs) (line.Node x) (so_far.read text read) takes.0);
   }
 
-  pub no_node : i < count → (why : LevelText) → MissesLine now (λ met. (x : NodeName) → IsNode x → met ≢ level_line_text (line.Node x)) why
+  pub no_node : i < count → (why : LevelText) → MissesLine now (λ met. (x : NodeName) → HasValidNames x → met ≢ level_line_text (line.Node x)) why
       → (text : List ℕ) → HasReadLines text old (line.Header ∷ []) → StopsFor text why
   no_node low why miss text read =
-      missed (node_prefix count xs) (λ x. level_line_text (line.Node x)) IsNode (next_node count xs so_far.counted (omega (arith, so_far.many)) so_far.good) text now
+      missed (node_prefix count xs) (λ x. level_line_text (line.Node x)) HasValidNames (next_node count xs so_far.counted (omega (arith, so_far.many)) so_far.good) text now
       (so_far.read text read) why miss
 
   pub nodes_all : i ≡ count → (text : List ℕ) → HasReadLines text old (line.Header ∷ []) → AreNodesRead text now xs

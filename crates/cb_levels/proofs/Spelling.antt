@@ -11,7 +11,7 @@ use Rattle.cb_text.specs.Names.{is_name_byte, is_instance_byte, is_letter, IsRun
 use Rattle.cb_text.specs.Lines.{lines_of, lines_of_parts, line_limit, HasShortLines}
 use Rattle.cb_text.proofs.Cuts.{Lacks}
 use Rattle.cb_model.specs.declared.node.NodeName.{NodeName}
-use Rattle.cb_cert.specs.Format.{IsNode, node_limit}
+use Rattle.cb_cert.specs.Format.{HasValidNames, certificate_node_limit}
 use Rattle.cb_levels.specs.declared.levels.LevelEntry.{LevelEntry}
 use Rattle.cb_levels.specs.declared.levels.Levels.{Levels}
 use Rattle.cb_levels.specs.declared.line.LevelLine.{LevelLine}
@@ -118,25 +118,25 @@ good_end : IsGoodLine line.End
 good_end = record { lacks = lacks_by (codes "end") refl; short = omega arith }
 
 -- a word and a number
-counted : (word : List ℕ) (n : ℕ) → n ≤ node_limit → length (word ++ decimal n) ≤ length word + 5
+counted : (word : List ℕ) (n : ℕ) → n ≤ certificate_node_limit → length (word ++ decimal n) ≤ length word + 5
 counted word n few =
     let digits = length-decimal-le 5 n (omega arith) (omega arith) (omega arith) in
     let whole = length-append word (decimal n) in
     omega arith
 
-good_nodes : (n : ℕ) → n ≤ node_limit → IsGoodLine (line.Nodes n)
+good_nodes : (n : ℕ) → n ≤ certificate_node_limit → IsGoodLine (line.Nodes n)
 good_nodes n few = record {
   lacks = both (codes "nodes ") (decimal n) (lacks_by (codes "nodes ") refl) (decimal_lacks n (omega arith));
   short = let long = counted (codes "nodes ") n few in omega arith;
 }
 
-good_entries : (n : ℕ) → n ≤ node_limit → IsGoodLine (line.Entries n)
+good_entries : (n : ℕ) → n ≤ certificate_node_limit → IsGoodLine (line.Entries n)
 good_entries n few = record {
   lacks = both (codes "entries ") (decimal n) (lacks_by (codes "entries ") refl) (decimal_lacks n (omega arith));
   short = let long = counted (codes "entries ") n few in omega arith;
 }
 
-good_node : (n : NodeName) → IsNode n → IsGoodLine (line.Node n)
+good_node : (n : NodeName) → HasValidNames n → IsGoodLine (line.Node n)
 good_node n is =
     let word = codes "node " in
     let event = is.0 in
@@ -153,7 +153,7 @@ good_node n is =
       short = omega arith;
     }
 
-good_entry : (n : ℕ) → n ≤ node_limit → (e : LevelEntry) → IsLevelEntry n e → IsGoodLine (line.Entry e)
+good_entry : (n : ℕ) → n ≤ certificate_node_limit → (e : LevelEntry) → IsLevelEntry n e → IsGoodLine (line.Entry e)
 good_entry n few e is =
     let word = codes "entry " in
     let gap = codes " " in
@@ -190,7 +190,7 @@ all_good levels is =
     (All-weaker (IsLevelEntry (length levels.nodes)) (λ e. IsGoodLine (line.Entry e)) (good_entry (length levels.nodes) few) levels.entries is.each)
     in
     let entries = All-cons IsGoodLine (line.Entries (length levels.entries)) (map line.Entry levels.entries) (good_entries (length levels.entries) many) each in
-    let names = All-map IsGoodLine line.Node levels.nodes (All-weaker IsNode (λ n. IsGoodLine (line.Node n)) good_node levels.nodes is.names) in
+    let names = All-map IsGoodLine line.Node levels.nodes (All-weaker HasValidNames (λ n. IsGoodLine (line.Node n)) good_node levels.nodes is.names) in
     let nodes = All-cons IsGoodLine (line.Nodes (length levels.nodes)) (map line.Node levels.nodes) (good_nodes (length levels.nodes) few) names in
     All-cons IsGoodLine line.Header (node_part levels.nodes ++ (entry_part levels.entries ++ line.End ∷ [])) good_header
     (All-append IsGoodLine (node_part levels.nodes) (entry_part levels.entries ++ line.End ∷ []) nodes

@@ -50,8 +50,8 @@ abbrev pub level_checks : Levels → List LevelCheck
 level_checks levels = node_checks levels ++ root_check ∷ (later_checks levels ++ closing_checks levels)
 
 -- there is an entry at the position, such that P
-abbrev pub EntryIs : Levels → ℕ → (LevelEntry → Type 0) → Type 0
-EntryIs levels position P = (entry : LevelEntry) × (slice_get levels.entries position ≡ Some entry) × P entry
+abbrev pub LevelEntryIs : Levels → ℕ → (LevelEntry → Type 0) → Type 0
+LevelEntryIs levels position P = (entry : LevelEntry) × (slice_get levels.entries position ≡ Some entry) × P entry
 
 -- the parent is the position, counted from 1, of an entry before this position, which counts from 0
 abbrev pub IsParentEarlier : ℕ → LevelEntry → Type 0
@@ -79,8 +79,8 @@ abbrev pub IsTooFar : Levels → ℕ → NodeName → Type 0
 IsTooFar levels level q = (position : ℕ) × (entry : LevelEntry) × IsEntryAt levels position entry q × (level + 1 < entry.level)
 
 -- all successors of the node of the entry at the position are listed
-abbrev pub IsClosedAt : Topology → Levels → ℕ → Type 0
-IsClosedAt t levels position = (entry : LevelEntry) (p q : NodeName) → IsEntryAt levels position entry p → Edge t p q → ListsInLevels levels q
+abbrev pub AreLevelsClosedAt : Topology → Levels → ℕ → Type 0
+AreLevelsClosedAt t levels position = (entry : LevelEntry) (p q : NodeName) → IsEntryAt levels position entry p → Edge t p q → ListsInLevels levels q
 
 -- none of them is listed more than one level above it
 abbrev pub IsShortAt : Topology → Levels → ℕ → Type 0
@@ -90,11 +90,11 @@ IsShortAt t levels position = (entry : LevelEntry) (p q : NodeName) → IsEntryA
 abbrev pub PassesCheck : Topology → Levels → LevelCheck → Type 0
 PassesCheck t levels (node_check position) = IsGoodNode t levels.nodes position
 PassesCheck t levels root_check = (root : NodeName) × BeginsAtProblem t levels root
-PassesCheck t levels (parent_check position) = EntryIs levels position (IsParentEarlier position)
-PassesCheck t levels (edge_check position) = EntryIs levels position (HasEdgeFromParent t levels)
+PassesCheck t levels (parent_check position) = LevelEntryIs levels position (IsParentEarlier position)
+PassesCheck t levels (edge_check position) = LevelEntryIs levels position (HasEdgeFromParent t levels)
 PassesCheck t levels (new_check position) = IsFirstListed levels position
-PassesCheck t levels (level_check position) = EntryIs levels position (IsOneAbove levels)
-PassesCheck t levels (closed_check position) = IsClosedAt t levels position
+PassesCheck t levels (level_check position) = LevelEntryIs levels position (IsOneAbove levels)
+PassesCheck t levels (closed_check position) = AreLevelsClosedAt t levels position
 PassesCheck t levels (short_check position) = IsShortAt t levels position
 
 -- the least successor of the entry's node such that P
@@ -107,16 +107,16 @@ pub record IsLeastSuccessor (t : Topology) (levels : Levels) (position : ℕ) (P
   pub least : (other : NodeName) → Edge t node other → P entry other → node_cmp other successor ≢ Less
 
 -- what is reported where a check fails: the position of a node or of an entry, which count from 1
-abbrev pub ReportsCheck : Topology → Levels → LevelCheck → LevelFault → Type 0
-ReportsCheck t levels (node_check position) why = why ≡ BadNode (position + 1)
-ReportsCheck t levels root_check why = why ≡ BadRoot 1
-ReportsCheck t levels (parent_check position) why = why ≡ BadParent (position + 1)
-ReportsCheck t levels (edge_check position) why = why ≡ NoEdge (position + 1)
-ReportsCheck t levels (new_check position) why = why ≡ Repeated (position + 1)
-ReportsCheck t levels (level_check position) why = why ≡ BadLevel (position + 1)
-ReportsCheck t levels (closed_check position) why =
+abbrev pub ReportsLevelCheck : Topology → Levels → LevelCheck → LevelFault → Type 0
+ReportsLevelCheck t levels (node_check position) why = why ≡ BadNode (position + 1)
+ReportsLevelCheck t levels root_check why = why ≡ BadRoot 1
+ReportsLevelCheck t levels (parent_check position) why = why ≡ BadParent (position + 1)
+ReportsLevelCheck t levels (edge_check position) why = why ≡ NoEdge (position + 1)
+ReportsLevelCheck t levels (new_check position) why = why ≡ Repeated (position + 1)
+ReportsLevelCheck t levels (level_check position) why = why ≡ BadLevel (position + 1)
+ReportsLevelCheck t levels (closed_check position) why =
     (successor : NodeName) × IsLeastSuccessor t levels position (λ entry q. ¬ ListsInLevels levels q) successor × (why ≡ NotClosed (position + 1) successor)
-ReportsCheck t levels (short_check position) why =
+ReportsLevelCheck t levels (short_check position) why =
     (successor : NodeName) × IsLeastSuccessor t levels position (λ entry q. IsTooFar levels entry.level q) successor × (why ≡ NotShort (position + 1) successor)
 
 -- of these checks all before one are passed, and that one fails and reports this
@@ -127,7 +127,7 @@ pub record FailsFirstOf (t : Topology) (levels : Levels) (checks : List LevelChe
   pub are : checks ≡ before ++ check ∷ after
   pub passed : All (PassesCheck t levels) before
   pub fails : ¬ PassesCheck t levels check
-  pub tells : ReportsCheck t levels check why
+  pub tells : ReportsLevelCheck t levels check why
 
 -- the levels are rejected for this
 abbrev pub IsRejectedFor : Topology → Levels → LevelFault → Type 0
@@ -139,8 +139,8 @@ StopsChecks t levels checks NoMemory = ⊤
 StopsChecks t levels checks why = FailsFirstOf t levels checks why
 
 -- the levels are rejected for this, or memory ran out
-abbrev pub TellsFault : Topology → Levels → LevelFault → Type 0
-TellsFault t levels why = StopsChecks t levels (level_checks levels) why
+abbrev pub TellsLevelFault : Topology → Levels → LevelFault → Type 0
+TellsLevelFault t levels why = StopsChecks t levels (level_checks levels) why
 
 -- what accepted levels show: their problem, how many entries there are, and the greatest of their levels
 pub record ShowsReach (t : Topology) (levels : Levels) (proved : Proved) : Type 0 where

@@ -57,16 +57,16 @@ TrailIsShortChain = (t : Topology) (p s : NodeName) (levels : Levels) (position 
     → AreCanonicalLevels t p levels → IsEntryAt levels position entry s → IsTrail levels position nodes → IsShortChain t p s nodes
 
 -- levels are valid exactly if they pass all their checks
-abbrev pub ValidPassesAll : Type 0
-ValidPassesAll = (t : Topology) (levels : Levels) → AreValidLevels t levels ↔ All (PassesCheck t levels) (level_checks levels)
+abbrev pub ValidLevelsPassAll : Type 0
+ValidLevelsPassAll = (t : Topology) (levels : Levels) → AreValidLevels t levels ↔ All (PassesCheck t levels) (level_checks levels)
 
 -- levels are rejected for one reason
-abbrev pub FirstFailIsOne : Type 0
-FirstFailIsOne = (t : Topology) (levels : Levels) (a b : LevelFault) → IsRejectedFor t levels a → IsRejectedFor t levels b → a ≡ b
+abbrev pub LevelFaultIsOne : Type 0
+LevelFaultIsOne = (t : Topology) (levels : Levels) (a b : LevelFault) → IsRejectedFor t levels a → IsRejectedFor t levels b → a ≡ b
 
 -- no valid levels are rejected
-abbrev pub ValidIsNotRejected : Type 0
-ValidIsNotRejected = (t : Topology) (levels : Levels) (why : LevelFault) → AreValidLevels t levels → ¬ IsRejectedFor t levels why
+abbrev pub ValidLevelsAreNotRejected : Type 0
+ValidLevelsAreNotRejected = (t : Topology) (levels : Levels) (why : LevelFault) → AreValidLevels t levels → ¬ IsRejectedFor t levels why
 
 -- parents can be followed in valid levels
 abbrev pub ValidCanBeFollowed : Type 0

@@ -2,7 +2,7 @@
 use Rattle.std.specs.Prelude.{◌≡◌, ◌≢◌, ◌⊎◌, ⊤, ℕ, ◌+◌, ◌-◌, ◌^◌, ◌<◌, min, List, [], ◌∷◌, ◌++◌, length, map, Result, Ok, Err}
 use Rattle.std.specs.List.{All}
 use Rattle.cb_text.specs.Lines.{lines_of}
-use Rattle.cb_cert.specs.Format.{IsNode}
+use Rattle.cb_cert.specs.Format.{HasValidNames}
 use Rattle.cb_model.specs.declared.node.NodeName.{NodeName}
 use Rattle.cb_levels.specs.declared.fault.LevelText.{LevelText}
 use Rattle.cb_levels.specs.declared.fault.LevelText.TheVariants as fault
@@ -35,7 +35,7 @@ pub record ReadsLine (old new : LevelReader) (met : List ℕ) : Type 0 where
   pub number_is : new.number ≡ min (old.number + 1) (2 ^ 64 - 1)
 
 -- the next line is wrong
-pub record IsWrongLine (old : LevelReader) (number : ℕ) (Wrong : List ℕ → Type 0) : Type 0 where
+pub record IsLevelLineWrong (old : LevelReader) (number : ℕ) (Wrong : List ℕ → Type 0) : Type 0 where
   pub met : List ℕ
   pub after : List (List ℕ)
   pub lines_are : old.lines ≡ met ∷ after
@@ -45,14 +45,14 @@ pub record IsWrongLine (old : LevelReader) (number : ℕ) (Wrong : List ℕ → 
 -- why the next line isn't read: there is none, it is wrong, or memory ran out
 abbrev pub MissesLine : LevelReader → (List ℕ → Type 0) → LevelText → Type 0
 MissesLine old Wrong fault.Truncated = old.lines ≡ []
-MissesLine old Wrong (fault.BadLine number) = IsWrongLine old number Wrong
+MissesLine old Wrong (fault.BadLine number) = IsLevelLineWrong old number Wrong
 MissesLine old Wrong fault.NoMemory = ⊤
 MissesLine old Wrong why = ⊥
 
 -- the next line is read, which has this form for something such that P; or it is missing or not of this form
-abbrev pub TakesLine : {X : Type 0} → (X → List ℕ) → (X → Type 0) → LevelReader → LevelReader → Result X LevelText → Type 0
-TakesLine form P old new (Ok x) = ReadsLine old new (form x) × P x
-TakesLine {X} form P old new (Err why) = MissesLine old (λ met. (x : X) → P x → met ≢ form x) why
+abbrev pub TakesLevelLine : {X : Type 0} → (X → List ℕ) → (X → Type 0) → LevelReader → LevelReader → Result X LevelText → Type 0
+TakesLevelLine form P old new (Ok x) = ReadsLine old new (form x) × P x
+TakesLevelLine {X} form P old new (Err why) = MissesLine old (λ met. (x : X) → P x → met ≢ form x) why
 
 -- memory ran out, or the text has this fault
 abbrev pub StopsFor : List ℕ → LevelText → Type 0
@@ -61,7 +61,7 @@ StopsFor text why = (why ≡ fault.NoMemory) ⊎ IsLevelFault text why
 -- nodes of the format, whose lines were read
 pub record AreNodesRead (text : List ℕ) (reader : LevelReader) (nodes : List NodeName) : Type 0 where
   pub count : IsLevelCount (length nodes)
-  pub names : All IsNode nodes
+  pub names : All HasValidNames nodes
   pub read : HasReadLines text reader (node_prefix (length nodes) nodes)
 
 -- after the header nodes are read, or it is known why not

@@ -1,7 +1,7 @@
 //! What holds of levels, whatever the program does. Each law is the contract of a function that does nothing.
 ghost use Rattle.cb_levels.specs.Laws.{LevelIsOne, PreviousIsOne, ShortChainIsOne, ShortChainIsShortest};
 ghost use Rattle.cb_levels.specs.Laws.{ValidListsLevels, CanonicalIsValid, CanonicalIsOne, TrailIsShortChain};
-ghost use Rattle.cb_levels.specs.Laws.{ValidPassesAll, FirstFailIsOne, ValidIsNotRejected, ValidCanBeFollowed};
+ghost use Rattle.cb_levels.specs.Laws.{ValidLevelsPassAll, LevelFaultIsOne, ValidLevelsAreNotRejected, ValidCanBeFollowed};
 ghost use Rattle.cb_levels.specs.Laws.{ValidIsOfFormat, FormatIsSmall, LevelLinesAreOfOne, LevelTextSpells, LevelReadingIsOne, WrittenLevelsAreRead};
 ghost use Rattle.cb_levels.specs.Laws.{LevelsTextIsShort, SpelledLevelsAreShort};
 
@@ -47,17 +47,17 @@ pub fn trail_is_short_chain()
 
 /// Levels are valid exactly if they pass all their checks.
 pub fn valid_passes_all()
-    ensures { ValidPassesAll }
+    ensures { ValidLevelsPassAll }
 {}
 
 /// Levels are rejected for one reason.
 pub fn first_fail_is_one()
-    ensures { FirstFailIsOne }
+    ensures { LevelFaultIsOne }
 {}
 
 /// No valid levels are rejected.
 pub fn valid_is_not_rejected()
-    ensures { ValidIsNotRejected }
+    ensures { ValidLevelsAreNotRejected }
 {}
 
 /// Parents can be followed in valid levels.

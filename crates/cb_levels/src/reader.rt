@@ -1,12 +1,12 @@
 //! A text of levels, one line after the other.
 ghost use Rattle.std.specs.Prelude.{◌≡◌, ◌++◌, [], ◌∷◌, decimal, IfOk, IfErr};
-ghost use Rattle.cb_cert.specs.Format.{IsNode};
+ghost use Rattle.cb_cert.specs.Format.{HasValidNames};
 ghost use Rattle.cb_levels.specs.declared.fault.LevelText.TheVariants.{BadLine, Truncated};
 ghost use Rattle.cb_levels.specs.declared.line.LevelLine.TheVariants as line;
 ghost use Rattle.cb_levels.specs.Text.{level_line_text};
 ghost use Rattle.cb_levels.specs.Format.{IsLevelCount, IsLevelEntry};
 ghost use Rattle.cb_levels.specs.Faults.{IsLevelFault};
-ghost use Rattle.cb_levels.specs.Steps.{HasReadLines, ReadsLine, TakesLine, ReadsNodes, ReadsEntries, FinishesLevels};
+ghost use Rattle.cb_levels.specs.Steps.{HasReadLines, ReadsLine, TakesLevelLine, ReadsNodes, ReadsEntries, FinishesLevels};
 
 use crate::fault::LevelText;
 use crate::levels::LevelEntry;
@@ -84,7 +84,7 @@ impl<'a> LevelReader<'a> {
 
     // How many items follow, after a word.
     fn count(&mut self, word: &[u8]) -> Result<u32, LevelText>
-        ensures { TakesLine (λ n. word.now ++ decimal n) IsLevelCount self.old self.new result }
+        ensures { TakesLevelLine (λ n. word.now ++ decimal n) IsLevelCount self.old self.new result }
     {
         let line = self.next()?;
         let Some(count) = count_after(line, word) else {
@@ -95,7 +95,7 @@ impl<'a> LevelReader<'a> {
 
     // A node.
     fn node(&mut self, alloc: Global) -> Result<NodeName, LevelText>
-        ensures { TakesLine (λ n. level_line_text (line.Node n)) IsNode self.old self.new result }
+        ensures { TakesLevelLine (λ n. level_line_text (line.Node n)) HasValidNames self.old self.new result }
     {
         let line = self.next()?;
         let Some(node) = node_of(alloc, line)? else {
@@ -106,7 +106,7 @@ impl<'a> LevelReader<'a> {
 
     // An entry, among `nodes` nodes.
     fn entry(&mut self, nodes: u32) -> Result<LevelEntry, LevelText>
-        ensures { TakesLine (λ e. level_line_text (line.Entry e)) (IsLevelEntry nodes) self.old self.new result }
+        ensures { TakesLevelLine (λ e. level_line_text (line.Entry e)) (IsLevelEntry nodes) self.old self.new result }
     {
         let line = self.next()?;
         let Some(entry) = entry_of(line, nodes) else {

@@ -1,7 +1,7 @@
 //! Parts of lines.
 ghost use Rattle.std.specs.Prelude.{◌≡◌, ◌≢◌, ◌++◌, ◌∷◌, ℕ, List, decimal, IfSome, IfNone, IfOk, IsTrue, ◌↔◌};
 ghost use Rattle.cb_cert.specs.Format.{IsBetween};
-ghost use Rattle.cb_levels.specs.Numbers.{AreAroundSpace, AreEntryNumbers, IsEntryLine, IsNodeLine};
+ghost use Rattle.cb_levels.specs.Numbers.{AreAroundSpace, AreEntryNumbers, IsEntryLine, IsLevelNodeLine};
 
 use crate::levels::LevelEntry;
 use crate::limits::MOST_NODES;
@@ -92,7 +92,7 @@ pub(crate) fn is_text(bytes: &[u8], text: &[u8]) -> bool
 
 /// The node of a line. Memory may run out for its names.
 pub(crate) fn node_of(alloc: Global, bytes: &[u8]) -> Result<Option<NodeName>, AllocError>
-    ensures { IfOk result (IsNodeLine bytes.now) }
+    ensures { IfOk result (IsLevelNodeLine bytes.now) }
 {
     let Some(rest) = rest_after(bytes, b"node ") else {
         return Ok(None);

@@ -9,7 +9,7 @@ use Rattle.cb_lexer.specs.declared.found.Found.{Found}
 use Rattle.cb_lexer.specs.declared.found.Found.TheVariants.{Token, End, Bad, Long}
 use Rattle.cb_lexer.specs.Places.{IsSpot, line_of, column_of}
 use Rattle.cb_lexer.specs.Gaps.{gap, IsGap, IsLastGap}
-use Rattle.cb_lexer.specs.Tokens.{IsTokenAt, NoSign, BeginsNone, IsLongRun, bytes_of, Stands}
+use Rattle.cb_lexer.specs.Tokens.{IsTokenAt, NoSign, BeginsNone, IsLongRun, bytes_of, TokenStands}
 use Rattle.cb_lexer.specs.Next.{IsAfterGap, IsNext}
 use Rattle.cb_lexer.proofs.Bytes.{gap-append, split_at}
 use Rattle.cb_lexer.proofs.Runs.{true_false, longest, run_named}
@@ -48,7 +48,7 @@ bad_no_sign [] bad = absurd bad
 bad_no_sign (c ∷ y) bad = bad.2
 
 -- at one place there is no token and a byte that begins none
-token_not_bad : (text : List ℕ) (from start : ℕ) (k : Lexeme) (end : ℕ) → Stands text from start k end → BeginsNone (drop start text) → ⊥
+token_not_bad : (text : List ℕ) (from start : ℕ) (k : Lexeme) (end : ℕ) → TokenStands text from start k end → BeginsNone (drop start text) → ⊥
 token_not_bad text from start k end s bad =
     let whole = token_cut text from start k end s in
     elim (shape text (drop end text) start k s.whole) [
@@ -80,7 +80,7 @@ short text r start lexemes.Arrow at = omega arith
 short text r start lexemes.Plus at = omega arith
 
 -- at one place there is no token and a run that is too long
-token_not_long : (text : List ℕ) (from start : ℕ) (k : Lexeme) (end to : ℕ) → Stands text from start k end → IsLongRun text start to → ⊥
+token_not_long : (text : List ℕ) (from start : ℕ) (k : Lexeme) (end to : ℕ) → TokenStands text from start k end → IsLongRun text start to → ⊥
 token_not_long text from start k end to s long =
     let same : bytes_of k ++ drop end text ≡ slice_range text start to ++ drop to text = token_cut text from start k end s ∙ sym (long_cut text start to long) in
     elim (shape text (drop end text) start k s.whole) [
@@ -150,5 +150,5 @@ is_spot_at : (text : List ℕ) (at : ℕ) → at ≤ length text → IsSpot text
 is_spot_at text at within = record { within = within; line = refl; column = refl }
 
 -- a token that stands in a text is what stands next
-pub token_next : (text : List ℕ) (from start : ℕ) (k : Lexeme) (end : ℕ) → Stands text from start k end → IsNext text from (Token k (spot_at text start) (spot_at text end))
+pub token_next : (text : List ℕ) (from start : ℕ) (k : Lexeme) (end : ℕ) → TokenStands text from start k end → IsNext text from (Token k (spot_at text start) (spot_at text end))
 token_next text from start k end s = (record { spot = is_spot_at text start (omega (arith, s.length, s.within)); after = s.after; gap = s.gap }, is_spot_at text end s.within, s)

@@ -8,7 +8,7 @@ use Rattle.cb_grammar.specs.declared.tree.Token.{Token}
 use Rattle.cb_grammar.specs.declared.lexeme.Lexeme.{Lexeme}
 use Rattle.cb_grammar.specs.declared.lexeme.Lexeme.TheVariants as lexemes
 use Rattle.cb_lexer.specs.Gaps.{gap, gap_then, gap_byte, IsGap}
-use Rattle.cb_lexer.specs.Tokens.{IsNameAt, IsTokenAt, IsWord, IsSign, EndsRun, bytes_of, Stands}
+use Rattle.cb_lexer.specs.Tokens.{IsNameAt, IsTokenAt, IsWord, IsSign, EndsRun, bytes_of, TokenStands}
 use Rattle.cb_lexer.proofs.Bytes.{split_at, range_end}
 use Rattle.cb_lexer.proofs.Runs.{one_run, run_named, head, tail}
 use Rattle.cb_lexer.proofs.Words.{word_run, word_reserved}
@@ -190,11 +190,11 @@ token_starts k r (inl a) = run_starts (bytes_of k) r a.0
 token_starts k r (inr s) = sign_starts k r s
 
 -- a token's bytes and what is after them
-pub token_cut : (text : List ℕ) (from start : ℕ) (k : Lexeme) (end : ℕ) → Stands text from start k end → bytes_of k ++ drop end text ≡ drop start text
+pub token_cut : (text : List ℕ) (from start : ℕ) (k : Lexeme) (end : ℕ) → TokenStands text from start k end → bytes_of k ++ drop end text ≡ drop start text
 token_cut text from start k end s = ap (λ l. l ++ drop end text) (sym s.bytes) ∙ split_at text start end (omega (arith, s.length))
 
 -- what stands at a token's place is no part of a gap
-pub token_no_gap : (text : List ℕ) (from start : ℕ) (k : Lexeme) (end : ℕ) → Stands text from start k end → NoGapAt (drop start text)
+pub token_no_gap : (text : List ℕ) (from start : ℕ) (k : Lexeme) (end : ℕ) → TokenStands text from start k end → NoGapAt (drop start text)
 token_no_gap text from start k end s = subst NoGapAt (token_cut text from start k end s) (token_starts k (drop end text) (shape text (drop end text) start k s.whole))
 
 -- of two places after a gap at what is no part of one, each is the other
@@ -205,7 +205,7 @@ one_place text from at at' after after' within within' gap gap' none none' =
     range_end text from at after within ∙ ap (λ l. from + length l) same ∙ sym (range_end text from at' after' within')
 
 -- one token begins and ends at a place
-one_there : (text : List ℕ) (from start : ℕ) (k k' : Lexeme) (end end' : ℕ) → Stands text from start k end → Stands text from start k' end' → (k ≡ k') × (end ≡ end')
+one_there : (text : List ℕ) (from start : ℕ) (k k' : Lexeme) (end end' : ℕ) → TokenStands text from start k end → TokenStands text from start k' end' → (k ≡ k') × (end ≡ end')
 one_there text from start k k' end end' s s' =
     let bytes : bytes_of k ≡ bytes_of k' =
     one_bytes k k' (drop end text) (drop end' text) (shape text (drop end text) start k s.whole) (shape text (drop end' text) start k' s'.whole)
@@ -213,13 +213,13 @@ one_there text from start k k' end end' s s' =
     (same_token text (drop end text) (drop end' text) start k k' s.whole s'.whole bytes, omega (arith, s.length, s'.length, ap length bytes))
 
 -- two tokens after one place begin at one place
-token_place : (text : List ℕ) (from start start' : ℕ) (k k' : Lexeme) (end end' : ℕ) → Stands text from start k end → Stands text from start' k' end' → start ≡ start'
+token_place : (text : List ℕ) (from start start' : ℕ) (k k' : Lexeme) (end end' : ℕ) → TokenStands text from start k end → TokenStands text from start' k' end' → start ≡ start'
 token_place text from start start' k k' end end' s s' =
     one_place text from start start' s.after s'.after (omega (arith, s.length, s.within)) (omega (arith, s'.length, s'.within)) s.gap s'.gap (token_no_gap text from start k end s) (token_no_gap text from start' k' end' s')
 
 -- one token stands after a place
-pub one_token : (text : List ℕ) (from start start' : ℕ) (k k' : Lexeme) (end end' : ℕ) → Stands text from start k end → Stands text from start' k' end' → (start ≡ start') × (k ≡ k') × (end ≡ end')
+pub one_token : (text : List ℕ) (from start start' : ℕ) (k k' : Lexeme) (end end' : ℕ) → TokenStands text from start k end → TokenStands text from start' k' end' → (start ≡ start') × (k ≡ k') × (end ≡ end')
 one_token text from start start' k k' end end' s s' =
     let at : start ≡ start' = token_place text from start start' k k' end end' s s' in
-    let same = one_there text from start k k' end end' s (subst (λ n. Stands text from n k' end') (sym at) s') in
+    let same = one_there text from start k k' end end' s (subst (λ n. TokenStands text from n k' end') (sym at) s') in
     (at, same.0, same.1)

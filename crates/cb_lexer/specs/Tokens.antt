@@ -60,18 +60,18 @@ IsSign lexemes.Arrow = Unit {0}
 IsSign lexemes.Plus = Unit {0}
 IsSign k = ⊥
 
-abbrev pub BeginsWith : List ℕ → List ℕ → Type 0
-BeginsWith bytes prefix = (more : List ℕ) × (bytes ≡ prefix ++ more)
+abbrev pub TextBeginsWith : List ℕ → List ℕ → Type 0
+TextBeginsWith bytes prefix = (more : List ℕ) × (bytes ≡ prefix ++ more)
 
 -- a sign of that length begins the bytes
 pub record IsSignAt (bytes : List ℕ) (k : Lexeme) (count : ℕ) : Type 0 where
   pub sign : IsSign k
   pub count_is : count ≡ length (bytes_of k)
-  pub prefix : BeginsWith bytes (bytes_of k)
+  pub prefix : TextBeginsWith bytes (bytes_of k)
 
 -- no sign begins the bytes
 abbrev pub NoSign : List ℕ → Type 0
-NoSign bytes = (k : Lexeme) → IsSign k → BeginsWith bytes (bytes_of k) → ⊥
+NoSign bytes = (k : Lexeme) → IsSign k → TextBeginsWith bytes (bytes_of k) → ⊥
 
 -- the bytes do not begin with one of a name
 abbrev pub EndsRun : List ℕ → Type 0
@@ -98,7 +98,7 @@ IsTokenAt text start (lexemes.Name t) rest = IsNameAt text start t rest
 IsTokenAt text start k rest = EndsRun rest
 
 -- token k is the next one from a position on: it begins at start and ends at end
-pub record Stands (text : List ℕ) (from start : ℕ) (k : Lexeme) (end : ℕ) : Type 0 where
+pub record TokenStands (text : List ℕ) (from start : ℕ) (k : Lexeme) (end : ℕ) : Type 0 where
   pub after : from ≤ start
   pub within : end ≤ length text
   pub gap : IsGap (slice_range text from start)
@@ -109,7 +109,7 @@ pub record Stands (text : List ℕ) (from start : ℕ) (k : Lexeme) (end : ℕ) 
 -- these tokens stand in the text, one after the other, from one position to another
 abbrev pub ReadsTokens : List ℕ → ℕ → List Lexeme → ℕ → Type 0
 ReadsTokens text from [] to = from ≡ to
-ReadsTokens text from (k ∷ ks) to = (start mid : ℕ) × Stands text from start k mid × ReadsTokens text mid ks to
+ReadsTokens text from (k ∷ ks) to = (start mid : ℕ) × TokenStands text from start k mid × ReadsTokens text mid ks to
 
 -- a name that begins at a position
 pub record IsNameFrom (start : Spot) (t : Token) : Type 0 where

@@ -3,7 +3,7 @@ use Rattle.std.proofs.Common.{◌≡◌, ◌↔◌, ℕ, List, [], ◌∷◌, �
 use Rattle.std.specs.Prelude.{⊤, MatchOption}
 use Rattle.std.specs.List.{All, Contains, slice_get}
 use Rattle.std.proofs.lemmas.List.Elements.{All-nil, All-push, Contains-append_left, Contains-push, Contains-push_cases}
-use Rattle.cb_text.specs.Names.{IsRun, IsNode, is_letter}
+use Rattle.cb_text.specs.Names.{IsRun, IsNodeText, is_letter}
 use Rattle.cb_text.specs.Words.{IsPassedOver}
 use Rattle.cb_text.specs.Lines.{lines_of}
 use Rattle.cb_text.proofs.Cuts.{node_read_once}
@@ -41,7 +41,7 @@ one_node : (line : List ℕ) (m n : NodeName) → SpellsNode line m → SpellsNo
 one_node line m n a b =
     let words = sym a.words ∙ b.words in
     let word : a.word ≡ b.word = cc words in
-    let is = subst (λ (w : List ℕ). IsNode w m.event m.instance) word a.is in
+    let is = subst (λ (w : List ℕ). IsNodeText w m.event m.instance) word a.is in
     let parts = node_read_once b.word m.event m.instance n.event n.instance is b.is in
     λ i. record { event = parts.0 i; instance = parts.1 i }
 

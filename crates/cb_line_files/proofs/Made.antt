@@ -4,7 +4,7 @@ use Rattle.cb_network.specs.declared.edit.Edit.{Edit}
 use Rattle.cb_network.specs.declared.edit.Edit.TheVariants.{Create, Delete, Link, Unlink, Mute, Unmute}
 use Rattle.cb_network.specs.Laws.{HasGoodName}
 use Rattle.cb_network.specs.Topology.{Topology}
-use Rattle.cb_edits.specs.Spelled.{HasNames}
+use Rattle.cb_edits.specs.Spelled.{EditHasNames}
 use Rattle.cb_network.specs.Topology.{empty_topology}
 use Rattle.cb_model.specs.declared.tables.Tables.{Tables}
 use Rattle.cb_line_files.specs.declared.topology.TopologyStop.{TopologyStop}
@@ -14,7 +14,7 @@ use Rattle.cb_line_files.specs.Steps.{StopsTopologyLine}
 use Rattle.cb_line_files.specs.Topologies.{LineMakes, LinesMake, Stops, IsFirstWrong}
 
 -- a new instance of a spelled edit has a good name
-pub good_name : (edit : Edit) → HasNames edit → HasGoodName edit
+pub good_name : (edit : Edit) → EditHasNames edit → HasGoodName edit
 good_name (Create name class) names = names.0
 good_name (Delete name) names = tt
 good_name (Link a rel b) names = tt

@@ -1,7 +1,7 @@
 -- Symptom files: one node a line.
 use Rattle.std.specs.Prelude.{◌≡◌, ◌⊎◌, ℕ, List, [], ◌∷◌}
 use Rattle.std.specs.List.{All, Contains}
-use Rattle.cb_text.specs.Names.{IsNode}
+use Rattle.cb_text.specs.Names.{IsNodeText}
 use Rattle.cb_text.specs.Words.{words_of, IsPassedOver}
 use Rattle.cb_text.specs.Lines.{lines_of, HasShortLines, IsLineOf, IsFirstLong}
 use Rattle.cb_model.specs.declared.node.NodeName.{NodeName}
@@ -14,7 +14,7 @@ use Rattle.cb_line_files.specs.declared.symptoms.SymptomStop.TheVariants.{LongLi
 pub record SpellsNode (line : List ℕ) (node : NodeName) : Type 0 where
   pub word : List ℕ
   pub words : words_of line ≡ word ∷ []
-  pub is : IsNode word node.event node.instance
+  pub is : IsNodeText word node.event node.instance
 
 -- the line is ignored or one node
 abbrev pub IsSymptomLine : List ℕ → Type 0

@@ -9,8 +9,8 @@ use Rattle.cb_model.proofs.Rising.{nothing_in_empty, name_cmp_total, name_cmp_ex
 use Rattle.cb_network.proofs.Sets.{in_insert, in_remove, decide_key}
 use Rattle.cb_log.specs.declared.record.Body.TheVariants.{Raise, Clear}
 use Rattle.cb_log.specs.declared.record.Record.{Record}
-use Rattle.cb_log.specs.Kept.{Kept, fresh, OpenWindow, IsOpen, KeepsSource, StandsFor}
-use Rattle.cb_log.specs.Passing.{StaysUnlessDue, Passes, Raises, with_node, Clears}
+use Rattle.cb_log.specs.Kept.{Kept, fresh, OpenWindow, IsOpen, KeepsSource, StandsForRecords}
+use Rattle.cb_log.specs.Passing.{StaysUnlessDue, TimePasses, Raises, with_node, Clears}
 use Rattle.cb_log.specs.Records.{log_time, IsNotBy, IsByNone}
 use Rattle.cb_log.proofs.Longer.{longer, log_time_push}
 use Rattle.cb_log.proofs.KeptSteps.{IsUpdated, IsBegun, stays_closed, opens_new, stays_open, closes_open, reopens}
@@ -18,7 +18,7 @@ use Rattle.cb_log.proofs.KeptSteps.{IsUpdated, IsBegun, stays_closed, opens_new,
 none_in_empty : (source : List ℕ) → map.get (map.empty {X = OpenWindow} {R = name_cmp}) source ≡ None
 none_in_empty source = rw map.get-empty
 
-pub fresh_stands : (w : ℕ) → StandsFor (fresh w) []
+pub fresh_stands : (w : ℕ) → StandsForRecords (fresh w) []
 fresh_stands w = record {
   now = refl;
   windows = λ source. subst (KeepsSource [] w source) (sym (none_in_empty source)) (record {
@@ -47,9 +47,9 @@ aside_keeps records r w now source (Some kept) new at aside (inr not_due) keeps 
     subst (KeepsSource (longer records r) w source) (sym not_due.1)
     (stays_open records r w source kept keeps (λ past. let d = not_due.0 in absurd (omega arith)) kept.nodes (same_nodes source r aside kept.nodes))
 
-pub passing_stands : (old new : Kept) (records : List Record) (r : Record) → Passes old new r.at
+pub passing_stands : (old new : Kept) (records : List Record) (r : Record) → TimePasses old new r.at
     → IsByNone r
-    → StandsFor old records → StandsFor new (records ++ r ∷ [])
+    → StandsForRecords old records → StandsForRecords new (records ++ r ∷ [])
 passing_stands old new records r passes aside stands =
     let now : new.now ≡ max (log_time records) r.at = passes.now ∙ ap (λ (t : ℕ). max t r.at) stands.now in
     record {
@@ -131,8 +131,8 @@ module _ (source : List ℕ) (r : Record) (node : NodeName) where
 decide_name : (x y : List ℕ) → (x ≡ y) ⊎ (x ≢ y)
 decide_name = decide_key name_cmp_total name_cmp_exact
 
-pub clearing_stands : (old passed new : Kept) (records : List Record) (r : Record) (source : List ℕ) (node : NodeName) → Passes old passed r.at
-    → Clears passed new source node → r.body ≡ Clear source node → StandsFor old records → StandsFor new (records ++ r ∷ [])
+pub clearing_stands : (old passed new : Kept) (records : List Record) (r : Record) (source : List ℕ) (node : NodeName) → TimePasses old passed r.at
+    → Clears passed new source node → r.body ≡ Clear source node → StandsForRecords old records → StandsForRecords new (records ++ r ∷ [])
 clearing_stands old passed new records r source node passes clears clear stands =
     let now : passed.now ≡ max (log_time records) r.at = passes.now ∙ ap (λ (t : ℕ). max t r.at) stands.now in
     let keeps : (other : List ℕ) → KeepsSource (longer records r) old.length other (map.get new.windows other) = λ other.
@@ -151,7 +151,7 @@ clearing_stands old passed new records r source node passes clears clear stands 
     }
 
 pub raising_stands : (old new : Kept) (records : List Record) (r : Record) (source : List ℕ) (node : NodeName) → Raises old new r.at source node
-    → r.body ≡ Raise source node → StandsFor old records → StandsFor new (records ++ r ∷ [])
+    → r.body ≡ Raise source node → StandsForRecords old records → StandsForRecords new (records ++ r ∷ [])
 raising_stands old new records r source node raises raise stands =
     let now : new.now ≡ max (log_time records) r.at = raises.now ∙ ap (λ (t : ℕ). max t r.at) stands.now in
     let keeps : (other : List ℕ) → KeepsSource (longer records r) old.length other (map.get new.windows other) = λ other.

@@ -18,9 +18,9 @@ use Rattle.cb_log.specs.Basis.{Mode, wanted, Basis, IsDiagnosis}
 use Rattle.cb_log.specs.Closing.{ClosesAt, AreClosing}
 use Rattle.cb_log.specs.Entries.{LogEntry, records_of}
 use Rattle.cb_log.specs.Events.{HasBook, EntryGives, EntriesGive, EndGives}
-use Rattle.cb_log.specs.Kept.{Kept, fresh, StandsFor}
+use Rattle.cb_log.specs.Kept.{Kept, fresh, StandsForRecords}
 use Rattle.cb_log.specs.Network.{then_edits, IsNow, IsAcceptedAt}
-use Rattle.cb_log.specs.Passing.{Passes, Raises, Clears, AreDue, AreOpen}
+use Rattle.cb_log.specs.Passing.{TimePasses, Raises, Clears, AreDue, AreOpen}
 use Rattle.cb_log.specs.Records.{IsByNone}
 use Rattle.cb_log.specs.Sources.{quieted, diagnoses_of, SourceAlone}
 use Rattle.cb_log.specs.Whole.{OneForEach, is_thin, TellsThin, KeepsApart}
@@ -38,31 +38,31 @@ ClosingIsOne = (records : List Record) (w place : ℕ) (xs ys : List Closed) →
 
 -- with no open window, at time 0, it stands for no records
 abbrev pub FreshStands : Type 0
-FreshStands = (w : ℕ) → StandsFor (fresh w) []
+FreshStands = (w : ℕ) → StandsForRecords (fresh w) []
 
 -- where time goes by and the windows that are due go, what is kept stands for the records with one more that is no raise and no clear
 abbrev pub PassingStands : Type 0
-PassingStands = (old new : Kept) (records : List Record) (r : Record) → Passes old new r.at
-    → IsByNone r → StandsFor old records → StandsFor new (records ++ r ∷ [])
+PassingStands = (old new : Kept) (records : List Record) (r : Record) → TimePasses old new r.at
+    → IsByNone r → StandsForRecords old records → StandsForRecords new (records ++ r ∷ [])
 
 -- where the node is raised besides, it stands for the records with one more that is this raise
 abbrev pub RaisingStands : Type 0
 RaisingStands = (old new : Kept) (records : List Record) (r : Record) (source : List ℕ) (node : NodeName) → Raises old new r.at source node
-    → r.body ≡ Raise source node → StandsFor old records → StandsFor new (records ++ r ∷ [])
+    → r.body ≡ Raise source node → StandsForRecords old records → StandsForRecords new (records ++ r ∷ [])
 
 -- where the node is then cleared, it stands for the records with one more that is this clear
 abbrev pub ClearingStands : Type 0
-ClearingStands = (old passed new : Kept) (records : List Record) (r : Record) (source : List ℕ) (node : NodeName) → Passes old passed r.at
-    → Clears passed new source node → r.body ≡ Clear source node → StandsFor old records → StandsFor new (records ++ r ∷ [])
+ClearingStands = (old passed new : Kept) (records : List Record) (r : Record) (source : List ℕ) (node : NodeName) → TimePasses old passed r.at
+    → Clears passed new source node → r.body ≡ Clear source node → StandsForRecords old records → StandsForRecords new (records ++ r ∷ [])
 
 -- the windows that are due are those that the next record closes
 abbrev pub DueAreClosing : Type 0
-DueAreClosing = (kept : Kept) (records : List Record) (r : Record) (closing : List Closed) → StandsFor kept records
+DueAreClosing = (kept : Kept) (records : List Record) (r : Record) (closing : List Closed) → StandsForRecords kept records
     → AreDue kept (max kept.now r.at) closing → AreClosing (records ++ r ∷ []) kept.length (length records) closing
 
 -- all open windows are those that the end closes
 abbrev pub OpenAreClosing : Type 0
-OpenAreClosing = (kept : Kept) (records : List Record) (closing : List Closed) → StandsFor kept records
+OpenAreClosing = (kept : Kept) (records : List Record) (closing : List Closed) → StandsForRecords kept records
     → AreOpen kept closing → AreClosing records kept.length (length records) closing
 
 -- a source has windows

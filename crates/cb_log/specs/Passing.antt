@@ -17,7 +17,7 @@ StaysUnlessDue w now (Some kept) new =
     ((kept.opened + w ≤ now) × (new ≡ None)) ⊎ ((now < kept.opened + w) × (new ≡ Some kept))
 
 -- time goes by, and the windows that are due go
-pub record Passes (old new : Kept) (at : ℕ) : Type 0 where
+pub record TimePasses (old new : Kept) (at : ℕ) : Type 0 where
   pub length : new.length ≡ old.length
   pub now : new.now ≡ max old.now at
   pub windows : (source : List ℕ) → StaysUnlessDue old.length new.now (map.get old.windows source) (map.get new.windows source)

@@ -14,16 +14,16 @@ abbrev pub time_at : List Record → ℕ → ℕ
 time_at records place = log_time (take (suc place) records)
 
 -- the record at this position is such that P
-abbrev pub At : List Record → ℕ → (Record → Type 0) → Type 0
-At records place P = (r : Record) × (slice_get records place ≡ Some r) × P r
+abbrev pub RecordAt : List Record → ℕ → (Record → Type 0) → Type 0
+RecordAt records place P = (r : Record) × (slice_get records place ≡ Some r) × P r
 
 -- the source raises the node at this position
 abbrev pub RaisesNode : List Record → List ℕ → NodeName → ℕ → Type 0
-RaisesNode records source node place = At records place (λ r. r.body ≡ Raise source node)
+RaisesNode records source node place = RecordAt records place (λ r. r.body ≡ Raise source node)
 
 -- the source clears the node at this position
 abbrev pub ClearsNode : List Record → List ℕ → NodeName → ℕ → Type 0
-ClearsNode records source node place = At records place (λ r. r.body ≡ Clear source node)
+ClearsNode records source node place = RecordAt records place (λ r. r.body ≡ Clear source node)
 
 -- the record is no raise and no clear of the source
 abbrev pub IsNotBy : List ℕ → Record → Type 0

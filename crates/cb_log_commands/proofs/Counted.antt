@@ -11,7 +11,7 @@ use Rattle.cb_log.specs.Basis.{Mode, wanted}
 use Rattle.cb_log.specs.Entries.{records_of}
 use Rattle.cb_log.specs.Events.{IsNetwork}
 use Rattle.cb_log.specs.Network.{IsNow}
-use Rattle.cb_alarm.specs.Lines.{NumberedLine, line_of, log_lines, log_line_limit}
+use Rattle.cb_alarm.specs.Lines.{NumberedLine, numbered_line, log_lines, log_line_limit}
 use Rattle.cb_gen.specs.Log.{log_text}
 use Rattle.cb_outcome.specs.Commands.Correlate.{correlate_reads}
 use Rattle.cb_report.specs.declared.summary.Summary.{Summary}
@@ -158,13 +158,13 @@ module _ (old mid : State) (summary summary' : Summary) (start steps steps' : �
   -- one line more
   pub steps_more : StepsSoFar old summary start steps before → mid.mode ≡ old.mode
       → ((opening : Topology) → IsRegular opening.model → HasSummedUp opening [] old summary → HasSummedUp opening (numbered before) mid summary')
-      → CountsLine (network_of mid) (line_of (length before + 1, line)) steps steps' → StepsSoFar old summary start steps' (before ++ line ∷ [])
+      → CountsLine (network_of mid) (numbered_line (length before + 1, line)) steps steps' → StepsSoFar old summary start steps' (before ++ line ∷ [])
   steps_more so same takes counts = λ opening d regular mode has.
       let here = takes opening regular has in
       let now : IsNow opening (records_of here.entries) (network_of mid) =
       subst (λ (m : Mode). IsNetwork opening m (records_of here.entries) (network_of mid)) (same ∙ mode) here.stands.network in
       subst (λ (v : List NumberedLine). CountsLines opening v start steps') (sym (numbered_more before line))
-      (counts_more opening regular (numbered before) here.entries here.come (network_of mid) now (line_of (length before + 1, line)) start steps steps'
+      (counts_more opening regular (numbered before) here.entries here.come (network_of mid) now (numbered_line (length before + 1, line)) start steps steps'
       (so opening d regular mode has) counts)
 
 -- the first lines of a text cost no more than all

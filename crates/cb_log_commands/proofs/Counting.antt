@@ -9,7 +9,7 @@ use Rattle.cb_change.specs.InTurn.{IsCostInTurn, AddsUp}
 use Rattle.cb_change.proofs.InTurn.{adds_up, prefix_costs_less}
 use Rattle.cb_io.specs.declared.line_reader.Line.{Line as Given}
 use Rattle.cb_io.specs.declared.line_reader.Line.TheVariants as given
-use Rattle.cb_io.specs.LineReading.{Reading, coming, IsOneLine, GivesEnded, GivesLast, GivesLine, IsNumbered, Says}
+use Rattle.cb_io.specs.LineReading.{Reading, coming, IsOneLine, GivesEnded, GivesLast, GivesLine, HasLineNumber, AnswerSays}
 use Rattle.cb_io.specs.Outside.{FilesReport, left_of, ReadsPrefix}
 use Rattle.cb_network.specs.declared.edit.Edit.{Edit}
 use Rattle.cb_network.specs.Regular.{IsRegular}
@@ -23,7 +23,7 @@ use Rattle.cb_log.specs.Entries.{LogEntry, records_of}
 use Rattle.cb_log.specs.Events.{IsNetwork}
 use Rattle.cb_log.specs.Network.{then_edits, edits_of, IsNow}
 use Rattle.cb_log.proofs.OneForEach.{records_of_both}
-use Rattle.cb_alarm.specs.Lines.{NumberedLine, line_of, log_lines, ended_lines, ComesTo, ComeTo}
+use Rattle.cb_alarm.specs.Lines.{NumberedLine, numbered_line, log_lines, ended_lines, ComesTo, ComeTo}
 use Rattle.cb_alarm.specs.Lines as lines
 use Rattle.cb_alarm.proofs.OneSkip.{come_to_one}
 use Rattle.cb_outcome.specs.LogJobs.{Watch}
@@ -173,15 +173,15 @@ module _ (watch : Watch) (log : List ℕ) (old : Reading) (bytes : List ℕ) (se
         let here : left_of after old.name ≡ Some l = subst (λ (n : List ℕ). left_of after n ≡ Some l) name is in
         are ∙ ap (λ (v : List ℕ). new.kept ++ v) (same_some l taken.1 (sym here ∙ taken.3))
 
-    module _ (line : List ℕ) (counts : CountsLine (network_of session) (line_of (old.number + 1, line)) steps steps') (gives : GivesLine old new after bytes line) where
+    module _ (line : List ℕ) (counts : CountsLine (network_of session) (numbered_line (old.number + 1, line)) steps steps') (gives : GivesLine old new after bytes line) where
       abbrev more : List (List ℕ)
       more = ls ++ line ∷ []
 
       further : CountsLines watch.from (numbered more) start steps'
       further =
-          let here = subst (λ (n : ℕ). CountsLine (network_of session) (line_of (n + 1, line)) steps steps') at.is_at.number_is counts in
+          let here = subst (λ (n : ℕ). CountsLine (network_of session) (numbered_line (n + 1, line)) steps steps') at.is_at.number_is counts in
           subst (λ (v : List NumberedLine). CountsLines watch.from v start steps') (sym (numbered_more ls line))
-          (counts_more watch.from at.regular (numbered ls) at.is_at.entries at.is_at.come (network_of session) now (line_of (length ls + 1, line)) start steps steps' so_far here)
+          (counts_more watch.from at.regular (numbered ls) at.is_at.entries at.is_at.come (network_of session) now (numbered_line (length ls + 1, line)) start steps steps' so_far here)
 
       all_more : IsOneLine line → All IsOneLine more
       all_more one = All-append IsOneLine ls (line ∷ []) at.is_at.one_each (one_alone line one)
@@ -227,34 +227,34 @@ module _ (watch : Watch) (log : List ℕ) (old : Reading) (bytes : List ℕ) (se
 
     -- the text of a line as its number and its bytes
     module _ (reads_log : ReadsLog old) where
-      pub piece_counts : (line : Given) → IsNumbered new line → CountsGiven (network_of session) line new.text steps steps' → Says old new after (Ok line) bytes
+      pub piece_counts : (line : Given) → HasLineNumber new line → CountsGiven (network_of session) line new.text steps steps' → AnswerSays old new after (Ok line) bytes
           → new.ended ≡ false → CountsLines watch.from (log_lines (take new.given log)) start steps'
       piece_counts (given.Text number) is counts says going =
           let limit = reads_log.line_most in
           let short = says.short in
-          let here : line_of (old.number + 1, new.text) ≡ lines.text number new.text =
+          let here : numbered_line (old.number + 1, new.text) ≡ lines.text number new.text =
           short_line (old.number + 1) new.text (omega (arith, limit, short)) ∙ ap (λ (n : ℕ). lines.text n new.text) (sym says.line.number ∙ sym is) in
           line_goes new.text (subst (λ (l : NumberedLine). CountsLine (network_of session) l steps steps') (sym here) counts) says.line going
       piece_counts (given.Long number) is counts says going =
           let limit = reads_log.line_most in
           let past = says.long in
-          let here : line_of (old.number + 1, says.line) ≡ lines.long number =
+          let here : numbered_line (old.number + 1, says.line) ≡ lines.long number =
           long_line (old.number + 1) says.line (omega (arith, limit, past)) ∙ ap (λ (n : ℕ). lines.long n) (sym says.gives.number ∙ sym is) in
           line_goes says.line (subst (λ (l : NumberedLine). CountsLine (network_of session) l steps steps') (sym here) counts) says.gives going
       piece_counts given.End is counts says going = let ended : true ≡ false = sym says.ended ∙ going in absurd (cc)
 
-      pub piece_takes : (line : Given) → IsNumbered new line → CountsGiven (network_of session) line new.text steps steps' → Says old new after (Ok line) bytes
+      pub piece_takes : (line : Given) → HasLineNumber new line → CountsGiven (network_of session) line new.text steps steps' → AnswerSays old new after (Ok line) bytes
           → (taken : LeavesRest log (left_of after old.name)) → CountsLines watch.from (lines_taken taken.0 taken.1) start steps'
       piece_takes (given.Text number) is counts says taken =
           let limit = reads_log.line_most in
           let short = says.short in
-          let here : line_of (old.number + 1, new.text) ≡ lines.text number new.text =
+          let here : numbered_line (old.number + 1, new.text) ≡ lines.text number new.text =
           short_line (old.number + 1) new.text (omega (arith, limit, short)) ∙ ap (λ (n : ℕ). lines.text n new.text) (sym says.line.number ∙ sym is) in
           line_taken new.text (subst (λ (l : NumberedLine). CountsLine (network_of session) l steps steps') (sym here) counts) says.line taken
       piece_takes (given.Long number) is counts says taken =
           let limit = reads_log.line_most in
           let past = says.long in
-          let here : line_of (old.number + 1, says.line) ≡ lines.long number =
+          let here : numbered_line (old.number + 1, says.line) ≡ lines.long number =
           long_line (old.number + 1) says.line (omega (arith, limit, past)) ∙ ap (λ (n : ℕ). lines.long n) (sym says.gives.number ∙ sym is) in
           line_taken says.line (subst (λ (l : NumberedLine). CountsLine (network_of session) l steps steps') (sym here) counts) says.gives taken
       piece_takes given.End is counts says taken =

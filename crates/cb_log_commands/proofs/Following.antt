@@ -8,7 +8,7 @@ use Rattle.std.proofs.lemmas.Bool.{cases_lt}
 use Rattle.std.proofs.lemmas.List.{length-append}
 use Rattle.cb_io.specs.declared.whole.ReadStop.{ReadStop}
 use Rattle.cb_io.specs.declared.whole.ReadStop.TheVariants as reads
-use Rattle.cb_io.specs.LineReading.{Reading, unread, coming, ReadsSame, IsOneLine, GoesOn, RunsOver, StopsWithin}
+use Rattle.cb_io.specs.LineReading.{Reading, unread, coming, ReadsSame, IsOneLine, ReadingGoesOn, RunsOver, StopsWithin}
 use Rattle.cb_io.specs.Outside.{FilesReport, SinkReport, left_of, ReadFailed, WritesAll, WritesPrefix, WriteFailed}
 use Rattle.cb_io.proofs.Reported.{NoCountFalls-trans, ReadFailed-after, KeepsOthers-trans, WritesPrefix-second}
 use Rattle.cb_report.specs.declared.fault.Fault.TheVariants as faults
@@ -18,7 +18,7 @@ use Rattle.cb_session.specs.State.{State}
 use Rattle.cb_log_commands.specs.Following.{IsDueUpto, IsReportedInPart, EndsLog}
 use Rattle.cb_file_kinds.specs.Kinds.{ReadsOnly}
 use Rattle.cb_log_commands.specs.Stops.{stop_of_read, fault_of_stop}
-use Rattle.cb_log_commands.specs.Telling.{joined, ComesNext, ComesLast, Comes, PieceSays, StopSays, ReadsLog, HasReported, Going, GoesOrEnds, Opens}
+use Rattle.cb_log_commands.specs.Telling.{joined, ComesNext, ComesLast, LogComes, PieceSays, StopSays, ReadsLog, HasReported, Going, GoesOrEnds, OpensLog}
 use Rattle.cb_file_kinds.proofs.Chain.{if_some}
 use Rattle.cb_log_commands.proofs.Lines.{one_none}
 use Rattle.cb_log_commands.proofs.Further.{reported_is_due, due_is_short}
@@ -88,7 +88,7 @@ reads_nothing files name = record {
 }
 
 -- a log at its beginning
-pub begins : (watch : Watch) (session : State) (out out_now : SinkReport) (files : FilesReport) (name : List ℕ) → Opens watch session out out_now
+pub begins : (watch : Watch) (session : State) (out out_now : SinkReport) (files : FilesReport) (name : List ℕ) → OpensLog watch session out out_now
     → Going watch files out (unread name log_line_limit log_limit) files out_now session
 begins watch session out out_now files name opens = record {
   regular = opens.regular;
@@ -228,7 +228,7 @@ module _ (watch : Watch) (now : FilesReport) (out : SinkReport) (reader : Readin
 
   module _ (text : List ℕ) (says : IfSome (coming reader files) (PieceSays reader reader' files' session session' text)) (out' : SinkReport)
       (counts : out_now.faults ≤ out'.faults) where
-    piece : (log : List ℕ) (has : HasReported watch log reader files session out out_now) → Comes reader'.ended watch log reader reader' files' session' has.reported text has.rest
+    piece : (log : List ℕ) (has : HasReported watch log reader files session out out_now) → LogComes reader'.ended watch log reader reader' files' session' has.reported text has.rest
     piece log has = there (coming reader files) (PieceSays reader reader' files' session session' text) has.rest has.comes says watch log has.reported going.regular has.is_at
 
     faults_all : out.faults ≤ out'.faults
@@ -246,7 +246,7 @@ module _ (watch : Watch) (now : FilesReport) (out : SinkReport) (reader : Readin
         faults = faults_all;
         reported = at_log _ (λ log has.
             let next : ComesNext watch log reader reader' files' session' has.reported text has.rest =
-            subst (λ (b : Bool). Comes b watch log reader reader' files' session' has.reported text has.rest) e (piece log has) in record {
+            subst (λ (b : Bool). LogComes b watch log reader reader' files' session' has.reported text has.rest) e (piece log has) in record {
               rest = next.rest;
               comes = next.comes;
               reported = has.reported ++ text;
@@ -261,7 +261,7 @@ module _ (watch : Watch) (now : FilesReport) (out : SinkReport) (reader : Readin
         wrong = tt;
         tells = at_log _ (λ log has.
             let last : ComesLast watch log reader reader' files' has.reported text has.rest =
-            subst (λ (b : Bool). Comes b watch log reader reader' files' session' has.reported text has.rest) e (piece log has) in
+            subst (λ (b : Bool). LogComes b watch log reader reader' files' session' has.reported text has.rest) e (piece log has) in
             let (left, is, are) = left_there reader'.kept (left_of files' reader'.name) [] last.comes in record {
               due = has.reported ++ text;
               is_due = record { short = last.within; tells = last.tells };
@@ -278,7 +278,7 @@ module _ (watch : Watch) (now : FilesReport) (out : SinkReport) (reader : Readin
           by_end true e = ends e
 
     -- or its write failed
-    module _ (goes : GoesOn reader') (prefix : WritesPrefix out_now out' text) (failed : WriteFailed out_now out') where
+    module _ (goes : ReadingGoesOn reader') (prefix : WritesPrefix out_now out' text) (failed : WriteFailed out_now out') where
       -- not many bytes were taken after those that were given
       next_given : (log : List ℕ) (has : HasReported watch log reader files session out out_now)
           → ComesNext watch log reader reader' files' session' has.reported text has.rest → (taken rest : List ℕ) → log ≡ taken ++ rest
@@ -297,7 +297,7 @@ module _ (watch : Watch) (now : FilesReport) (out : SinkReport) (reader : Readin
           let few = goes.few in
           omega (arith, a, b, c, d, e, f, g, h, few)
 
-      part : (log : List ℕ) (has : HasReported watch log reader files session out out_now) (b : Bool) → Comes b watch log reader reader' files' session' has.reported text has.rest
+      part : (log : List ℕ) (has : HasReported watch log reader files session out out_now) (b : Bool) → LogComes b watch log reader reader' files' session' has.reported text has.rest
           → IsReportedInPart watch log (left_of files' reader'.name) out out'
       part log has false next = (
         has.reported ++ text,
@@ -357,7 +357,7 @@ module _ (watch : Watch) (now : FilesReport) (out : SinkReport) (reader : Readin
               | inr past ↦ omega (arith, past, e, f)
             ]
 
-        near_by : (b : Bool) → Comes b watch log reader reader' files' session' has.reported text has.rest → (taken rest : List ℕ) → log ≡ taken ++ rest
+        near_by : (b : Bool) → LogComes b watch log reader reader' files' session' has.reported text has.rest → (taken rest : List ℕ) → log ≡ taken ++ rest
             → left_of files' reader'.name ≡ Some rest → length taken ≤ upto + 65536
         near_by false next taken rest log_is left_is = next_near next taken rest log_is left_is
         near_by true last taken rest log_is left_is = last_near last taken rest log_is

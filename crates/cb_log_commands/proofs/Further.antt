@@ -13,13 +13,13 @@ use Rattle.cb_log.specs.Basis.{Mode}
 use Rattle.cb_log.specs.Entries.{records_of}
 use Rattle.cb_log.specs.Events.{EntryGives, EndGives}
 use Rattle.cb_log.proofs.OneMore.{entries_give_more}
-use Rattle.cb_alarm.specs.Lines.{NumberedLine, line_of, ComesTo, ComeTo, log_lines, PrefixGives}
+use Rattle.cb_alarm.specs.Lines.{NumberedLine, numbered_line, ComesTo, ComeTo, log_lines, PrefixGives}
 use Rattle.cb_report.specs.EventTexts.{event_text, events_text}
 use Rattle.cb_outcome.specs.LogJobs.{Watch, WholeTells, PrefixTells, log_limit}
 use Rattle.cb_outcome.proofs.LogPrefixes.{prefix_gives_prefix}
 use Rattle.cb_session.specs.State.{State}
 use Rattle.cb_log_commands.specs.Following.{IsDueUpto}
-use Rattle.cb_log_commands.specs.Telling.{joined, numbered, IsAt, StepTells, TellsLine, TellsEnd}
+use Rattle.cb_log_commands.specs.Telling.{joined, numbered, IsLogAt, StepTells, TellsLine, TellsEnd}
 use Rattle.cb_log_commands.proofs.Lines.{one_take, one_none, ended_are, lines_are, numbered_more, joined_more, length_more, zip_more}
 
 -- the text of events that follow others
@@ -38,7 +38,7 @@ last_is [] some = absurd (some refl)
 last_is (b ∷ bs) some = refl
 
 module _ (watch : Watch) (regular : IsRegular watch.from.model) (log : List ℕ) (number given : ℕ) (bytes : List ℕ) (session : State) (reported : List ℕ)
-    (is_at : IsAt watch log number given bytes session reported) where
+    (is_at : IsLogAt watch log number given bytes session reported) where
   -- ---- what is due
 
   -- bytes after the lines that end none tell nothing more
@@ -97,16 +97,16 @@ module _ (watch : Watch) (regular : IsRegular watch.from.model) (log : List ℕ)
 
   -- ---- one line further
 
-  module _ (line : List ℕ) (one : IsOneLine line) (session' : State) (text : List ℕ) (tells : TellsLine session session' (line_of (number + 1, line)) text)
+  module _ (line : List ℕ) (one : IsOneLine line) (session' : State) (text : List ℕ) (tells : TellsLine session session' (numbered_line (number + 1, line)) text)
       (mode : session'.mode ≡ session.mode) (window : session'.windows.length ≡ session.windows.length) where
     step : StepTells session session' watch.from is_at.entries tells.entry text
     step = tells.tells watch.from is_at.entries regular is_at.stands
 
     come_more : ComeTo (numbered (is_at.lines ++ line ∷ [])) (is_at.entries ++ tells.entry ∷ [])
     come_more =
-        let here = subst (λ (n : ℕ). ComesTo (line_of (n + 1, line)) tells.entry) is_at.number_is tells.comes in
+        let here = subst (λ (n : ℕ). ComesTo (numbered_line (n + 1, line)) tells.entry) is_at.number_is tells.comes in
         subst (λ (ls : List NumberedLine). ComeTo ls (is_at.entries ++ tells.entry ∷ [])) (sym (numbered_more is_at.lines line))
-        (zip_more ComesTo (numbered is_at.lines) is_at.entries (line_of (length is_at.lines + 1, line)) tells.entry is_at.come here)
+        (zip_more ComesTo (numbered is_at.lines) is_at.entries (numbered_line (length is_at.lines + 1, line)) tells.entry is_at.come here)
 
     gives_here : EntryGives watch.from watch.mode watch.window (records_of is_at.entries) tells.entry step.events
     gives_here =
@@ -115,7 +115,7 @@ module _ (watch : Watch) (regular : IsRegular watch.from.model) (log : List ℕ)
 
     -- where a LF ends it
     pub next_at : (rest : List ℕ) → bytes ≡ line ++ 10 ∷ rest → given + length line + 1 ≤ log_limit
-        → IsAt watch log (number + 1) (given + length line + 1) rest session' (reported ++ text)
+        → IsLogAt watch log (number + 1) (given + length line + 1) rest session' (reported ++ text)
     next_at rest bytes_are within = record {
       lines = is_at.lines ++ line ∷ [];
       one_each = All-append IsOneLine is_at.lines (line ∷ []) is_at.one_each (one_alone line one);

@@ -7,7 +7,7 @@ use Rattle.cb_grammar.specs.declared.tree.Tree.{Tree}
 use Rattle.cb_syntax.specs.Spells.{SpellsModel}
 use Rattle.cb_syntax.specs.Laws.{TellsFault}
 use Rattle.cb_syntax.specs.declared.fault.SyntaxFault.{SyntaxFault}
-use Rattle.cb_rules.specs.Fault.{KeepsAll, IsFault as IsTypeFault}
+use Rattle.cb_rules.specs.Fault.{KeepsAll, IsFirstBroken as IsTypeFault}
 use Rattle.cb_check.specs.Stands.{Stands}
 use Rattle.cb_check.specs.Fault.{OnBroken}
 use Rattle.cb_check.specs.declared.fault.TypeFault.{TypeFault}

@@ -8,7 +8,7 @@ use Rattle.std.proofs.lemmas.List.Elements.{All-head, All-tail, All-contains_its
 use Rattle.std.proofs.lemmas.List.Splits.{slice_split_at, slice_split_none}
 use Rattle.cb_io.specs.LineReading.{IsOneLine}
 use Rattle.cb_text.specs.Lines.{last_line, lines_of_parts}
-use Rattle.cb_alarm.specs.Lines.{NumberedLine, line_of, ended_parts, ended_lines, log_lines}
+use Rattle.cb_alarm.specs.Lines.{NumberedLine, numbered_line, ended_parts, ended_lines, log_lines}
 use Rattle.cb_log_commands.specs.Telling.{joined, numbered}
 
 abbrev Parts : Type 0
@@ -63,21 +63,21 @@ all_lines (line ∷ next ∷ lines) part = ap (λ (v : Parts). line ∷ v) (all_
 
 -- after lines that LFs end, bytes without one end no line
 pub ended_are : (lines : Parts) (part : List ℕ) → All IsOneLine lines → IsOneLine part → ended_lines (joined lines ++ part) ≡ numbered lines
-ended_are lines part all one = ap (λ (v : Parts). map line_of (enumerate_from 1 v)) (ap ended_parts (split_of lines part all one) ∙ all_ended lines part)
+ended_are lines part all one = ap (λ (v : Parts). map numbered_line (enumerate_from 1 v)) (ap ended_parts (split_of lines part all one) ∙ all_ended lines part)
 
 -- and they are the last line, where they are some
 pub lines_are : (lines : Parts) (part : List ℕ) → All IsOneLine lines → IsOneLine part → log_lines (joined lines ++ part) ≡ numbered (lines ++ last_line part)
-lines_are lines part all one = ap (λ (v : Parts). map line_of (enumerate_from 1 v)) (ap lines_of_parts (split_of lines part all one) ∙ all_lines lines part)
+lines_are lines part all one = ap (λ (v : Parts). map numbered_line (enumerate_from 1 v)) (ap lines_of_parts (split_of lines part all one) ∙ all_lines lines part)
 
 -- ---- one line more
 
 -- it has the next number
-pub numbered_more : (lines : Parts) (line : List ℕ) → numbered (lines ++ line ∷ []) ≡ numbered lines ++ line_of (length lines + 1, line) ∷ []
-numbered_more lines line = from 1 lines ∙ ap (λ (n : ℕ). numbered lines ++ line_of (n, line) ∷ []) (omega arith)
+pub numbered_more : (lines : Parts) (line : List ℕ) → numbered (lines ++ line ∷ []) ≡ numbered lines ++ numbered_line (length lines + 1, line) ∷ []
+numbered_more lines line = from 1 lines ∙ ap (λ (n : ℕ). numbered lines ++ numbered_line (n, line) ∷ []) (omega arith)
   where
-    from : (n : ℕ) (ls : Parts) → map line_of (enumerate_from n (ls ++ line ∷ [])) ≡ map line_of (enumerate_from n ls) ++ line_of (n + length ls, line) ∷ []
-    from n [] = ap (λ (m : ℕ). line_of (m, line) ∷ []) (omega arith)
-    from n (l ∷ ls) = ap (λ (v : List NumberedLine). line_of (n, l) ∷ v) (from (n + 1) ls ∙ ap (λ (m : ℕ). map line_of (enumerate_from (n + 1) ls) ++ line_of (m, line) ∷ []) (omega arith))
+    from : (n : ℕ) (ls : Parts) → map numbered_line (enumerate_from n (ls ++ line ∷ [])) ≡ map numbered_line (enumerate_from n ls) ++ numbered_line (n + length ls, line) ∷ []
+    from n [] = ap (λ (m : ℕ). numbered_line (m, line) ∷ []) (omega arith)
+    from n (l ∷ ls) = ap (λ (v : List NumberedLine). numbered_line (n, l) ∷ v) (from (n + 1) ls ∙ ap (λ (m : ℕ). map numbered_line (enumerate_from (n + 1) ls) ++ numbered_line (m, line) ∷ []) (omega arith))
 
 -- and comes after their bytes
 pub joined_more : (lines : Parts) (line : List ℕ) → joined (lines ++ line ∷ []) ≡ joined lines ++ (line ++ 10 ∷ [])

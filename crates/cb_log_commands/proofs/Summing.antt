@@ -8,7 +8,7 @@ use Rattle.cb_codes.specs.Groups.{named, named_of}
 use Rattle.cb_network.specs.declared.edit.EditRefusal.{EditRefusal}
 use Rattle.cb_model.specs.declared.node.NodeName.{NodeName}
 use Rattle.cb_model.proofs.Numbers.{take_more}
-use Rattle.cb_network.specs.Nodes.{IsProblem, AreProblems, IsCount, IsWithin}
+use Rattle.cb_network.specs.Nodes.{IsProblem, AreProblems, IsCount, IsCountWithin}
 use Rattle.cb_network.specs.Regular.{IsRegular}
 use Rattle.cb_network.specs.Sound.{Sound, problem_limit}
 use Rattle.cb_network.proofs.Counts.{count_is_one, count_of_rising}
@@ -24,13 +24,13 @@ use Rattle.cb_log.specs.Entries.{LogEntry, said, skipped, blank, records_of}
 use Rattle.cb_log.specs.Events.{IsOpening, Diagnoses, IsRefusal, BodyGives, EntryGives, EntriesGive, EndGives}
 use Rattle.cb_log.proofs.OneForEach.{records_of_both}
 use Rattle.cb_log.proofs.OneMore.{entries_give_more}
-use Rattle.cb_alarm.specs.Lines.{NumberedLine, line_of, log_lines, ComesTo, IsBlank, log_line_limit}
+use Rattle.cb_alarm.specs.Lines.{NumberedLine, numbered_line, log_lines, ComesTo, IsBlank, log_line_limit}
 use Rattle.cb_alarm.specs.Lines as lines
 use Rattle.cb_report.specs.declared.summary.Summary.{Summary}
 use Rattle.cb_report.specs.SummaryText.{CountsAlone, CountsEvents, CountsOneMore, one_record_more}
 use Rattle.cb_session.specs.State.{State, network_of, StandsForEntries}
 use Rattle.cb_outcome.specs.Grown.{CountsNetwork, SumsUpLog}
-use Rattle.cb_log_commands.specs.Summing.{skips, HasSummedUp, IsAskedFor, KeepsCounts}
+use Rattle.cb_log_commands.specs.Summing.{skips, HasSummedUp, KeepsRequest, KeepsCounts}
 use Rattle.cb_log_commands.specs.Telling.{numbered}
 use Rattle.cb_log_commands.proofs.Lines.{zip_more, numbered_more}
 
@@ -92,12 +92,12 @@ body_tells t (fixed book) records line Tick events is = no_events events is
 abbrev pub IsRecord : List ℕ → List Event → Type 0
 IsRecord bytes events = (¬ IsBlank bytes) × (skips events ≡ false)
 
-line_is : (number : ℕ) (bytes : List ℕ) → (line_of (number, bytes) ≡ lines.text number bytes) ⊎ (line_of (number, bytes) ≡ lines.long number)
-line_is number bytes = by_room (nat_le (length bytes) log_line_limit)
+line_is : (number : ℕ) (bytes : List ℕ) → (numbered_line (number, bytes) ≡ lines.text number bytes) ⊎ (numbered_line (number, bytes) ≡ lines.long number)
+line_is number bytes = by_capacity (nat_le (length bytes) log_line_limit)
   where
-    by_room : (b : Bool) → (cond b (lines.text number bytes) (lines.long number) ≡ lines.text number bytes) ⊎ (cond b (lines.text number bytes) (lines.long number) ≡ lines.long number)
-    by_room true = inl refl
-    by_room false = inr refl
+    by_capacity : (b : Bool) → (cond b (lines.text number bytes) (lines.long number) ≡ lines.text number bytes) ⊎ (cond b (lines.text number bytes) (lines.long number) ≡ lines.long number)
+    by_capacity true = inl refl
+    by_capacity false = inr refl
 
 text_said : (number : ℕ) (bytes : List ℕ) (line : ℕ) (r : Record) → ComesTo (lines.text number bytes) (said line r) → ¬ IsBlank bytes
 text_said number bytes line r (inl (blank_line, e)) = absurd (cc)
@@ -110,11 +110,11 @@ text_blank number bytes (inr (word, inr (kind, skip, e))) = absurd (cc)
 
 module _ (t : Topology) (mode : Mode) (w : ℕ) (records : List Record) (number : ℕ) (bytes : List ℕ) where
   -- either it came to a record, which is one more, or it is none
-  one_or_none : (entry : LogEntry) (events : List Event) → ComesTo (line_of (number, bytes)) entry → EntryGives t mode w records entry events
+  one_or_none : (entry : LogEntry) (events : List Event) → ComesTo (numbered_line (number, bytes)) entry → EntryGives t mode w records entry events
       → (IsRecord bytes events × (length (records_of (entry ∷ [])) ≡ 1)) ⊎ ((¬ IsRecord bytes events) × (length (records_of (entry ∷ [])) ≡ 0))
   one_or_none (said line r) events comes gives = inl ((word (line_is number bytes), tells), refl)
     where
-      word : (line_of (number, bytes) ≡ lines.text number bytes) ⊎ (line_of (number, bytes) ≡ lines.long number) → ¬ IsBlank bytes
+      word : (numbered_line (number, bytes) ≡ lines.text number bytes) ⊎ (numbered_line (number, bytes) ≡ lines.long number) → ¬ IsBlank bytes
       word (inl is) = text_said number bytes line r (subst (λ (l : NumberedLine). ComesTo l (said line r)) is comes)
       word (inr is) = let long : ComesTo (lines.long number) (said line r) = subst (λ (l : NumberedLine). ComesTo l (said line r)) is comes in absurd (cc)
 
@@ -129,7 +129,7 @@ module _ (t : Topology) (mode : Mode) (w : ℕ) (records : List Record) (number 
       not_skipped (word, none) = let is : skips events ≡ true = ap skips gives in cc
   one_or_none blank events comes gives = inr (no_word (line_is number bytes), refl)
     where
-      no_word : (line_of (number, bytes) ≡ lines.text number bytes) ⊎ (line_of (number, bytes) ≡ lines.long number) → ¬ IsRecord bytes events
+      no_word : (numbered_line (number, bytes) ≡ lines.text number bytes) ⊎ (numbered_line (number, bytes) ≡ lines.long number) → ¬ IsRecord bytes events
       no_word (inl is) (word, none) = word (text_blank number bytes (subst (λ (l : NumberedLine). ComesTo l blank) is comes))
       no_word (inr is) (word, none) = let long : ComesTo (lines.long number) blank = subst (λ (l : NumberedLine). ComesTo l blank) is comes in absurd (cc)
 
@@ -142,18 +142,18 @@ none_summed opening session summary stands counted none =
 
 pub one_more_summed : (opening : Topology) (before : List NumberedLine) (number : ℕ) (bytes : List ℕ) (old new : State) (summary summary' : Summary)
     → HasSummedUp opening before old summary → new.mode ≡ old.mode → new.windows.length ≡ old.windows.length
-    → (entry : LogEntry) → ComesTo (line_of (number, bytes)) entry → (events : List Event)
+    → (entry : LogEntry) → ComesTo (numbered_line (number, bytes)) entry → (events : List Event)
     → ((entries : List LogEntry) → StandsForEntries old opening entries → EntryGives opening old.mode old.windows.length (records_of entries) entry events)
     → ((entries : List LogEntry) → StandsForEntries old opening entries → StandsForEntries new opening (entries ++ entry ∷ []))
     → ((earlier : List Event) → CountsEvents earlier summary → CountsEvents (earlier ++ events) summary')
     → (IsRecord bytes events → summary'.records ≡ summary.records + 1) → ((¬ IsRecord bytes events) → summary'.records ≡ summary.records)
-    → HasSummedUp opening (before ++ line_of (number, bytes) ∷ []) new summary'
+    → HasSummedUp opening (before ++ numbered_line (number, bytes) ∷ []) new summary'
 one_more_summed opening before number bytes old new summary summary' has mode length_is entry comes events gives stands counts one none =
     let here = gives has.entries has.stands in
     let give = entries_give_more opening old.mode old.windows.length [] has.entries entry has.events events has.give here in
     record {
       entries = has.entries ++ entry ∷ [];
-      come = zip_more ComesTo before has.entries (line_of (number, bytes)) entry has.come comes;
+      come = zip_more ComesTo before has.entries (numbered_line (number, bytes)) entry has.come comes;
       stands = stands has.entries has.stands;
       events = has.events ++ events;
       give = subst (λ (m : Mode). EntriesGive opening m new.windows.length [] (has.entries ++ entry ∷ []) (has.events ++ events)) (sym mode)
@@ -203,7 +203,7 @@ all_summed opening log session summary mid summary' has ends end_gives counts sa
 
 -- these lines were taken since a session and a summary
 pub record SumsSoFar (old : State) (summary : Summary) (new : State) (summary' : Summary) (before : List (List ℕ)) : Type 0 where
-  pub asked : IsAskedFor summary summary'
+  pub asked : KeepsRequest summary summary'
   pub mode : new.mode ≡ old.mode
   pub length_is : new.windows.length ≡ old.windows.length
   pub takes : (opening : Topology) → IsRegular opening.model → HasSummedUp opening [] old summary → HasSummedUp opening (numbered before) new summary'
@@ -212,9 +212,9 @@ pub so_far_none : (old : State) (summary : Summary) → SumsSoFar old summary ol
 so_far_none old summary = record { asked = record { sites = refl; start = refl }; mode = refl; length_is = refl; takes = λ opening regular has. has }
 
 pub so_far_more : (old mid new : State) (summary summary' summary'' : Summary) (before : List (List ℕ)) (line : List ℕ)
-    → SumsSoFar old summary mid summary' before → IsAskedFor summary' summary'' → new.mode ≡ mid.mode → new.windows.length ≡ mid.windows.length
+    → SumsSoFar old summary mid summary' before → KeepsRequest summary' summary'' → new.mode ≡ mid.mode → new.windows.length ≡ mid.windows.length
     → ((opening : Topology) (earlier : List NumberedLine) → IsRegular opening.model → HasSummedUp opening earlier mid summary'
-    → HasSummedUp opening (earlier ++ line_of (length before + 1, line) ∷ []) new summary'')
+    → HasSummedUp opening (earlier ++ numbered_line (length before + 1, line) ∷ []) new summary'')
     → SumsSoFar old summary new summary'' (before ++ line ∷ [])
 so_far_more old mid new summary summary' summary'' before line so asked mode length_is takes = record {
   asked = record { sites = asked.sites ∙ so.asked.sites; start = asked.start ∙ so.asked.start };
@@ -227,7 +227,7 @@ so_far_more old mid new summary summary' summary'' before line so asked mode len
 
 -- ---- the sizes of a network
 
-pub few_of : (P : NodeName → Type 0) (limit n : ℕ) → IsCount P n → IsWithin P limit → n ≤ limit
+pub few_of : (P : NodeName → Type 0) (limit n : ℕ) → IsCount P n → IsCountWithin P limit → n ≤ limit
 few_of P limit n count (m, is, few) = let same = count_is_one P n m count is in omega (arith, same, few)
 
 pub few_problems : (t : Topology) (names : List NodeName) → Sound t → AreProblems t names → length names ≤ problem_limit

@@ -17,7 +17,7 @@ use Rattle.cb_session.specs.Counted.{IsEntryCost}
 use Rattle.cb_session.specs.State.{State}
 use Rattle.cb_log_commands.specs.declared.stop.LogStop.{LogStop}
 use Rattle.cb_log_commands.specs.Summing.{HasSummedUp}
-use Rattle.cb_log_commands.specs.Telling.{IsAt}
+use Rattle.cb_log_commands.specs.Telling.{IsLogAt}
 
 -- ---- a line
 
@@ -39,7 +39,7 @@ pub record IsCountedAt (watch : Watch) (log : List ℕ) (reader : Reading) (byte
   pub distance : ℕ
   pub mode : watch.mode ≡ wanted distance
   pub reported : List ℕ
-  pub is_at : IsAt watch log reader.number reader.given bytes session reported
+  pub is_at : IsLogAt watch log reader.number reader.given bytes session reported
   pub counts : CountsLines watch.from (log_lines (take reader.given log)) start steps
 
 -- then, once the next piece is asked for, no more were counted than the lines cost that were taken

@@ -46,8 +46,8 @@ pub record IsReportedAsTaken (watch : Watch) (log : List ℕ) (left : Option (Li
   pub written : WritesAll out out' due
 
 -- the point is no farther than the bytes that were taken
-abbrev pub IsTaken : List ℕ → Option (List ℕ) → ℕ → Type 0
-IsTaken log left upto = (prefix rest : List ℕ) → log ≡ prefix ++ rest → left ≡ Some rest → upto ≤ length prefix
+abbrev pub IsWithinTaken : List ℕ → Option (List ℕ) → ℕ → Type 0
+IsWithinTaken log left upto = (prefix rest : List ℕ) → log ≡ prefix ++ rest → left ≡ Some rest → upto ≤ length prefix
 
 -- not many more bytes were taken than up to the point
 abbrev pub IsNearTaken : List ℕ → Option (List ℕ) → ℕ → Type 0
@@ -56,7 +56,7 @@ IsNearTaken log left upto = (prefix rest : List ℕ) → log ≡ prefix ++ rest 
 -- what is due at some point of what was taken was written
 pub record IsReportedSoFar (watch : Watch) (log : List ℕ) (left : Option (List ℕ)) (out out' : SinkReport) : Type 0 where
   pub upto : ℕ
-  pub within : IsTaken log left upto
+  pub within : IsWithinTaken log left upto
   pub due : List ℕ
   pub is_due : IsDueUpto watch log upto due
   pub written : WritesAll out out' due
@@ -73,7 +73,7 @@ IsNotFar watch log left out out' = (upto : ℕ) (prefix rest due written : List 
     → IsDueUpto watch log upto due → WritesAll out out' written → length written < length due → length prefix ≤ upto + ahead_limit
 
 -- a write failed: a part of what is due was written, and the log wasn't read far ahead of it, where the output is reported
-pub record IsCutShort (watch : Watch) (log : List ℕ) (left : Option (List ℕ)) (out out' : SinkReport) : Type 0 where
+pub record IsWatchCutShort (watch : Watch) (log : List ℕ) (left : Option (List ℕ)) (out out' : SinkReport) : Type 0 where
   pub part : IsReportedInPart watch log left out out'
   pub near : IsSome out.taken → IsNotFar watch log left out out'
 
@@ -82,7 +82,7 @@ abbrev pub TellsLog : Watch → List ℕ → Option (List ℕ) → SinkReport �
 TellsLog watch log left out out' None = IsReportedWhole watch log left out out'
 TellsLog watch log left out out' (Some (faults.LimitBytes name)) = IsReportedToLimit watch log out out'
 TellsLog watch log left out out' (Some (faults.ReadFault name)) = IsReportedAsTaken watch log left out out'
-TellsLog watch log left out out' (Some faults.WriteFault) = IsCutShort watch log left out out'
+TellsLog watch log left out out' (Some faults.WriteFault) = IsWatchCutShort watch log left out out'
 TellsLog watch log left out out' (Some fault) = IsReportedSoFar watch log left out out'
 
 -- what has gone wrong, by that fault: the log is too long, a read of it failed, a write failed, or memory ran out

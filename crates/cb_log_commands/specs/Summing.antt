@@ -31,13 +31,13 @@ pub record HasSummedUp (opening : Topology) (lines : List NumberedLine) (session
   pub records : summary.records ≡ length (records_of entries)
 
 -- both summaries are of what is asked for with the same numbers
-pub record IsAskedFor (old new : Summary) : Type 0 where
+pub record KeepsRequest (old new : Summary) : Type 0 where
   pub sites : new.sites ≡ old.sites
   pub start : new.start ≡ old.start
 
 -- but for the sizes of the network, nothing has changed
 pub record KeepsCounts (old new : Summary) : Type 0 where
-  pub asked : IsAskedFor old new
+  pub asked : KeepsRequest old new
   pub records : new.records ≡ old.records
   pub counted : (events : List Event) → CountsEvents events old → CountsEvents events new
 

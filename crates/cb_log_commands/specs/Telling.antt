@@ -12,7 +12,7 @@ use Rattle.cb_log.specs.Entries.{LogEntry, records_of}
 use Rattle.cb_log.specs.Events.{EntryGives, EntriesGive, EndGives}
 use Rattle.cb_network.specs.Regular.{IsRegular}
 use Rattle.cb_network.specs.Topology.{Topology}
-use Rattle.cb_alarm.specs.Lines.{NumberedLine, line_of, log_line_limit, ComesTo, ComeTo}
+use Rattle.cb_alarm.specs.Lines.{NumberedLine, numbered_line, log_line_limit, ComesTo, ComeTo}
 use Rattle.cb_report.specs.EventTexts.{events_text}
 use Rattle.cb_report.specs.declared.fault.Fault.{Fault}
 use Rattle.cb_outcome.specs.LogJobs.{Watch, WholeTells, log_limit}
@@ -28,10 +28,10 @@ joined lines = flat_map (λ line. line ++ 10 ∷ []) lines
 
 -- the lines of a log, from the first one on
 abbrev pub numbered : List (List ℕ) → List NumberedLine
-numbered lines = map line_of (enumerate_from 1 lines)
+numbered lines = map numbered_line (enumerate_from 1 lines)
 
 -- A log, read up to a line's end: these bytes come, and this text was given, after what the watch opens with.
-pub record IsAt (watch : Watch) (log : List ℕ) (number given : ℕ) (rest : List ℕ) (session : State) (reported : List ℕ) : Type 0 where
+pub record IsLogAt (watch : Watch) (log : List ℕ) (number given : ℕ) (rest : List ℕ) (session : State) (reported : List ℕ) : Type 0 where
   pub lines : List (List ℕ)
   pub one_each : All IsOneLine lines
   pub log_is : log ≡ joined lines ++ rest
@@ -80,7 +80,7 @@ pub record ComesNext (watch : Watch) (log : List ℕ) (old new : Reading) (after
   pub rest : List ℕ
   pub begin : BeginWith bytes line rest
   pub comes : coming new after ≡ Some rest
-  pub is_at : IsAt watch log new.number new.given rest session (reported ++ text)
+  pub is_at : IsLogAt watch log new.number new.given rest session (reported ++ text)
 
 -- the end came, after a line or none
 pub record ComesLast (watch : Watch) (log : List ℕ) (old new : Reading) (after : FilesReport) (reported text bytes : List ℕ) : Type 0 where
@@ -90,14 +90,14 @@ pub record ComesLast (watch : Watch) (log : List ℕ) (old new : Reading) (after
   pub within : length log ≤ log_limit
 
 -- one or the other, by whether the end has come
-abbrev pub Comes : Bool → Watch → List ℕ → Reading → Reading → FilesReport → State → List ℕ → List ℕ → List ℕ → Type 0
-Comes false watch log old new after session reported text bytes = ComesNext watch log old new after session reported text bytes
-Comes true watch log old new after session reported text bytes = ComesLast watch log old new after reported text bytes
+abbrev pub LogComes : Bool → Watch → List ℕ → Reading → Reading → FilesReport → State → List ℕ → List ℕ → List ℕ → Type 0
+LogComes false watch log old new after session reported text bytes = ComesNext watch log old new after session reported text bytes
+LogComes true watch log old new after session reported text bytes = ComesLast watch log old new after reported text bytes
 
 -- what the text of the next piece says, where these bytes were to come
 abbrev pub PieceSays : Reading → Reading → FilesReport → State → State → List ℕ → List ℕ → Type 0
 PieceSays old new after session session' text bytes = (watch : Watch) (log reported : List ℕ) → IsRegular watch.from.model
-    → IsAt watch log old.number old.given bytes session reported → Comes new.ended watch log old new after session' reported text bytes
+    → IsLogAt watch log old.number old.given bytes session reported → LogComes new.ended watch log old new after session' reported text bytes
 
 -- what it says that there is none
 abbrev pub StopSays : Reading → FilesReport → ReadStop → List ℕ → Type 0
@@ -118,7 +118,7 @@ pub record HasReported (watch : Watch) (log : List ℕ) (reader : Reading) (file
   pub rest : List ℕ
   pub comes : coming reader files ≡ Some rest
   pub reported : List ℕ
-  pub is_at : IsAt watch log reader.number reader.given rest session reported
+  pub is_at : IsLogAt watch log reader.number reader.given rest session reported
   pub written : WritesAll out out' reported
 
 -- The log is followed as the watch says. `now` and `out` are reported before it is read.
@@ -140,7 +140,7 @@ GoesOrEnds watch now out reader files out' session (Ok true) = EndsLog watch rea
 GoesOrEnds watch now out reader files out' session (Err stop) = EndsLog watch reader.name now files out out' (Some (fault_of_stop reader.name stop))
 
 -- A session stands at the beginning of a log, and what the watch opens with is written.
-pub record Opens (watch : Watch) (session : State) (out out' : SinkReport) : Type 0 where
+pub record OpensLog (watch : Watch) (session : State) (out out' : SinkReport) : Type 0 where
   pub regular : IsRegular watch.from.model
   pub mode : session.mode ≡ watch.mode
   pub window : session.windows.length ≡ watch.window

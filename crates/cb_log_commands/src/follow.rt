@@ -1,14 +1,14 @@
 //! A log, followed line by line: what results from each is written before the next one is asked for.
 ghost use Rattle.std.specs.Prelude.{◌≡◌, ◌⊎◌, ◌<◌, ◌≤◌, ℕ, true, IfOk, IfErr, IfSome, IsErrOf};
 ghost use Rattle.cb_alarm.specs.Lines.{log_line_limit};
-ghost use Rattle.cb_io.specs.LineReading.{coming, unread, ReadsSame, GoesOn};
+ghost use Rattle.cb_io.specs.LineReading.{coming, unread, ReadsSame, ReadingGoesOn};
 ghost use Rattle.cb_io.specs.Outside.{FilesReport, SinkReport, ReadFailed};
 ghost use Rattle.cb_log.specs.Basis.{wanted as for_wanted};
 ghost use Rattle.cb_outcome.specs.LogJobs.{Watch, log_limit};
 ghost use Rattle.cb_log_commands.specs.Counting.{PieceTakes, PieceCounts, HasCounted, CountsOn, CountsTaken};
 ghost use Rattle.cb_log_commands.specs.Following.{EndsLog};
 ghost use Rattle.cb_file_kinds.specs.Kinds.{ReadsOnly};
-ghost use Rattle.cb_log_commands.specs.Telling.{PieceSays, StopSays, ReadsLog, Going, wrong_of, GoesOrEnds, Opens};
+ghost use Rattle.cb_log_commands.specs.Telling.{PieceSays, StopSays, ReadsLog, Going, wrong_of, GoesOrEnds, OpensLog};
 ghost use Rattle.cb_file_kinds.specs.Ending.{wrong};
 
 use crate::stop::LogStop;
@@ -36,9 +36,9 @@ pub(crate) fn follow<'w, F: Files, O: Sink, L: Ledger>(
     session: &mut Session,
     steps: &mut Steps<L>,
 ) -> Result<(), Fault<'w>>
-    ensures ends { (watch : Watch) (before : SinkReport) → Opens watch session.old before (O.tells out.old)
+    ensures ends { (watch : Watch) (before : SinkReport) → OpensLog watch session.old before (O.tells out.old)
         → EndsLog watch log.entry (F.tells files.old) (F.tells files.new) before (O.tells out.new) (wrong result) }
-    ensures steps { (watch : Watch) (before : SinkReport) (d : ℕ) → watch.mode ≡ for_wanted d → Opens watch session.old before (O.tells out.old)
+    ensures steps { (watch : Watch) (before : SinkReport) (d : ℕ) → watch.mode ≡ for_wanted d → OpensLog watch session.old before (O.tells out.old)
         → CountsTaken watch.from log.entry (F.tells files.old) (F.tells files.new) steps.old steps.new }
 {
     match follow_lines(alloc, files, out, log.as_str(), session, steps) {
@@ -56,9 +56,9 @@ fn follow_lines<F: Files, O: Sink, L: Ledger>(
     session: &mut Session,
     steps: &mut Steps<L>,
 ) -> Result<(), LogStop>
-    ensures ends { (watch : Watch) (before : SinkReport) → Opens watch session.old before (O.tells out.old)
+    ensures ends { (watch : Watch) (before : SinkReport) → OpensLog watch session.old before (O.tells out.old)
         → EndsLog watch log.now (F.tells files.old) (F.tells files.new) before (O.tells out.new) (wrong_of log.now result) }
-    ensures steps { (watch : Watch) (before : SinkReport) (d : ℕ) → watch.mode ≡ for_wanted d → Opens watch session.old before (O.tells out.old)
+    ensures steps { (watch : Watch) (before : SinkReport) (d : ℕ) → watch.mode ≡ for_wanted d → OpensLog watch session.old before (O.tells out.old)
         → CountsTaken watch.from log.now (F.tells files.old) (F.tells files.new) steps.old steps.new }
 {
     let mut reader = reader_of(alloc, log)?;
@@ -133,7 +133,7 @@ fn next_piece<F: Files, L: Ledger>(
 ) -> Result<Vec<u8>, ReadStop>
     requires { ReadsLog reader.old }
     ensures same { ReadsSame reader.old reader.new }
-    ensures goes_on { IfOk result (λ text. GoesOn reader.new) }
+    ensures goes_on { IfOk result (λ text. ReadingGoesOn reader.new) }
     ensures advances { IfOk result (λ text. (reader.new.ended ≡ true) ⊎ ((reader.old.given < reader.new.given) × (reader.new.given ≤ reader.old.total_most))) }
     ensures only { ReadsOnly reader.old.name (F.tells files.old) (F.tells files.new) }
     ensures failed { IsErrOf result ReadStop.ReadFault → ReadFailed (F.tells files.old) (F.tells files.new) reader.old.name }

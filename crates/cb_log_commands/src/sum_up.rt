@@ -1,15 +1,15 @@
 //! A log that stands in memory, summed up: what results from its lines is counted, and not printed.
 ghost use Rattle.std.specs.Prelude.{◌≡◌, ◌↔◌, ◌++◌, ℕ, List as Items, [], ◌∷◌, false, IsTrue, OnOk};
-ghost use Rattle.cb_alarm.specs.Lines.{NumberedLine, line_of as line_of_numbered, log_lines, IsBlank};
+ghost use Rattle.cb_alarm.specs.Lines.{NumberedLine, numbered_line as line_of_numbered, log_lines, IsBlank};
 ghost use Rattle.cb_log.specs.declared.event.Event.{Event as EventOf};
 ghost use Rattle.cb_network.specs.Regular.{IsRegular};
 ghost use Rattle.cb_network.specs.Topology.{Topology as TopologyOf};
 ghost use Rattle.cb_report.specs.SummaryText.{CountsAlone, CountsEvents};
 ghost use Rattle.cb_outcome.specs.Grown.{CountsNetwork, SumsUpLog};
-ghost use Rattle.cb_session.specs.State.{StandsForEntries, line_of, network_of, IsFitting};
+ghost use Rattle.cb_session.specs.State.{StandsForEntries, log_line_of, network_of, IsFitting};
 ghost use Rattle.cb_topo.specs.Numbered.{topology_of};
 ghost use Rattle.cb_log_commands.specs.Counting.{CountsLine, CountsSummed};
-ghost use Rattle.cb_log_commands.specs.Summing.{skips, HasSummedUp, IsAskedFor, KeepsCounts};
+ghost use Rattle.cb_log_commands.specs.Summing.{skips, HasSummedUp, KeepsRequest, KeepsCounts};
 
 use crate::follow::MOST_LINE;
 use cb_cache::Cache;
@@ -31,7 +31,7 @@ pub(crate) fn sum_up<L: Ledger>(
     summary: &mut Summary,
     steps: &mut Steps<L>,
 ) -> Result<(), AllocError>
-    ensures asked { IsAskedFor summary.old summary.new }
+    ensures asked { KeepsRequest summary.old summary.new }
     ensures sums { OnOk result ((opening : TopologyOf) → IsRegular opening.model → StandsForEntries session.old opening []
         → CountsEvents [] summary.old → summary.old.records ≡ 0
         → SumsUpLog opening session.old.mode session.old.windows.length log.now summary.new) }
@@ -51,7 +51,7 @@ fn take_lines<L: Ledger>(
     summary: &mut Summary,
     steps: &mut Steps<L>,
 ) -> Result<(), AllocError>
-    ensures asked { IsAskedFor summary.old summary.new }
+    ensures asked { KeepsRequest summary.old summary.new }
     ensures mode { session.new.mode ≡ session.old.mode }
     ensures length { session.new.windows.length ≡ session.old.windows.length }
     ensures takes { OnOk result ((opening : TopologyOf) → IsRegular opening.model → HasSummedUp opening [] session.old summary.old
@@ -75,7 +75,7 @@ fn take_line<L: Ledger>(
     summary: &mut Summary,
     steps: &mut Steps<L>,
 ) -> Result<(), AllocError>
-    ensures asked { IsAskedFor summary.old summary.new }
+    ensures asked { KeepsRequest summary.old summary.new }
     ensures mode { session.new.mode ≡ session.old.mode }
     ensures length { session.new.windows.length ≡ session.old.windows.length }
     ensures takes { OnOk result ((opening : TopologyOf) (before : Items NumberedLine) → IsRegular opening.model → HasSummedUp opening before session.old summary.old
@@ -91,7 +91,7 @@ fn take_line<L: Ledger>(
 
 // The line, without its bytes where they are too many.
 fn log_line(number: u64, bytes: &[u8]) -> LogLine<'_>
-    ensures line { line_of result ≡ line_of_numbered (number, bytes.now) }
+    ensures line { log_line_of result ≡ line_of_numbered (number, bytes.now) }
     ensures fits { IsFitting result }
 {
     if bytes.len() <= MOST_LINE {
@@ -133,7 +133,7 @@ fn count_network(alloc: Global, cache: &Cache, summary: &mut Summary) -> Result<
 {
     let topology = cache.graph().topology();
     // It keeps within its limits.
-    let _room = topology.node_room();
+    let _capacity = topology.node_capacity();
     let matrix = Matrix::of(alloc, cache)?;
     summary.instances = topology.instance_count() as u32;
     summary.nodes = topology.node_count() as u32;

@@ -3,7 +3,7 @@ ghost use Rattle.std.specs.Prelude.{◌≡◌, ◌≤◌, ◌++◌, ℕ, List, l
 ghost use Rattle.cb_alarm.specs.Lines.{log_line_limit};
 ghost use Rattle.cb_log_commands.specs.Counting.{CountsGiven, CountsLine};
 ghost use Rattle.cb_log_commands.specs.Telling.{TellsGiven, TellsLine, TellsEnd};
-ghost use Rattle.cb_session.specs.State.{IsFitting, line_of, network_of};
+ghost use Rattle.cb_session.specs.State.{IsFitting, log_line_of, network_of};
 
 use cb_io::Line;
 use cb_report::events_text;
@@ -48,8 +48,8 @@ fn text_of_step<L: Ledger>(
     requires { IsFitting line }
     ensures mode { session.new.mode ≡ session.old.mode }
     ensures length { session.new.windows.length ≡ session.old.windows.length }
-    ensures tells { IfOk result (λ text. TellsLine session.old session.new (line_of line.entry) text.items) }
-    ensures counts { CountsLine (network_of session.old) (line_of line.entry) steps.old steps.new }
+    ensures tells { IfOk result (λ text. TellsLine session.old session.new (log_line_of line.entry) text.items) }
+    ensures counts { CountsLine (network_of session.old) (log_line_of line.entry) steps.old steps.new }
 {
     let events = session.step(alloc, line, steps)?;
     events_text(alloc, &events)

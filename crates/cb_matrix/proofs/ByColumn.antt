@@ -71,9 +71,9 @@ all_columns_coded columns reached to code all old = record {
   );
 }
 
--- columns that have places have numbers below the room
-pub columns_below : (room : ℕ) (columns : List NodeId) (places : List (Option ℕ)) → IsColumnIndex room columns places → IsBelow room columns
-columns_below room columns places are i id is =
+-- columns that have places have numbers below the capacity
+pub columns_below : (capacity : ℕ) (columns : List NodeId) (places : List (Option ℕ)) → IsColumnIndex capacity columns places → IsBelow capacity columns
+columns_below capacity columns places are i id is =
     let low = slice_get_within places id.0 (Some i) (are.all id.0 i is) in
     let size = are.size in
     omega arith

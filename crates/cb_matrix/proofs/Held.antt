@@ -6,17 +6,17 @@ use Rattle.std.proofs.lemmas.Option.{slice_get_within, get_or_from_slice_get}
 use Rattle.cb_model.proofs.Numbers.{take_more, zip_push}
 use Rattle.cb_coding.specs.declared.group.Problem.{Problem}
 use Rattle.cb_coding.specs.Distance.{code_at}
-use Rattle.cb_coding.specs.Groups.{AreProblems, AreGroups, zeros}
+use Rattle.cb_coding.specs.Groups.{AreCodedProblems, AreGroups, zeros}
 use Rattle.cb_nodes.specs.declared.id.NodeId.{NodeId}
 use Rattle.cb_network.specs.Topology.{Topology}
 use Rattle.cb_finding.proofs.Nearest.{coded_are_wide}
 use Rattle.cb_topo.specs.Numbered.{Numbered, IsNodeNamed, AreNamed}
 use Rattle.cb_codes.specs.declared.grouping.Grouping.{Grouping}
-use Rattle.cb_codes.specs.Grouped.{group, AddsProblem, FitsTogether, Holds, groups_in}
+use Rattle.cb_codes.specs.Grouped.{group, AddsProblem, FitsTogether, HoldsProblems, groups_in}
 use Rattle.cb_matrix.specs.Coded.{IsProblemAt, AreProblemsAt, AreGroupedAt}
 use Rattle.cb_matrix.specs.declared.problems.GroupedProblems.{GroupedProblems}
 use Rattle.cb_matrix.specs.Problems.{AreAllGrouped}
-use Rattle.cb_matrix.specs.Parts.{problems_with, HavePlaces}
+use Rattle.cb_matrix.specs.Parts.{problems_with, HaveCodePlaces}
 use Rattle.cb_matrix.proofs.Matched.{AreAllCoded}
 use Rattle.cb_codes.proofs.Grouped.{AreGrouped, quiet_grouped, one_more_grouped, all_grouped}
 
@@ -41,12 +41,12 @@ prefix (a ∷ all) (y ∷ xs) x e =
 pub record AreHeld (n : Numbered) (columns ids : List NodeId) (i : ℕ) (grouping : Grouping) : Type 0 where
   pub problems : List Problem
   pub coded : AreProblemsAt n columns (take i ids) problems
-  pub holds : Holds problems grouping
+  pub holds : HoldsProblems problems grouping
   pub sound : FitsTogether (length columns) grouping
-  pub groups : (all : List Problem) → AreProblems (length columns) all → take i all ≡ problems → AreGrouped (length columns) all i (groups_in grouping)
+  pub groups : (all : List Problem) → AreCodedProblems (length columns) all → take i all ≡ problems → AreGrouped (length columns) all i (groups_in grouping)
 
 module _ (n : Numbered) (columns ids : List NodeId) where
-  pub none_held : (grouping : Grouping) → FitsTogether (length columns) grouping → groups_in grouping ≡ group (zeros (length columns)) [] ∷ [] → Holds [] grouping
+  pub none_held : (grouping : Grouping) → FitsTogether (length columns) grouping → groups_in grouping ≡ group (zeros (length columns)) [] ∷ [] → HoldsProblems [] grouping
       → AreHeld n columns ids 0 grouping
   none_held grouping sound quiet none = record {
     problems = [];
@@ -57,7 +57,7 @@ module _ (n : Numbered) (columns ids : List NodeId) where
   }
 
   pub one_more_held : (i : ℕ) (id : NodeId) (p : Problem) (old new : Grouping) → slice_get ids i ≡ Some id → IsProblemAt n columns id p
-      → FitsTogether (length p.code) new → AddsProblem p (groups_in old) (groups_in new) → ((before : List Problem) → Holds before old → Holds (before ++ p ∷ []) new)
+      → FitsTogether (length p.code) new → AddsProblem p (groups_in old) (groups_in new) → ((before : List Problem) → HoldsProblems before old → HoldsProblems (before ++ p ∷ []) new)
       → AreHeld n columns ids i old → AreHeld n columns ids (i + 1) new
   one_more_held i id p old new at is sound added holds held =
       let within = slice_get_within ids i id at in
@@ -98,8 +98,8 @@ pub all_in_groups : (n : Numbered) (t : Topology) (columns ids : List NodeId) (m
 all_in_groups n t columns ids made grouped named coded =
     let size = length_zip (IsNodeNamed n) columns made.columns named in
     let problems = grouped.problems in
-    let are : AreProblems (length columns) problems =
-    subst (λ width. AreProblems width problems) (sym size) (coded_are_wide t made.columns problems coded.problems_are) in
+    let are : AreCodedProblems (length columns) problems =
+    subst (λ width. AreCodedProblems width problems) (sym size) (coded_are_wide t made.columns problems coded.problems_are) in
     record {
       problems = problems;
       columns_are = coded.columns_are;
@@ -130,7 +130,7 @@ places_within codes (place ∷ places) [] zip k d lt = absurd zip
 places_within codes (place ∷ places) (p ∷ problems) zip zero d lt = slice_get_within codes place p.code zip.0
 places_within codes (place ∷ places) (p ∷ problems) zip (suc k) d lt = places_within codes places problems zip.1 k d (omega arith)
 
-pub have_places : (problems : List Problem) (grouping : Grouping) → Holds problems grouping → HavePlaces grouping
+pub have_places : (problems : List Problem) (grouping : Grouping) → HoldsProblems problems grouping → HaveCodePlaces grouping
 have_places problems grouping holds =
     let zip = holds.places in
     let size = length_zip (λ place (p : Problem). slice_get grouping.codes.codes.rows place ≡ Some p.code) grouping.places problems zip in

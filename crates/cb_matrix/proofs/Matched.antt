@@ -23,7 +23,7 @@ use Rattle.cb_graph.specs.Edges.{EdgeAt, number}
 use Rattle.cb_graph.proofs.Chains.{named_once, lead_to_caused}
 use Rattle.cb_cache.specs.Numbers.{IsProblemNumber}
 use Rattle.cb_cache.proofs.Opened.{few_of_rising}
-use Rattle.cb_matrix.specs.Codes.{IsOnce, IsBelow, IsCodeOf}
+use Rattle.cb_matrix.specs.Codes.{AreDistinctIds, IsBelow, IsCodeOf}
 use Rattle.cb_matrix.specs.Coded.{IsCodeFrom, AreProblemsAt}
 
 -- a set's code is a search's, where the set is what was found
@@ -55,8 +55,8 @@ all_live n (a ∷ ids) [] zip k d lt = absurd zip
 all_live n (a ∷ ids) (x ∷ names) zip zero d lt = (x, zip.0)
 all_live n (a ∷ ids) (x ∷ names) zip (suc k) d lt = all_live n ids names zip.1 k d (omega arith)
 
-pub all_below : (n : Numbered) (room : ℕ) (ids : List NodeId) (names : List NodeName) → ((id : NodeId) → IsLiveNode n id → id.0 < room) → AreNamed n ids names → IsBelow room ids
-all_below n room ids names below zip i id at = let there = name_there n ids names zip i id at in below id (there.0, there.2)
+pub all_below : (n : Numbered) (capacity : ℕ) (ids : List NodeId) (names : List NodeName) → ((id : NodeId) → IsLiveNode n id → id.0 < capacity) → AreNamed n ids names → IsBelow capacity ids
+all_below n capacity ids names below zip i id at = let there = name_there n ids names zip i id at in below id (there.0, there.2)
 
 -- in a list in order no node stands twice
 apart : (names : List NodeName) (i j : ℕ) (x : NodeName) → Rises node_cmp names → slice_get names i ≡ Some x → slice_get names j ≡ Some x → i < j → ⊥
@@ -68,7 +68,7 @@ apart names i j x rise at_i at_j lt =
     node_strict x x less less
 
 -- numbers of nodes in order are each there once
-pub once_of : (n : Numbered) (ids : List NodeId) (names : List NodeName) → Rises node_cmp names → AreNamed n ids names → IsOnce ids
+pub once_of : (n : Numbered) (ids : List NodeId) (names : List NodeName) → Rises node_cmp names → AreNamed n ids names → AreDistinctIds ids
 once_of n ids names rise zip i j id at_i at_j =
     let one = name_there n ids names zip i id at_i in
     let other = name_there n ids names zip j id at_j in

@@ -80,7 +80,7 @@ module _ (columns : List NodeId) (reached : List Bool) (to : ℕ) (code : List B
     );
   }
 
-  module _ (room : ℕ) (places : List (Option ℕ)) (are : IsColumnIndex room columns places) where
+  module _ (capacity : ℕ) (places : List (Option ℕ)) (are : IsColumnIndex capacity columns places) where
     -- the next node is a column
     pub coded_here : (place : ℕ) → slice_get places node ≡ Some (Some place) → IsCodedTo columns reached (node + 1) (slice_set code place true)
     coded_here place at = coded_more place (are.each node place at) (λ k is.

@@ -7,24 +7,24 @@ use Rattle.std.proofs.lemmas.Option.{slice_get_within}
 use Rattle.cb_model.proofs.Numbers.{slice_get-set_other, slice_get-set_same, slice_get-set_here, slice_get-replicate}
 use Rattle.cb_nodes.specs.declared.id.NodeId.{NodeId}
 use Rattle.cb_graph.specs.Edges.{number}
-use Rattle.cb_matrix.specs.Codes.{IsOnce, IsBelow, IsColumnIndex}
+use Rattle.cb_matrix.specs.Codes.{AreDistinctIds, IsBelow, IsColumnIndex}
 
 -- for the number of each node its place among the first columns, if it is one
-pub record ArePlacesTo (room : ℕ) (columns : List NodeId) (to : ℕ) (places : List (Option ℕ)) : Type 0 where
-  pub size : length places ≡ room
+pub record ArePlacesTo (capacity : ℕ) (columns : List NodeId) (to : ℕ) (places : List (Option ℕ)) : Type 0 where
+  pub size : length places ≡ capacity
   pub each : (node place : ℕ) → slice_get places node ≡ Some (Some place) → slice_get columns place ≡ Some (number node)
   pub all : (node place : ℕ) → place < to → slice_get columns place ≡ Some (number node) → slice_get places node ≡ Some (Some place)
 
-pub no_places : (room : ℕ) (columns : List NodeId) → ArePlacesTo room columns 0 (replicate room None)
-no_places room columns = record {
-  size = length-replicate room None;
-  each = λ node place is. absurd (let e = slice_get-replicate room node None (Some place) is in cc);
+pub no_places : (capacity : ℕ) (columns : List NodeId) → ArePlacesTo capacity columns 0 (replicate capacity None)
+no_places capacity columns = record {
+  size = length-replicate capacity None;
+  each = λ node place is. absurd (let e = slice_get-replicate capacity node None (Some place) is in cc);
   all = λ node place lt is. absurd (omega arith);
 }
 
-pub place_more : (room : ℕ) (columns : List NodeId) (to : ℕ) (places : List (Option ℕ)) (id : NodeId) → IsOnce columns → IsBelow room columns
-    → ArePlacesTo room columns to places → slice_get columns to ≡ Some id → ArePlacesTo room columns (to + 1) (slice_set places id.0 (Some to))
-place_more room columns to places id once below old here = record {
+pub place_more : (capacity : ℕ) (columns : List NodeId) (to : ℕ) (places : List (Option ℕ)) (id : NodeId) → AreDistinctIds columns → IsBelow capacity columns
+    → ArePlacesTo capacity columns to places → slice_get columns to ≡ Some id → ArePlacesTo capacity columns (to + 1) (slice_set places id.0 (Some to))
+place_more capacity columns to places id once below old here = record {
   size = length-set places id.0 (Some to) ∙ old.size;
   each = λ node place is. elim (cases_eq node id.0) [
     | inl same ↦
@@ -52,8 +52,8 @@ place_more room columns to places id once below old here = record {
       | inr not_same ↦ elim (cases_lt place to) [ inl low ↦ low | inr high ↦ absurd (not_same (omega arith)) ]
     ]
 
-pub all_places : (room : ℕ) (columns : List NodeId) (to : ℕ) (places : List (Option ℕ)) → length columns ≤ to → ArePlacesTo room columns to places → IsColumnIndex room columns places
-all_places room columns to places end old = record {
+pub all_places : (capacity : ℕ) (columns : List NodeId) (to : ℕ) (places : List (Option ℕ)) → length columns ≤ to → ArePlacesTo capacity columns to places → IsColumnIndex capacity columns places
+all_places capacity columns to places end old = record {
   size = old.size;
   each = old.each;
   all = λ node place is. old.all node place (let e = slice_get_within columns place (number node) is in omega arith) is;

@@ -3,13 +3,13 @@ use Rattle.std.specs.Prelude.{◌≡◌, ◌↔◌, ◌+◌, ◌≤◌, ℕ, Lis
 use Rattle.std.specs.List.{AllZip}
 use Rattle.cb_nodes.specs.declared.id.NodeId.{NodeId}
 use Rattle.cb_coding.specs.declared.group.Problem.{Problem}
-use Rattle.cb_coding.specs.Groups.{AreProblems, AreGroups}
+use Rattle.cb_coding.specs.Groups.{AreCodedProblems, AreGroups}
 use Rattle.cb_successors.specs.Rows.{Has}
 use Rattle.cb_successors.specs.Graphs.{LeadsTo}
 use Rattle.cb_topo.specs.Numbered.{Numbered, IsNodeNamed}
 use Rattle.cb_graph.specs.Edges.{EdgeAt, number}
 use Rattle.cb_codes.specs.declared.grouping.Grouping.{Grouping}
-use Rattle.cb_codes.specs.Grouped.{FitsTogether, Holds, groups_in}
+use Rattle.cb_codes.specs.Grouped.{FitsTogether, HoldsProblems, groups_in}
 
 -- for each column, whether edges lead to it from the node of this number
 pub record IsCodeFrom (n : Numbered) (columns : List NodeId) (id : NodeId) (code : List Bool) : Type 0 where
@@ -29,7 +29,7 @@ AreProblemsAt n columns ids problems = AllZip (IsProblemAt n columns) ids proble
 pub record AreGroupedAt (n : Numbered) (columns ids : List NodeId) (grouping : Grouping) : Type 0 where
   pub problems : List Problem
   pub coded : AreProblemsAt n columns ids problems
-  pub holds : Holds problems grouping
+  pub holds : HoldsProblems problems grouping
   pub sound : FitsTogether (length columns) grouping
-  pub groups : AreProblems (length columns) problems → AreGroups (length columns) problems (groups_in grouping)
-  pub few : AreProblems (length columns) problems → length (groups_in grouping) ≤ length problems + 1
+  pub groups : AreCodedProblems (length columns) problems → AreGroups (length columns) problems (groups_in grouping)
+  pub few : AreCodedProblems (length columns) problems → length (groups_in grouping) ≤ length problems + 1

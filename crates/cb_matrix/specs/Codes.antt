@@ -7,23 +7,23 @@ use Rattle.cb_graph.specs.Edges.{number}
 use Rattle.cb_matrix.specs.declared.codes.Columns.{Columns}
 
 -- no number stands twice
-abbrev pub IsOnce : List NodeId → Type 0
-IsOnce ids = (i j : ℕ) (id : NodeId) → slice_get ids i ≡ Some id → slice_get ids j ≡ Some id → i ≡ j
+abbrev pub AreDistinctIds : List NodeId → Type 0
+AreDistinctIds ids = (i j : ℕ) (id : NodeId) → slice_get ids i ≡ Some id → slice_get ids j ≡ Some id → i ≡ j
 
 -- all numbers are below the bound
 abbrev pub IsBelow : ℕ → List NodeId → Type 0
-IsBelow room ids = (i : ℕ) (id : NodeId) → slice_get ids i ≡ Some id → id.0 < room
+IsBelow capacity ids = (i : ℕ) (id : NodeId) → slice_get ids i ≡ Some id → id.0 < capacity
 
 -- for the number of each node its position among the columns, if it is one
-pub record IsColumnIndex (room : ℕ) (columns : List NodeId) (places : List (Option ℕ)) : Type 0 where
-  pub size : length places ≡ room
+pub record IsColumnIndex (capacity : ℕ) (columns : List NodeId) (places : List (Option ℕ)) : Type 0 where
+  pub size : length places ≡ capacity
   pub each : (node place : ℕ) → slice_get places node ≡ Some (Some place) → slice_get columns place ≡ Some (number node)
   pub all : (node place : ℕ) → slice_get columns place ≡ Some (number node) → slice_get places node ≡ Some (Some place)
 
 -- the columns of these numbers, with their positions
-pub record AreIndexed (room : ℕ) (ids : List NodeId) (columns : Columns) : Type 0 where
+pub record AreIndexed (capacity : ℕ) (ids : List NodeId) (columns : Columns) : Type 0 where
   pub nodes : columns.nodes ≡ ids
-  pub places : IsColumnIndex room ids columns.places.items
+  pub places : IsColumnIndex capacity ids columns.places.items
 
 -- for each column, whether the set of nodes has it
 pub record IsCodeOf (columns : List NodeId) (reached code : List Bool) : Type 0 where

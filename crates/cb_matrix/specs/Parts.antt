@@ -27,6 +27,6 @@ pub record AreParts (columns names : List NodeName) (places : List ℕ) (groups 
   pub within : All (λ place. place < length groups.groups) places
 
 -- each problem has the position of a code
-pub record HavePlaces (grouping : Grouping) : Type 0 where
+pub record HaveCodePlaces (grouping : Grouping) : Type 0 where
   pub all : length grouping.places ≡ length grouping.problems
   pub within : All (λ place. place < length grouping.codes.codes.rows) grouping.places

@@ -2,7 +2,7 @@
 use Rattle.std.specs.Prelude.{◌+◌, ◌≤◌, List, length}
 use Rattle.cb_coding.specs.declared.group.Problem.{Problem}
 use Rattle.cb_coding.specs.Groups.{AreGroups}
-use Rattle.cb_codes.specs.Grouped.{FitsTogether, Holds, groups_in}
+use Rattle.cb_codes.specs.Grouped.{FitsTogether, HoldsProblems, groups_in}
 use Rattle.cb_network.specs.Topology.{Topology}
 use Rattle.cb_network.specs.Nodes.{AreColumns}
 use Rattle.cb_network.specs.Sound.{problem_limit, symptom_limit}
@@ -15,7 +15,7 @@ pub record AreAllGrouped (t : Topology) (made : GroupedProblems) : Type 0 where
   pub columns_are : AreColumns t made.columns
   pub problems_are : AreCoded t made.columns problems
   pub groups_are : AreGroups (length made.columns) problems (groups_in made.grouping)
-  pub holds : Holds problems made.grouping
+  pub holds : HoldsProblems problems made.grouping
   pub sound : FitsTogether (length made.columns) made.grouping
   pub few_columns : length made.columns ≤ symptom_limit
   pub few_problems : length problems ≤ problem_limit

@@ -54,7 +54,7 @@ fn coded_problem(
     Ok(Problem { name, code })
 }
 
-// So many words without a one.
+// `width` words without a one.
 fn zeros(alloc: Global, width: usize) -> Result<Vec<u64>, AllocError>
     ensures { IfOk result (λ words. words.items ≡ replicate width 0) }
 {

@@ -2,7 +2,7 @@
 ghost use Rattle.std.specs.Prelude.{◌≡◌, ◌<◌, ◌≤◌, ◌+◌, ◌*◌, length, replicate, IfOk, IfSome, IfNone};
 ghost use Rattle.cb_lanes.specs.Words.{bit_of, word_limit};
 ghost use Rattle.cb_bits.specs.Bits.{IsNextOne, HasNoneFrom};
-ghost use Rattle.cb_matrix.specs.Codes.{IsOnce, IsBelow, IsColumnIndex, AreIndexed, IsCodeOf, bits};
+ghost use Rattle.cb_matrix.specs.Codes.{AreDistinctIds, IsBelow, IsColumnIndex, AreIndexed, IsCodeOf, bits};
 
 use cb_bits::Row;
 use cb_lanes::next_in_a_not_b;
@@ -19,13 +19,17 @@ pub struct Columns {
     pub places: Vec<Option<usize>>,
 }
 
-/// The columns of these numbers. All numbers of nodes are below `room`.
-pub fn column_index(alloc: Global, nodes: List<NodeId>, room: usize) -> Result<Columns, AllocError>
-    requires once { IsOnce nodes }
-    requires below { IsBelow room nodes }
-    ensures { IfOk result (AreIndexed room nodes) }
+/// The columns of these numbers. All numbers of nodes are below `capacity`.
+pub fn column_index(
+    alloc: Global,
+    nodes: List<NodeId>,
+    capacity: usize,
+) -> Result<Columns, AllocError>
+    requires once { AreDistinctIds nodes }
+    requires below { IsBelow capacity nodes }
+    ensures { IfOk result (AreIndexed capacity nodes) }
 {
-    let places = places_of(alloc, &nodes, room)?;
+    let places = places_of(alloc, &nodes, capacity)?;
     Ok(Columns { nodes, places })
 }
 
@@ -33,13 +37,13 @@ pub fn column_index(alloc: Global, nodes: List<NodeId>, room: usize) -> Result<C
 fn places_of(
     alloc: Global,
     columns: &List<NodeId>,
-    room: usize,
+    capacity: usize,
 ) -> Result<Vec<Option<usize>>, AllocError>
-    requires once { IsOnce columns.now }
-    requires below { IsBelow room columns.now }
-    ensures { IfOk result (λ places. IsColumnIndex room columns.now places.items) }
+    requires once { AreDistinctIds columns.now }
+    requires below { IsBelow capacity columns.now }
+    ensures { IfOk result (λ places. IsColumnIndex capacity columns.now places.items) }
 {
-    let mut places = vec![in alloc; None; room]?;
+    let mut places = vec![in alloc; None; capacity]?;
     for place in 0..columns.len() {
         places[columns.at(place).0 as usize] = Some(place);
     }

@@ -6,7 +6,7 @@ ghost use Rattle.cb_network.specs.Sound.{problem_limit, symptom_limit};
 ghost use Rattle.cb_finding.specs.Matrix.{AreCoded, IsMatrix};
 ghost use Rattle.cb_topo.specs.Numbered.{topology_of};
 ghost use Rattle.cb_codes.specs.Grouped.{FitsTogether, groups_in};
-ghost use Rattle.cb_matrix.specs.Parts.{problems_with, HavePlaces};
+ghost use Rattle.cb_matrix.specs.Parts.{problems_with, HaveCodePlaces};
 
 use crate::problems::GroupedProblems;
 use cb_cache::Cache;
@@ -114,7 +114,7 @@ impl Matrix {
 // The matrix of these columns, with the problems in their groups.
 fn matrix_of(columns: List<NodeName>, grouping: Grouping) -> Matrix
     requires sound { FitsTogether (length columns) grouping }
-    requires places { HavePlaces grouping }
+    requires places { HaveCodePlaces grouping }
     ensures columns { result.columns ≡ columns }
     ensures problems { result.problems ≡ problems_with grouping.codes.codes.rows grouping.problems grouping.places }
     ensures groups { result.groups ≡ groups_in grouping }

@@ -25,7 +25,7 @@ impl GroupedProblems {
     {
         let topology = cache.graph().topology();
         // All numbers of nodes are below it.
-        let _room = topology.node_room();
+        let _capacity = topology.node_capacity();
         let column_nodes = topology.columns(alloc)?;
         let columns = names_of(alloc, topology, &column_nodes)?;
         let index = column_index(alloc, column_nodes, 64 * cache.pool().width())?;

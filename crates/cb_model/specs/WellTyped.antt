@@ -50,19 +50,19 @@ pub data Member : Type 0 where
   rule : ℕ → Member
 
 -- the class itself declares the member under this name
-abbrev pub Declares : Tables → ClassId → Member → List ℕ → Type 0
-Declares t c (event n) name = (row : EventRow) × (slice_get t.events n ≡ Some row) × (row.class ≡ c) × (row.name ≡ name)
-Declares t c (relation n) name = (row : RelRow) × (slice_get t.relations n ≡ Some row) × (row.class ≡ c) × (row.name ≡ name)
-Declares t c (rule n) name = (row : RuleRow) × (slice_get t.rules n ≡ Some row) × (row.class ≡ c) × (row.name ≡ name)
+abbrev pub ClassDeclares : Tables → ClassId → Member → List ℕ → Type 0
+ClassDeclares t c (event n) name = (row : EventRow) × (slice_get t.events n ≡ Some row) × (row.class ≡ c) × (row.name ≡ name)
+ClassDeclares t c (relation n) name = (row : RelRow) × (slice_get t.relations n ≡ Some row) × (row.class ≡ c) × (row.name ≡ name)
+ClassDeclares t c (rule n) name = (row : RuleRow) × (slice_get t.rules n ≡ Some row) × (row.class ≡ c) × (row.name ≡ name)
 
 -- c inherits or declares the rule, whether it is blocked or not
 abbrev pub InheritsRule : Tables → ClassId → ℕ → Type 0
 InheritsRule t c n = (row : RuleRow) × (slice_get t.rules n ≡ Some row) × IsA t c row.class
 
 -- the path leads from instances of c to instances of d: the relation at each of its places is one that the class reached there has
-abbrev pub Reaches : Tables → ClassId → List Place → ClassId → Type 0
-Reaches t c [] d = c ≡ d
-Reaches t c (place ∷ rest) d = (has : HasRelation t c place.rel) × Reaches t has.row.target rest d
+abbrev pub PathReaches : Tables → ClassId → List Place → ClassId → Type 0
+PathReaches t c [] d = c ≡ d
+PathReaches t c (place ∷ rest) d = (has : HasRelation t c place.rel) × PathReaches t has.row.target rest d
 
 -- the relation's target is the class that declares it, or a descendant of that class, so an instance that a link leads to has the relation too
 abbrev pub LeadsOn : Tables → RelId → Type 0
@@ -93,13 +93,13 @@ pub record KeepsTypeRules (t : Tables) : Type 0 where
   -- each class has few ancestors
   pub depth : (c : ClassId) → ancestor t c (suc ancestor_limit) ≡ None
   -- in a class and its ancestors no name is declared twice
-  pub member_names : (c d : ClassId) (one other : Member) (name : List ℕ) → IsA t c d → Declares t c one name → Declares t d other name → one ≡ other
+  pub member_names : (c d : ClassId) (one other : Member) (name : List ℕ) → IsA t c d → ClassDeclares t c one name → ClassDeclares t d other name → one ≡ other
   -- the inverse of each relation leads back to it
   pub inverses : (r : RelId) (row : RelRow) → slice_get t.relations r.0 ≡ Some row → HasInverse t r row
   -- the class of each rule has its cause
   pub causes : All (λ row. HasEvent t row.class row.cause) t.rules
   -- the path of each rule leads to a class that has its effect
-  pub effects : All (λ row. (d : ClassId) × Reaches t row.class row.path d × HasEvent t d row.effect) t.rules
+  pub effects : All (λ row. (d : ClassId) × PathReaches t row.class row.path d × HasEvent t d row.effect) t.rules
   -- a link can follow a link at each place with the plus
   pub repeats : All (λ row. All (MayRepeat t) row.path) t.rules
   -- a class blocks only rules that it inherits or declares

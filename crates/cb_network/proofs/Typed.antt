@@ -8,12 +8,12 @@ use Rattle.cb_model.specs.declared.id.RelId.{RelId}
 use Rattle.cb_model.specs.declared.tables.Tables.{Tables}
 use Rattle.cb_model.specs.declared.tables.ClassRow.{ClassRow}
 use Rattle.cb_model.specs.Classes.{ancestor, IsA, NamesClass, NamesRelation}
-use Rattle.cb_model.specs.WellTyped.{WellTyped, Member, Declares}
+use Rattle.cb_model.specs.WellTyped.{WellTyped, Member, ClassDeclares}
 use Rattle.cb_model.specs.declared.limits.TheConstants.{MOST_ANCESTORS}
 use Rattle.cb_model.proofs.Climb.{class_is, ancestor_add, stops}
 use Rattle.cb_network.specs.Regular.{IsRegular}
 
--- where nothing is so many steps above, ancestors are fewer steps above
+-- where nothing is that number of steps above, ancestors are fewer steps above
 below : (tables : Tables) (c b : ClassId) (top n : ℕ) → ancestor tables c top ≡ None → ancestor tables c n ≡ Some b → n < top
 below tables c b top n none is = elim (cases_lt n top) [
   | inl lt ↦ lt
@@ -46,8 +46,8 @@ module _ (tables : Tables) (typed : WellTyped tables) where
 
   one_relation_named : (class : ClassId) (name : List ℕ) (r s : RelId) → NamesRelation tables class name r → NamesRelation tables class name s → r ≡ s
   one_relation_named class name r s (a, named) (b, named') =
-      let one : Declares tables a.row.class (Member.relation r.0) name = (a.row, a.is, refl, named) in
-      let other : Declares tables b.row.class (Member.relation s.0) name = (b.row, b.is, refl, named') in
+      let one : ClassDeclares tables a.row.class (Member.relation r.0) name = (a.row, a.is, refl, named) in
+      let other : ClassDeclares tables b.row.class (Member.relation s.0) name = (b.row, b.is, refl, named') in
       elim (cases_lt b.from_c.0 a.from_c.0) [
         | inl lt ↦ sym (relation_is s r (typed.rules.member_names b.row.class a.row.class (Member.relation s.0) (Member.relation r.0) name
             (further class b.row.class a.row.class b.from_c.0 a.from_c.0 (omega arith) b.from_c.1 a.from_c.1) other one))

@@ -7,7 +7,7 @@ ghost use Rattle.cb_change.specs.Costs.{IsOpenCost};
 ghost use Rattle.cb_decode.specs.Names.{HasName};
 ghost use Rattle.cb_outcome.specs.Fits.{IsFoundFor, IsSecondCalled, NamesGuess};
 ghost use Rattle.cb_outcome.specs.Jobs.{PairsGives};
-ghost use Rattle.cb_pairs.specs.Fits.{IsRefused};
+ghost use Rattle.cb_pairs.specs.Fits.{ArePairsRefused};
 ghost use Rattle.cb_pairs.specs.Guesses.{IsOfGroups, IsSecondBelow};
 ghost use Rattle.cb_report.specs.Text.{bytes_of_text};
 ghost use Rattle.cb_topo.specs.Numbered.{topology_of};
@@ -65,7 +65,7 @@ fn listing<'w>(
 
 // Why there are no pairs.
 fn refused<'w>(alloc: Global, fault: PairFault) -> Result<Output<'w>, AllocError>
-    ensures { (count : ℕ) → IsRefused count fault → IfOk result (λ output. IsGroupsRefusal count (bytes_of_text output.text) output.fault) }
+    ensures { (count : ℕ) → ArePairsRefused count fault → IfOk result (λ output. IsGroupsRefusal count (bytes_of_text output.text) output.fault) }
 {
     match fault {
         PairFault::TooManyGroups { groups } => Ok(Output {

@@ -29,7 +29,7 @@ module _ (tables : Tables) (class : ClassId) where
   rises : (events : List EventId) → AreEventsOf tables class events → Rises nat_cmp (numbers events)
   rises events are = λ i j d below within. sym (nat_cmp_is _ _ Less (are.rising i j d below within))
 
-  -- there are so many
+  -- this is how many there are
   pub one_count : (xs ys : List EventId) → AreEventsOf tables class xs → AreEventsOf tables class ys → length xs ≡ length ys
   one_count xs ys are_x are_y =
       let same = same_rising nat_cmp nat_strict (numbers xs) (numbers ys) (rises xs are_x) (rises ys are_y)

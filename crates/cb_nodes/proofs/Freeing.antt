@@ -14,8 +14,8 @@ use Rattle.cb_nodes.specs.declared.id.NodeId.{NodeId}
 use Rattle.cb_nodes.specs.declared.listed.Listed.{Listed}
 use Rattle.cb_nodes.specs.declared.node.Node.{Node}
 use Rattle.cb_nodes.specs.declared.numbers.Numbers.{Numbers}
-use Rattle.cb_nodes.specs.Kept.{AreKept, GivesBack, NodeLists, list_at, IsListOf, HaveNumbers, AreDistinct, IsAmong, Frees, IsTableOf}
-use Rattle.cb_nodes.specs.Table.{Table, IsNode, HasNumber, node_of, HasEvent, AreEventsAt, IsOne, Removes}
+use Rattle.cb_nodes.specs.Kept.{AreKept, GivesBack, NodeLists, list_at, ListsEvents, HaveNumbers, AreDistinct, IsAmongListed, Frees, IsTableOf}
+use Rattle.cb_nodes.specs.Table.{Table, IsNode, HasNumber, node_of, NumbersEvent, AreEventsAt, IsOne, Removes}
 use Rattle.cb_nodes.proofs.Apart.{no_more, pairs_at}
 use Rattle.cb_nodes.proofs.Listing.{one_node, SetsList, sound_sets}
 use Rattle.cb_nodes.proofs.Taking.{same_number}
@@ -25,7 +25,7 @@ frees_none old kept = record {
   kept = kept;
   each = λ x n. (λ is. (is, λ among. nothing_in_empty among.0 among.1), λ h. h.0);
   count = omega arith;
-  room = refl;
+  capacity = refl;
 }
 
 pub frees_more : (first old new : Numbers) (list : List Listed) (x : Listed) → Frees first old list → GivesBack old new x.id → Frees first new (list ++ x ∷ [])
@@ -47,7 +47,7 @@ frees_more first old new list x frees back = record {
         back.others id.0 ne ∙ was,
   );
   count = let n = length_push list x in omega (arith, frees.count, back.count);
-  room = back.room ∙ frees.room;
+  capacity = back.capacity ∙ frees.capacity;
 }
 
 -- a number that comes later in the list still has its node
@@ -67,9 +67,9 @@ still_had first old list k d lt frees have apart =
       ),
     )
 
-module _ (t : Table) (i : InstanceId) (list : List Listed) (one : IsOne t) (is_list : IsListOf t i list) where
+module _ (t : Table) (i : InstanceId) (list : List Listed) (one : IsOne t) (is_list : ListsEvents t i list) where
   -- the number of an event of the instance is listed, and no other
-  pub among : (id : NodeId) (n : Node) → IsNode t id n → (n.instance ≡ i) ↔ IsAmong list id
+  pub among : (id : NodeId) (n : Node) → IsNode t id n → (n.instance ≡ i) ↔ IsAmongListed list id
   among id n is = (
     λ e.
         let x : Listed = record { event = n.event; id = id } in
@@ -100,22 +100,22 @@ module _ (t : Table) (i : InstanceId) (list : List Listed) (one : IsOne t) (is_l
       pairs_at (λ a b. a.id ≢ b.id) list is_list.apart j k x y lt at_j at_k (one x.id y.id (node_of i x.event) (is_list.listed x (contains_at list j x at_j)) n)) in
       omega arith
 
-pub have_numbers : (t : Table) (i : InstanceId) (list : List Listed) → IsListOf t i list → HaveNumbers t list
+pub have_numbers : (t : Table) (i : InstanceId) (list : List Listed) → ListsEvents t i list → HaveNumbers t list
 have_numbers t i list is_list x has = (node_of i x.event, is_list.listed x has)
 
-pub removed : (old new : Numbers) (i : InstanceId) (list : List Listed) → IsOne old.slots.items → IsListOf old.slots.items i list → Frees old new list → Removes old.slots.items new.slots.items i
+pub removed : (old new : Numbers) (i : InstanceId) (list : List Listed) → IsOne old.slots.items → ListsEvents old.slots.items i list → Frees old new list → Removes old.slots.items new.slots.items i
 removed old new i list one is_list frees = record {
   each = λ id n. (
     λ is. let was = (frees.each id n).0 is in (was.0, λ e. was.1 ((among old.slots.items i list one is_list id n was.0).0 e)),
     λ (is, ne). (frees.each id n).1 (is, λ a. ne ((among old.slots.items i list one is_list id n is).1 a)),
   );
   count = λ events are. let n = as_many old.slots.items i list one is_list events are in omega (arith, frees.count);
-  room = frees.room;
+  capacity = frees.capacity;
 }
 
 pub removed_sound : (old new : Numbers) (lists lists' : NodeLists) (i : InstanceId) (list : List Listed) → list_at lists i ≡ list → Frees old new list → SetsList lists lists' i [] → IsTableOf old lists → IsTableOf new lists'
 removed_sound old new lists lists' i list is frees sets sound =
-    let is_list : IsListOf old.slots.items i list = subst (IsListOf old.slots.items i) is (sound.listed i) in
+    let is_list : ListsEvents old.slots.items i list = subst (ListsEvents old.slots.items i) is (sound.listed i) in
     let now = removed old new i list sound.one is_list frees in
     sound_sets old new lists lists' i [] frees.kept
     (λ a b n is_a is_b. sound.one a b n ((now.each a n).0 is_a).0 ((now.each b n).0 is_b).0)
@@ -131,19 +131,19 @@ removed_sound old new lists lists' i list is frees sets sound =
 -- an instance without a list has no nodes
 pub removed_none : (numbers : Numbers) (lists : NodeLists) (i : InstanceId) → list_at lists i ≡ [] → IsTableOf numbers lists → Removes numbers.slots.items numbers.slots.items i
 removed_none numbers lists i none sound =
-    let is_list : IsListOf numbers.slots.items i [] = subst (IsListOf numbers.slots.items i) none (sound.listed i) in
+    let is_list : ListsEvents numbers.slots.items i [] = subst (ListsEvents numbers.slots.items i) none (sound.listed i) in
     removed numbers numbers i [] sound.one is_list (frees_none numbers sound.kept)
 
 -- the list of an instance, as it is read
-pub listed_there : (numbers : Numbers) (lists : NodeLists) (i : InstanceId) (list : List Listed) → list_at lists i ≡ list → IsTableOf numbers lists → IsListOf numbers.slots.items i list
-listed_there numbers lists i list is sound = subst (IsListOf numbers.slots.items i) is (sound.listed i)
+pub listed_there : (numbers : Numbers) (lists : NodeLists) (i : InstanceId) (list : List Listed) → list_at lists i ≡ list → IsTableOf numbers lists → ListsEvents numbers.slots.items i list
+listed_there numbers lists i list is sound = subst (ListsEvents numbers.slots.items i) is (sound.listed i)
 
 pub found_node : (numbers : Numbers) (lists : NodeLists) (i : InstanceId) (list : List Listed) (e : EventId) (r : Option NodeId) → list_at lists i ≡ list → IsTableOf numbers lists
     → IfSome r (λ id. Contains list (record { event = e; id = id })) → IfSome r (λ id. IsNode numbers.slots.items id (node_of i e))
 found_node numbers lists i list e r is sound found = IfSome_then r found (λ id has. (listed_there numbers lists i list is sound).listed (record { event = e; id = id }) has)
 
 pub no_node : (numbers : Numbers) (lists : NodeLists) (i : InstanceId) (list : List Listed) (e : EventId) → list_at lists i ≡ list → IsTableOf numbers lists
-    → ((x : Listed) → Contains list x → x.event ≢ e) → ¬ HasEvent numbers.slots.items i e
+    → ((x : Listed) → Contains list x → x.event ≢ e) → ¬ NumbersEvent numbers.slots.items i e
 no_node numbers lists i list e is sound none (id, at) = let x : Listed = record { event = e; id = id } in none x ((listed_there numbers lists i list is sound).whole x at) refl
 
 pub if_none : {A : Type 0} (r : Option A) (P Q : Type 0) → (P → Q) → IfNone r P → IfNone r Q

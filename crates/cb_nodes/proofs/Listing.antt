@@ -18,8 +18,8 @@ use Rattle.cb_nodes.specs.declared.id.NodeId.{NodeId}
 use Rattle.cb_nodes.specs.declared.listed.Listed.{Listed}
 use Rattle.cb_nodes.specs.declared.node.Node.{Node}
 use Rattle.cb_nodes.specs.declared.numbers.Numbers.{Numbers}
-use Rattle.cb_nodes.specs.Kept.{AreKept, TakesNumber, NodeLists, list_at, items_in, SameLists, IsListOf, NumbersAll, IsTableOf}
-use Rattle.cb_nodes.specs.Table.{Table, IsNode, node_of, HasEvent, IsOne, Adds}
+use Rattle.cb_nodes.specs.Kept.{AreKept, TakesNumber, NodeLists, list_at, items_in, SameLists, ListsEvents, NumbersEvents, IsTableOf}
+use Rattle.cb_nodes.specs.Table.{Table, IsNode, node_of, NumbersEvent, IsOne, Adds}
 use Rattle.cb_nodes.proofs.Apart.{pairs_more}
 use Rattle.cb_nodes.proofs.Taking.{same_number}
 
@@ -46,7 +46,7 @@ module _ (old new : Numbers) (i : InstanceId) (e : EventId) (id : NodeId) (takes
     | inr ne ↦ inl (sym (takes.others x.0 ne) ∙ is)
   ]
 
-  pub listed_more : (list : List Listed) → IsListOf old.slots.items i list → IsListOf new.slots.items i (list ++ record { event = e; id = id } ∷ [])
+  pub listed_more : (list : List Listed) → ListsEvents old.slots.items i list → ListsEvents new.slots.items i (list ++ record { event = e; id = id } ∷ [])
   listed_more list was =
       let here : Listed = record { event = e; id = id } in
       record {
@@ -61,7 +61,7 @@ module _ (old new : Numbers) (i : InstanceId) (e : EventId) (id : NodeId) (takes
         apart = pairs_more (λ x y. x.id ≢ y.id) list here was.apart (λ x has same. other x.id (node_of i x.event) (was.listed x has) (ap (λ (k : NodeId). k.0) same));
       }
 
-  pub one_more : IsOne old.slots.items → ¬ HasEvent old.slots.items i e → IsOne new.slots.items
+  pub one_more : IsOne old.slots.items → ¬ NumbersEvent old.slots.items i e → IsOne new.slots.items
   one_more one none a b n is_a is_b = elim (either a n is_a) [
     | inl was_a ↦ elim (either b n is_b) [
       | inl was_b ↦ one a b n was_a was_b
@@ -90,11 +90,11 @@ module _ (old new : Numbers) (i : InstanceId) (e : EventId) (id : NodeId) (takes
           | inr same ↦ (id, subst (λ g. IsNode new.slots.items id (node_of i g)) same takes.this)
         ];
         count = omega (arith, takes.count, adds.count, size);
-        room = omega (arith, takes.room, adds.room, adds.count, size);
+        capacity = omega (arith, takes.capacity, adds.capacity, adds.count, size);
       }
 
 -- an event that was not there, and is not among those that came, is not there
-pub none_yet : (first now : Table) (i : InstanceId) (es : List EventId) (e : EventId) → Adds first now i es → ¬ HasEvent first i e → ¬ Contains es e → ¬ HasEvent now i e
+pub none_yet : (first now : Table) (i : InstanceId) (es : List EventId) (e : EventId) → Adds first now i es → ¬ NumbersEvent first i e → ¬ Contains es e → ¬ NumbersEvent now i e
 none_yet first now i es e adds none off (id, is) = elim (adds.each id (node_of i e) is) [
   | inl was ↦ none (id, was)
   | inr so ↦ off so.1
@@ -107,8 +107,8 @@ not_before xs k d once lt (j, within, is) =
     let at : get_or xs j x ≡ x = sym (get_or-take k xs j x below) ∙ is in
     once j k x below lt (at ∙ get_or_default xs k d x lt)
 
-pub numbers_more : (first old new : Numbers) (i : InstanceId) (list : List Listed) (es : List EventId) (e : EventId) (id : NodeId) → NumbersAll first old i list es
-    → ¬ HasEvent first.slots.items i e → ¬ Contains es e → TakesNumber old new id (node_of i e) → NumbersAll first new i (list ++ record { event = e; id = id } ∷ []) (es ++ e ∷ [])
+pub numbers_more : (first old new : Numbers) (i : InstanceId) (list : List Listed) (es : List EventId) (e : EventId) (id : NodeId) → NumbersEvents first old i list es
+    → ¬ NumbersEvent first.slots.items i e → ¬ Contains es e → TakesNumber old new id (node_of i e) → NumbersEvents first new i (list ++ record { event = e; id = id } ∷ []) (es ++ e ∷ [])
 numbers_more first old new i list es e id all none off takes = record {
   kept = takes.kept;
   same_spare = record { slots = takes.same_spare.slots ∙ all.same_spare.slots; free = takes.same_spare.free ∙ all.same_spare.free };
@@ -118,7 +118,7 @@ numbers_more first old new i list es e id all none off takes = record {
 }
 
 -- an instance whose nodes are the same has the same list
-pub same_list : (old new : Table) (j : InstanceId) (list : List Listed) → ((x : NodeId) (e : EventId) → IsNode new x (node_of j e) ↔ IsNode old x (node_of j e)) → IsListOf old j list → IsListOf new j list
+pub same_list : (old new : Table) (j : InstanceId) (list : List Listed) → ((x : NodeId) (e : EventId) → IsNode new x (node_of j e) ↔ IsNode old x (node_of j e)) → ListsEvents old j list → ListsEvents new j list
 same_list old new j list same was = record {
   listed = λ x has. (same x.id x.event).1 (was.listed x has);
   whole = λ x is. was.whole x ((same x.id x.event).0 is);
@@ -136,18 +136,18 @@ list_set lists i v lt = record {
   others = λ j ne. ap items_in (slice_get-set_other lists i.0 j.0 v (λ e. ne (same_id j i (sym e))));
 }
 
-pub sound_sets : (old new : Numbers) (lists lists' : NodeLists) (i : InstanceId) (list : List Listed) → AreKept new → IsOne new.slots.items → IsListOf new.slots.items i list → SetsList lists lists' i list
+pub sound_sets : (old new : Numbers) (lists lists' : NodeLists) (i : InstanceId) (list : List Listed) → AreKept new → IsOne new.slots.items → ListsEvents new.slots.items i list → SetsList lists lists' i list
     → ((j : InstanceId) → j ≢ i → (x : NodeId) (e : EventId) → IsNode new.slots.items x (node_of j e) ↔ IsNode old.slots.items x (node_of j e)) → IsTableOf old lists → IsTableOf new lists'
 sound_sets old new lists lists' i list kept one listed sets same sound = record {
   kept = kept;
   one = one;
   listed = λ j. elim (decide_id j i) [
-    | inl e ↦ subst (λ k. IsListOf new.slots.items k (list_at lists' k)) (sym e) (subst (IsListOf new.slots.items i) (sym sets.this) listed)
-    | inr ne ↦ subst (IsListOf new.slots.items j) (sym (sets.others j ne)) (same_list old.slots.items new.slots.items j (list_at lists j) (same j ne) (sound.listed j))
+    | inl e ↦ subst (λ k. ListsEvents new.slots.items k (list_at lists' k)) (sym e) (subst (ListsEvents new.slots.items i) (sym sets.this) listed)
+    | inr ne ↦ subst (ListsEvents new.slots.items j) (sym (sets.others j ne)) (same_list old.slots.items new.slots.items j (list_at lists j) (same j ne) (sound.listed j))
   ];
 }
 
-pub numbered_sound : (old new : Numbers) (lists lists' : NodeLists) (i : InstanceId) (list : List Listed) (es : List EventId) → NumbersAll old new i list es → SetsList lists lists' i list → IsTableOf old lists → IsTableOf new lists'
+pub numbered_sound : (old new : Numbers) (lists lists' : NodeLists) (i : InstanceId) (list : List Listed) (es : List EventId) → NumbersEvents old new i list es → SetsList lists lists' i list → IsTableOf old lists → IsTableOf new lists'
 numbered_sound old new lists lists' i list es all sets sound =
     sound_sets old new lists lists' i list all.kept all.one all.listed sets
     (λ j ne x e. (
@@ -161,7 +161,7 @@ pub same_sound : (old new : Numbers) (lists lists' : NodeLists) → AreKept new 
 same_sound old new lists lists' kept slots same sound = record {
   kept = kept;
   one = subst IsOne (sym slots) sound.one;
-  listed = λ i. subst (λ t. IsListOf t i (list_at lists' i)) (sym slots) (subst (IsListOf old.slots.items i) (sym (same i)) (sound.listed i));
+  listed = λ i. subst (λ t. ListsEvents t i (list_at lists' i)) (sym slots) (subst (ListsEvents old.slots.items i) (sym (same i)) (sound.listed i));
 }
 
 -- the list that is read there
@@ -169,5 +169,5 @@ pub list_read : (lists : NodeLists) (i : InstanceId) (v : Vec Listed Global) →
 list_read lists i v lt read = slice_get_read lists (length lists) i.0 v refl lt read
 
 -- nothing that was said of an event's number changed
-pub none_there : (old new : Table) (i : InstanceId) → new ≡ old → ((e : EventId) → ¬ HasEvent old i e) → (e : EventId) → ¬ HasEvent new i e
+pub none_there : (old new : Table) (i : InstanceId) → new ≡ old → ((e : EventId) → ¬ NumbersEvent old i e) → (e : EventId) → ¬ NumbersEvent new i e
 none_there old new i same none e (id, is) = none e (id, subst (λ (t : Table). IsNode t id (node_of i e)) same is)

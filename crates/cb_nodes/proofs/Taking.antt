@@ -34,7 +34,7 @@ count_set_none {X} xs i x lt some =
 
 -- nothing changed but what fits without memory
 pub same_slots : (old new : Numbers) → AreKept old → new.slots.items ≡ old.slots.items → new.free.items ≡ old.free.items → vec_capacity old.free ≤ vec_capacity new.free → SameSlots old new
-same_slots old new kept slots free room = record {
+same_slots old new kept slots free capacity = record {
   slots = slots;
   kept = record {
     counted = (ap (λ (xs : List NodeId). length xs + count_of new.slots.items) free ∙ ap (λ (t : Table). length old.free.items + count_of t) slots) ∙ (kept.counted ∙ ap length (sym slots));
@@ -48,7 +48,7 @@ same_slots old new kept slots free room = record {
 -- the last of the free numbers is taken
 pub taken_free : (old new : Numbers) (id : NodeId) (node : Node) → AreKept old → old.free.items ≡ new.free.items ++ id ∷ [] → vec_capacity new.free ≡ vec_capacity old.free
     → new.slots.items ≡ slice_set old.slots.items id.0 (Some node) → vec_capacity new.slots ≡ vec_capacity old.slots → TakesNumber old new id node
-taken_free old new id node kept popped free_room written slots_room =
+taken_free old new id node kept popped free_capacity written slots_capacity =
     let has : Contains old.free.items id = subst (λ xs. Contains xs id) (sym popped) (Contains-push new.free.items id) in
     let lt = kept.within id has in
     let none = kept.vacant id has in
@@ -67,18 +67,18 @@ taken_free old new id node kept popped free_room written slots_room =
         once = pairs_prefix (λ a b. a ≢ b) new.free.items id once;
         spare = omega (arith, kept.spare);
       };
-      same_spare = record { slots = slots_room; free = free_room };
+      same_spare = record { slots = slots_capacity; free = free_capacity };
       free = none;
       this = ap (λ (t : Table). slot t id.0) written ∙ get_or-set_same old.slots.items id.0 (Some node) None lt;
       others = others;
       count = count;
-      room = omega (arith, kept.counted);
+      capacity = omega (arith, kept.counted);
     }
 
 -- a number that had a node is free
 pub given_back : (old new : Numbers) (id : NodeId) → AreKept old → HasNumber old.slots.items id → new.slots.items ≡ slice_set old.slots.items id.0 None
     → new.free.items ≡ old.free.items ++ id ∷ [] → vec_capacity new.free ≡ vec_capacity old.free → GivesBack old new id
-given_back old new id kept (node, is) written pushed room =
+given_back old new id kept (node, is) written pushed capacity =
     let lt = slot_within old.slots.items id.0 node is in
     let size : length new.slots.items ≡ length old.slots.items = ap length written ∙ length-set old.slots.items id.0 None in
     let this : slot new.slots.items id.0 ≡ None = ap (λ (t : Table). slot t id.0) written ∙ get_or-set_same old.slots.items id.0 None None lt in
@@ -107,5 +107,5 @@ given_back old new id kept (node, is) written pushed room =
       this = this;
       others = others;
       count = count;
-      room = size;
+      capacity = size;
     }

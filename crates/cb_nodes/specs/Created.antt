@@ -5,11 +5,11 @@ use Rattle.cb_model.specs.declared.id.ClassId.{ClassId}
 use Rattle.cb_model.specs.declared.id.EventId.{EventId}
 use Rattle.cb_instances.specs.declared.id.InstanceId.{InstanceId}
 use Rattle.cb_instances.specs.Net.{Net, IsFree}
-use Rattle.cb_nodes.specs.Table.{Table, HasEvent, Adds}
+use Rattle.cb_nodes.specs.Table.{Table, NumbersEvent, Adds}
 
 -- free numbers of instances have no nodes
 abbrev pub IsFreed : Net → Table → Type 0
-IsFreed net nodes = (id : InstanceId) (e : EventId) → IsFree net id → ¬ HasEvent nodes id e
+IsFreed net nodes = (id : InstanceId) (e : EventId) → IsFree net id → ¬ NumbersEvent nodes id e
 
 -- all events of the class have numbers at this instance
 abbrev pub AddsAll : Net → ClassId → Table → Table → InstanceId → Type 0

@@ -10,7 +10,7 @@ use Rattle.cb_nodes.specs.declared.id.NodeId.{NodeId}
 use Rattle.cb_nodes.specs.declared.listed.Listed.{Listed}
 use Rattle.cb_nodes.specs.declared.node.Node.{Node}
 use Rattle.cb_nodes.specs.declared.numbers.Numbers.{Numbers}
-use Rattle.cb_nodes.specs.Table.{Table, IsNode, HasNumber, node_of, IsOne, Adds, count_of, room_with}
+use Rattle.cb_nodes.specs.Table.{Table, IsNode, HasNumber, node_of, IsOne, Adds, count_of, capacity_with}
 
 -- each number has a node or is free, once, and all of them fit among the free ones without memory
 pub record AreKept (n : Numbers) : Type 0 where
@@ -22,8 +22,8 @@ pub record AreKept (n : Numbers) : Type 0 where
 
 -- `more` further nodes fit without memory
 pub record HasSpareFor (n : Numbers) (more : ℕ) : Type 0 where
-  pub slots : room_with n.slots.items more ≤ vec_capacity n.slots
-  pub free : room_with n.slots.items more ≤ vec_capacity n.free
+  pub slots : capacity_with n.slots.items more ≤ vec_capacity n.slots
+  pub free : capacity_with n.slots.items more ≤ vec_capacity n.free
 
 -- as much fits without memory as did
 pub record SameSpare (old new : Numbers) : Type 0 where
@@ -43,7 +43,7 @@ pub record TakesNumber (old new : Numbers) (id : NodeId) (node : Node) : Type 0 
   pub this : slot new.slots.items id.0 ≡ Some node
   pub others : (k : ℕ) → k ≢ id.0 → slot new.slots.items k ≡ slot old.slots.items k
   pub count : count_of new.slots.items ≡ count_of old.slots.items + 1
-  pub room : length new.slots.items ≡ room_with old.slots.items 1
+  pub capacity : length new.slots.items ≡ capacity_with old.slots.items 1
 
 -- the number is free
 pub record GivesBack (old new : Numbers) (id : NodeId) : Type 0 where
@@ -51,7 +51,7 @@ pub record GivesBack (old new : Numbers) (id : NodeId) : Type 0 where
   pub this : slot new.slots.items id.0 ≡ None
   pub others : (k : ℕ) → k ≢ id.0 → slot new.slots.items k ≡ slot old.slots.items k
   pub count : count_of new.slots.items + 1 ≡ count_of old.slots.items
-  pub room : length new.slots.items ≡ length old.slots.items
+  pub capacity : length new.slots.items ≡ length old.slots.items
 
 abbrev pub NodeLists : Type 0
 NodeLists = List (Vec Listed Global)
@@ -82,32 +82,32 @@ abbrev pub HaveNumbers : Table → List Listed → Type 0
 HaveNumbers nodes list = (x : Listed) → Contains list x → HasNumber nodes x.id
 
 -- the list has the events of the instance with their numbers, each once
-pub record IsListOf (nodes : Table) (i : InstanceId) (list : List Listed) : Type 0 where
+pub record ListsEvents (nodes : Table) (i : InstanceId) (list : List Listed) : Type 0 where
   pub listed : (x : Listed) → Contains list x → IsNode nodes x.id (node_of i x.event)
   pub whole : (x : Listed) → IsNode nodes x.id (node_of i x.event) → Contains list x
   pub apart : AreDistinct list
 
 -- the events have numbers, and are listed with them
-pub record NumbersAll (old new : Numbers) (i : InstanceId) (list : List Listed) (events : List EventId) : Type 0 where
+pub record NumbersEvents (old new : Numbers) (i : InstanceId) (list : List Listed) (events : List EventId) : Type 0 where
   pub kept : AreKept new
   pub same_spare : SameSpare old new
   pub one : IsOne new.slots.items
-  pub listed : IsListOf new.slots.items i list
+  pub listed : ListsEvents new.slots.items i list
   pub adds : Adds old.slots.items new.slots.items i events
 
 -- some item of the list has the number
-abbrev pub IsAmong : List Listed → NodeId → Type 0
-IsAmong list id = (x : Listed) × Contains list x × (x.id ≡ id)
+abbrev pub IsAmongListed : List Listed → NodeId → Type 0
+IsAmongListed list id = (x : Listed) × Contains list x × (x.id ≡ id)
 
 -- the numbers of the list are free
 pub record Frees (old new : Numbers) (list : List Listed) : Type 0 where
   pub kept : AreKept new
-  pub each : (id : NodeId) (node : Node) → IsNode new.slots.items id node ↔ (IsNode old.slots.items id node × ¬ IsAmong list id)
+  pub each : (id : NodeId) (node : Node) → IsNode new.slots.items id node ↔ (IsNode old.slots.items id node × ¬ IsAmongListed list id)
   pub count : count_of new.slots.items + length list ≡ count_of old.slots.items
-  pub room : length new.slots.items ≡ length old.slots.items
+  pub capacity : length new.slots.items ≡ length old.slots.items
 
 -- each number is kept, no node has two, and each instance's list has its events
 pub record IsTableOf (numbers : Numbers) (lists : NodeLists) : Type 0 where
   pub kept : AreKept numbers
   pub one : IsOne numbers.slots.items
-  pub listed : (i : InstanceId) → IsListOf numbers.slots.items i (list_at lists i)
+  pub listed : (i : InstanceId) → ListsEvents numbers.slots.items i (list_at lists i)

@@ -4,8 +4,8 @@ ghost use Rattle.std.specs.List.{Contains};
 ghost use Rattle.cb_model.specs.declared.id.EventId.{EventId as Event};
 ghost use Rattle.cb_instances.specs.Net.{Once};
 ghost use Rattle.cb_nodes.specs.declared.listed.Listed.{Listed as Item};
-ghost use Rattle.cb_nodes.specs.Kept.{AreKept, HasSpareFor, HasSpareIn, SameLists, IsListOf, HaveNumbers, AreDistinct, NumbersAll, Frees};
-ghost use Rattle.cb_nodes.specs.Table.{HasEvent, IsOne, room_with};
+ghost use Rattle.cb_nodes.specs.Kept.{AreKept, HasSpareFor, HasSpareIn, SameLists, ListsEvents, HaveNumbers, AreDistinct, NumbersEvents, Frees};
+ghost use Rattle.cb_nodes.specs.Table.{NumbersEvent, IsOne, capacity_with};
 
 use crate::id::NodeId;
 use crate::listed::Listed;
@@ -49,13 +49,13 @@ pub(crate) fn number_events(
 )
     requires kept { AreKept numbers.old }
     requires one { IsOne numbers.old.slots.items }
-    requires listed { IsListOf numbers.old.slots.items instance list.old.items }
-    requires new { (e : Event) → ¬ HasEvent numbers.old.slots.items instance e }
+    requires listed { ListsEvents numbers.old.slots.items instance list.old.items }
+    requires new { (e : Event) → ¬ NumbersEvent numbers.old.slots.items instance e }
     requires once { Once events.now }
     requires spare { HasSpareFor numbers.old (length events.now) }
     requires list_spare { vec_len list.old + length events.now ≤ vec_capacity list.old }
-    requires few { room_with numbers.old.slots.items (length events.now) ≤ 2 ^ 32 }
-    ensures { NumbersAll numbers.old numbers.new instance list.new.items events.now }
+    requires few { capacity_with numbers.old.slots.items (length events.now) ≤ 2 ^ 32 }
+    ensures { NumbersEvents numbers.old numbers.new instance list.new.items events.now }
 {
     for event in events {
         let id = numbers.take(Node {

@@ -1,7 +1,7 @@
 //! Numbers that nodes have, and numbers that are free.
 ghost use Rattle.std.specs.Prelude.{◌≡◌, ◌≤◌, ◌<◌, ◌^◌, [], OnOk, vec_capacity};
 ghost use Rattle.cb_nodes.specs.Kept.{AreKept, HasSpareFor, TakesNumber, GivesBack, SameSlots};
-ghost use Rattle.cb_nodes.specs.Table.{HasNumber, count_of, room_with};
+ghost use Rattle.cb_nodes.specs.Table.{HasNumber, count_of, capacity_with};
 
 use crate::id::NodeId;
 use crate::node::Node;
@@ -36,10 +36,10 @@ impl Numbers {
     }
 
     /// How many numbers are in use once `more` further nodes have theirs.
-    pub fn room_with(&self, more: usize) -> usize
+    pub fn capacity_with(&self, more: usize) -> usize
         requires kept { AreKept self.now }
-        requires fits { room_with self.now.slots.items more < 2 ^ 64 }
-        ensures { result ≡ room_with self.now.slots.items more }
+        requires fits { capacity_with self.now.slots.items more < 2 ^ 64 }
+        ensures { result ≡ capacity_with self.now.slots.items more }
     {
         self.slots.len().max(self.count() + more)
     }
@@ -47,20 +47,20 @@ impl Numbers {
     /// Reserves capacity for `more` further nodes.
     pub fn reserve(&mut self, more: usize) -> Result<(), AllocError>
         requires kept { AreKept self.old }
-        requires fits { room_with self.old.slots.items more < 2 ^ 64 }
+        requires fits { capacity_with self.old.slots.items more < 2 ^ 64 }
         ensures same { SameSlots self.old self.new }
         ensures spare { OnOk result (HasSpareFor self.new more) }
     {
-        let room = self.room_with(more);
-        self.slots.reserve(room - self.slots.len())?;
-        self.free.reserve(room - self.free.len())
+        let capacity = self.capacity_with(more);
+        self.slots.reserve(capacity - self.slots.len())?;
+        self.free.reserve(capacity - self.free.len())
     }
 
     /// Gives the node a number that was free.
     pub fn take(&mut self, node: Node) -> NodeId
         requires kept { AreKept self.old }
         requires spare { HasSpareFor self.old 1 }
-        requires few { room_with self.old.slots.items 1 ≤ 2 ^ 32 }
+        requires few { capacity_with self.old.slots.items 1 ≤ 2 ^ 32 }
         ensures { TakesNumber self.old self.new result node }
     {
         match self.free.pop() {

@@ -7,7 +7,7 @@ ghost use Rattle.cb_instances.specs.Net.{Once, Creates};
 ghost use Rattle.cb_network.specs.Topology.{IsLive as IsLiveName};
 ghost use Rattle.cb_nodes.specs.Created.{AddsAll, IsFreed};
 ghost use Rattle.cb_nodes.specs.declared.id.NodeId.{NodeId as Id};
-ghost use Rattle.cb_nodes.specs.Table.{IsNode, HasNumber, node_of, HasEvent, IsOne, Adds, Removes, count_of, room_with};
+ghost use Rattle.cb_nodes.specs.Table.{IsNode, HasNumber, node_of, NumbersEvent, IsOne, Adds, Removes, count_of, capacity_with};
 
 use crate::id::NodeId;
 use crate::listed::Listed;
@@ -56,9 +56,9 @@ impl NodeTable {
         instance: InstanceId,
         events: &[EventId],
     ) -> Result<(), AllocError>
-        requires new { (e : Event) → ¬ HasEvent self.old instance e }
+        requires new { (e : Event) → ¬ NumbersEvent self.old instance e }
         requires once { Once events.now }
-        requires few { room_with self.old (length events.now) ≤ 2 ^ 32 }
+        requires few { capacity_with self.old (length events.now) ≤ 2 ^ 32 }
         ensures ok { OnOk result (Adds self.old self.new instance events.now) }
         ensures err { OnErr result (self.new ≡ self.old) }
     {
@@ -84,7 +84,7 @@ impl NodeTable {
         requires class { IsClass net.old.topology.model class }
         requires absent { ¬ IsLiveName net.old.topology name.now }
         requires freed { IsFreed net.old self.old }
-        requires few { (events : List Event) → AreEventsOf net.old.topology.model class events → room_with self.old (length events) ≤ 2 ^ 32 }
+        requires few { (events : List Event) → AreEventsOf net.old.topology.model class events → capacity_with self.old (length events) ≤ 2 ^ 32 }
         ensures created { IfOk result (λ id. Creates net.old net.new id name.now class) }
         ensures added { IfOk result (AddsAll net.old class self.old self.new) }
         ensures one { IsOne self.new }
@@ -115,7 +115,7 @@ impl NodeTable {
     /// The number of an instance's event.
     pub fn node_at(&self, instance: InstanceId, event: EventId) -> Option<NodeId>
         ensures found { IfSome result (λ id. IsNode self.now id (node_of instance event)) }
-        ensures absent { IfNone result (¬ HasEvent self.now instance event) }
+        ensures absent { IfNone result (¬ NumbersEvent self.now instance event) }
     {
         let list = self.lists.get(instance.0)?;
         number_of(list, event)
@@ -140,18 +140,18 @@ impl NodeTable {
     }
 
     /// Above each number in use.
-    pub fn room(&self) -> usize
+    pub fn capacity(&self) -> usize
         ensures value { result ≡ length self.now }
         ensures above { (id : Id) → HasNumber self.now id → id.0 < result }
     {
         self.numbers.slots.len()
     }
 
-    /// What `room` is once `more` further nodes have their numbers.
-    pub fn room_with(&self, more: usize) -> usize
-        requires { room_with self.now more < 2 ^ 64 }
-        ensures { result ≡ room_with self.now more }
+    /// What `capacity` is once `more` further nodes have their numbers.
+    pub fn capacity_with(&self, more: usize) -> usize
+        requires { capacity_with self.now more < 2 ^ 64 }
+        ensures { result ≡ capacity_with self.now more }
     {
-        self.numbers.room_with(more)
+        self.numbers.capacity_with(more)
     }
 }

@@ -15,7 +15,7 @@ enum Step {
     Look,
 }
 
-// Whether there are as many numbers afterwards as were foretold.
+// Whether there are as many numbers afterwards as were expected.
 fn add(
     alloc: Global,
     nodes: &mut NodeTable,
@@ -23,13 +23,13 @@ fn add(
     event: u32,
 ) -> Result<bool, AllocError> {
     nodes.remove(instance);
-    if event > 1000 || nodes.count() > 1000 || nodes.room() > 1000 {
+    if event > 1000 || nodes.count() > 1000 || nodes.capacity() > 1000 {
         return Ok(false);
     }
-    let foretold = nodes.room_with(2);
+    let foretold = nodes.capacity_with(2);
     let events = [EventId(event + 10), EventId(event)];
     nodes.add(alloc, instance, &events)?;
-    Ok(nodes.room() == foretold)
+    Ok(nodes.capacity() == foretold)
 }
 
 // Whether the step could be done.
@@ -89,27 +89,27 @@ fn try_all(
     nodes: &mut NodeTable,
     steps: &[(Step, usize, u32, Option<u32>, usize, usize)],
 ) -> Result<(), AllocError> {
-    for (step, instance, event, number, count, room) in steps {
+    for (step, instance, event, number, count, capacity) in steps {
         let instance = InstanceId(*instance);
         let done = try_step(alloc, nodes, *step, instance, *event)?;
         assert!(rt; done);
         let found = number_of(nodes, instance, EventId(*event));
         assert_eq!(rt; found, *number, "{instance:?} {event}");
         assert_eq!(rt; nodes.count(), *count);
-        assert_eq!(rt; nodes.room(), *room);
+        assert_eq!(rt; nodes.capacity(), *capacity);
     }
     Ok(())
 }
 
 // The numbers in use after the steps.
-fn room_after_steps(rt: &impl Abort, alloc: Global) -> Result<usize, AllocError> {
+fn capacity_after_steps(rt: &impl Abort, alloc: Global) -> Result<usize, AllocError> {
     let mut nodes = NodeTable::new(alloc);
     try_all(rt, alloc, &mut nodes, &STEPS)?;
-    Ok(nodes.room())
+    Ok(nodes.capacity())
 }
 
 #[test]
 fn steps_in_turn(rt: HostRuntime) -> Result<(), AllocError> {
-    assert_eq!(rt; room_after_steps(&rt, rt.alloc())?, 6);
+    assert_eq!(rt; capacity_after_steps(&rt, rt.alloc())?, 6);
     Ok(())
 }

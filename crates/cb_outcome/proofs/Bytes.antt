@@ -5,7 +5,7 @@ use Rattle.std.specs.List.{Contains, list_any}
 use Rattle.std.specs.Str.{bytes_eq}
 use Rattle.std.proofs.lemmas.List.Elements.{Contains-append_left, Contains-append_right}
 use Rattle.cb_model.proofs.Rising.{contains_head, contains_tail}
-use Rattle.cb_io.specs.Outside.{bytes_of, contents}
+use Rattle.cb_io.specs.Outside.{bytes_left_of, contents}
 use Rattle.cb_request.specs.declared.request.Request.{Request}
 use Rattle.cb_outcome.specs.Roles.{Role}
 use Rattle.cb_outcome.specs.Outcome.{Outcome}
@@ -21,7 +21,7 @@ abbrev names : List (Role × List ℕ) → List (List ℕ)
 names files = map (λ file. file.1) files
 
 module _ (left left' : Left) where
-  contents_same : (earlier : List (List ℕ)) (name : List ℕ) → bytes_of left' name ≡ bytes_of left name → contents left' earlier name ≡ contents left earlier name
+  contents_same : (earlier : List (List ℕ)) (name : List ℕ) → bytes_left_of left' name ≡ bytes_left_of left name → contents left' earlier name ≡ contents left earlier name
   contents_same earlier name e = ap (λ (bytes : List ℕ). if list_any (λ other. bytes_eq other name) earlier then [] else bytes) e
 
   texts_same : (earlier : List (List ℕ)) (files : List (Role × List ℕ)) → HaveSameBytes (names files) left left'

@@ -25,7 +25,7 @@ use Rattle.cb_levels.proofs.Uniques.{canonical_is_one}
 use Rattle.cb_report.specs.declared.fault.Fault.TheVariants as faults
 use Rattle.cb_report.specs.ChainTexts.{explained_text}
 use Rattle.cb_report.specs.LevelTexts.{proved_text}
-use Rattle.cb_outcome.specs.Explained.{LeadsTo, ExplainsColumns, chains_in, ExplainsMembers, ExplainsGroups}
+use Rattle.cb_outcome.specs.Explained.{ExplainsColumn, ExplainsColumns, chains_in, ExplainsMembers, ExplainsGroups}
 use Rattle.cb_outcome.specs.Outcome.{Outcome, done, refused}
 use Rattle.cb_outcome.specs.Jobs.{ExplainGives, NamesNode, WritesLevels, RefusesProblem, LevelsGives, ProveGives}
 
@@ -47,7 +47,7 @@ module _ (t : Topology) where
   chain_shows : (problem column : NodeName) (chain : List NodeName) → IsShortChain t problem column chain → Causes t problem column
   chain_shows problem column chain is = let (n, level, long) = short_chain_is_shortest t problem column chain is in (level.between, level.chain)
 
-  chain_is_one : (problem column : NodeName) (a b : Option (List NodeName)) → LeadsTo t problem column a → LeadsTo t problem column b → a ≡ b
+  chain_is_one : (problem column : NodeName) (a b : Option (List NodeName)) → ExplainsColumn t problem column a → ExplainsColumn t problem column b → a ≡ b
   chain_is_one problem column None None p q = refl
   chain_is_one problem column None (Some ys) p q = absurd (p (chain_shows problem column ys q))
   chain_is_one problem column (Some xs) None p q = absurd (q (chain_shows problem column xs p))
@@ -55,7 +55,7 @@ module _ (t : Topology) where
 
   module _ (columns : List NodeName) where
     found_is_one : (problem : NodeName) (a b : List (Option (List NodeName))) → ExplainsColumns t columns problem a → ExplainsColumns t columns problem b → a ≡ b
-    found_is_one problem a b p q = zip_is_one (LeadsTo t problem) (chain_is_one problem) columns a b p q
+    found_is_one problem a b p q = zip_is_one (ExplainsColumn t problem) (chain_is_one problem) columns a b p q
 
     members_are_one : (members : List NodeName) (a b : List (List NodeName)) → ExplainsMembers t columns members a → ExplainsMembers t columns members b → a ≡ b
     members_are_one members a b p q =

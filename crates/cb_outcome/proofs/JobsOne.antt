@@ -11,7 +11,7 @@ use Rattle.cb_coding.specs.declared.group.Group.{Group}
 use Rattle.cb_coding.specs.Books.{IsBook}
 use Rattle.cb_coding.specs.Distance.{all_columns}
 use Rattle.cb_coding.specs.Groups.{codes_of}
-use Rattle.cb_coding.specs.Pairs.{IsLeast, IsFirstClose}
+use Rattle.cb_coding.specs.Pairs.{IsClosestPair, IsFirstClose}
 use Rattle.cb_coding.proofs.BookLaws.{book_is_one}
 use Rattle.cb_coding.proofs.One.{least_is_one, first_close_is_one}
 use Rattle.cb_network.specs.Topology.{Topology}
@@ -30,8 +30,8 @@ use Rattle.cb_validity.specs.declared.verdict.Accepted.TheVariants as accepted
 use Rattle.cb_validity.specs.Canonical.{IsCanonicalThin}
 use Rattle.cb_validity.specs.Codebooks.{AreBookColumns, AreFirstClose, least_of}
 use Rattle.cb_validity.specs.Laws.{HavePlaces}
-use Rattle.cb_validity.specs.Spans.{StandsFor, BeginsWith}
-use Rattle.cb_validity.specs.Verdicts.{IsSideName, Shows}
+use Rattle.cb_validity.specs.Spans.{StandsFor, BeginsWithRoot}
+use Rattle.cb_validity.specs.Verdicts.{IsSideName, CertificateShows}
 use Rattle.cb_validity.proofs.Firsts.{made_is_one}
 use Rattle.cb_validity.proofs.SpanLaws.{stands_for_one}
 use Rattle.cb_validity.proofs.Totals.{few_are_not_many}
@@ -54,9 +54,9 @@ burst_one t nodes whole a b (f, found, e) (g, found', h) =
 pub matrix_one : (t : Topology) (whole : ℕ) (a b : Outcome) → MatrixGives t whole a → MatrixGives t whole b → a ≡ b
 matrix_one t whole a b p q =
     let same = matrix_is_one t p.columns q.columns p.groups q.groups p.matrix q.matrix in
-    let over : IsLeast (length p.columns) (codes_of p.groups) q.least =
-    subst (λ (cs : List NodeName). IsLeast (length cs) (codes_of p.groups) q.least) (sym same.0)
-    (subst (λ (gs : List Group). IsLeast (length q.columns) (codes_of gs) q.least) (sym same.1) q.least_is)
+    let over : IsClosestPair (length p.columns) (codes_of p.groups) q.least =
+    subst (λ (cs : List NodeName). IsClosestPair (length cs) (codes_of p.groups) q.least) (sym same.0)
+    (subst (λ (gs : List Group). IsClosestPair (length q.columns) (codes_of gs) q.least) (sym same.1) q.least_is)
     in
     let least = least_is_one (length p.columns) (codes_of p.groups) p.least q.least p.least_is over in
     p.gives ∙ ((λ i. done (matrix_text (same.0 i) (same.1 i) (least i)) whole) ∙ sym q.gives)
@@ -179,7 +179,7 @@ codebook_one t d whole a b (inr p) (inr q) = thin_one t d whole a b p q
 
 -- ---- what a certificate shows
 
-root_is_one : (nodes : List NodeName) (span : Span) (p q : NodeName) → BeginsWith nodes span p → BeginsWith nodes span q → p ≡ q
+root_is_one : (nodes : List NodeName) (span : Span) (p q : NodeName) → BeginsWithRoot nodes span p → BeginsWithRoot nodes span q → p ≡ q
 root_is_one nodes span p q a b =
     let one = a.first in
     let other = b.first in
@@ -191,7 +191,7 @@ side_name_is_one nodes side.Quiet x y a b = a ∙ sym b
 side_name_is_one nodes (side.Root span) x y (p, begins, e) (q, begins', h) =
     e ∙ (ap (λ (n : NodeName). Least n) (root_is_one nodes span p q begins begins') ∙ sym h)
 
-pub shows_is_one : (t : Topology) (c : Certificate) (a b : Accepted) → Shows t c a → Shows t c b → a ≡ b
+pub shows_is_one : (t : Topology) (c : Certificate) (a b : Accepted) → CertificateShows t c a → CertificateShows t c b → a ≡ b
 shows_is_one t (BookClaim distance nodes numbers spans) (accepted.Book d r g k) (accepted.Book e s h l) (p, a) (q, b) =
     let made = made_is_one t nodes spans a.all b.all a.made b.made a.made_are b.made_are in
     let distances : d ≡ e = p ∙ sym q in

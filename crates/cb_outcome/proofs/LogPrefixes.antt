@@ -10,7 +10,7 @@ use Rattle.cb_log.specs.Entries.{LogEntry}
 use Rattle.cb_log.specs.Events.{EntriesGive}
 use Rattle.cb_log.proofs.EventsOne.{entries_give_one}
 use Rattle.cb_alarm.proofs.OneSkip.{come_to_one}
-use Rattle.cb_alarm.specs.Lines.{NumberedLine, line_of, ComeTo, ended_parts, ended_lines, log_lines}
+use Rattle.cb_alarm.specs.Lines.{NumberedLine, numbered_line, ComeTo, ended_parts, ended_lines, log_lines}
 use Rattle.cb_outcome.specs.Laws.{PrefixGivesPrefix}
 
 abbrev Parts : Type 0
@@ -70,9 +70,9 @@ ended_go_on (y ∷ []) first tail = refl
 ended_go_on (y ∷ z ∷ zs) first tail = ap (λ (v : Parts). y ∷ v) (ended_go_on (z ∷ zs) first tail)
 
 -- with their numbers, the first of some lines are the first
-pub numbered : (n : ℕ) (xs ys : Parts) → (rest : List NumberedLine) × (map line_of (enumerate_from n (xs ++ ys)) ≡ map line_of (enumerate_from n xs) ++ rest)
-numbered n [] ys = (map line_of (enumerate_from n ys), refl)
-numbered n (x ∷ xs) ys = let later = numbered (n + 1) xs ys in (later.0, ap (λ (v : List NumberedLine). line_of (n, x) ∷ v) later.1)
+pub numbered : (n : ℕ) (xs ys : Parts) → (rest : List NumberedLine) × (map numbered_line (enumerate_from n (xs ++ ys)) ≡ map numbered_line (enumerate_from n xs) ++ rest)
+numbered n [] ys = (map numbered_line (enumerate_from n ys), refl)
+numbered n (x ∷ xs) ys = let later = numbered (n + 1) xs ys in (later.0, ap (λ (v : List NumberedLine). numbered_line (n, x) ∷ v) later.1)
 
 abbrev lf : ℕ → Bool
 lf b = b == 10
@@ -84,7 +84,7 @@ prefix_lines prefix rest =
     let before = ended_parts (slice_split lf prefix) in
     let parts : lines_of_parts (slice_split lf (prefix ++ rest)) ≡ before ++ lines_of_parts (first ∷ tail) = ap lines_of_parts e ∙ lines_go_on before first tail in
     let (later, l) = numbered 1 before (lines_of_parts (first ∷ tail)) in
-    (later, ap (λ (v : Parts). map line_of (enumerate_from 1 v)) parts ∙ l)
+    (later, ap (λ (v : Parts). map numbered_line (enumerate_from 1 v)) parts ∙ l)
 
 -- and of those that end within more bytes
 pub prefix_ended : (prefix rest : List ℕ) → (later : List NumberedLine) × (ended_lines (prefix ++ rest) ≡ ended_lines prefix ++ later)
@@ -93,7 +93,7 @@ prefix_ended prefix rest =
     let before = ended_parts (slice_split lf prefix) in
     let parts : ended_parts (slice_split lf (prefix ++ rest)) ≡ before ++ ended_parts (first ∷ tail) = ap ended_parts e ∙ ended_go_on before first tail in
     let (later, l) = numbered 1 before (ended_parts (first ∷ tail)) in
-    (later, ap (λ (v : Parts). map line_of (enumerate_from 1 v)) parts ∙ l)
+    (later, ap (λ (v : Parts). map numbered_line (enumerate_from 1 v)) parts ∙ l)
 
 onward : (head tail first rest : List Event) → tail ≡ first ++ rest → head ++ tail ≡ (head ++ first) ++ rest
 onward head tail first rest e = ap (λ (v : List Event). head ++ v) e ∙ simp append_assoc

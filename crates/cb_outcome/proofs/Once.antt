@@ -5,10 +5,10 @@ use Rattle.cb_model.specs.declared.tables.Tables.{Tables}
 use Rattle.cb_grammar.specs.declared.tree.Tree.{Tree}
 use Rattle.cb_syntax.specs.declared.fault.SyntaxFault.{SyntaxFault}
 use Rattle.cb_syntax.specs.Spells.{SpellsModel}
-use Rattle.cb_syntax.specs.Laws.{IsAnswer}
+use Rattle.cb_syntax.specs.Laws.{IsTreeOrFault}
 use Rattle.cb_syntax.proofs.One.{one_answer, names_fit}
 use Rattle.cb_rules.specs.declared.rule.BrokenRule.{BrokenRule}
-use Rattle.cb_rules.specs.Fault.{IsFault as IsTypeFault}
+use Rattle.cb_rules.specs.Fault.{IsFirstBroken as IsTypeFault}
 use Rattle.cb_rules.proofs.Order.{one_fault_is}
 use Rattle.cb_check.specs.Stands.{Stands}
 use Rattle.cb_check.proofs.One.{one_model}
@@ -41,7 +41,7 @@ use Rattle.cb_report.specs.declared.fault.Fault.{Fault}
 use Rattle.cb_report.specs.declared.fault.Fault.TheVariants as faults
 use Rattle.cb_report.specs.FaultSources.{fault_of_syntax, fault_of_text, fault_of_rejected, fault_of_level_text, fault_of_levels}
 use Rattle.cb_outcome.specs.Texts.{IsTreeText, IsTopologyText, IsValidText, IsWantedKind, IsLevelText}
-use Rattle.cb_outcome.specs.Judged.{File, Known, nothing, parsed, network, raised, certified, levelled, Means, Says, IsModelFault, IsWrongLine, IsTopologyFault, IsSymptomFault, IsCertificateFault, IsFaultFor, AreLevelsFaulty, HasFault, Refuses, PassFrom}
+use Rattle.cb_outcome.specs.Judged.{File, Known, nothing, parsed, network, raised, certified, levelled, Means, Says, IsModelFault, IsWrongLine, IsTopologyFault, IsSymptomFault, IsCertificateFault, IsFaultFor, AreLevelsFaulty, HasFault, RefusesFile, PassFrom}
 use Rattle.cb_outcome.proofs.FirstLines.{long_is_one, long_or_short, bad_is_one, bad_or_listed, nodes_are_one, topology_is_one, made_of, wrong_is_one, wrong_or_makes}
 use Rattle.cb_network.proofs.Typed.{typed_is_regular}
 
@@ -52,7 +52,7 @@ same_tree : (text : List ℕ) (one other : Tree) → SpellsModel text one → Sp
 same_tree text one other s s' = let e = one_answer text (Ok one) (Ok other) s s' in cc
 
 -- a text doesn't both spell a tree and have a fault of its tokens
-no_tree : (text : List ℕ) (tree : Tree) (fault : SyntaxFault) → SpellsModel text tree → IsAnswer text (Err fault) → ⊥
+no_tree : (text : List ℕ) (tree : Tree) (fault : SyntaxFault) → SpellsModel text tree → IsTreeOrFault text (Err fault) → ⊥
 no_tree text tree fault s f = let e = one_answer text (Ok tree) (Err fault) s f in cc
 
 one_model_fault : (text : List ℕ) (one other : Fault) → IsModelFault text one → IsModelFault text other → one ≡ other
@@ -267,7 +267,7 @@ module _ (known : Known) (sound : IsSound known) (file : File) where
   pub says_one : (a b : Known) → Says known file a → Says known file b → a ≡ b
   says_one a b p q = means_one file.role known file.text sound a b p.means q.means
 
-  pub refused_one : (a b : Fault) → Refuses known file a → Refuses known file b → a ≡ b
+  pub refused_one : (a b : Fault) → RefusesFile known file a → RefusesFile known file b → a ≡ b
   refused_one a b (inl p) (inl q) = p.is ∙ sym q.is
   refused_one a b (inl p) (inr (inl q)) = let long = p.bytes in let short = q.bytes in absurd (omega (arith, long, short))
   refused_one a b (inl p) (inr (inr q)) = let long = p.bytes in let short = q.short.bytes in absurd (omega (arith, long, short))
@@ -279,7 +279,7 @@ module _ (known : Known) (sound : IsSound known) (file : File) where
   refused_one a b (inr (inr p)) (inr (inl q)) = absurd (long_or_short file.text q.line q.first (p.short.lines q.limited))
   refused_one a b (inr (inr p)) (inr (inr q)) = fault_one file.role known file.text sound a b p.has q.has
 
-  pub not_both : (next : Known) (fault : Fault) → Says known file next → Refuses known file fault → ⊥
+  pub not_both : (next : Known) (fault : Fault) → Says known file next → RefusesFile known file fault → ⊥
   not_both next fault s (inl p) = let long = p.bytes in let short = s.short.bytes in omega (arith, long, short)
   not_both next fault s (inr (inl p)) = long_or_short file.text p.line p.first (s.short.lines p.limited)
   not_both next fault s (inr (inr p)) = means_or_fault file.role known file.text sound next fault s.means p.has

@@ -3,7 +3,7 @@ use Rattle.std.proofs.Common.{◌≡◌, ◌⊎◌, ℕ, List, [], refl, sym, ap
 use Rattle.cb_network.specs.Topology.{Topology}
 use Rattle.cb_syntax.specs.declared.fault.SyntaxFault.{SyntaxFault}
 use Rattle.cb_syntax.specs.declared.fault.SyntaxFault.TheVariants as syntax
-use Rattle.cb_syntax.specs.Spells.{IsFault as IsSyntaxFault}
+use Rattle.cb_syntax.specs.Spells.{IsFirstSyntaxFault as IsSyntaxFault}
 use Rattle.cb_cert.specs.declared.certificate.Certificate.{Certificate}
 use Rattle.cb_cert.specs.declared.certificate.Certificate.TheVariants.{Book, Thin}
 use Rattle.cb_cert.specs.declared.fault.CertText.{CertText}
@@ -17,7 +17,7 @@ use Rattle.cb_levels.specs.declared.fault.LevelText.TheVariants as level_texts
 use Rattle.cb_levels.specs.declared.levels.Levels.{Levels}
 use Rattle.cb_levels.specs.declared.verdict.LevelFault.{LevelFault}
 use Rattle.cb_levels.specs.declared.verdict.LevelFault.TheVariants as level_faults
-use Rattle.cb_levels.specs.Checks.{LevelCheck, ReportsCheck as ReportsLevelCheck, node_check as level_node_check, root_check as level_root_check, parent_check as level_parent_check, edge_check as level_edge_check, new_check as level_new_check, level_check, closed_check as level_closed_check, short_check, IsRejectedFor}
+use Rattle.cb_levels.specs.Checks.{LevelCheck, ReportsLevelCheck, node_check as level_node_check, root_check as level_root_check, parent_check as level_parent_check, edge_check as level_edge_check, new_check as level_new_check, level_check, closed_check as level_closed_check, short_check, IsRejectedFor}
 use Rattle.cb_levels.specs.Faults.{IsLevelFault}
 use Rattle.cb_report.specs.declared.fault.Fault.{Fault}
 use Rattle.cb_report.specs.declared.fault.Fault.TheVariants as faults

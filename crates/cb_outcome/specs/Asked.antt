@@ -1,7 +1,7 @@
 -- The command that words ask for.
 use Rattle.std.specs.Prelude.{ℕ, List, Option, None, Some, String}
 use Rattle.std.specs.declared.alloc.Global.{Global}
-use Rattle.cb_request.specs.Commands.{asked}
+use Rattle.cb_request.specs.Commands.{request_of_arguments}
 use Rattle.cb_request.specs.declared.request.Request.{Request}
 use Rattle.cb_request.specs.declared.request.Request.TheVariants.{Burst, Model, Matrix, Codebook, Verify, Decode, Correlate, Grow, Pairs, Explain, Levels, Prove}
 use Rattle.cb_outcome.specs.Command.{Command}
@@ -41,4 +41,4 @@ command_for (Some request) = command_of request
 
 -- of the words as the program gets them
 abbrev pub command_in : List (String Global) → Command
-command_in words = command_for (asked words)
+command_in words = command_for (request_of_arguments words)

@@ -50,10 +50,10 @@ IsDoing (follows name watches) = Unit {0}
 IsDoing (refuses fault) = ⊥
 
 -- this is refused
-abbrev pub IsRefusal : Task → Fault → Type 0
-IsRefusal (makes making) fault = ⊥
-IsRefusal (follows name watches) fault = ⊥
-IsRefusal (refuses other) fault = other ≡ fault
+abbrev pub IsTaskRefusal : Task → Fault → Type 0
+IsTaskRefusal (makes making) fault = ⊥
+IsTaskRefusal (follows name watches) fault = ⊥
+IsTaskRefusal (refuses other) fault = other ≡ fault
 
 -- the names of the log
 abbrev pub logs_in : Task → List (List ℕ)
@@ -90,14 +90,14 @@ abbrev pub JobGives : Left → Command → Job
 JobGives left c known whole outcome = TaskGives (λ name. log_from left (reads_of c) name) c.task known whole outcome
 
 -- at 0, the events of a log
-abbrev pub FindsEvents : List ℕ → (Watch → Type 0) → Status → Seen → Type 0
-FindsEvents log Watches statuses.Done s = (watch : Watch) × Watches watch × PrintsEvents watch log s.out s.out_after
-FindsEvents log Watches status s = ⊥
+abbrev pub FindsLogEvents : List ℕ → (Watch → Type 0) → Status → Seen → Type 0
+FindsLogEvents log Watches statuses.Done s = (watch : Watch) × Watches watch × PrintsEvents watch log s.out s.out_after
+FindsLogEvents log Watches status s = ⊥
 
 -- what is found at the end of a task, after what is known
 abbrev pub TaskFinds : (List ℕ → List ℕ) → Task → Known → Status → Seen → Type 0
 TaskFinds log (makes making) known status s = making.finds known status s
-TaskFinds log (follows name watches) known status s = FindsEvents (log name) (λ watch. watches known watch) status s
+TaskFinds log (follows name watches) known status s = FindsLogEvents (log name) (λ watch. watches known watch) status s
 TaskFinds log (refuses fault) known status s = ⊥
 
 -- which faults it may end with once all files have passed, and the log, if there is one, isn't too long

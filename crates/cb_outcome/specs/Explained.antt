@@ -8,13 +8,13 @@ use Rattle.cb_network.specs.Causes.{Causes}
 use Rattle.cb_levels.specs.Level.{IsShortChain}
 
 -- the short chain from the problem to the column, or none if the problem doesn't cause it
-abbrev pub LeadsTo : Topology → NodeName → NodeName → Option (List NodeName) → Type 0
-LeadsTo t problem column (Some chain) = IsShortChain t problem column chain
-LeadsTo t problem column None = ¬ Causes t problem column
+abbrev pub ExplainsColumn : Topology → NodeName → NodeName → Option (List NodeName) → Type 0
+ExplainsColumn t problem column (Some chain) = IsShortChain t problem column chain
+ExplainsColumn t problem column None = ¬ Causes t problem column
 
 -- for each column in order, whether there is a chain from the problem to it
 abbrev pub ExplainsColumns : Topology → List NodeName → NodeName → List (Option (List NodeName)) → Type 0
-ExplainsColumns t columns problem found = AllZip (LeadsTo t problem) columns found
+ExplainsColumns t columns problem found = AllZip (ExplainsColumn t problem) columns found
 
 -- the chains that there are
 abbrev pub chains_in : List (Option (List NodeName)) → List (List NodeName)

@@ -6,7 +6,7 @@ use Rattle.cb_model.specs.declared.node.NodeName.{NodeName}
 use Rattle.cb_coding.specs.declared.book.Pair.{Pair}
 use Rattle.cb_coding.specs.declared.group.Group.{Group}
 use Rattle.cb_coding.specs.Groups.{codes_of}
-use Rattle.cb_coding.specs.Pairs.{IsLeast}
+use Rattle.cb_coding.specs.Pairs.{IsClosestPair}
 use Rattle.cb_finding.specs.declared.finding.Finding.{Finding}
 use Rattle.cb_finding.specs.Finding.{IsBurst}
 use Rattle.cb_finding.specs.Matrix.{IsMatrix}
@@ -18,7 +18,7 @@ use Rattle.cb_validity.specs.declared.verdict.Accepted.{Accepted}
 use Rattle.cb_validity.specs.Canonical.{IsCanonicalBook, IsCanonicalThin}
 use Rattle.cb_validity.specs.Codebooks.{AreBookColumns, AreFirstClose, least_of}
 use Rattle.cb_validity.specs.Totals.{HasFewEntries, HasManyEntries}
-use Rattle.cb_validity.specs.Verdicts.{Shows}
+use Rattle.cb_validity.specs.Verdicts.{CertificateShows}
 use Rattle.cb_pairs.specs.Fits.{group_limit}
 use Rattle.cb_levels.specs.declared.levels.Levels.{Levels}
 use Rattle.cb_levels.specs.declared.verdict.Proved.{Proved}
@@ -28,7 +28,7 @@ use Rattle.cb_levels.specs.Format.{IsLevels}
 use Rattle.cb_levels.specs.Text.{levels_text}
 use Rattle.cb_levels.specs.Valid.{AreLevelsOf}
 use Rattle.cb_network.specs.Nodes.{IsProblem}
-use Rattle.cb_text.specs.Names.{IsNode}
+use Rattle.cb_text.specs.Names.{IsNodeText}
 use Rattle.cb_report.specs.declared.fits.FoundFits.{FoundFits}
 use Rattle.cb_report.specs.declared.fault.Fault.TheVariants as faults
 use Rattle.cb_report.specs.CertificateTexts.{accepted_text}
@@ -51,7 +51,7 @@ pub record MatrixGives (t : Topology) (whole : ℕ) (outcome : Outcome) : Type 0
   pub groups : List Group
   pub matrix : IsMatrix t columns groups
   pub least : Option Pair
-  pub least_is : IsLeast (length columns) (codes_of groups) least
+  pub least_is : IsClosestPair (length columns) (codes_of groups) least
   pub gives : outcome ≡ done (matrix_text columns groups least) whole
 
 -- the canonical book of these columns is written, whose entries are few
@@ -90,7 +90,7 @@ CodebookGives t distance whole outcome = WritesBook t distance whole outcome ⊎
 
 -- `verify`: what the certificate shows
 abbrev pub VerifyGives : Topology → Certificate → ℕ → Outcome → Type 0
-VerifyGives t c whole outcome = (accepted : Accepted) × Shows t c accepted × (outcome ≡ done (accepted_text accepted) whole)
+VerifyGives t c whole outcome = (accepted : Accepted) × CertificateShows t c accepted × (outcome ≡ done (accepted_text accepted) whole)
 
 -- what fits the nodes is printed
 pub record ListsFits (t : Topology) (nodes : List NodeName) (whole : ℕ) (outcome : Outcome) : Type 0 where
@@ -123,7 +123,7 @@ pub record ExplainGives (t : Topology) (nodes : List NodeName) (whole : ℕ) (ou
 
 -- the word is the text of the node
 abbrev pub NamesNode : List ℕ → NodeName → Type 0
-NamesNode word node = IsNode word node.event node.instance
+NamesNode word node = IsNodeText word node.event node.instance
 
 -- the canonical levels of the problem that the word names are written
 pub record WritesLevels (t : Topology) (word : List ℕ) (whole : ℕ) (outcome : Outcome) : Type 0 where

@@ -1,7 +1,7 @@
 -- What holds of outcomes, whatever the program does.
 use Rattle.std.specs.Prelude.{◌≡◌, ◌≢◌, ◌⊎◌, ◌≤◌, ℕ, ◌++◌, List, [], ◌∷◌, length, codes, Option, None, Some, IsTrue}
 use Rattle.std.specs.List.{Contains}
-use Rattle.cb_io.specs.Outside.{bytes_of, contents}
+use Rattle.cb_io.specs.Outside.{bytes_left_of, contents}
 use Rattle.cb_network.specs.Regular.{IsRegular}
 use Rattle.cb_network.specs.Topology.{Topology}
 use Rattle.cb_log.specs.declared.event.Event.{Event}
@@ -34,7 +34,7 @@ OutcomeIsOne = (asked : Option Request) (left : Left) (a b : Outcome) → IsOutc
 
 -- each of these names has the same bytes left
 abbrev pub HaveSameBytes : List (List ℕ) → Left → Left → Type 0
-HaveSameBytes names left left' = (name : List ℕ) → Contains names name → bytes_of left' name ≡ bytes_of left name
+HaveSameBytes names left left' = (name : List ℕ) → Contains names name → bytes_left_of left' name ≡ bytes_left_of left name
 
 -- the outcome goes by the bytes of the file words alone: other names, their order and what stands beside them make no difference
 abbrev pub OutcomeGoesByBytes : Type 0

@@ -8,7 +8,7 @@ use Rattle.cb_cert.specs.declared.certificate.Certificate.{Certificate}
 use Rattle.cb_cert.specs.declared.certificate.Certificate.TheVariants.{Book as BookClaim, Thin as ThinClaim}
 use Rattle.cb_validity.specs.declared.verdict.Accepted.{Accepted}
 use Rattle.cb_validity.specs.Reading.{ArePlaces}
-use Rattle.cb_validity.specs.Verdicts.{Shows}
+use Rattle.cb_validity.specs.Verdicts.{CertificateShows}
 use Rattle.cb_log.specs.declared.event.Event.{Event}
 use Rattle.cb_log.specs.Basis.{Mode, wanted, fixed}
 use Rattle.cb_alarm.specs.Lines.{LogGives, PrefixGives}
@@ -43,7 +43,7 @@ States t (ThinClaim close distance nodes first second) book = ⊥
 -- by the codebook of a certificate, after the line that accepts it
 pub record IsFixedWatch (t : Topology) (c : Certificate) (window : ℕ) (watch : Watch) : Type 0 where
   pub accepted : Accepted
-  pub shows : Shows t c accepted
+  pub shows : CertificateShows t c accepted
   pub book : Book
   pub states : States t c book
   pub is : watch ≡ record { opening = accepted_text accepted; from = t; mode = fixed book; window = window }

@@ -8,7 +8,7 @@ use Rattle.cb_model.proofs.Spread.{map_at}
 use Rattle.cb_coding.specs.Distance.{code_at, HaveWidth}
 use Rattle.cb_pairs.specs.declared.guess.Guess.{Guess}
 use Rattle.cb_codes.specs.Codes.{Coded}
-use Rattle.cb_pairs.specs.Kept.{ArePairs}
+use Rattle.cb_pairs.specs.Kept.{AreGuessCodes}
 use Rattle.cb_pairs.specs.Guesses.{alone, guesses_of, IsGuess, guess_code}
 use Rattle.cb_pairs.proofs.Apart.{guess_wide}
 use Rattle.cb_pairs.proofs.Guessing.{some_guess}
@@ -56,10 +56,10 @@ module _ (groups : List (List Bool)) (codes : List (List Bool)) (are : AreCodes 
       sym there.2 ∙ ap (guess_code groups) one
 
 -- the codes of pairs
-pub pairs_codes : (groups : Coded) (guesses : List Guess) (codes : List (List Bool)) (separation : ℕ) → ArePairs groups guesses codes separation
+pub pairs_codes : (groups : Coded) (guesses : List Guess) (codes : List (List Bool)) (separation : ℕ) → AreGuessCodes groups guesses codes separation
     → AreCodes groups.rows codes
 pairs_codes groups guesses codes separation are = are.codes_are ∙ ap (map (guess_code groups.rows)) are.guesses_are
 
-pub as_many_guesses : (groups : Coded) (guesses : List Guess) (codes : List (List Bool)) (separation : ℕ) → ArePairs groups guesses codes separation
+pub as_many_guesses : (groups : Coded) (guesses : List Guess) (codes : List (List Bool)) (separation : ℕ) → AreGuessCodes groups guesses codes separation
     → length codes ≡ length guesses
 as_many_guesses groups guesses codes separation are = ap length are.codes_are ∙ length-map guesses (guess_code groups.rows)

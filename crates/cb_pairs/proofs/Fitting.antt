@@ -16,7 +16,7 @@ use Rattle.cb_pairs.specs.declared.guess.Fits.{Fits}
 use Rattle.cb_pairs.specs.Guesses.{guesses_of, IsGuess, guess_code, IsOfGroups}
 use Rattle.cb_pairs.specs.Separation.{IsSeparation}
 use Rattle.cb_pairs.specs.Fits.{AreFits, from_guess}
-use Rattle.cb_pairs.specs.Kept.{IsNearest}
+use Rattle.cb_pairs.specs.Kept.{IsNearestDistance}
 use Rattle.cb_pairs.proofs.Guessing.{guess_of_groups}
 use Rattle.cb_pairs.proofs.Lists.{from_filtered, filtered_has}
 use Rattle.cb_pairs.proofs.Apart.{separation_is_one, separation_is_positive, same_within}
@@ -130,12 +130,12 @@ nearest_more codes word near place next before low is =
     ]
 
 pub nearest_all : (codes : List (List Bool)) (word : List Bool) (near place : ℕ) → length codes ≤ place → IsNearestBefore codes word near place
-    → IsNearest codes word near
+    → IsNearestDistance codes word near
 nearest_all codes word near place all before = record { attained = before.attained; least = λ i low. before.least i (omega arith) }
 
 -- what is nearest among the codes is nearest among the guesses
 
-module _ (groups : List (List Bool)) (codes : List (List Bool)) (are : AreCodes groups codes) (word : List Bool) (near : ℕ) (nearest : IsNearest codes word near) where
+module _ (groups : List (List Bool)) (codes : List (List Bool)) (are : AreCodes groups codes) (word : List Bool) (near : ℕ) (nearest : IsNearestDistance codes word near) where
   abbrev from_code : List Bool → ℕ
   from_code code = distance (all_columns (length word)) word code
 

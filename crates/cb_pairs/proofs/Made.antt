@@ -4,7 +4,7 @@ use Rattle.cb_coding.specs.Distance.{HaveWidth}
 use Rattle.cb_codes.specs.Codes.{Coded}
 use Rattle.cb_pairs.specs.declared.guess.Guess.{Guess}
 use Rattle.cb_pairs.specs.Guesses.{guesses_of, guess_code}
-use Rattle.cb_pairs.specs.Kept.{ArePairs, IsLeastApart}
+use Rattle.cb_pairs.specs.Kept.{AreGuessCodes, IsLeastApart}
 use Rattle.cb_pairs.proofs.Coded.{codes_wide}
 use Rattle.cb_pairs.proofs.Searching.{separation_is}
 
@@ -17,7 +17,7 @@ module _ (groups : Coded) (guesses : List Guess) (rows : List (List Bool)) (code
   made_wide wide = codes_wide groups.rows codes (made_codes ∙ ap (map (guess_code groups.rows)) guesses_are) groups.width wide
 
   pub made_pairs : 0 < length groups.rows → groups.width < 4294967296 → HaveWidth groups.width groups.rows → (s : ℕ) → IsLeastApart groups.width codes s
-      → ArePairs groups guesses codes s
+      → AreGuessCodes groups guesses codes s
   made_pairs some narrow wide s least = record {
     some = some;
     narrow = narrow;

@@ -8,7 +8,7 @@ use Rattle.cb_pairs.proofs.Lists.{at_most_all}
 use Rattle.cb_pairs.specs.declared.guess.Guess.{Guess}
 use Rattle.cb_pairs.specs.Guesses.{guess_code}
 use Rattle.cb_pairs.specs.Separation.{guesses_apart, DifferInCode, IsSeparation}
-use Rattle.cb_pairs.specs.Kept.{DifferAt, AreSomeApart, IsLeastApart, IsLeastUpto, IsCloser}
+use Rattle.cb_pairs.specs.Kept.{IsDifferingPair, AreSomeApart, IsLeastApart, IsLeastUpto, IsCloser}
 use Rattle.cb_pairs.proofs.Apart.{own_distance, turned, guess_wide}
 use Rattle.cb_pairs.proofs.Coded.{AreCodes, place_of, guess_at}
 
@@ -24,7 +24,7 @@ least_none width codes = record {
 
 module _ (width : ℕ) (codes : List (List Bool)) (wide : HaveWidth width codes) where
   -- codes that differ are apart
-  pub some_apart : (i j : ℕ) → DifferAt codes i j → 0 < apart (all_columns width) codes i j
+  pub some_apart : (i j : ℕ) → IsDifferingPair codes i j → 0 < apart (all_columns width) codes i j
   some_apart i j differ =
       let is_pair = differ.is_pair in
       let below = is_pair.0 in
@@ -125,7 +125,7 @@ module _ (width : ℕ) (codes : List (List Bool)) (wide : HaveWidth width codes)
   pub least_of_all : (first best s : ℕ) → length codes ≤ first → IsLeastUpto width codes first (first + 1) best → (best ≤ width → s ≡ best)
       → (width < best → s ≡ 1) → IsLeastApart width codes s
   least_of_all first best s all so_far some none =
-      let before : (i j : ℕ) → DifferAt codes i j → best ≤ apart (all_columns width) codes i j =
+      let before : (i j : ℕ) → IsDifferingPair codes i j → best ≤ apart (all_columns width) codes i j =
       λ i j differ.
       let is_pair = differ.is_pair in
       let below = is_pair.0 in
@@ -142,7 +142,7 @@ module _ (width : ℕ) (codes : List (List Bool)) (wide : HaveWidth width codes)
               attained = inl (record { first = x.first; second = x.second; differ = x.differ; is = same ∙ is });
             }
         | inr more ↦
-            let alone : (i j : ℕ) → ¬ DifferAt codes i j =
+            let alone : (i j : ℕ) → ¬ IsDifferingPair codes i j =
             λ i j differ.
             let far = before i j differ in
             let most = at_most_all width (code_at codes i) (code_at codes j) in
@@ -163,7 +163,7 @@ module _ (width : ℕ) (groups : List (List Bool)) (codes : List (List Bool)) (w
 
   pub separation_is : (s : ℕ) → IsLeastApart width codes s → IsSeparation width groups s
   separation_is s is =
-      let far : (g h : Guess) → DifferInCode groups g h → (d : ℕ) → ((i j : ℕ) → DifferAt codes i j → d ≤ apart (all_columns width) codes i j)
+      let far : (g h : Guess) → DifferInCode groups g h → (d : ℕ) → ((i j : ℕ) → IsDifferingPair codes i j → d ≤ apart (all_columns width) codes i j)
       → d ≤ guesses_apart width groups g h =
       λ g h differ d least.
       let p = place_of groups codes are g differ.first in

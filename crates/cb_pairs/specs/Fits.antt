@@ -28,6 +28,6 @@ abbrev pub group_limit : ℕ
 group_limit = 128
 
 -- there are too many groups, or there was no memory
-abbrev pub IsRefused : ℕ → PairFault → Type 0
-IsRefused count (TooManyGroups groups) = (groups ≡ count) × (group_limit < count)
-IsRefused count NoMemory = ⊤
+abbrev pub ArePairsRefused : ℕ → PairFault → Type 0
+ArePairsRefused count (TooManyGroups groups) = (groups ≡ count) × (group_limit < count)
+ArePairsRefused count NoMemory = ⊤

@@ -16,8 +16,8 @@ pub record AreLandmarks (width : ℕ) (rows : List (List Bool)) (code : List Boo
   pub second : IsLandmark width rows code marks.second
 
 -- each code has its landmarks
-abbrev pub AreMarked : ℕ → List (List Bool) → List (List Bool) → List Landmarks → Type 0
-AreMarked width rows codes marks = AllZip (AreLandmarks width rows) codes marks
+abbrev pub HaveLandmarks : ℕ → List (List Bool) → List (List Bool) → List Landmarks → Type 0
+HaveLandmarks width rows codes marks = AllZip (AreLandmarks width rows) codes marks
 
 -- how far a code is from that of each group
 abbrev pub AreDistances : ℕ → List (List Bool) → List Bool → List ℕ → Type 0

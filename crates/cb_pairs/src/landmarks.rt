@@ -3,7 +3,7 @@ ghost use Rattle.std.specs.Prelude.{◌≡◌, ◌<◌, ℕ, List as Items, Bool
 ghost use Rattle.std.specs.List.{All};
 ghost use Rattle.cb_coding.specs.Distance.{HaveWidth};
 ghost use Rattle.cb_pairs.specs.Guesses.{IsOfGroups};
-ghost use Rattle.cb_pairs.specs.Landmarks.{AreDistances, AreFar, AreLandmarks, AreMarked, AreSeen, AreSeenBy, IsLandmark};
+ghost use Rattle.cb_pairs.specs.Landmarks.{AreDistances, AreFar, AreLandmarks, HaveLandmarks, AreSeen, AreSeenBy, IsLandmark};
 
 use crate::guess::Guess;
 use cb_bits::Row;
@@ -36,7 +36,7 @@ pub(crate) fn landmarks_of(
     requires codes { HaveWidth width codes.now }
     requires within { All (IsOfGroups (length rows.now)) guesses.now }
     requires all { length codes.now ≡ length guesses.now }
-    ensures { IfOk result (AreMarked width rows.now codes.now) }
+    ensures { IfOk result (HaveLandmarks width rows.now codes.now) }
 {
     let mut marks = List::new(alloc);
     for at in 0..guesses.len() {

@@ -1,7 +1,7 @@
 //! How far the nearest code is from a word.
 ghost use Rattle.std.specs.Prelude.{◌≡◌, ◌==◌, ◌<◌, length};
 ghost use Rattle.cb_coding.specs.Distance.{distance as distance_of, all_columns, HaveWidth};
-ghost use Rattle.cb_pairs.specs.Kept.{IsNearest};
+ghost use Rattle.cb_pairs.specs.Kept.{IsNearestDistance};
 
 use cb_bits::Row;
 use cb_model::List;
@@ -10,7 +10,7 @@ use cb_model::List;
 pub(crate) fn least_from(codes: &List<Row>, word: &Row) -> usize
     requires some { 0 < length codes.now }
     requires wide { HaveWidth (length word.now) codes.now }
-    ensures { IsNearest codes.now word.now result }
+    ensures { IsNearestDistance codes.now word.now result }
 {
     let mut least = word.distance(codes.at(0));
     for place in 1..codes.len() {

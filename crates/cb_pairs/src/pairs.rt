@@ -2,7 +2,7 @@
 ghost use Rattle.std.specs.Prelude.{◌≡◌, ◌<◌, ◌≤◌, ◌^◌, ◌++◌, [], ◌∷◌, cond, length, IfOk, IfErr, OnOk};
 ghost use Rattle.cb_coding.specs.Answers.{radius as radius_of};
 ghost use Rattle.cb_pairs.specs.Separation.{IsSeparation};
-ghost use Rattle.cb_pairs.specs.Fits.{AreFits, group_limit, IsRefused};
+ghost use Rattle.cb_pairs.specs.Fits.{AreFits, group_limit, ArePairsRefused};
 
 use crate::codes::{codes_of, rows_of};
 use crate::guess::{Fits, Guess, PairFault};
@@ -31,13 +31,13 @@ pub struct Pairs<'g> {
 
 impl<'g> Model for Pairs<'g> {
     ghost use Rattle.cb_codes.specs.Codes.{Coded};
-    ghost use Rattle.cb_pairs.specs.Kept.{ArePairs};
+    ghost use Rattle.cb_pairs.specs.Kept.{AreGuessCodes};
 
     ghost Value = { Coded };
 
     ghost view = { λ p. p.groups.now };
 
-    ghost invariant = { λ p. ArePairs p.groups.now p.guesses p.codes p.separation };
+    ghost invariant = { λ p. AreGuessCodes p.groups.now p.guesses p.codes p.separation };
 }
 
 impl<'g> Pairs<'g> {
@@ -48,7 +48,7 @@ impl<'g> Pairs<'g> {
         requires columns_fit { groups.now.width < 2 ^ 32 }
         ensures pairs { IfOk result (λ pairs. pairs ≡ groups.now) }
         ensures few { OnOk result (length groups.now.rows ≤ group_limit) }
-        ensures fault { IfErr result (IsRefused (length groups.now.rows)) }
+        ensures fault { IfErr result (ArePairsRefused (length groups.now.rows)) }
     {
         if MOST_GROUPS < groups.len() {
             return Err(PairFault::TooManyGroups {

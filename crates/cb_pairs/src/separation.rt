@@ -2,7 +2,7 @@
 ghost use Rattle.std.specs.Prelude.{◌≡◌, ◌+◌, ◌<◌, ◌≤◌, ◌^◌, length, IfOk};
 ghost use Rattle.cb_coding.specs.Distance.{all_columns, distance as distance_of, HaveWidth};
 ghost use Rattle.cb_pairs.specs.Kept.{AreKnown, IsCloser, IsLeastApart, IsLeastUpto};
-ghost use Rattle.cb_pairs.specs.Landmarks.{AreMarked, AreSeen};
+ghost use Rattle.cb_pairs.specs.Landmarks.{HaveLandmarks, AreSeen};
 
 use crate::landmarks::{Landmarks, are_far, distances_of};
 use cb_bits::Row;
@@ -21,7 +21,7 @@ pub(crate) fn separation_of(
     requires narrow { width < 2 ^ 32 }
     requires rows { HaveWidth width rows.now }
     requires codes { HaveWidth width codes.now }
-    requires marks { AreMarked width rows.now codes.now marks.now }
+    requires marks { HaveLandmarks width rows.now codes.now marks.now }
     ensures { IfOk result (IsLeastApart width codes.now) }
 {
     // No two codes that differ are closer.

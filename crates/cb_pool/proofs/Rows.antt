@@ -8,7 +8,7 @@ use Rattle.std.proofs.lemmas.Bool.{cases_lt}
 use Rattle.std.proofs.lemmas.Grind.{same_number_lists}
 use Rattle.std.proofs.lemmas.Simd.{length-chunk, get_or-chunk, length-zip2, length-put_chunk, get_or-put_chunk_below, get_or-put_chunk_at, get_or-put_chunk_above, put_chunk_is}
 use Rattle.cb_pool.specs.Pool.{row_at}
-use Rattle.cb_pool.specs.Kept.{Clears}
+use Rattle.cb_pool.specs.Kept.{ClearsRow}
 
 -- a whole row before another
 pub before : (width i j : ℕ) → i < j → width * i + width ≤ width * j
@@ -59,7 +59,7 @@ pub mid_is_chunk : (a w k : ℕ) (xs ys : List ℕ) → k ≡ w → length ys �
 mid_is_chunk a w k xs ys same wide le = ap (λ n. put_mid a n xs ys) (same ∙ sym wide) ∙ sym (put_chunk_is a xs ys (omega arith))
 
 -- a row of zeros that is put clears the row there
-pub put_clears : (width i : ℕ) (words new : List ℕ) → width * i + width ≤ length words → new ≡ put_chunk (width * i) words (replicate width 0) → Clears width words new i
+pub put_clears : (width i : ℕ) (words new : List ℕ) → width * i + width ≤ length words → new ≡ put_chunk (width * i) words (replicate width 0) → ClearsRow width words new i
 put_clears width i words new le is =
     let wide = length-replicate width 0 in
     record {
@@ -87,7 +87,7 @@ module _ (width i : ℕ) (words row after : List ℕ) (block : length words ≡ 
       ap (λ ws. slice_index_or ws (width * j + k) 0) is ∙ get_or_append_left words row 0 (width * j + k) (omega arith))
 
 -- a row of zeros after the block
-pub add_clears : (width i : ℕ) (words after : List ℕ) → length words ≡ width * i → after ≡ words ++ replicate width 0 → Clears width words after i
+pub add_clears : (width i : ℕ) (words after : List ℕ) → length words ≡ width * i → after ≡ words ++ replicate width 0 → ClearsRow width words after i
 add_clears width i words after block is =
     let wide = length-replicate width 0 in
     record {

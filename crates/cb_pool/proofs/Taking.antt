@@ -7,7 +7,7 @@ use Rattle.std.proofs.lemmas.Bool.{cases_lt}
 use Rattle.std.proofs.lemmas.List.Sums.{sum_by-set, sum_by-append}
 use Rattle.cb_pool.specs.declared.slot.Slot.{Slot}
 use Rattle.cb_pool.specs.declared.slots.Slots.{Slots}
-use Rattle.cb_pool.specs.Kept.{AreKept, TakesSlot, IsOut}
+use Rattle.cb_pool.specs.Kept.{AreSlotsKept, TakesSlot, IsOut}
 use Rattle.cb_pool.proofs.Apart.{pairs_last, pairs_prefix, pairs_more}
 
 same_slot : (i j : Slot) → i.0 ≡ j.0 → i ≡ j
@@ -23,17 +23,17 @@ count_back : (taken : List Bool) (i : ℕ) → i < length taken → IsOut taken 
 count_back taken i lt out = let h = sum_by-set one taken i false false lt in let e : one (slice_index_or taken i false) ≡ 1 = ap one out in omega (arith, h, e)
 
 -- a free slot is there
-pub free_within : (old : Slots) (prefix : List Slot) (slot : Slot) → AreKept old → old.free.items ≡ prefix ++ slot ∷ [] → slot.0 < length old.taken.items
+pub free_within : (old : Slots) (prefix : List Slot) (slot : Slot) → AreSlotsKept old → old.free.items ≡ prefix ++ slot ∷ [] → slot.0 < length old.taken.items
 free_within old prefix slot kept popped = kept.within slot (subst (λ xs. Contains xs slot) (sym popped) (Contains-push prefix slot))
 
 -- and isn't taken
-pub free_vacant : (old : Slots) (prefix : List Slot) (slot : Slot) → AreKept old → old.free.items ≡ prefix ++ slot ∷ [] → slice_index_or old.taken.items slot.0 false ≡ false
+pub free_vacant : (old : Slots) (prefix : List Slot) (slot : Slot) → AreSlotsKept old → old.free.items ≡ prefix ++ slot ∷ [] → slice_index_or old.taken.items slot.0 false ≡ false
 free_vacant old prefix slot kept popped = kept.vacant slot (subst (λ xs. Contains xs slot) (sym popped) (Contains-push prefix slot))
 
 -- the last of the free slots is taken
-pub taken_again : (old new : Slots) (slot : Slot) → AreKept old → old.free.items ≡ new.free.items ++ slot ∷ [] → vec_capacity new.free ≡ vec_capacity old.free
-    → new.taken.items ≡ slice_set old.taken.items slot.0 true → vec_capacity new.taken ≡ vec_capacity old.taken → new.room ≡ old.room → AreKept new
-taken_again old new slot kept popped listed written noted room =
+pub taken_again : (old new : Slots) (slot : Slot) → AreSlotsKept old → old.free.items ≡ new.free.items ++ slot ∷ [] → vec_capacity new.free ≡ vec_capacity old.free
+    → new.taken.items ≡ slice_set old.taken.items slot.0 true → vec_capacity new.taken ≡ vec_capacity old.taken → new.capacity ≡ old.capacity → AreSlotsKept new
+taken_again old new slot kept popped listed written noted capacity =
     let has : Contains old.free.items slot = subst (λ xs. Contains xs slot) (sym popped) (Contains-push new.free.items slot) in
     let lt = kept.within slot has in
     let free = kept.vacant slot has in
@@ -55,13 +55,13 @@ taken_again old new slot kept popped listed written noted room =
     }
 
 -- where a slot is taken, not all are free
-pub some_taken : (old : Slots) (slot : Slot) → AreKept old → IsOut old.taken.items slot.0 → slot.0 < length old.taken.items → length old.free.items < length old.taken.items
+pub some_taken : (old : Slots) (slot : Slot) → AreSlotsKept old → IsOut old.taken.items slot.0 → slot.0 < length old.taken.items → length old.free.items < length old.taken.items
 some_taken old slot kept out lt = let e = count_back old.taken.items slot.0 lt out in omega (arith, kept.counted)
 
 -- one more slot than were ever taken is taken
-pub taken_next : (old new : Slots) → AreKept old → new.taken.items ≡ old.taken.items ++ true ∷ [] → new.free.items ≡ old.free.items → vec_capacity new.free ≡ vec_capacity old.free
-    → vec_capacity new.taken ≡ vec_capacity old.taken → length old.taken.items < old.room → new.room ≡ old.room → AreKept new
-taken_next old new kept pushed same listed noted spare room =
+pub taken_next : (old new : Slots) → AreSlotsKept old → new.taken.items ≡ old.taken.items ++ true ∷ [] → new.free.items ≡ old.free.items → vec_capacity new.free ≡ vec_capacity old.free
+    → vec_capacity new.taken ≡ vec_capacity old.taken → length old.taken.items < old.capacity → new.capacity ≡ old.capacity → AreSlotsKept new
+taken_next old new kept pushed same listed noted spare capacity =
     let size : length new.taken.items ≡ length old.taken.items + 1 = ap length pushed ∙ length_push old.taken.items true in
     let count : count_by (λ out. out) new.taken.items ≡ count_by (λ out. out) old.taken.items + 1 = ap (count_by (λ out. out)) pushed ∙ sum_by-append one old.taken.items (true ∷ []) in
     let fewer : length new.free.items ≡ length old.free.items = ap length same in
@@ -77,10 +77,10 @@ taken_next old new kept pushed same listed noted spare room =
       few = omega (arith, kept.few);
     }
 
--- there is more room for the same slots
-pub roomier : (old new : Slots) → AreKept old → new.taken.items ≡ old.taken.items → new.free.items ≡ old.free.items → old.room ≤ new.room → new.room ≤ vec_capacity new.taken
-    → new.room ≤ vec_capacity new.free → new.room < 2 ^ 32 → AreKept new
-roomier old new kept same same_free more noted listed few =
+-- there is more capacity for the same slots
+pub more_capacity : (old new : Slots) → AreSlotsKept old → new.taken.items ≡ old.taken.items → new.free.items ≡ old.free.items → old.capacity ≤ new.capacity → new.capacity ≤ vec_capacity new.taken
+    → new.capacity ≤ vec_capacity new.free → new.capacity < 2 ^ 32 → AreSlotsKept new
+more_capacity old new kept same same_free more noted listed few =
     let size : length new.taken.items ≡ length old.taken.items = ap length same in
     let count : count_by (λ out. out) new.taken.items ≡ count_by (λ out. out) old.taken.items = ap (count_by (λ out. out)) same in
     let fewer : length new.free.items ≡ length old.free.items = ap length same_free in
@@ -131,10 +131,10 @@ out_within taken i out = elim (cases_lt i (length taken)) [
 ]
 
 -- a slot that was taken is free
-pub given_back : (old new : Slots) (slot : Slot) → AreKept old → IsOut old.taken.items slot.0 → slot.0 < length old.taken.items → new.taken.items ≡ slice_set old.taken.items slot.0 false
+pub given_back : (old new : Slots) (slot : Slot) → AreSlotsKept old → IsOut old.taken.items slot.0 → slot.0 < length old.taken.items → new.taken.items ≡ slice_set old.taken.items slot.0 false
     → new.free.items ≡ old.free.items ++ slot ∷ [] → vec_capacity new.free ≡ vec_capacity old.free → vec_capacity new.taken ≡ vec_capacity old.taken
-    → new.room ≡ old.room → AreKept new
-given_back old new slot kept out lt written pushed listed noted room =
+    → new.capacity ≡ old.capacity → AreSlotsKept new
+given_back old new slot kept out lt written pushed listed noted capacity =
     let size : length new.taken.items ≡ length old.taken.items = ap length written ∙ length-set old.taken.items slot.0 false in
     let this : slice_index_or new.taken.items slot.0 false ≡ false = ap (λ t. slice_index_or t slot.0 false) written ∙ get_or-set_same old.taken.items slot.0 false false lt in
     let count : count_by (λ out. out) new.taken.items + 1 ≡ count_by (λ out. out) old.taken.items = ap (λ t. count_by (λ out. out) t + 1) written ∙ count_back old.taken.items slot.0 lt out in

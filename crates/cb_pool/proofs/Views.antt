@@ -3,7 +3,7 @@ use Rattle.std.proofs.Common.{◌≡◌, ◌≢◌, ℕ, ◌+◌, ◌-◌, ◌*�
 use Rattle.std.specs.Global.{Vec}
 use Rattle.cb_pool.specs.declared.slot.Slot.{Slot}
 use Rattle.cb_pool.specs.declared.slots.Slots.{Slots}
-use Rattle.cb_pool.specs.Pool.{Pool, IsTaken, SameOthers, WiderRows, row_at, row_of}
+use Rattle.cb_pool.specs.Pool.{Pool, IsTaken, SameOthers, WiderRows, row_at, slot_row}
 use Rattle.cb_pool.specs.Kept.{IsOut, IsPoolOf, TakesSlot, spare_of}
 use Rattle.cb_pool.proofs.Rows.{row_fits}
 use Rattle.cb_pool.proofs.Taking.{out_within}
@@ -58,15 +58,15 @@ wider_rows width wider spare words after taken each slot row =
 -- a slot that is taken stays so where another one is
 pub still_taken : (old new : Pool) (slot other : Slot) → SameOthers old new slot → ¬ IsTaken old slot → IsTaken old other → IsTaken new other
 still_taken old new slot other same free taken =
-    ((same other (λ (e : other ≡ slot). free (subst (IsTaken old) e taken)) (row_of old other)).1 (taken, refl)).0
+    ((same other (λ (e : other ≡ slot). free (subst (IsTaken old) e taken)) (slot_row old other)).1 (taken, refl)).0
 
 -- and where another one is given back
 pub left_taken : (old new : Pool) (slot other : Slot) → SameOthers old new slot → other ≢ slot → IsTaken old other → IsTaken new other
-left_taken old new slot other same apart taken = ((same other apart (row_of old other)).1 (taken, refl)).0
+left_taken old new slot other same apart taken = ((same other apart (slot_row old other)).1 (taken, refl)).0
 
 -- and where rows are wider
 pub wider_taken : (old new : Pool) (slot : Slot) → WiderRows old new → IsTaken old slot → IsTaken new slot
-wider_taken old new slot wider taken = ((wider slot (row_of old slot ++ replicate (new.width - old.width) 0)).1 (taken, refl)).0
+wider_taken old new slot wider taken = ((wider slot (slot_row old slot ++ replicate (new.width - old.width) 0)).1 (taken, refl)).0
 
 -- a slot that was free isn't one that was taken
 pub not_the_same : (p : Pool) (slot other : Slot) → ¬ IsTaken p slot → IsTaken p other → slot ≢ other

@@ -11,19 +11,19 @@ abbrev pub IsOut : List Bool → ℕ → Type 0
 IsOut taken i = slice_index_or taken i false ≡ true
 
 -- each slot that was ever taken is taken or free; the free ones are listed, each once; the lists have capacity for all slots
-pub record AreKept (s : Slots) : Type 0 where
+pub record AreSlotsKept (s : Slots) : Type 0 where
   pub counted : length s.free.items + count_by (λ out. out) s.taken.items ≡ length s.taken.items
   pub within : (slot : Slot) → Contains s.free.items slot → slot.0 < length s.taken.items
   pub vacant : (slot : Slot) → Contains s.free.items slot → slice_index_or s.taken.items slot.0 false ≡ false
   pub once : AllPairs (λ a b. a ≢ b) s.free.items
-  pub begun : length s.taken.items ≤ s.room
-  pub noted : s.room ≤ vec_capacity s.taken
-  pub listed : s.room ≤ vec_capacity s.free
-  pub few : s.room < 2 ^ 32
+  pub begun : length s.taken.items ≤ s.capacity
+  pub noted : s.capacity ≤ vec_capacity s.taken
+  pub listed : s.capacity ≤ vec_capacity s.free
+  pub few : s.capacity < 2 ^ 32
 
 -- how many slots can be taken
 abbrev pub spare_of : Slots → ℕ
-spare_of s = length s.free.items + (s.room - length s.taken.items)
+spare_of s = length s.free.items + (s.capacity - length s.taken.items)
 
 -- the slot at a position is taken, which was free, and others are as they were
 pub record TakesSlot (old new : List Bool) (i : ℕ) : Type 0 where
@@ -32,12 +32,12 @@ pub record TakesSlot (old new : List Bool) (i : ℕ) : Type 0 where
   pub others : (j : ℕ) → j ≢ i → slice_index_or new j false ≡ slice_index_or old j false
 
 -- the row at a position is zero, and others are as they were
-pub record Clears (width : ℕ) (old new : List ℕ) (i : ℕ) : Type 0 where
+pub record ClearsRow (width : ℕ) (old new : List ℕ) (i : ℕ) : Type 0 where
   pub zeros : row_at width new i ≡ replicate width 0
   pub others : (j : ℕ) → j ≢ i → width * j + width ≤ length old → row_at width new j ≡ row_at width old j
 
 -- the block has the words of all slots that were ever taken, and capacity for those of all others
 pub record IsPoolOf (width : ℕ) (words : Vec ℕ) (s : Slots) : Type 0 where
   pub block : length words.items ≡ width * length s.taken.items
-  pub room : width * s.room ≤ vec_capacity words
-  pub slots : AreKept s
+  pub capacity : width * s.capacity ≤ vec_capacity words
+  pub slots : AreSlotsKept s

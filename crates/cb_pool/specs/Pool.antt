@@ -19,12 +19,12 @@ abbrev pub IsTaken : Pool → Slot → Type 0
 IsTaken p slot = slice_index_or p.taken slot.0 false ≡ true
 
 -- a slot's row
-abbrev pub row_of : Pool → Slot → List ℕ
-row_of p slot = row_at p.width p.words slot.0
+abbrev pub slot_row : Pool → Slot → List ℕ
+slot_row p slot = row_at p.width p.words slot.0
 
 -- the slot is taken, and this is its row
-abbrev pub HasRow : Pool → Slot → List ℕ → Type 0
-HasRow p slot row = IsTaken p slot × (row ≡ row_of p slot)
+abbrev pub SlotHasRow : Pool → Slot → List ℕ → Type 0
+SlotHasRow p slot row = IsTaken p slot × (row ≡ slot_row p slot)
 
 -- how many slots are taken
 abbrev pub taken_count : Pool → ℕ
@@ -32,15 +32,15 @@ taken_count p = count_by (λ out. out) p.taken
 
 -- the same slots are taken, with the same rows
 abbrev pub SameRows : Pool → Pool → Type 0
-SameRows old new = (slot : Slot) (row : List ℕ) → HasRow new slot row ↔ HasRow old slot row
+SameRows old new = (slot : Slot) (row : List ℕ) → SlotHasRow new slot row ↔ SlotHasRow old slot row
 
 -- every other slot is as it was
 abbrev pub SameOthers : Pool → Pool → Slot → Type 0
-SameOthers old new slot = (other : Slot) → other ≢ slot → (row : List ℕ) → HasRow new other row ↔ HasRow old other row
+SameOthers old new slot = (other : Slot) → other ≢ slot → (row : List ℕ) → SlotHasRow new other row ↔ SlotHasRow old other row
 
 -- the same slots are taken, and each row has zeros after it
 abbrev pub WiderRows : Pool → Pool → Type 0
-WiderRows old new = (slot : Slot) (row : List ℕ) → HasRow new slot row ↔ (IsTaken old slot × (row ≡ row_of old slot ++ replicate (new.width - old.width) 0))
+WiderRows old new = (slot : Slot) (row : List ℕ) → SlotHasRow new slot row ↔ (IsTaken old slot × (row ≡ slot_row old slot ++ replicate (new.width - old.width) 0))
 
 -- the pool with other words in a slot's row
 abbrev pub with_row : Pool → Slot → List ℕ → Pool
@@ -52,7 +52,7 @@ pub record WritesOneRow (p : Pool) (slot : Slot) (row : List ℕ) : Type 0 where
   pub spare : (with_row p slot row).spare ≡ p.spare
   pub taken : (other : Slot) → IsTaken (with_row p slot row) other ↔ IsTaken p other
   pub others : SameOthers p (with_row p slot row) slot
-  pub there : length row ≡ length (row_of p slot) → row_of (with_row p slot row) slot ≡ row
+  pub there : length row ≡ length (slot_row p slot) → slot_row (with_row p slot row) slot ≡ row
 
 abbrev pub OneRowIsWritten : Type 0
 OneRowIsWritten = (p : Pool) (slot : Slot) (row : List ℕ) → length row ≤ p.width → WritesOneRow p slot row

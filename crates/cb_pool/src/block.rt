@@ -2,7 +2,7 @@
 ghost use Rattle.std.specs.Prelude.{◌≡◌, ◌≢◌, ◌<◌, ◌≤◌, ◌+◌, ◌-◌, ◌*◌, ◌++◌, ℕ, length, take, drop, replicate, bit_or, vec_capacity, OnOk, IfOk};
 ghost use Rattle.std.specs.Simd.Lanes.{put_chunk, zip2};
 ghost use Rattle.cb_pool.specs.Pool.{row_at};
-ghost use Rattle.cb_pool.specs.Kept.{Clears};
+ghost use Rattle.cb_pool.specs.Kept.{ClearsRow};
 
 use cb_lanes::or_into;
 use std::alloc::{AllocError, Global};
@@ -15,7 +15,7 @@ pub(crate) fn reserve_rows(
 ) -> Result<(), AllocError>
     ensures words { words.new.items ≡ words.old.items }
     ensures more { vec_capacity words.old ≤ vec_capacity words.new }
-    ensures room { OnOk result (width * rows ≤ vec_capacity words.new) }
+    ensures capacity { OnOk result (width * rows ≤ vec_capacity words.new) }
 {
     let Some(size) = width.checked_mul(rows) else {
         return Err(AllocError);
@@ -36,7 +36,7 @@ pub(crate) fn row_in(words: &[u64], width: usize, i: usize) -> &[u64]
 /// Makes the words of a row zero.
 pub(crate) fn wipe_row(words: &mut [u64], width: usize, i: usize)
     requires { width * i + width ≤ length words.old }
-    ensures { Clears width words.old words.new i }
+    ensures { ClearsRow width words.old words.new i }
 {
     let start = width * i;
     wipe(&mut words[start..start + width]);
@@ -86,10 +86,10 @@ fn unite_with_earlier(words: &mut [u64], width: usize, at: usize, later: usize)
 /// Adds a row of zeros, for which there is capacity.
 pub(crate) fn add_row(words: &mut Vec<u64>, width: usize, i: usize)
     requires after { length words.old.items ≡ width * i }
-    requires room { width * i + width ≤ vec_capacity words.old }
-    ensures clears { Clears width words.old.items words.new.items i }
+    requires capacity { width * i + width ≤ vec_capacity words.old }
+    ensures clears { ClearsRow width words.old.items words.new.items i }
     ensures words { length words.new.items ≡ width * i + width }
-    ensures room { vec_capacity words.old ≤ vec_capacity words.new }
+    ensures capacity { vec_capacity words.old ≤ vec_capacity words.new }
 {
     words.resize(words.len() + width, 0).unwrap();
 }
@@ -101,17 +101,17 @@ pub(crate) fn widened(
     width: usize,
     wider: usize,
     rows: usize,
-    room: usize,
+    capacity: usize,
 ) -> Result<Vec<u64>, AllocError>
     requires block { length words.now ≡ width * rows }
     requires wider { width ≤ wider }
-    requires fits { rows ≤ room }
+    requires fits { rows ≤ capacity }
     ensures words { IfOk result (λ made. length made.items ≡ wider * rows) }
-    ensures room { IfOk result (λ made. wider * room ≤ vec_capacity made) }
+    ensures capacity { IfOk result (λ made. wider * capacity ≤ vec_capacity made) }
     ensures rows { IfOk result (λ made. (i : ℕ) → i < rows → row_at wider made.items i ≡ row_at width words.now i ++ replicate (wider - width) 0) }
 {
     let mut made = Vec::new(alloc);
-    reserve_rows(&mut made, wider, room)?;
+    reserve_rows(&mut made, wider, capacity)?;
     for i in 0..rows {
         add_wider(&mut made, row_in(words, width, i), wider, i);
     }
@@ -121,10 +121,10 @@ pub(crate) fn widened(
 // Adds a row with zeros after it, for which there is capacity.
 fn add_wider(made: &mut Vec<u64>, row: &[u64], wider: usize, i: usize)
     requires after { length made.old.items ≡ wider * i }
-    requires room { wider * i + wider ≤ vec_capacity made.old }
+    requires capacity { wider * i + wider ≤ vec_capacity made.old }
     requires wider { length row.now ≤ wider }
     ensures words { made.new.items ≡ made.old.items ++ row.now ++ replicate (wider - length row.now) 0 }
-    ensures room { vec_capacity made.old ≤ vec_capacity made.new }
+    ensures capacity { vec_capacity made.old ≤ vec_capacity made.new }
 {
     let end = made.len() + wider;
     made.extend_from_slice(row).unwrap();

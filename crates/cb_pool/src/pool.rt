@@ -2,7 +2,7 @@
 ghost use Rattle.std.specs.Prelude.{◌≡◌, ◌≢◌, ◌<◌, ◌≤◌, ◌+◌, ◌^◌, [], length, replicate, OnOk, OnErr, bit_or, IfOk};
 ghost use Rattle.std.specs.Simd.Lanes.{zip2};
 ghost use Rattle.std.specs.Borrow.{sem, Lends, Array, u64 as word};
-ghost use Rattle.cb_pool.specs.Pool.{HasRow, IsTaken, SameRows, SameOthers, WiderRows, row_of, taken_count, with_row};
+ghost use Rattle.cb_pool.specs.Pool.{SlotHasRow, IsTaken, SameRows, SameOthers, WiderRows, slot_row, taken_count, with_row};
 ghost use Rattle.cb_pool.specs.contracts.pool.RowPool.{the_row};
 
 use crate::block::{add_row, reserve_rows, row_in, unite_rows, widened, wipe_row};
@@ -71,9 +71,9 @@ impl RowPool {
         ensures no_fewer { self.old.spare ≤ self.new.spare }
         ensures err { OnErr result (self.new ≡ self.old) }
     {
-        let room = self.slots.room_for(rows)?;
-        reserve_rows(&mut self.words, self.width, room)?;
-        self.slots.reserve(room)
+        let capacity = self.slots.capacity_for(rows)?;
+        reserve_rows(&mut self.words, self.width, capacity)?;
+        self.slots.reserve(capacity)
     }
 
     /// Makes each row longer, by zeros.
@@ -85,8 +85,8 @@ impl RowPool {
         ensures err { OnErr result (self.new ≡ self.old) }
     {
         let rows = self.slots.taken.len();
-        let room = self.slots.room;
-        self.words = widened(self.alloc, &self.words, self.width, width, rows, room)?;
+        let capacity = self.slots.capacity;
+        self.words = widened(self.alloc, &self.words, self.width, width, rows, capacity)?;
         self.width = width;
         Ok(())
     }
@@ -99,15 +99,15 @@ impl RowPool {
         ensures rows { IfOk result (λ copy. WiderRows self.now copy) }
         ensures spare { IfOk result (λ copy. rows ≤ copy.spare) }
     {
-        let room = self.slots.room_for(rows)?;
-        let slots = self.slots.copy(alloc, room)?;
+        let capacity = self.slots.capacity_for(rows)?;
+        let slots = self.slots.copy(alloc, capacity)?;
         let words = widened(
             alloc,
             &self.words,
             self.width,
             width,
             slots.taken.len(),
-            room,
+            capacity,
         )?;
         Ok(RowPool {
             alloc,
@@ -122,7 +122,7 @@ impl RowPool {
         requires { 0 < self.old.spare }
         ensures width { self.new.width ≡ self.old.width }
         ensures free { ¬ IsTaken self.old result }
-        ensures zero { HasRow self.new result (replicate self.old.width 0) }
+        ensures zero { SlotHasRow self.new result (replicate self.old.width 0) }
         ensures others { SameOthers self.old self.new result }
         ensures count { taken_count self.new ≡ taken_count self.old + 1 }
         ensures spare { self.old.spare ≡ self.new.spare + 1 }
@@ -137,7 +137,7 @@ impl RowPool {
     }
 
     /// Gives a slot back, which is free then.
-    pub fn give(&mut self, slot: Slot)
+    pub fn give_back(&mut self, slot: Slot)
         requires { IsTaken self.old slot }
         ensures width { self.new.width ≡ self.old.width }
         ensures free { ¬ IsTaken self.new slot }
@@ -151,7 +151,7 @@ impl RowPool {
     /// The words of a row.
     pub fn row(&self, slot: Slot) -> &[u64]
         requires { IsTaken self.now slot }
-        ensures row { HasRow self.now slot result.now }
+        ensures row { SlotHasRow self.now slot result.now }
         ensures width { length result.now ≡ self.now.width }
     {
         row_in(&self.words, self.width, slot.0 as usize)
@@ -161,7 +161,7 @@ impl RowPool {
     pub fn row_mut(&mut self, slot: Slot) -> &mut [u64]
         requires { IsTaken self.old slot }
         ensures* writes_back { sem 𝓛 (Lends the_row (Array word 0) self.entry result (with_row self.old slot)) }
-        ensures row { HasRow self.old slot result.now }
+        ensures row { SlotHasRow self.old slot result.now }
         ensures width { length result.now ≡ self.old.width }
     {
         let start = self.width * slot.0 as usize;
@@ -173,7 +173,7 @@ impl RowPool {
         requires apart { into ≢ from }
         requires into { IsTaken self.old into }
         requires from { IsTaken self.old from }
-        ensures { self.new ≡ with_row self.old into (zip2 bit_or (row_of self.old into) (row_of self.old from)) }
+        ensures { self.new ≡ with_row self.old into (zip2 bit_or (slot_row self.old into) (slot_row self.old from)) }
     {
         unite_rows(
             &mut self.words,

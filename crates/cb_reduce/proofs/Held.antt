@@ -10,7 +10,7 @@ use Rattle.cb_coding.specs.Pairs.{IsPair}
 use Rattle.cb_reduce.specs.declared.moves.Waiter.{Waiter}
 use Rattle.cb_reduce.specs.declared.place.WaitingPlace.{WaitingPlace}
 use Rattle.cb_reduce.specs.declared.place.WaitingPlace.TheVariants.{Nowhere, At, Close}
-use Rattle.cb_reduce.specs.Places.{IsPlace, kept_of}
+use Rattle.cb_reduce.specs.Places.{IsWaitingPlace, kept_of}
 use Rattle.cb_reduce.specs.Moves.{waiter, at_column, IsSafe, IsHeld, IsCovered, Grows}
 use Rattle.cb_reduce.proofs.Forcing.{more_marked}
 use Rattle.cb_reduce.proofs.Places.{code_at_is}
@@ -90,10 +90,10 @@ module _ (codes : List (List Bool)) (i j : ℕ) (v w : List Bool) (at : slice_ge
   differs : (c : ℕ) → differ (bit v c) (bit w c) ≡ true → differ (bit (code_at codes i) c) (bit (code_at codes j) c) ≡ true
   differs c is = rw (code_at_is codes i v at, code_at_is codes j w at') is
 
-  pub nowhere_is_safe : IsPlace v w kept before d Nowhere → IsSafe codes kept d 0 i j
+  pub nowhere_is_safe : IsWaitingPlace v w kept before d Nowhere → IsSafe codes kept d 0 i j
   nowhere_is_safe far = let same = after in let none : prefix codes i j 0 ≡ 0 = refl in omega arith
 
-  pub at_is_safe : (c : ℕ) → IsPlace v w kept before d (At c) → IsSafe codes kept d (c + 1) i j
+  pub at_is_safe : (c : ℕ) → IsWaitingPlace v w kept before d (At c) → IsSafe codes kept d (c + 1) i j
   at_is_safe c place =
       let same = after in
       let sum = place.2 in
@@ -102,10 +102,10 @@ module _ (codes : List (List Bool)) (i j : ℕ) (v w : List Bool) (at : slice_ge
       let one = step_where codes i j c (differs c place.1) in
       omega arith
 
-  pub close_isnt_safe : IsPlace v w kept before d Close → IsSafe codes kept d before i j → ⊥
+  pub close_isnt_safe : IsWaitingPlace v w kept before d Close → IsSafe codes kept d before i j → ⊥
   close_isnt_safe close safe = let same = after in let prefix_is = before_is before in omega arith
 
-  pub others_are_safe : (place : WaitingPlace) → (place ≡ Close → ⊥) → IsPlace v w kept before d place → IsSafe codes kept d before i j
+  pub others_are_safe : (place : WaitingPlace) → (place ≡ Close → ⊥) → IsWaitingPlace v w kept before d place → IsSafe codes kept d before i j
   others_are_safe Nowhere other far = let same = after in omega arith
   others_are_safe (At c) other place =
       let safe = at_is_safe c place in

@@ -5,7 +5,7 @@ use Rattle.std.proofs.lemmas.Bool.{cases_lt, cases_order, cases_Bool}
 use Rattle.std.proofs.lemmas.List.Sums.{sum_by-append}
 use Rattle.cb_coding.specs.Distance.{differ, bit, all_columns, code_at, apart}
 use Rattle.cb_coding.specs.Pairs.{GoodFor}
-use Rattle.cb_coding.specs.Books.{without}
+use Rattle.cb_coding.specs.Books.{columns_without}
 use Rattle.cb_coding.proofs.Distances.{distance_more}
 use Rattle.cb_reduce.specs.Pairs.{DifferAt, IsTooClose}
 use Rattle.cb_reduce.specs.Waits.{WaitsAt}
@@ -80,10 +80,10 @@ module _ (codes : List (List Bool)) (i j : ℕ) where
     ]
 
 pub only_differing_count : (codes : List (List Bool)) (columns : List ℕ) (need : ℕ → ℕ → ℕ) (c : ℕ) → GoodFor codes (through c columns) need
-    → (¬ GoodFor codes (without c columns) need) ↔ IsTooClose codes (without c columns) need c
+    → (¬ GoodFor codes (columns_without c columns) need) ↔ IsTooClose codes (columns_without c columns) need c
 only_differing_count codes columns need c good =
     let later : List ℕ = filter (λ k. nat_lt c k) columns in (
-      λ bad. elim (close_or_good codes (without c columns) need) [
+      λ bad. elim (close_or_good codes (columns_without c columns) need) [
         | inl found ↦
             let (i, j, pair, close) = found in
             let waits = (waits_where_too_close codes i j later (need i j) c (good i j pair)).0 close in

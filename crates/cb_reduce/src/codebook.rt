@@ -112,12 +112,12 @@ fn choice_of(
     let mut waiting = empty_lists(alloc, width)?;
     let quiet = starts_with_zero(codes);
     let forced = wait_all(alloc, codes, quiet, width, wish, &mut waiting)?;
-    let kept = keep(alloc, codes, width, wish, quiet, &forced, &mut waiting)?;
+    let kept = kept_mask(alloc, codes, width, wish, quiet, &forced, &mut waiting)?;
     columns_of(alloc, &kept)
 }
 
 // The columns that a wish keeps, as a mask, where pairs wait and columns are forced as long as none is kept.
-fn keep(
+fn kept_mask(
     alloc: Global,
     codes: &Codes,
     width: usize,
@@ -146,7 +146,7 @@ fn keep(
     Ok(kept)
 }
 
-// So many empty lists.
+// `count` empty lists.
 fn empty_lists(alloc: Global, count: usize) -> Result<Vec<List<Waiter>>, AllocError>
     ensures { IfOk result (λ lists. lists.items ≡ replicate count []) }
 {

@@ -12,7 +12,7 @@ use Rattle.std.proofs.lemmas.List.Splits.{join_with_byte-slice_split, slice_spli
 use Rattle.std.proofs.lemmas.List.Sums.{AllPass-from_list_all, list_all-from_AllPass}
 use Rattle.std.proofs.lemmas.Map.Views.{Contains-from_any, list_any-from_Contains}
 use Rattle.std.proofs.lemmas.Slice.Eq.{bytes_eq-Decides}
-use Rattle.cb_text.specs.Names.{IsInstance, IsName, IsNode, IsRun, is_instance_byte, is_letter, is_name_byte, name_limit, reserved_words}
+use Rattle.cb_text.specs.Names.{IsInstance, IsName, IsNodeText, IsRun, is_instance_byte, is_letter, is_name_byte, name_limit, reserved_words}
 use Rattle.cb_text.proofs.Cuts.{Lacks, name_lacks_at}
 use Rattle.cb_request.specs.Laws.{NodeIsRead}
 use Rattle.cb_request.specs.NodeWords.{IsNodeWord, are_node_names, is_event_name, is_instance_name, is_run, node_in}
@@ -72,7 +72,7 @@ instance_lacks_at bytes are k d low = byte_is_no_at (get_or bytes k d) (are k d 
       | inr other ↦ search rules
     ]
 
-node_is_split : (word event instance : List ℕ) → IsNode word event instance → slice_split (λ b. b == 64) word ≡ event ∷ instance ∷ []
+node_is_split : (word event instance : List ℕ) → IsNodeText word event instance → slice_split (λ b. b == 64) word ≡ event ∷ instance ∷ []
 node_is_split word event instance node =
     let cut : word ≡ event ++ 64 ∷ instance = node.written ∙ append_assoc event (codes "@") instance in
     ap (slice_split (λ b. b == 64)) cut

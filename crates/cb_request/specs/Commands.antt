@@ -75,5 +75,5 @@ request_of [] = None
 request_of (command ∷ words) = option_and_then (λ reads. reads words) (look_up commands command)
 
 -- what words ask for, as the program gets them
-abbrev pub asked : List (String Global) → Option Request
-asked words = request_of (texts words)
+abbrev pub request_of_arguments : List (String Global) → Option Request
+request_of_arguments words = request_of (texts words)

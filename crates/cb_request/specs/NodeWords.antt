@@ -2,7 +2,7 @@
 use Rattle.std.specs.Prelude.{ℕ, List, [], ◌∷◌, length, Bool, false, ◌&&◌, ◌==◌, not, nat_le, Option, None, Some, if◌then◌else◌}
 use Rattle.std.specs.List.{list_all, list_any, slice_split}
 use Rattle.std.specs.Str.{bytes_eq}
-use Rattle.cb_text.specs.Names.{IsNode, is_instance_byte, is_letter, is_name_byte, name_limit, reserved_words}
+use Rattle.cb_text.specs.Names.{IsNodeText, is_instance_byte, is_letter, is_name_byte, name_limit, reserved_words}
 
 -- whether the bytes are a letter and then bytes of names
 abbrev pub is_run : List ℕ → Bool
@@ -28,4 +28,4 @@ node_in word = if are_node_names (slice_split (λ b. b == 64) word) then Some wo
 
 -- the word is the text of a node
 abbrev pub IsNodeWord : List ℕ → Type 0
-IsNodeWord word = (event instance : List ℕ) × IsNode word event instance
+IsNodeWord word = (event instance : List ℕ) × IsNodeText word event instance

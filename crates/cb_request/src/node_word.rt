@@ -1,6 +1,6 @@
 //! Nodes in the words of the command line.
 ghost use Rattle.std.specs.Prelude.{◌≡◌, IfSome, IfNone};
-ghost use Rattle.cb_text.specs.Names.{IsNode};
+ghost use Rattle.cb_text.specs.Names.{IsNodeText};
 ghost use Rattle.cb_request.specs.NodeWords.{IsNodeWord, node_in};
 
 use cb_text::node_parts;
@@ -38,7 +38,7 @@ impl<'w> NodeWord<'w> {
 
     /// The event and the instance of the node. No request has a node without them.
     pub fn parts(&self) -> Option<(&[u8], &[u8])>
-        ensures parts { IfSome result (λ parts. IsNode self.now parts.0.now parts.1.now) }
+        ensures parts { IfSome result (λ parts. IsNodeText self.now parts.0.now parts.1.now) }
         ensures none { IfNone result (¬ IsNodeWord self.now) }
     {
         node_parts(self.0.as_bytes())

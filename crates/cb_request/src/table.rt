@@ -1,6 +1,6 @@
 //! The table of commands.
 ghost use Rattle.std.specs.Prelude.{◌≡◌, ◌∷◌};
-ghost use Rattle.cb_request.specs.Commands.{asked, texts, request_of, burst_of, model_of, matrix_of, codebook_of, verify_of, decode_of, correlate_of, grow_of, pairs_of, explain_of, levels_of, prove_of};
+ghost use Rattle.cb_request.specs.Commands.{request_of_arguments, texts, request_of, burst_of, model_of, matrix_of, codebook_of, verify_of, decode_of, correlate_of, grow_of, pairs_of, explain_of, levels_of, prove_of};
 
 use crate::file_name::FileName;
 use crate::node_word::NodeWord;
@@ -10,7 +10,7 @@ use crate::request::Request;
 impl<'w> Request<'w> {
     /// What the words of the command line ask for, if they ask for something.
     pub fn of(words: &'w [String]) -> Option<Request<'w>>
-        ensures { result ≡ asked words.now }
+        ensures { result ≡ request_of_arguments words.now }
     {
         match words.split_first() {
             Some((command, words)) => read(command.as_str(), words),

@@ -6,10 +6,10 @@ use Rattle.std.proofs.lemmas.Option.{slice_get_within}
 use Rattle.cb_grammar.specs.declared.tree.PlaceToken.{PlaceToken}
 use Rattle.cb_grammar.specs.declared.tree.Tree.{Tree}
 use Rattle.cb_rules.specs.declared.rule.TypeRule.TheVariants.{TwoClasses, TwoNames}
-use Rattle.cb_rules.specs.Classes.{Extends, IsAbove, HasAt, Has, Declares, IsNamed, IsRelationNamed, IsRelationTo, Leads}
+use Rattle.cb_rules.specs.Classes.{Extends, IsAbove, HasAt, HasSomeMember, Declares, IsClassNamed, IsRelationNamed, IsRelationTo, LeadsAlong}
 use Rattle.cb_rules.specs.Rules.{LeadsHome, CannotRepeatAt, CannotRepeat}
 use Rattle.cb_rules.specs.Fault.{Keeps}
-use Rattle.cb_rules.specs.Finds.{LeadsOn}
+use Rattle.cb_rules.specs.Finds.{RelationLeads}
 use Rattle.cb_rules.specs.Least.{IsLeast}
 use Rattle.cb_rules.proofs.Walks.{below_or_same, steps_are, above_split, above_first, one_above, one_named}
 use Rattle.cb_rules.proofs.Unique.{leads_past, one_place, one_way, one_reached, to_named}
@@ -20,7 +20,7 @@ not_home true H P iff p = (λ never. absurd (cc), λ both. absurd (both.1 (iff.0
 not_home false H P iff p = (λ _. (p, λ h. let never : IsTrue false = iff.1 h in absurd (cc)), λ _. refl)
 
 -- a relation that leads home is declared
-pub home_declared : (tree : Tree) (k : ℕ) (name : List ℕ) → LeadsHome tree k name → Has tree k (Declares name)
+pub home_declared : (tree : Tree) (k : ℕ) (name : List ℕ) → LeadsHome tree k name → HasSomeMember tree k (Declares name)
 home_declared tree k name (home, i, to, next, n, has, leads, named, above) = (home, i, has)
 
 module _ (tree : Tree) (classes : Keeps tree TwoClasses) where
@@ -51,24 +51,24 @@ module _ (tree : Tree) (classes : Keeps tree TwoClasses) where
 
   module _ (names : Keeps tree TwoNames) where
     -- of a relation whose target and declaring class are known, whether it leads home is whether the one descends from the other
-    pub home_reported : (k : ℕ) (name : List ℕ) (next home i : ℕ) → LeadsOn tree k name next → HasAt tree k (Declares name) home i
+    pub home_reported : (k : ℕ) (name : List ℕ) (next home i : ℕ) → RelationLeads tree k name next → HasAt tree k (Declares name) home i
         → ((n : ℕ) × IsAbove tree next n home) ↔ LeadsHome tree k name
     home_reported k name next home i on has = (
       λ (n, above). (home, i, on.0, next, n, has, on.1, on.2, above),
       λ (home', i', to, next', n, has', leads, named, above).
           let place = one_place tree classes names name k home' i' home i has' has in
           let way = one_way tree classes names k name to on.0 leads on.1 in
-          let there = one_named tree classes on.0 next' next (subst (λ (t : List ℕ). IsNamed tree t next') way named) on.2 in
+          let there = one_named tree classes on.0 next' next (subst (λ (t : List ℕ). IsClassNamed tree t next') way named) on.2 in
           (n, subst (λ (h : ℕ). IsAbove tree next n h) place.0 (subst (λ (x : ℕ). IsAbove tree x n home') there above)),
     )
 
-    pub never_home : (k : ℕ) (name : List ℕ) → ¬ Has tree k (IsRelationNamed name) → ¬ LeadsHome tree k name
+    pub never_home : (k : ℕ) (name : List ℕ) → ¬ HasSomeMember tree k (IsRelationNamed name) → ¬ LeadsHome tree k name
     never_home k name none (home, i, to, next, n, has, leads, named, above) =
         let at = leads.2 in
         none (leads.0, leads.1, (at.0, at.1, at.2, at.3, to_named name to at.1 at.4))
 
     -- at a place that is reached
-    pub cannot_here : (k m at : ℕ) (path : List PlaceToken) (step : PlaceToken) → slice_get path m ≡ Some step → Leads tree k (take m path) at → CannotRepeatAt tree k path m
+    pub cannot_here : (k m at : ℕ) (path : List PlaceToken) (step : PlaceToken) → slice_get path m ≡ Some step → LeadsAlong tree k (take m path) at → CannotRepeatAt tree k path m
         → (step.plus ≡ true) × (¬ LeadsHome tree at step.name.name)
     cannot_here k m at path step is leads (step', j, is', leads', plus, none) =
         let same : step' ≡ step = cc (sym is' ∙ is) in
@@ -78,7 +78,7 @@ module _ (tree : Tree) (classes : Keeps tree TwoClasses) where
     abbrev MayAllBefore : ℕ → List PlaceToken → ℕ → Type 0
     MayAllBefore k path n = (m : ℕ) → m < n → ¬ CannotRepeatAt tree k path m
 
-    pub first_line : (k m at : ℕ) (path : List PlaceToken) (step : PlaceToken) → slice_get path m ≡ Some step → Leads tree k (take m path) at → MayAllBefore k path m
+    pub first_line : (k m at : ℕ) (path : List PlaceToken) (step : PlaceToken) → slice_get path m ≡ Some step → LeadsAlong tree k (take m path) at → MayAllBefore k path m
         → (step.plus ≡ true) → (¬ LeadsHome tree at step.name.name) → IsLeast (CannotRepeat tree k path) (Some step.name.line)
     first_line k m at path step is leads before plus none =
         let here : CannotRepeatAt tree k path m = (step, at, is, leads, plus, none) in (
@@ -94,7 +94,7 @@ module _ (tree : Tree) (classes : Keeps tree TwoClasses) where
           ],
         )
 
-    pub may_more : (k m at : ℕ) (path : List PlaceToken) (step : PlaceToken) → slice_get path m ≡ Some step → Leads tree k (take m path) at → MayAllBefore k path m
+    pub may_more : (k m at : ℕ) (path : List PlaceToken) (step : PlaceToken) → slice_get path m ≡ Some step → LeadsAlong tree k (take m path) at → MayAllBefore k path m
         → ¬ ((step.plus ≡ true) × (¬ LeadsHome tree at step.name.name)) → MayAllBefore k path (m + 1)
     may_more k m at path step is leads before may n below here = elim (cases_lt n m) [
       | inl early ↦ before n early here
@@ -107,8 +107,8 @@ module _ (tree : Tree) (classes : Keeps tree TwoClasses) where
     no_line_at_end k n path all before line (m, step, is, _, here, _) = before m (omega (arith, slice_get_within path m step is)) here
 
     -- after a place without a relation no class is reached
-    pub no_line_where_stopped : (k m at : ℕ) (path : List PlaceToken) (step : PlaceToken) → slice_get path m ≡ Some step → Leads tree k (take m path) at → MayAllBefore k path (m + 1)
-        → ¬ Has tree at (IsRelationNamed step.name.name) → IsLeast (CannotRepeat tree k path) None
+    pub no_line_where_stopped : (k m at : ℕ) (path : List PlaceToken) (step : PlaceToken) → slice_get path m ≡ Some step → LeadsAlong tree k (take m path) at → MayAllBefore k path (m + 1)
+        → ¬ HasSomeMember tree at (IsRelationNamed step.name.name) → IsLeast (CannotRepeat tree k path) None
     no_line_where_stopped k m at path step is leads before none line (m', step', is', _, here, _) = elim (cases_lt m' (m + 1)) [
       | inl early ↦ before m' early here
       | inr late ↦
@@ -116,5 +116,5 @@ module _ (tree : Tree) (classes : Keeps tree TwoClasses) where
           let reached = one_reached tree classes names (take m path) k on.0 at on.2 leads in
           let has = on.3.1 in
           let found = has.2 in
-          none (subst (λ (p : ℕ). Has tree p (IsRelationNamed step.name.name)) reached (has.0, has.1, (found.0, found.1, found.2, found.3, to_named step.name.name on.3.0 found.1 found.4)))
+          none (subst (λ (p : ℕ). HasSomeMember tree p (IsRelationNamed step.name.name)) reached (has.0, has.1, (found.0, found.1, found.2, found.3, to_named step.name.name on.3.0 found.1 found.4)))
     ]

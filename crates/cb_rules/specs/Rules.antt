@@ -9,7 +9,7 @@ use Rattle.cb_grammar.specs.declared.tree.Tree.{Tree}
 use Rattle.cb_grammar.specs.declared.tree.ClassDecl.{ClassDecl}
 use Rattle.cb_grammar.specs.declared.tree.Member.{Member}
 use Rattle.cb_grammar.specs.declared.tree.Member.TheVariants.{Relation, Rule, Block, Hide}
-use Rattle.cb_rules.specs.Classes.{ClassAt, IsNamed, IsAbove, MemberAt, HasAt, Has, Declares, declared, IsEvent, IsEventNamed, IsSymptomNamed, IsRelation, IsRelationNamed, IsRelationTo, IsRelationBack, IsRule, IsRuleNamed, Leads, IsNamedBefore, DeclaresBefore, Inherits, IsOnLoop}
+use Rattle.cb_rules.specs.Classes.{ClassAt, IsClassNamed, IsAbove, MemberAt, HasAt, HasSomeMember, Declares, declared, IsEventMember, IsEventNamed, IsSymptomNamed, IsRelationMember, IsRelationNamed, IsRelationTo, IsRelationBack, IsRule, IsRuleNamed, LeadsAlong, IsNamedBefore, DeclaresBefore, Inherits, IsOnLoop}
 
 -- an earlier class has the class's name
 abbrev pub IsSecondClass : Tree → ℕ → ClassDecl → ℕ → Type 0
@@ -17,7 +17,7 @@ IsSecondClass tree k decl line = (line ≡ decl.name.line) × IsNamedBefore tree
 
 -- no class has this name
 abbrev pub IsNoClass : Tree → List ℕ → Type 0
-IsNoClass tree name = (k : ℕ) → ¬ IsNamed tree name k
+IsNoClass tree name = (k : ℕ) → ¬ IsClassNamed tree name k
 
 -- no class has the name of the parent
 abbrev pub HasNoParent : Tree → ℕ → ClassDecl → ℕ → Type 0
@@ -48,7 +48,7 @@ Owns tree k P = (i : ℕ) × (member : Member) × MemberAt tree k i member × P 
 -- the target itself declares no relation of the inverse's name that leads to this class and has this relation as its
 -- inverse, and this line is blamed
 abbrev pub IsBadInverse : Tree → ℕ → Token → Token → Token → ℕ → Type 0
-IsBadInverse tree k name target inverse line = (decl : ClassDecl) × (j : ℕ) × ClassAt tree k decl × IsNamed tree target.name j × (line ≡ inverse.line)
+IsBadInverse tree k name target inverse line = (decl : ClassDecl) × (j : ℕ) × ClassAt tree k decl × IsClassNamed tree target.name j × (line ≡ inverse.line)
     × (¬ Owns tree j (IsRelationBack inverse.name decl.name.name name.name))
 
 -- the relation's inverse doesn't lead back
@@ -58,13 +58,13 @@ HasBadInverse tree k i member line = ⊥
 
 -- the rule's cause is no event of the class
 abbrev pub HasNoCause : Tree → ℕ → ℕ → Member → ℕ → Type 0
-HasNoCause tree k i (Rule name cause path effect) line = (line ≡ cause.line) × (¬ Has tree k (IsEventNamed cause.name))
+HasNoCause tree k i (Rule name cause path effect) line = (line ≡ cause.line) × (¬ HasSomeMember tree k (IsEventNamed cause.name))
 HasNoCause tree k i member line = ⊥
 
 -- the path stops at a place whose name is no relation of the class that is reached there, and this line is blamed
 abbrev pub StopsAt : Tree → ℕ → List PlaceToken → ℕ → Type 0
-StopsAt tree k path line = (m : ℕ) × (step : PlaceToken) × (j : ℕ) × (slice_get path m ≡ Some step) × Leads tree k (take m path) j × (line ≡ step.name.line)
-    × (¬ Has tree j (IsRelationNamed step.name.name))
+StopsAt tree k path line = (m : ℕ) × (step : PlaceToken) × (j : ℕ) × (slice_get path m ≡ Some step) × LeadsAlong tree k (take m path) j × (line ≡ step.name.line)
+    × (¬ HasSomeMember tree j (IsRelationNamed step.name.name))
 
 -- a place of the rule's path is no relation of the class that is reached there
 abbrev pub HasNoRelation : Tree → ℕ → ℕ → Member → ℕ → Type 0
@@ -73,7 +73,7 @@ HasNoRelation tree k i member line = ⊥
 
 -- the effect is no event of the class that the path reaches, and this line is blamed
 abbrev pub IsBadEffect : Tree → ℕ → List PlaceToken → Token → ℕ → Type 0
-IsBadEffect tree k path effect line = (j : ℕ) × Leads tree k path j × (line ≡ effect.line) × (¬ Has tree j (IsEventNamed effect.name))
+IsBadEffect tree k path effect line = (j : ℕ) × LeadsAlong tree k path j × (line ≡ effect.line) × (¬ HasSomeMember tree j (IsEventNamed effect.name))
 
 -- the rule's effect is no event of the class that its path reaches
 abbrev pub HasNoEffect : Tree → ℕ → ℕ → Member → ℕ → Type 0
@@ -82,12 +82,12 @@ HasNoEffect tree k i member line = ⊥
 
 -- the block names no rule of the class
 abbrev pub BlocksNothing : Tree → ℕ → ℕ → Member → ℕ → Type 0
-BlocksNothing tree k i (Block name) line = (line ≡ name.line) × (¬ Has tree k (IsRuleNamed name.name))
+BlocksNothing tree k i (Block name) line = (line ≡ name.line) × (¬ HasSomeMember tree k (IsRuleNamed name.name))
 BlocksNothing tree k i member line = ⊥
 
 -- the hide names no event of the class that is marked symptom
 abbrev pub HidesNothing : Tree → ℕ → ℕ → Member → ℕ → Type 0
-HidesNothing tree k i (Hide name) line = (line ≡ name.line) × (¬ Has tree k (IsSymptomNamed name.name))
+HidesNothing tree k i (Hide name) line = (line ≡ name.line) × (¬ HasSomeMember tree k (IsSymptomNamed name.name))
 HidesNothing tree k i member line = ⊥
 
 -- the class is the first of too many
@@ -102,16 +102,16 @@ HasMoreThan tree k most P = (places : List (ℕ × ℕ)) × AllPairs (λ one oth
 -- the class has too many events, relations or rules
 abbrev pub HasTooMany : Tree → ℕ → ClassDecl → ℕ → Type 0
 HasTooMany tree k decl line = (line ≡ decl.name.line)
-    × (HasMoreThan tree k event_limit IsEvent ⊎ HasMoreThan tree k relation_limit IsRelation ⊎ HasMoreThan tree k rule_limit IsRule)
+    × (HasMoreThan tree k event_limit IsEventMember ⊎ HasMoreThan tree k relation_limit IsRelationMember ⊎ HasMoreThan tree k rule_limit IsRule)
 
 -- the relation of this name that the class at position k has leads to the class that declares it, which stands at position `home`, or to a descendant of that class
 abbrev pub LeadsHome : Tree → ℕ → List ℕ → Type 0
 LeadsHome tree k name = (home : ℕ) × (i : ℕ) × (to : List ℕ) × (next : ℕ) × (n : ℕ) × HasAt tree k (Declares name) home i
-    × Has tree k (IsRelationTo name to) × IsNamed tree to next × IsAbove tree next n home
+    × HasSomeMember tree k (IsRelationTo name to) × IsClassNamed tree to next × IsAbove tree next n home
 
 -- place m of the path has the plus, and its relation doesn't lead home
 abbrev pub CannotRepeatAt : Tree → ℕ → List PlaceToken → ℕ → Type 0
-CannotRepeatAt tree k path m = (step : PlaceToken) × (j : ℕ) × (slice_get path m ≡ Some step) × Leads tree k (take m path) j × (step.plus ≡ true)
+CannotRepeatAt tree k path m = (step : PlaceToken) × (j : ℕ) × (slice_get path m ≡ Some step) × LeadsAlong tree k (take m path) j × (step.plus ≡ true)
     × (¬ LeadsHome tree j step.name.name)
 
 -- the first such place of the path, and its line is blamed

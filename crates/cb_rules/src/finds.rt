@@ -1,10 +1,10 @@
 //! What the rules ask of a directory.
 ghost use Rattle.std.specs.Prelude.{ℕ, ◌≡◌, ◌↔◌, ◌<◌, length, IfOk, IfSome, IfNone, IfErr, IsTrue};
 ghost use Rattle.cb_rules.specs.declared.rule.TypeRule.TheVariants.{TwoNames, BadInverse, NoTarget};
-ghost use Rattle.cb_rules.specs.Classes.{Has, IsAbove, IsEventNamed, IsSymptomNamed, IsRuleNamed, IsRelationNamed, IsRelationBack, Leads, IsNamedBefore, DeclaresBefore, Inherits};
+ghost use Rattle.cb_rules.specs.Classes.{HasSomeMember, IsAbove, IsEventNamed, IsSymptomNamed, IsRuleNamed, IsRelationNamed, IsRelationBack, LeadsAlong, IsNamedBefore, DeclaresBefore, Inherits};
 ghost use Rattle.cb_rules.specs.Rules.{Owns, StopsAt, LeadsHome};
 ghost use Rattle.cb_rules.specs.Fault.{KeepsBefore};
-ghost use Rattle.cb_rules.specs.Finds.{is_symptom as counts_symptom, LeadsOn, LooksBack};
+ghost use Rattle.cb_rules.specs.Finds.{is_symptom as counts_symptom, RelationLeads, LooksBack};
 
 use crate::directory::Directory;
 use crate::entry::MemberKind;
@@ -53,7 +53,7 @@ pub(crate) fn inherits(directory: &Directory<'_>, class: usize, name: &[u8]) -> 
 pub(crate) fn has_event(directory: &Directory<'_>, class: usize, name: &[u8]) -> bool
     requires class { class < length directory.now.classes }
     requires keeps { KeepsBefore directory.now NoTarget }
-    ensures { IsTrue result ↔ Has directory.now class (IsEventNamed name.now) }
+    ensures { IsTrue result ↔ HasSomeMember directory.now class (IsEventNamed name.now) }
 {
     match directory.member(class, name) {
         Some(member) => MemberKind::Event.has(member),
@@ -65,7 +65,7 @@ pub(crate) fn has_event(directory: &Directory<'_>, class: usize, name: &[u8]) ->
 pub(crate) fn has_symptom(directory: &Directory<'_>, class: usize, name: &[u8]) -> bool
     requires class { class < length directory.now.classes }
     requires keeps { KeepsBefore directory.now NoTarget }
-    ensures { IsTrue result ↔ Has directory.now class (IsSymptomNamed name.now) }
+    ensures { IsTrue result ↔ HasSomeMember directory.now class (IsSymptomNamed name.now) }
 {
     match directory.member(class, name) {
         Some(member) => is_symptom(member),
@@ -77,7 +77,7 @@ pub(crate) fn has_symptom(directory: &Directory<'_>, class: usize, name: &[u8]) 
 pub(crate) fn has_rule(directory: &Directory<'_>, class: usize, name: &[u8]) -> bool
     requires class { class < length directory.now.classes }
     requires keeps { KeepsBefore directory.now NoTarget }
-    ensures { IsTrue result ↔ Has directory.now class (IsRuleNamed name.now) }
+    ensures { IsTrue result ↔ HasSomeMember directory.now class (IsRuleNamed name.now) }
 {
     match directory.member(class, name) {
         Some(member) => MemberKind::Rule.has(member),
@@ -89,8 +89,8 @@ pub(crate) fn has_rule(directory: &Directory<'_>, class: usize, name: &[u8]) -> 
 pub(crate) fn target_of(directory: &Directory<'_>, class: usize, name: &[u8]) -> Option<usize>
     requires class { class < length directory.now.classes }
     requires keeps { KeepsBefore directory.now BadInverse }
-    ensures found { IfSome result (LeadsOn directory.now class name.now) }
-    ensures absent { IfNone result (¬ Has directory.now class (IsRelationNamed name.now)) }
+    ensures found { IfSome result (RelationLeads directory.now class name.now) }
+    ensures absent { IfNone result (¬ HasSomeMember directory.now class (IsRelationNamed name.now)) }
 {
     let Some(member) = directory.member(class, name) else {
         return None;
@@ -144,7 +144,7 @@ pub(crate) fn follow(
 ) -> Result<usize, u32>
     requires class { class < length directory.now.classes }
     requires keeps { KeepsBefore directory.now BadInverse }
-    ensures reached { IfOk result (Leads directory.now class path.now) }
+    ensures reached { IfOk result (LeadsAlong directory.now class path.now) }
     ensures stopped { IfErr result (StopsAt directory.now class path.now) }
 {
     let mut at = class;

@@ -1,6 +1,6 @@
 //! The type rules by name, and what is wrong with a tree.
 ghost use Rattle.std.specs.Prelude.{◌≡◌};
-ghost use Rattle.cb_rules.specs.Fault.{number_of};
+ghost use Rattle.cb_rules.specs.Fault.{rule_number};
 
 /// A rule that models keep. They are read in this order, each one only where those before it are kept.
 #[derive(Clone, Copy, Debug, PartialEq, Eq)]
@@ -60,7 +60,7 @@ impl TypeRule {
 
     /// The position of the rule in that order, from 1.
     pub fn number(self) -> u8
-        ensures { result ≡ number_of self }
+        ensures { result ≡ rule_number self }
     {
         match self {
             TypeRule::TwoClasses => 1,

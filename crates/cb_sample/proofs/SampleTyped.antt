@@ -23,7 +23,7 @@ use Rattle.cb_model.specs.declared.tables.BlockRow.{BlockRow}
 use Rattle.cb_model.specs.declared.tables.HideRow.{HideRow}
 use Rattle.cb_model.specs.Classes.{ancestor, parent_of, parent_of_some, IsA, HasEvent, HasRelation}
 use Rattle.cb_sample.specs.Sample.{sample, base, mid, low, port, sample_classes, sample_events, sample_relations, sample_rules}
-use Rattle.cb_model.specs.WellTyped.{IsClass, IsEvent, IsRelation, IsPlace, HasPlaces, HasNames, HasInverse, InheritsRule, Declares, Member, Reaches, MayRepeat, AtMost, KeepsTypeRules, WellTyped}
+use Rattle.cb_model.specs.WellTyped.{IsClass, IsEvent, IsRelation, IsPlace, HasPlaces, HasNames, HasInverse, InheritsRule, ClassDeclares, Member, PathReaches, MayRepeat, AtMost, KeepsTypeRules, WellTyped}
 use Rattle.cb_model.specs.WellTyped as members
 use Rattle.cb_model.proofs.Numbers.{at_most_numbered}
 
@@ -136,7 +136,7 @@ decode name =
     (cond (bytes_eq name (codes "owner")) (members.relation 1)
     (cond (bytes_eq name (codes "s")) (members.rule 0) (members.rule 1))))))
 
-declared_once : (c : ClassId) (m : Member) (name : List ℕ) → Declares sample c m name → decode name ≡ m
+declared_once : (c : ClassId) (m : Member) (name : List ℕ) → ClassDeclares sample c m name → decode name ≡ m
 unfolding decode
 declared_once c (members.event zero) name (row, is, of_c, called) = ap decode (sym called ∙ ap (λ (r : EventRow). r.name) (same_some _ _ (sym is)))
 declared_once c (members.event (suc zero)) name (row, is, of_c, called) = ap decode (sym called ∙ ap (λ (r : EventRow). r.name) (same_some _ _ (sym is)))
@@ -172,7 +172,7 @@ keep_rules = record {
   member_names = λ c d one other name is_a here there. sym (declared_once c one name here) ∙ declared_once d other name there;
   inverses = λ r row is. inverses_lead_back r.0 row is;
   causes = all_two (λ (row : RuleRow). HasEvent sample row.class row.cause) _ _ (has_event (record { 0 = 0 }) _ refl (record { 0 = 0 }) (0, refl)) (has_event (record { 0 = 0 }) _ refl (record { 0 = 0 }) (0, refl));
-  effects = all_two (λ (row : RuleRow). (d : ClassId) × Reaches sample row.class row.path d × HasEvent sample d row.effect) _ _
+  effects = all_two (λ (row : RuleRow). (d : ClassId) × PathReaches sample row.class row.path d × HasEvent sample d row.effect) _ _
       (record { 0 = 0 }, refl, has_event (record { 0 = 1 }) _ refl (record { 0 = 0 }) (0, refl)) (record { 0 = 0 }, refl, has_event (record { 0 = 2 }) _ refl (record { 0 = 0 }) (0, refl));
   repeats = all_two (λ (row : RuleRow). All (MayRepeat sample) row.path) _ _ (All-nil (MayRepeat sample)) (All-nil (MayRepeat sample));
   blocked = all_one (λ (row : BlockRow). InheritsRule sample row.class row.rule) _ (_, refl, (1, refl));

@@ -27,7 +27,7 @@ use Rattle.cb_log.specs.Basis.{Mode, wanted, Basis, IsDiagnosis, IsAnnounced, bo
 use Rattle.cb_network.specs.Sound.{problem_limit, symptom_limit}
 use Rattle.cb_network.specs.Topology.{Topology}
 use Rattle.cb_session.specs.declared.basis.Ready.{Ready}
-use Rattle.cb_session.specs.Ready.{IsReady, HasBasis, NamesPair}
+use Rattle.cb_session.specs.Ready.{IsReady, HasBasis, NamesGroupPair}
 
 -- what is ready has its basis
 pub ready_has_basis : (network : Topology) (mode : Mode) (ready : Ready) → IsReady network mode ready
@@ -88,7 +88,7 @@ module _ {network : Topology} {mode : Mode} (basis : Basis network mode) (ready 
 
   -- two groups are too close
   pub announced_thin : (d : ℕ) (pair : Pair) (event : Event) → IsFirstClose (all_columns (length ready.matrix.columns)) (codes_of ready.matrix.groups) d pair
-      → NamesPair ready.matrix.groups d pair event → IsAnnounced basis d (event ∷ book_made basis ∷ [])
+      → NamesGroupPair ready.matrix.groups d pair event → IsAnnounced basis d (event ∷ book_made basis ∷ [])
   announced_thin d pair event close names = inr (
     event,
     record {

@@ -13,7 +13,7 @@ use Rattle.cb_log.specs.Basis.{fixed, Basis, IsDiagnosis}
 use Rattle.cb_log.specs.Closing.{AreClosing}
 use Rattle.cb_log.specs.Entries.{LogEntry, said, records_of}
 use Rattle.cb_log.specs.Events.{BodyGives, ClosingGives, Diagnoses}
-use Rattle.cb_log.specs.Kept.{Kept, StandsFor}
+use Rattle.cb_log.specs.Kept.{Kept, StandsForRecords}
 use Rattle.cb_topo.specs.Numbered.{topology_of}
 use Rattle.cb_session.specs.declared.basis.Ready.{Ready}
 use Rattle.cb_session.specs.Acts.{GoesOn, RefusesEdit}
@@ -81,7 +81,7 @@ module _ (cache : Cached) (ready : Ready) where
       → EntryStands (fixed_state cache windows ready) (fixed_state cache later ready) (said number r)
   fixed_stands number r windows later goes = λ opening before regular stands. record {
     network = stands.network;
-    windows = subst (StandsFor later) (sym (records_said before number r)) (goes (records_of before) stands.windows);
+    windows = subst (StandsForRecords later) (sym (records_said before number r)) (goes (records_of before) stands.windows);
     book = refl;
   }
 

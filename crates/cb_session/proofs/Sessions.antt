@@ -17,7 +17,7 @@ use Rattle.cb_session.specs.declared.course.Course.{Course}
 use Rattle.cb_session.specs.declared.course.Course.TheVariants.{Wanted, Fixed}
 use Rattle.cb_session.specs.declared.reported.Reported.{Reported}
 use Rattle.cb_session.specs.Course.{wanted_state, fixed_state, state_of}
-use Rattle.cb_session.specs.Settled.{IsOverSome, IsSettled, IsFixed, Fits}
+use Rattle.cb_session.specs.Settled.{IsOverSome, IsSessionSettled, IsFixed, FitsCourse}
 use Rattle.cb_session.specs.Sources.{EndsAlone}
 use Rattle.cb_session.specs.State.{State, StandsForEntries}
 use Rattle.cb_session.specs.Steps.{ClosesAtEnd, TellsAtEnd}
@@ -31,7 +31,7 @@ on_ok_more (Ok x) P Q f h = f h
 on_ok_more (Err e) P Q f h = tt
 
 module _ (cache : Cached) (windows : Kept) (course : Course) (s : State) (view : state_of cache windows course ≡ s)
-    (fits : Fits (topology_of cache.graph) windows course) where
+    (fits : FitsCourse (topology_of cache.graph) windows course) where
   abbrev network : Topology
   network = topology_of cache.graph
 
@@ -39,8 +39,8 @@ module _ (cache : Cached) (windows : Kept) (course : Course) (s : State) (view :
     pub wanted_view : wanted_state cache d windows ready ≡ s
     wanted_view = subst (λ (c : Course). state_of cache windows c ≡ s) is view
 
-    pub wanted_fits : IsSettled network d windows ready
-    wanted_fits = subst (Fits network windows) is fits
+    pub wanted_fits : IsSessionSettled network d windows ready
+    wanted_fits = subst (FitsCourse network windows) is fits
 
     closes_wanted : (closing : List Closed) → ClosesAtEnd s.windows closing → ClosesAtEnd windows closing
     closes_wanted closing closes = subst (λ (x : State). ClosesAtEnd x.windows closing) (sym wanted_view) closes
@@ -58,7 +58,7 @@ module _ (cache : Cached) (windows : Kept) (course : Course) (s : State) (view :
     fixed_view = subst (λ (c : Course). state_of cache windows c ≡ s) is view
 
     pub fixed_fits : IsFixed network windows ready
-    fixed_fits = subst (Fits network windows) is fits
+    fixed_fits = subst (FitsCourse network windows) is fits
 
     closes_fixed : (closing : List Closed) → ClosesAtEnd s.windows closing → ClosesAtEnd windows closing
     closes_fixed closing closes = subst (λ (x : State). ClosesAtEnd x.windows closing) (sym fixed_view) closes

@@ -7,7 +7,7 @@ use Rattle.cb_model.specs.NodeOrder.{node_cmp}
 use Rattle.cb_model.specs.Order.{Rises}
 use Rattle.cb_cert.specs.Format.{IsWanted}
 use Rattle.cb_coding.specs.declared.book.Book.{Book}
-use Rattle.cb_edits.specs.Spelled.{HasNames}
+use Rattle.cb_edits.specs.Spelled.{EditHasNames}
 use Rattle.cb_cache.specs.Cached.{Cached}
 use Rattle.cb_network.specs.declared.edit.Edit.{Edit}
 use Rattle.cb_network.specs.declared.edit.Edit.TheVariants.{Create, Delete, Link, Unlink, Mute, Unmute}
@@ -23,7 +23,7 @@ use Rattle.cb_log.specs.Basis.{Mode, wanted, fixed}
 use Rattle.cb_log.specs.Closing.{ClosesAt, AreClosing}
 use Rattle.cb_log.specs.Entries.{LogEntry, said, records_of}
 use Rattle.cb_log.specs.Events.{IsNetwork, HasBook, EntryGives, EndGives}
-use Rattle.cb_log.specs.Kept.{Kept, StandsFor}
+use Rattle.cb_log.specs.Kept.{Kept, StandsForRecords}
 use Rattle.cb_log.specs.Network.{IsNow}
 use Rattle.cb_alarm.specs.Lines.{NumberedLine, text, long, ComesTo}
 use Rattle.cb_alarm.specs.Spelled.{SpellsRecord, SaysBody}
@@ -34,10 +34,10 @@ use Rattle.cb_session.specs.declared.reported.Reported.{Reported}
 use Rattle.cb_session.specs.Acts.{Acts, GoesOn, IsWellNamed}
 use Rattle.cb_session.specs.Ready.{IsReady}
 use Rattle.cb_session.specs.Course.{wanted_state}
-use Rattle.cb_session.specs.Settled.{IsOverSome, IsSettled}
-use Rattle.cb_session.specs.State.{State, network_of, IsBookOf, KeepsBook, StandsForEntries}
+use Rattle.cb_session.specs.Settled.{IsOverSome, IsSessionSettled}
+use Rattle.cb_session.specs.State.{State, network_of, IsBookInUse, KeepsBook, StandsForEntries}
 use Rattle.cb_session.specs.Steps.{EntryTells, EntryStands, ClosesAtEnd}
-use Rattle.cb_session.specs.Reported.{ReportsWindows, kept_of}
+use Rattle.cb_session.specs.Reported.{ReportsWindows, kept_ready}
 use Rattle.cb_session.proofs.Bases.{ready_has_basis}
 use Rattle.cb_session.proofs.After.{records_said, records_stay, IsChangedBy, changed_by, body_gives}
 use Rattle.cb_session.specs.Sources.{StandsAlone}
@@ -45,7 +45,7 @@ use Rattle.cb_session.proofs.Alone.{stands_alone}
 use Rattle.cb_session.proofs.Telling.{book_of, reported_comes, keeps_after, ready_stays}
 
 -- the instance that an edit makes has a name of the grammar, where all its names are
-good_name : (edit : Edit) → HasNames edit → HasGoodName edit
+good_name : (edit : Edit) → EditHasNames edit → HasGoodName edit
 good_name (Create name class) names = names.0
 good_name (Delete name) names = tt
 good_name (Link a rel b) names = tt
@@ -79,7 +79,7 @@ aside_stands s entry none = λ opening before regular stands.
     let same : records_of before ≡ records_of (before ++ entry ∷ []) = sym (records_stay before entry none) in
     record {
       network = subst (λ (rs : List Record). IsNetwork opening s.mode rs (network_of s)) same stands.network;
-      windows = subst (StandsFor s.windows) same stands.windows;
+      windows = subst (StandsForRecords s.windows) same stands.windows;
       book = keeps_same opening s.mode s.windows.length s before (before ++ entry ∷ []) same stands.book;
     }
 
@@ -93,13 +93,13 @@ pub all_stand : (line : NumberedLine) (entry : LogEntry) → ComesTo line entry 
 all_stand line entry comes old new stands other too = subst (EntryStands old new) (comes_to_one line entry other comes too) stands
 
 -- what is ready has a basis, so its codebook is one of the topology
-book_is : (network : Topology) (d : ℕ) (ready : Option Ready) → IfSome ready (IsReady network (wanted d)) → IfSome (book_of ready) (IsBookOf network (wanted d))
+book_is : (network : Topology) (d : ℕ) (ready : Option Ready) → IfSome ready (IsReady network (wanted d)) → IfSome (book_of ready) (IsBookInUse network (wanted d))
 book_is network d None is = tt
 book_is network d (Some ready) is = let has = ready_has_basis network (wanted d) ready is in (has.0, has.1.book)
 
 -- the windows close at the next record
 abbrev pub Closes : Kept → ℕ → List Closed → Type 0
-Closes windows at closing = (records : List Record) (r : Record) → r.at ≡ at → StandsFor windows records
+Closes windows at closing = (records : List Record) (r : Record) → r.at ≡ at → StandsForRecords windows records
     → AreClosing (records ++ r ∷ []) windows.length (length records) closing
 
 module _ (d number : ℕ) (r : Record) (cache fresh : Cached) (windows later : Kept) (ready : Option Ready) where
@@ -116,7 +116,7 @@ module _ (d number : ℕ) (r : Record) (cache fresh : Cached) (windows later : K
     pub acts : Acts network number r.body new changed acted
     pub on : GoesOn windows later r
     pub same_length : later.length ≡ windows.length
-    pub settled : IsSettled network d windows ready
+    pub settled : IsSessionSettled network d windows ready
 
   module _ (closing : List Closed) (reported : Reported) (changed : Bool) (acted : List Event) (goes : Goes closing reported changed acted) where
     pub record_tells : EntryTells (wanted_state cache d windows ready) (said number r) (reported.events ++ acted)
@@ -131,7 +131,7 @@ module _ (d number : ℕ) (r : Record) (cache fresh : Cached) (windows later : K
 
     -- what stays ready
     abbrev kept : Option Ready
-    kept = kept_of changed ready reported.made
+    kept = kept_ready changed ready reported.made
 
     same_network : changed ≡ false → new ≡ network
     same_network = acts_same r.body goes.acts
@@ -146,7 +146,7 @@ module _ (d number : ℕ) (r : Record) (cache fresh : Cached) (windows later : K
     ready_kept : IfSome kept (IsReady new (wanted d))
     ready_kept = ready_stays network new d ready goes.settled.ready_is closing reported goes.tells changed same_network
 
-    pub settled_still : IsSettled new d later kept
+    pub settled_still : IsSessionSettled new d later kept
     settled_still = record {
       distance = goes.settled.distance;
       over = (goes.settled.over.0 ++ r ∷ [], goes.on goes.settled.over.0 goes.settled.over.1);
@@ -163,7 +163,7 @@ module _ (d number : ℕ) (r : Record) (cache fresh : Cached) (windows later : K
         (goes.closes (records_of before) r refl stands.windows) reported goes.tells changed by.accepted by.refused in
         record {
           network = subst (λ (rs : List Record). IsNow opening rs new) same by.is_now;
-          windows = subst (StandsFor later) same (goes.on (records_of before) stands.windows);
+          windows = subst (StandsForRecords later) same (goes.on (records_of before) stands.windows);
           book = (
             subst (λ (rs : List Record). IsSome (book_of kept) ↔ HasBook opening later.length rs) same
                 (subst (λ (w : ℕ). IsSome (book_of kept) ↔ HasBook opening w (records_of before ++ r ∷ [])) (sym goes.same_length) keeps),
@@ -201,10 +201,10 @@ end_tells cache d windows ready closing reported closes tells opening before sta
 no_book : (opening : Topology) (w : ℕ) → IsSome {T = Book} None ↔ HasBook opening w []
 no_book opening w = (λ e. absurd (cc), λ has. let within = has.within in absurd (omega arith))
 
-pub opened_stands : (cache : Cached) (d : ℕ) (windows : Kept) → StandsFor windows [] → StandsForEntries (wanted_state cache d windows None) (topology_of cache.graph) []
+pub opened_stands : (cache : Cached) (d : ℕ) (windows : Kept) → StandsForRecords windows [] → StandsForEntries (wanted_state cache d windows None) (topology_of cache.graph) []
 opened_stands cache d windows stands = record { network = refl; windows = stands; book = (no_book (topology_of cache.graph) windows.length, tt) }
 
-pub opened_settled : (network : Topology) (d : ℕ) (windows : Kept) → IsWanted d → StandsFor windows [] → IsSettled network d windows None
+pub opened_settled : (network : Topology) (d : ℕ) (windows : Kept) → IsWanted d → StandsForRecords windows [] → IsSessionSettled network d windows None
 opened_settled network d windows distance stands = record { distance = distance; over = ([], stands); ready_is = tt }
 
 -- what results from a line, whatever it comes to

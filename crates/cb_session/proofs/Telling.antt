@@ -15,7 +15,7 @@ use Rattle.cb_log.proofs.BookSteps.{book_steps}
 use Rattle.cb_session.specs.declared.basis.Ready.{Ready}
 use Rattle.cb_session.specs.declared.reported.Reported.{Reported}
 use Rattle.cb_session.specs.Ready.{IsReady}
-use Rattle.cb_session.specs.Reported.{TellsMade, ReportsWindows, kept_of}
+use Rattle.cb_session.specs.Reported.{TellsMade, ReportsWindows, kept_ready}
 
 -- the codebook of what is ready
 abbrev pub book_of : Option Ready → Option Book
@@ -71,7 +71,7 @@ module _ (t : Topology) (d w : ℕ) (records : List Record) where
     -- after what is reported a codebook is ready exactly where one was in use, or the record closes a window
     ready_after : (network : Topology) (ready : Option Ready) → KeepsReady ready records → (closing : List Closed)
         → AreClosing (records ++ r ∷ []) w (length records) closing → (reported : Reported) → ReportsWindows network d ready closing reported
-        → IsSome (book_of (kept_of false ready reported.made)) ↔ (HasBook t w records ⊎ ClosesSome)
+        → IsSome (book_of (kept_ready false ready reported.made)) ↔ (HasBook t w records ⊎ ClosesSome)
     ready_after network (Some ready) keeps [] closes reported tells = (
       λ e. inl (keeps.0 refl),
       λ e. rw tells.1,
@@ -97,7 +97,7 @@ module _ (t : Topology) (d w : ℕ) (records : List Record) where
         → AreClosing (records ++ r ∷ []) w (length records) closing → (reported : Reported) → ReportsWindows network d ready closing reported → (changed : Bool)
         → (changed ≡ true → IsAcceptedAt t (records ++ r ∷ []) (length records))
         → (changed ≡ false → ¬ IsAcceptedAt t (records ++ r ∷ []) (length records))
-        → KeepsReady (kept_of changed ready reported.made) (records ++ r ∷ [])
+        → KeepsReady (kept_ready changed ready reported.made) (records ++ r ∷ [])
     keeps_after network ready keeps closing closes reported tells true accepted refused = (
       λ e. absurd (none_is_no_some e),
       λ has. absurd (((book_steps t records r w).0 has).1 (accepted refl)),
@@ -112,13 +112,13 @@ module _ (t : Topology) (d w : ℕ) (records : List Record) where
 -- what stays ready is ready for the topology
 pub ready_stays : (network new : Topology) (d : ℕ) (ready : Option Ready) → IfSome ready (IsReady network (wanted d)) → (closing : List Closed) (reported : Reported)
     → ReportsWindows network d ready closing reported → (changed : Bool) → (changed ≡ false → new ≡ network)
-    → IfSome (kept_of changed ready reported.made) (IsReady new (wanted d))
+    → IfSome (kept_ready changed ready reported.made) (IsReady new (wanted d))
 ready_stays network new d ready is closing reported tells true same = tt
 ready_stays network new d ready is closing reported tells false same =
-    subst (λ (u : Topology). IfSome (kept_of false ready reported.made) (IsReady u (wanted d))) (sym (same refl)) (here ready is closing tells)
+    subst (λ (u : Topology). IfSome (kept_ready false ready reported.made) (IsReady u (wanted d))) (sym (same refl)) (here ready is closing tells)
   where
     here : (ready : Option Ready) → IfSome ready (IsReady network (wanted d)) → (closing : List Closed) → ReportsWindows network d ready closing reported
-        → IfSome (kept_of false ready reported.made) (IsReady network (wanted d))
+        → IfSome (kept_ready false ready reported.made) (IsReady network (wanted d))
     here (Some ready) is [] tells = rw tells.1 is
     here (Some ready) is (c ∷ closing) tells = rw tells.1 is
     here None is [] tells = rw tells.1 tt

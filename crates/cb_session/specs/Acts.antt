@@ -11,7 +11,7 @@ use Rattle.cb_log.specs.declared.record.Body.{Body}
 use Rattle.cb_log.specs.declared.record.Body.TheVariants.{Change}
 use Rattle.cb_log.specs.declared.record.Record.{Record}
 use Rattle.cb_log.specs.Events.{IsRefusal}
-use Rattle.cb_log.specs.Kept.{Kept, StandsFor}
+use Rattle.cb_log.specs.Kept.{Kept, StandsForRecords}
 
 -- an edit that a body says makes its instance by a name of the grammar
 abbrev pub IsWellNamed : Body → Type 0
@@ -41,4 +41,4 @@ RefusesEdit line body events = events ≡ []
 
 -- what is kept of the windows goes on by the record
 abbrev pub GoesOn : Kept → Kept → Record → Type 0
-GoesOn old new r = (records : List Record) → StandsFor old records → StandsFor new (records ++ r ∷ [])
+GoesOn old new r = (records : List Record) → StandsForRecords old records → StandsForRecords new (records ++ r ∷ [])

@@ -39,7 +39,7 @@ pub record HasBasis {network : Topology} {mode : Mode} (basis : Basis network mo
   pub book : basis.book ≡ ready.book
 
 -- it tells these two groups by their names, with their distance
-pub record NamesPair (groups : List Group) (wanted : ℕ) (pair : Pair) (event : Event) : Type 0 where
+pub record NamesGroupPair (groups : List Group) (wanted : ℕ) (pair : Pair) (event : Event) : Type 0 where
   pub first : GroupName
   pub first_is : IsCalled groups pair.first first
   pub second : GroupName

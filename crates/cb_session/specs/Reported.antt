@@ -33,7 +33,7 @@ ReportsWindows network d None (c ∷ closing) reported =
     (made : Ready) × (reported.made ≡ Some made) × IsReady network (wanted d) made × TellsMade network d made (c ∷ closing) reported.events
 
 -- what stays ready: nothing once the topology has changed, else what was made, and else what was there
-abbrev pub kept_of : Bool → Option Ready → Option Ready → Option Ready
-kept_of true old made = None
-kept_of false old None = old
-kept_of false old (Some made) = Some made
+abbrev pub kept_ready : Bool → Option Ready → Option Ready → Option Ready
+kept_ready true old made = None
+kept_ready false old None = old
+kept_ready false old (Some made) = Some made

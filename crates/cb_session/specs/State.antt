@@ -5,7 +5,7 @@ use Rattle.cb_network.specs.Topology.{Topology}
 use Rattle.cb_log.specs.Basis.{Mode, wanted, fixed, Basis}
 use Rattle.cb_log.specs.Entries.{LogEntry, records_of}
 use Rattle.cb_log.specs.Events.{IsNetwork, HasBook}
-use Rattle.cb_log.specs.Kept.{Kept, StandsFor}
+use Rattle.cb_log.specs.Kept.{Kept, StandsForRecords}
 use Rattle.cb_alarm.specs.Lines.{NumberedLine, text, long, log_line_limit}
 use Rattle.cb_cache.specs.Cached.{Cached}
 use Rattle.cb_topo.specs.Numbered.{topology_of}
@@ -24,24 +24,24 @@ abbrev pub network_of : State → Topology
 network_of s = topology_of s.cache.graph
 
 -- this is the codebook in use for the topology
-abbrev pub IsBookOf : Topology → Mode → Book → Type 0
-IsBookOf network mode book = (basis : Basis network mode) × (basis.book ≡ book)
+abbrev pub IsBookInUse : Topology → Mode → Book → Type 0
+IsBookInUse network mode book = (basis : Basis network mode) × (basis.book ≡ book)
 
 -- for a wanted distance a codebook is kept exactly where one is in use; a fixed one is kept always
 abbrev pub KeepsBook : Topology → Mode → ℕ → State → List LogEntry → Type 0
-KeepsBook opening (wanted d) w s entries = (IsSome s.book ↔ HasBook opening w (records_of entries)) × IfSome s.book (IsBookOf (network_of s) (wanted d))
+KeepsBook opening (wanted d) w s entries = (IsSome s.book ↔ HasBook opening w (records_of entries)) × IfSome s.book (IsBookInUse (network_of s) (wanted d))
 KeepsBook opening (fixed book) w s entries = s.book ≡ Some book
 
 -- it stands for an opening topology and what the lines come to
 pub record StandsForEntries (s : State) (opening : Topology) (entries : List LogEntry) : Type 0 where
   pub network : IsNetwork opening s.mode (records_of entries) (network_of s)
-  pub windows : StandsFor s.windows (records_of entries)
+  pub windows : StandsForRecords s.windows (records_of entries)
   pub book : KeepsBook opening s.mode s.windows.length s entries
 
 -- the line of the log
-abbrev pub line_of : LogLine → NumberedLine
-line_of (Text number bytes) = text number bytes.now
-line_of (Long number) = long number
+abbrev pub log_line_of : LogLine → NumberedLine
+log_line_of (Text number bytes) = text number bytes.now
+log_line_of (Long number) = long number
 
 -- a text has not too many bytes
 abbrev pub IsFitting : LogLine → Type 0

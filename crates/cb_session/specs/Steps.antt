@@ -8,7 +8,7 @@ use Rattle.cb_log.specs.declared.record.Record.{Record}
 use Rattle.cb_log.specs.Closing.{AreClosing}
 use Rattle.cb_log.specs.Entries.{LogEntry, records_of}
 use Rattle.cb_log.specs.Events.{EntryGives, EndGives}
-use Rattle.cb_log.specs.Kept.{Kept, StandsFor}
+use Rattle.cb_log.specs.Kept.{Kept, StandsForRecords}
 use Rattle.cb_session.specs.State.{State, StandsForEntries}
 
 -- these events result from the entry
@@ -23,7 +23,7 @@ EntryStands old new entry = (opening : Topology) (before : List LogEntry) → Is
 
 -- these windows close at the end, whatever records they are over
 abbrev pub ClosesAtEnd : Kept → List Closed → Type 0
-ClosesAtEnd windows closing = (records : List Record) → StandsFor windows records → AreClosing records windows.length (length records) closing
+ClosesAtEnd windows closing = (records : List Record) → StandsForRecords windows records → AreClosing records windows.length (length records) closing
 
 -- these events result from the end
 abbrev pub TellsAtEnd : State → List Event → Type 0

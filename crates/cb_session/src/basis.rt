@@ -14,7 +14,7 @@ ghost use Rattle.cb_log.specs.declared.event.Event.{Event as EventOf};
 ghost use Rattle.cb_model.specs.NodeOrder.{node_cmp};
 ghost use Rattle.cb_model.specs.Order.{Rises};
 ghost use Rattle.cb_network.specs.Topology.{Topology};
-ghost use Rattle.cb_session.specs.Ready.{IsReady, IsReadyFor, IsSomewhereReady, HasBasis, NamesPair};
+ghost use Rattle.cb_session.specs.Ready.{IsReady, IsReadyFor, IsSomewhereReady, HasBasis, NamesGroupPair};
 ghost use Rattle.cb_topo.specs.Numbered.{topology_of};
 
 use cb_cache::Cache;
@@ -180,7 +180,7 @@ fn book_and_decoder(
 fn thin(alloc: Global, groups: &Groups, pair: Pair, wanted: u32) -> Result<Event, AllocError>
     requires first { HasName groups.now.groups pair.first }
     requires second { HasName groups.now.groups pair.second }
-    ensures { IfOk result (NamesPair groups.now.groups wanted pair) }
+    ensures { IfOk result (NamesGroupPair groups.now.groups wanted pair) }
 {
     let first = group_name(alloc, groups, pair.first)?;
     let second = group_name(alloc, groups, pair.second)?;

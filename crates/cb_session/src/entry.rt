@@ -1,7 +1,7 @@
 //! What a line comes to.
 ghost use Rattle.std.specs.Prelude.{◌↔◌, IfOk, IsTrue};
 ghost use Rattle.cb_alarm.specs.Lines.{text, IsBlank, ComesTo};
-ghost use Rattle.cb_session.specs.State.{line_of};
+ghost use Rattle.cb_session.specs.State.{log_line_of};
 ghost use Rattle.cb_session.specs.Taken.{entry_of_taken};
 
 use crate::line::LogLine;
@@ -27,7 +27,7 @@ pub(crate) fn entry_of(
     scratch: &mut Scratch,
     line: LogLine<'_>,
 ) -> Result<Taken, AllocError>
-    ensures { IfOk result (λ taken. ComesTo (line_of line.entry) (entry_of_taken taken)) }
+    ensures { IfOk result (λ taken. ComesTo (log_line_of line.entry) (entry_of_taken taken)) }
 {
     match line {
         LogLine::Text { number, bytes } => entry_of_text(alloc, scratch, number, bytes),

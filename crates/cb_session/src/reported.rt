@@ -8,7 +8,7 @@ ghost use Rattle.cb_model.specs.Order.{Rises};
 ghost use Rattle.cb_network.specs.Topology.{Topology};
 ghost use Rattle.cb_topo.specs.Numbered.{topology_of};
 ghost use Rattle.cb_session.specs.Ready.{IsReady, IsReadyFor, IsSomewhereReady};
-ghost use Rattle.cb_session.specs.Reported.{TellsInUse, TellsMade, ReportsWindows, kept_of};
+ghost use Rattle.cb_session.specs.Reported.{TellsInUse, TellsMade, ReportsWindows, kept_ready};
 
 use crate::basis::{Ready, diagnose};
 use cb_cache::Cache;
@@ -24,7 +24,7 @@ pub(crate) struct Reported {
 }
 
 /// The events of the closing windows, by the codebook at hand or one made now. Where no window closes, nothing is made ready.
-pub(crate) fn tell(
+pub(crate) fn closing_report(
     alloc: Global,
     cache: &Cache,
     ready: &Option<Ready>,
@@ -92,8 +92,8 @@ fn reported_made(
 }
 
 /// What stays ready once a record has acted.
-pub(crate) fn keep(ready: &mut Option<Ready>, made: Option<Ready>, changed: bool)
-    ensures { ready.new ≡ kept_of changed ready.old made }
+pub(crate) fn keep_ready(ready: &mut Option<Ready>, made: Option<Ready>, changed: bool)
+    ensures { ready.new ≡ kept_ready changed ready.old made }
 {
     if changed {
         *ready = None;

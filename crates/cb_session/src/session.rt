@@ -15,7 +15,7 @@ ghost use Rattle.cb_session.specs.Acts.{IsWellNamed};
 ghost use Rattle.cb_session.specs.Counted.{CountsEntry};
 ghost use Rattle.cb_session.specs.Sources.{StandsAlone, EndsAlone};
 ghost use Rattle.cb_session.specs.Numbers.{KeepsNumbers};
-ghost use Rattle.cb_session.specs.State.{State, StandsForEntries, line_of, network_of, IsFitting};
+ghost use Rattle.cb_session.specs.State.{State, StandsForEntries, log_line_of, network_of, IsFitting};
 ghost use Rattle.cb_session.specs.Steps.{EntryTells, EntryStands, ClosesAtEnd, TellsAtEnd};
 ghost use Rattle.cb_session.specs.Taken.{entry_of_taken};
 
@@ -24,7 +24,7 @@ use crate::course::Course;
 use crate::entry::{Taken, entry_of};
 use crate::fixed::go_on_fixed;
 use crate::line::LogLine;
-use crate::reported::{reported_in_use, tell};
+use crate::reported::{closing_report, reported_in_use};
 use crate::wanted::go_on_wanted;
 use cb_alarm::Scratch;
 use cb_cache::Cache;
@@ -51,7 +51,7 @@ impl Model for Session {
     ghost use Rattle.cb_topo.specs.Numbered.{topology_of};
     ghost use Rattle.cb_session.specs.Encoding.{state_encoding};
     ghost use Rattle.cb_session.specs.Course.{state_of};
-    ghost use Rattle.cb_session.specs.Settled.{Fits};
+    ghost use Rattle.cb_session.specs.Settled.{FitsCourse};
     ghost use Rattle.cb_session.specs.State.{State};
 
     ghost Value = { State };
@@ -60,7 +60,7 @@ impl Model for Session {
 
     ghost view = { λ s. state_of s.cache s.windows s.course };
 
-    ghost invariant = { λ s. Fits (topology_of s.cache.graph) s.windows s.course };
+    ghost invariant = { λ s. FitsCourse (topology_of s.cache.graph) s.windows s.course };
 }
 
 impl Session {
@@ -124,22 +124,22 @@ impl Session {
         steps: &mut Steps<L>,
     ) -> Result<List<Event>, AllocError>
         requires { IsFitting line }
-        ensures comes { IfOk result (λ events. (entry : LogEntry) × ComesTo (line_of line.entry) entry) }
+        ensures comes { IfOk result (λ events. (entry : LogEntry) × ComesTo (log_line_of line.entry) entry) }
         ensures gives { IfOk result (λ events. (opening : Topology) (before : Items LogEntry) (entry : LogEntry) → IsRegular opening.model
-            → ComesTo (line_of line.entry) entry → StandsForEntries self.old opening before
+            → ComesTo (log_line_of line.entry) entry → StandsForEntries self.old opening before
             → EntryGives opening self.old.mode self.old.windows.length (records_of before) entry events) }
         ensures alone { IfOk result (λ events. (opening : Topology) (before : Items LogEntry) (entry : LogEntry) → IsRegular opening.model
-            → ComesTo (line_of line.entry) entry → StandsForEntries self.old opening before
+            → ComesTo (log_line_of line.entry) entry → StandsForEntries self.old opening before
             → StandsAlone opening self.old.mode self.old.windows.length before entry events) }
         ensures stands { OnOk result ((opening : Topology) (before : Items LogEntry) (entry : LogEntry) → IsRegular opening.model
-            → ComesTo (line_of line.entry) entry → StandsForEntries self.old opening before
+            → ComesTo (log_line_of line.entry) entry → StandsForEntries self.old opening before
             → StandsForEntries self.new opening (before ++ entry ∷ [])) }
         ensures numbers { OnOk result (KeepsNumbers self.old.cache.graph self.new.cache.graph) }
         ensures mode { self.new.mode ≡ self.old.mode }
         ensures length { self.new.windows.length ≡ self.old.windows.length }
         ensures same { OnErr result (self.new ≡ self.old) }
         ensures steps { OnErr result (steps.new ≡ steps.old) }
-        ensures cost { OnOk result ((entry : LogEntry) → ComesTo (line_of line.entry) entry
+        ensures cost { OnOk result ((entry : LogEntry) → ComesTo (log_line_of line.entry) entry
             → CountsEntry self.old.mode (network_of self.old) entry steps.old steps.new) }
         ensures fixed { (book : BookOf) → self.old.mode ≡ by_fixed book → steps.new ≡ steps.old }
         ensures regular { IsRegular (network_of self.old).model }
@@ -158,7 +158,7 @@ impl Session {
 
     // What the line comes to.
     fn entry(&mut self, alloc: Global, line: LogLine<'_>) -> Result<Taken, AllocError>
-        ensures comes { IfOk result (λ taken. ComesTo (line_of line.entry) (entry_of_taken taken)) }
+        ensures comes { IfOk result (λ taken. ComesTo (log_line_of line.entry) (entry_of_taken taken)) }
         ensures same { self.new ≡ self.old }
     {
         entry_of(alloc, &mut self.scratch, line)
@@ -229,7 +229,7 @@ impl Session {
     {
         match &self.course {
             Course::Wanted { distance, ready } => {
-                Ok(tell(alloc, &self.cache, ready, *distance, closing)?.events)
+                Ok(closing_report(alloc, &self.cache, ready, *distance, closing)?.events)
             }
             Course::Fixed { ready } => reported_in_use(alloc, ready, closing),
         }

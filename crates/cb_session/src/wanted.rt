@@ -7,12 +7,12 @@ ghost use Rattle.cb_session.specs.Acts.{IsWellNamed};
 ghost use Rattle.cb_session.specs.Counted.{IsEntryCost};
 ghost use Rattle.cb_session.specs.Course.{wanted_state};
 ghost use Rattle.cb_session.specs.Numbers.{KeepsNumbers};
-ghost use Rattle.cb_session.specs.Settled.{IsSettled};
+ghost use Rattle.cb_session.specs.Settled.{IsSessionSettled};
 ghost use Rattle.cb_session.specs.Steps.{EntryTells, EntryStands};
 
 use crate::act::act;
 use crate::basis::Ready;
-use crate::reported::{keep, tell};
+use crate::reported::{closing_report, keep_ready};
 use cb_cache::Cache;
 use cb_log::{Event, Record};
 use cb_model::List;
@@ -33,11 +33,11 @@ pub(crate) fn go_on_wanted<L: Ledger>(
     steps: &mut Steps<L>,
 ) -> Result<List<Event>, AllocError>
     requires named { IsWellNamed next.now.body }
-    requires settled { IsSettled (topology_of cache.old.graph) distance windows.old ready.old }
+    requires settled { IsSessionSettled (topology_of cache.old.graph) distance windows.old ready.old }
     ensures gives { IfOk result (EntryTells (wanted_state cache.old distance windows.old ready.old) (said number next.now)) }
     ensures stands { OnOk result (EntryStands (wanted_state cache.old distance windows.old ready.old)
         (wanted_state cache.new distance windows.new ready.new) (said number next.now)) }
-    ensures settled { IsSettled (topology_of cache.new.graph) distance windows.new ready.new }
+    ensures settled { IsSessionSettled (topology_of cache.new.graph) distance windows.new ready.new }
     ensures numbers { OnOk result (KeepsNumbers cache.old.graph cache.new.graph) }
     ensures length { windows.new.length ≡ windows.old.length }
     ensures same_cache { OnErr result (cache.new ≡ cache.old) }
@@ -47,7 +47,7 @@ pub(crate) fn go_on_wanted<L: Ledger>(
     ensures cost { OnOk result (CountsAtMost (IsEntryCost (topology_of cache.old.graph) (said number next.now)) steps.old steps.new) }
 {
     let closing = windows.due(alloc, next.at)?;
-    let reported = tell(alloc, cache, ready, distance, &closing);
+    let reported = closing_report(alloc, cache, ready, distance, &closing);
     drop(closing);
     let mut reported = reported?;
     let changed = act(
@@ -59,6 +59,6 @@ pub(crate) fn go_on_wanted<L: Ledger>(
         &mut reported.events,
         steps,
     )?;
-    keep(ready, reported.made, changed);
+    keep_ready(ready, reported.made, changed);
     Ok(reported.events)
 }

@@ -22,10 +22,10 @@ use Rattle.cb_model.specs.declared.tables.RuleRow.{RuleRow}
 use Rattle.cb_model.specs.declared.tables.BlockRow.{BlockRow}
 use Rattle.cb_model.specs.declared.tables.HideRow.{HideRow}
 use Rattle.cb_model.specs.Classes.{ancestor, parent_of, parent_of_some, HasEvent, HasRelation}
-use Rattle.cb_model.specs.WellTyped.{IsClass, IsEvent, IsRelation, IsPlace, HasPlaces, HasNames, HasInverse, InheritsRule, Declares, Member, Reaches, MayRepeat, KeepsTypeRules, WellTyped}
+use Rattle.cb_model.specs.WellTyped.{IsClass, IsEvent, IsRelation, IsPlace, HasPlaces, HasNames, HasInverse, InheritsRule, ClassDeclares, Member, PathReaches, MayRepeat, KeepsTypeRules, WellTyped}
 use Rattle.cb_model.specs.WellTyped as members
 use Rattle.cb_model.proofs.Numbers.{at_most_numbered}
-use Rattle.cb_span.specs.Links.{link, port, links, link_row, port_row, link_classes, link_events, ends, to_ends, link_relations, link_rules}
+use Rattle.cb_span.specs.Links.{link, port_class, links, link_row, port_row, link_classes, link_events, ends, to_ends, link_relations, link_rules}
 
 -- each item in turn is such that P
 abbrev Each : {X : Type 0} → (X → Type 0) → List X → Type 0
@@ -96,7 +96,7 @@ decode name =
 same_some : {X : Type 0} (x y : X) → Some x ≡ Some y → x ≡ y
 same_some x y is = cc
 
-declared_once : (c : ClassId) (m : Member) (name : List ℕ) → Declares links c m name → decode name ≡ m
+declared_once : (c : ClassId) (m : Member) (name : List ℕ) → ClassDeclares links c m name → decode name ≡ m
 unfolding decode
 declared_once c (members.event zero) name (row, is, of_c, called) = ap decode (sym called ∙ ap (λ (r : EventRow). r.name) (same_some _ _ (sym is)))
 declared_once c (members.event (suc zero)) name (row, is, of_c, called) = ap decode (sym called ∙ ap (λ (r : EventRow). r.name) (same_some _ _ (sym is)))
@@ -122,10 +122,10 @@ has_cut = record { row = _; is = refl; from_c = (0, refl) }
 abbrev has_loss : HasEvent links link (record { 0 = 1 })
 has_loss = record { row = _; is = refl; from_c = (0, refl) }
 
-abbrev has_fail : HasEvent links port (record { 0 = 2 })
+abbrev has_fail : HasEvent links port_class (record { 0 = 2 })
 has_fail = record { row = _; is = refl; from_c = (0, refl) }
 
-abbrev has_no_signal : HasEvent links port (record { 0 = 3 })
+abbrev has_no_signal : HasEvent links port_class (record { 0 = 3 })
 has_no_signal = record { row = _; is = refl; from_c = (0, refl) }
 
 abbrev has_ends : HasRelation links link ends
@@ -149,8 +149,8 @@ keep_rules = record {
   member_names = λ c d one other name is_a here there. sym (declared_once c one name here) ∙ declared_once d other name there;
   inverses = λ r row is. inverses_lead_back r.0 row is;
   causes = all_of (λ (row : RuleRow). HasEvent links row.class row.cause) link_rules (has_cut, (has_cut, (has_fail, tt)));
-  effects = all_of (λ (row : RuleRow). (d : ClassId) × Reaches links row.class row.path d × HasEvent links d row.effect) link_rules
-      ((link, refl, has_loss), ((port, (has_ends, refl), has_no_signal), ((port, refl, has_no_signal), tt)));
+  effects = all_of (λ (row : RuleRow). (d : ClassId) × PathReaches links row.class row.path d × HasEvent links d row.effect) link_rules
+      ((link, refl, has_loss), ((port_class, (has_ends, refl), has_no_signal), ((port_class, refl, has_no_signal), tt)));
   repeats = all_of (λ (row : RuleRow). All (MayRepeat links) row.path) link_rules
       (All-nil (MayRepeat links), (all_of (MayRepeat links) (to_ends ∷ []) (λ e. cc, tt), (All-nil (MayRepeat links), tt)));
   blocked = All-nil (λ (row : BlockRow). InheritsRule links row.class row.rule);

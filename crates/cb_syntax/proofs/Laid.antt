@@ -9,7 +9,7 @@ use Rattle.cb_grammar.specs.declared.lexeme.Lexeme.TheVariants as lexemes
 use Rattle.cb_grammar.specs.Bare.{bare}
 use Rattle.cb_lexer.specs.Places.{line_of}
 use Rattle.cb_lexer.specs.Gaps.{gap, IsGap, IsLastGap}
-use Rattle.cb_lexer.specs.Tokens.{Stands, ReadsTokens, EndsRun, IsTokenAt, bytes_of}
+use Rattle.cb_lexer.specs.Tokens.{TokenStands, ReadsTokens, EndsRun, IsTokenAt, bytes_of}
 use Rattle.cb_lexer.proofs.Bytes.{gap-append}
 
 -- a token with the gaps before and after it
@@ -103,7 +103,7 @@ range_beyond before middle rest =
     rw (drop_at before (middle ++ rest) (length before) refl, size) (take_at middle rest (length middle) refl)
 
 pub stands_at : (before space : List ℕ) (k : Lexeme) (beyond : List ℕ) → IsGap space → EndsToken k beyond →
-    Stands (before ++ (space ++ (bytes_of k ++ beyond))) (length before) (length (before ++ space)) (placed (before ++ space) k) (length (before ++ space ++ bytes_of k))
+    TokenStands (before ++ (space ++ (bytes_of k ++ beyond))) (length before) (length (before ++ space)) (placed (before ++ space) k) (length (before ++ space ++ bytes_of k))
 stands_at before space k beyond space_is ends =
     let text = before ++ (space ++ (bytes_of k ++ beyond)) in
     let cut : before ++ space ++ (bytes_of k ++ beyond) ≡ text = append_assoc before space (bytes_of k ++ beyond) in
@@ -121,10 +121,10 @@ stands_at before space k beyond space_is ends =
     }
 
 stands_in : (text before space first : List ℕ) (k : Lexeme) (beyond : List ℕ) → text ≡ before ++ (space ++ (bytes_of k ++ beyond)) → first ≡ before ++ space → IsGap space → EndsToken k beyond →
-    Stands text (length before) (length first) (placed first k) (length (first ++ bytes_of k))
+    TokenStands text (length before) (length first) (placed first k) (length (first ++ bytes_of k))
 stands_in text before space first k beyond text_is first_is gap ends =
-    subst (λ t. Stands t (length before) (length first) (placed first k) (length (first ++ bytes_of k))) (sym text_is)
-    (subst (λ f. Stands (before ++ (space ++ (bytes_of k ++ beyond))) (length before) (length f) (placed f k) (length (f ++ bytes_of k))) (sym first_is) (stands_at before space k beyond gap ends))
+    subst (λ t. TokenStands t (length before) (length first) (placed first k) (length (first ++ bytes_of k))) (sym text_is)
+    (subst (λ f. TokenStands (before ++ (space ++ (bytes_of k ++ beyond))) (length before) (length f) (placed f k) (length (f ++ bytes_of k))) (sym first_is) (stands_at before space k beyond gap ends))
 
 -- the gaps are gaps, and each token ends
 abbrev pub Good : List Piece → List ℕ → Type 0

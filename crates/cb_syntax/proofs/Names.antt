@@ -5,13 +5,13 @@ use Rattle.cb_grammar.specs.declared.tree.Token.{Token}
 use Rattle.cb_grammar.specs.declared.lexeme.Lexeme.{Lexeme}
 use Rattle.cb_grammar.specs.declared.lexeme.Lexeme.TheVariants as lexemes
 use Rattle.cb_lexer.specs.Places.{line_of}
-use Rattle.cb_lexer.specs.Tokens.{Stands, ReadsTokens, IsTokenAt}
+use Rattle.cb_lexer.specs.Tokens.{TokenStands, ReadsTokens, IsTokenAt}
 use Rattle.cb_grammar.specs.Grammar.{NameFits}
 use Rattle.std.specs.List.{All}
 use Rattle.std.proofs.lemmas.List.Elements.{All-cons}
 use Rattle.cb_syntax.specs.Spells.{NameStands, NamesStand}
 
-name_stands : (text : List ℕ) (from from' start : ℕ) (t : Token) (mid : ℕ) → from' ≤ from → Stands text from start (lexemes.Name t) mid → NameStands text from' t × (t.start + length t.name ≤ mid)
+name_stands : (text : List ℕ) (from from' start : ℕ) (t : Token) (mid : ℕ) → from' ≤ from → TokenStands text from start (lexemes.Name t) mid → NameStands text from' t × (t.start + length t.name ≤ mid)
 name_stands text from from' start t mid low s =
     let here : t.start ≡ start = s.whole.start_is in
     let end : mid ≡ t.start + length t.name = omega (arith, s.length, here) in (
@@ -23,7 +23,7 @@ name_stands text from from' start t mid low s =
       omega (arith, end),
     )
 
-onward : (text : List ℕ) (from start : ℕ) (k : Lexeme) (mid : ℕ) → Stands text from start k mid → from ≤ mid
+onward : (text : List ℕ) (from start : ℕ) (k : Lexeme) (mid : ℕ) → TokenStands text from start k mid → from ≤ mid
 onward text from start k mid s = omega (arith, s.after, s.length)
 
 -- the names of tokens that stand in a text stand there

@@ -33,12 +33,12 @@ spaced (k ∷ []) = bytes_of k
 spaced (k ∷ next ∷ ks) = bytes_of k ++ (space_between k next ++ spaced (next ∷ ks))
 
 -- a line with these tokens
-abbrev pub line_text : List ℕ → List Lexeme → List ℕ
-line_text indent ks = indent ++ (spaced ks ++ codes "\n")
+abbrev pub token_line : List ℕ → List Lexeme → List ℕ
+token_line indent ks = indent ++ (spaced ks ++ codes "\n")
 
 -- a member's line begins with two spaces
 abbrev pub member_text : Member → List ℕ
-member_text m = line_text (codes "  ") (member_tokens m)
+member_text m = token_line (codes "  ") (member_tokens m)
 
 -- the tokens up to a class's members
 abbrev pub head_tokens : ClassDecl → List Lexeme
@@ -46,7 +46,7 @@ head_tokens c = Class ∷ Name c.name ∷ (parent_tokens c.parent ++ Open ∷ []
 
 -- a class has a line for its head, one for each member, and one for its end
 abbrev pub class_text : ClassDecl → List ℕ
-class_text c = line_text [] (head_tokens c) ++ (flat_map member_text c.members ++ line_text [] (Close ∷ []))
+class_text c = token_line [] (head_tokens c) ++ (flat_map member_text c.members ++ token_line [] (Close ∷ []))
 
 -- the canonical text of a tree
 abbrev pub canonical_text : Tree → List ℕ

@@ -39,7 +39,7 @@ fn is_kept(alloc: Global, places: &[usize]) -> Result<bool, AllocError> {
     Ok(compact.next_one(2048).is_none() && compact.next_one(usize::MAX).is_none())
 }
 
-// Whether two rows differ at so many places, and at so many ones of a mask, from a first one to a last.
+// Whether two rows differ at the given number of positions, and at that of ones of a mask, from a first one to a last.
 fn are_apart(
     alloc: Global,
     one: &[usize],

@@ -8,7 +8,7 @@ use std::alloc::Global;
 use std::str::from_utf8;
 use std::test::Fail;
 
-// Files with "abcde" under `a` and nothing under `b`, which give so many bytes at once and fail at one call, if not 0.
+// Files with "abcde" under `a` and nothing under `b`, which give at most a piece at once and fail at one call, if not 0.
 fn sample(alloc: Global, piece: usize, failing: u64) -> Result<MemFiles, Fail>
     requires { 0 < piece }
 {
@@ -58,7 +58,7 @@ fn files_are_read_whole_in_any_pieces(rt: HostRuntime) -> Result<(), Fail> {
 #[test]
 fn a_sink_takes_a_prefix_before_a_fault(rt: HostRuntime) -> Result<(), Fail> {
     let alloc = rt.alloc();
-    // The room, the piece, the call that fails, if not 0, and what is taken of "abcde".
+    // The capacity, the piece, the call that fails, if not 0, and what is taken of "abcde".
     let cases: [(usize, usize, u64, &[u8]); 7] = [
         (5, 1, 0, b"abcde"),
         (9, 7, 0, b"abcde"),
@@ -68,16 +68,16 @@ fn a_sink_takes_a_prefix_before_a_fault(rt: HostRuntime) -> Result<(), Fail> {
         (9, 2, 2, b"ab"),
         (9, 7, 1, b""),
     ];
-    for (room, piece, failing, taken) in cases {
+    for (capacity, piece, failing, taken) in cases {
         assert!(rt; piece > 0);
-        let mut sink = MemSink::new(alloc, room)?;
+        let mut sink = MemSink::new(alloc, capacity)?;
         sink.piece(piece);
         if failing > 0 {
             sink.fail_at(failing)?;
         }
         let all = write_all(&mut sink, b"abcde").is_ok();
-        assert_eq!(rt; sink.bytes(), taken, "{room} by {piece}");
-        assert_eq!(rt; all, taken.len() == 5, "{room} by {piece}");
+        assert_eq!(rt; sink.bytes(), taken, "{capacity} by {piece}");
+        assert_eq!(rt; all, taken.len() == 5, "{capacity} by {piece}");
     }
     Ok(())
 }

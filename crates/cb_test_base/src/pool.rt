@@ -27,21 +27,21 @@ fn rows_stay(alloc: Global) -> Result<bool, AllocError> {
     put(&mut pool, a, 0, 1 << 5);
     put(&mut pool, b, 1, 1 << 36);
     pool.widen(3)?;
-    pool.give(a);
+    pool.give_back(a);
     let one_more = pool.spare() + 1 == spare;
     let c = pool.take();
     let rows = pool.row(c) == [0, 0, 0].as_slice() && pool.row(b) == [0, 1 << 36, 0].as_slice();
     Ok(two_fewer && one_more && rows && pool.spare() + 2 == spare)
 }
 
-// Whether a wider copy has the rows that are taken, and room for two more.
+// Whether a wider copy has the rows that are taken, and capacity for two more.
 fn copy_has_rows(alloc: Global) -> Result<bool, AllocError> {
     let mut pool = RowPool::new(alloc, 1);
     pool.reserve(2)?;
     let a = pool.take();
     let b = pool.take();
     put(&mut pool, b, 0, 1 << 36);
-    pool.give(a);
+    pool.give_back(a);
     let mut copy = pool.wider(alloc, 2, 2)?;
     let row = copy.row(b) == [1 << 36, 0].as_slice();
     let c = copy.take();

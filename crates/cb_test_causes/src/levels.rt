@@ -1,7 +1,7 @@
 //! Levels of small networks, made and checked: valid ones, and those with one wrong value, or with two, of which the one is reported that is checked first.
 ghost use Rattle.std.specs.Prelude.{◌≡◌, ◌<◌, ◌≤◌, length, IsTrue, IfSome};
 ghost use Rattle.cb_levels.specs.Checks.{HasSmallNumbers};
-ghost use Rattle.cb_span.specs.Made.{IsProblemAt};
+ghost use Rattle.cb_span.specs.Made.{IsProblemId};
 
 use crate::worked::{CYCLE, LINK, SITES, THREE_NODES, TWO_PORTS, graph_of};
 use cb_explain::{check_levels, levels_of};
@@ -275,7 +275,7 @@ fn comes_to<L: Ledger>(
 
 // The number of the node, where it is a problem.
 fn problem_named(topology: &Topology, node: Node) -> Option<NodeId>
-    ensures { IfSome result (IsProblemAt topology.now) }
+    ensures { IfSome result (IsProblemId topology.now) }
 {
     let (event, instance) = node;
     match topology.node_named(event, instance) {

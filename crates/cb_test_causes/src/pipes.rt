@@ -1,6 +1,6 @@
 //! The model of the tests: a leak makes the next two pipes dry.
 ghost use Rattle.std.specs.Prelude.{◌≡◌, [], ◌∷◌, IfOk};
-ghost use Rattle.cb_graph.specs.Pipes.{pipes, pipe_classes, pipe_events, pipe_relations, pipe_rules, next as to_next};
+ghost use Rattle.cb_graph.specs.Pipes.{pipes, pipe_classes, pipe_events, pipe_relations, pipe_rules, next_step as to_next};
 
 use cb_model::{
     ClassId, ClassRow, EventId, EventRow, List, Model, Name, Place, RelId, RelRow, RuleRow, Tables,

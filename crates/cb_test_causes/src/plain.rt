@@ -156,7 +156,7 @@ fn agree<L: Ledger>(
     case: &Case,
     steps: &mut Steps<L>,
 ) -> Result<bool, AllocError> {
-    let mut row = Row::zeroed(alloc, graph.topology().node_room())?;
+    let mut row = Row::zeroed(alloc, graph.topology().node_capacity())?;
     let mut right = true;
     for from in SITES {
         find(graph, from, &mut row, steps);

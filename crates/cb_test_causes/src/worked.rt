@@ -66,7 +66,7 @@ const OPEN_PATH: [&[u8]; 4] = [
 // An edit, why it isn't made, if it isn't, and how many steps it counts.
 type Counted = (&'static [u8], Option<EditRefusal>, u64);
 
-// A network, how many steps its opening counts, and edits in turn; exactly so many, or at most.
+// A network, how many steps its opening counts, and edits in turn; exactly that number, or at most.
 struct Case {
     model: &'static [u8],
     first: &'static [&'static [u8]],
@@ -220,7 +220,7 @@ fn fault_of<L: Ledger>(
     Ok(fault)
 }
 
-// Whether so many steps were counted, or no more.
+// Whether that number of steps was counted, or no more.
 fn is_right(counted: u64, wanted: u64, exactly: bool) -> bool {
     counted == wanted || (!exactly && counted < wanted)
 }
@@ -278,7 +278,7 @@ fn touches_just(
     let Some(edit) = edit_of(alloc, line)? else {
         return Ok(false);
     };
-    let mut row = Row::zeroed(alloc, graph.topology().node_room())?;
+    let mut row = Row::zeroed(alloc, graph.topology().node_capacity())?;
     let accepted = ask(graph, &edit, &mut row);
     drop(edit);
     Ok(accepted && has_just(graph.topology(), &row, event, instances))

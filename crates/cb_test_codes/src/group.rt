@@ -2,7 +2,7 @@ ghost use Rattle.std.specs.Prelude.{◌≡◌, ◌<◌, ◌≤◌, ℕ, length, 
 ghost use Rattle.std.specs.declared.cmp.Ordering.TheVariants.{Less};
 ghost use Rattle.cb_model.specs.NodeOrder.{node_cmp};
 ghost use Rattle.cb_coding.specs.declared.group.Problem.{Problem as Problem_};
-ghost use Rattle.cb_coding.specs.Groups.{AreProblems};
+ghost use Rattle.cb_coding.specs.Groups.{AreCodedProblems};
 
 use cb_bits::Row;
 use cb_coding::{Group, Pair, Problem, codes};
@@ -51,7 +51,7 @@ fn five_problems(alloc: Global) -> Result<List<Problem>, AllocError> {
 
 // Whether the problems are in order, with codes of that width.
 fn are_problems(problems: &List<Problem>, width: usize) -> bool
-    ensures { IsTrue result → AreProblems width problems.now }
+    ensures { IsTrue result → AreCodedProblems width problems.now }
 {
     for i in 0..problems.len() {
         if problems.at(i).code.len() != width || !comes_last(problems, i) {

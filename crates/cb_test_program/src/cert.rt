@@ -137,7 +137,7 @@ fn end_of(text: &[u8], count: usize) -> usize
     text.len()
 }
 
-// Whether no more of the text than so many first lines is found to be truncated, whichever number of lines that is.
+// Whether each number of first lines of the text, if it isn't all of them, is found to be truncated.
 fn is_truncated_below(alloc: Global, text: &[u8], lines: usize) -> bool {
     for count in 0..lines {
         let fault = read(alloc, &text[..end_of(text, count)]).err();

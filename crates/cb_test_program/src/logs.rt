@@ -138,7 +138,7 @@ const LOGS: [Followed; 12] = [
     },
 ];
 
-// Follows the log in pieces of so many bytes.
+// Follows the log in pieces of `piece` bytes.
 fn is_followed(
     rt: &(impl Abort + MayCount),
     alloc: Global,
@@ -206,7 +206,7 @@ fn a_log_that_fails_keeps_what_was_reported(rt: HostRuntime) -> Result<(), Fail>
     Ok(())
 }
 
-// Files with a log of three parts, the second of which is so many times one byte.
+// Files with a log of three parts, the second of which is one byte, repeated.
 fn in_parts(
     alloc: Global,
     first: &str,
@@ -249,7 +249,7 @@ fn ends<L: Ledger>(
     Ok(())
 }
 
-// The same, in a ledger of its own.
+// Whether `run` ends as wanted, in a ledger of its own.
 fn ends_so(
     rt: &(impl Abort + MayCount),
     alloc: Global,

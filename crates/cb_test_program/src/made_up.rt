@@ -62,7 +62,7 @@ fn made_up_model(alloc: Global) -> Result<Option<Model>, AllocError> {
     Ok(model)
 }
 
-// Whether neither the model nor the topology of so many sites has a fault.
+// Whether neither the model nor the topology of `sites` sites has a fault.
 fn has_no_fault(alloc: Global, sites: u32) -> Result<bool, AllocError>
     requires some { 1 ≤ sites }
     requires few { sites ≤ 256 }

@@ -21,7 +21,7 @@ const QUIET: &str = "burst raised 0 unknown 0 distance 0 radius 0 sure groups 1\
 const PUMP: &str =
     "class Pump {\n  problem Worn;\n  problem Dry;\n  symptom Noise;\n  symptom Heat;\n  symptom LowFlow;\n  rule n: Worn => Noise;\n  rule h: Worn => Heat;\n  rule h2: Dry => Heat;\n  rule f: Dry => LowFlow;\n}\n";
 
-// The same pump in one line, with a comment.
+// `PUMP` in one line, with a comment.
 const PUMP_IN_A_LINE: &str =
     "class Pump{problem Worn;problem Dry;symptom Noise;symptom Heat;symptom LowFlow;rule n:Worn=>Noise;rule h:Worn=>Heat;rule h2:Dry=>Heat;rule f:Dry=>LowFlow;}#x";
 
@@ -509,7 +509,7 @@ fn a_file_of_too_many_bytes_is_refused(rt: HostRuntime) -> Result<(), Fail> {
     Ok(())
 }
 
-// An empty line, and one of so many spaces less one.
+// An empty line, and one with one space less than the number.
 fn two_lines(alloc: Global, count: usize) -> Result<Vec<u8>, AllocError> {
     let mut bytes = spaces(alloc, count)?;
     if let Some(first) = bytes.first_mut() {

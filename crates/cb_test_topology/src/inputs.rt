@@ -18,7 +18,7 @@ const LONGEST: &[u8] = b"a@x2345678901234567890123456789012345678901234567890123
 
 const TOO_LONG: &[u8] = b"a@x234567890123456789012345678901234567890123456789012345678901234";
 
-// Texts with so many spaces in the middle, whose longest line has 4,096 bytes.
+// Texts with a number of spaces in the middle, whose longest line has 4,096 bytes.
 const SHORT_SYMPTOMS: [Spaced<Result<(usize, &[u8], &[u8]), SymptomStop>>; 4] = [
     ((b"Heat@p1", 4_089, b""), Ok((1, b"Heat", b"Heat"))),
     ((b"Heat@p1", 4_089, b"\nA@q\n"), Ok((2, b"Heat", b"A"))),
@@ -29,7 +29,7 @@ const SHORT_SYMPTOMS: [Spaced<Result<(usize, &[u8], &[u8]), SymptomStop>>; 4] = 
     ),
 ];
 
-// The same, where the line of that number has 4,097 bytes.
+// Texts with a number of spaces in the middle, and the line that has 4,097 bytes.
 const LONG_SYMPTOMS: [Spaced<u64>; 5] = [
     ((b"Heat@p1", 4_090, b""), 1),
     ((b"Heat@p1", 4_090, b"\n"), 1),
@@ -56,13 +56,18 @@ const LONG_LINES: [Spaced<u64>; 4] = [
     ((b"create b Base\ncreate b Base\n", 4_097, b"\n"), 3),
 ];
 
-// A text with so many spaces in the middle.
-fn spaced(alloc: Global, front: &[u8], spaces: usize, back: &[u8]) -> Result<Vec<u8>, AllocError> {
-    let mut text = Vec::from_slice(alloc, front)?;
+// A text with `spaces` spaces in the middle.
+fn spaced(
+    alloc: Global,
+    before: &[u8],
+    spaces: usize,
+    after: &[u8],
+) -> Result<Vec<u8>, AllocError> {
+    let mut text = Vec::from_slice(alloc, before)?;
     for _space in 0..spaces {
         text.push(b' ')?;
     }
-    text.extend_from_slice(back)?;
+    text.extend_from_slice(after)?;
     Ok(text)
 }
 
@@ -133,14 +138,14 @@ fn bad_symptom_lines(rt: HostRuntime) {
     }
 }
 
-// The same of a text with spaces in the middle.
+// Checks what is read of a symptom text with spaces in the middle.
 fn check_spaced_symptoms(
     rt: &impl Abort,
     alloc: Global,
-    (front, spaces, back): (&[u8], usize, &[u8]),
+    (before, spaces, after): (&[u8], usize, &[u8]),
     wanted: Result<(usize, &[u8], &[u8]), SymptomStop>,
 ) -> Result<(), AllocError> {
-    let text = spaced(alloc, front, spaces, back)?;
+    let text = spaced(alloc, before, spaces, after)?;
     check_symptoms(rt, alloc, &text, wanted);
     Ok(())
 }
@@ -302,14 +307,14 @@ fn refused_lines(rt: HostRuntime) {
     }
 }
 
-// The same of a text with spaces in the middle.
+// Checks what is read of a topology text with spaces in the middle.
 fn check_spaced_topology(
     rt: &impl Abort,
     alloc: Global,
-    (front, spaces, back): (&[u8], usize, &[u8]),
+    (before, spaces, after): (&[u8], usize, &[u8]),
     wanted: Result<(usize, usize, usize), TopologyStop>,
 ) -> Result<(), AllocError> {
-    let text = spaced(alloc, front, spaces, back)?;
+    let text = spaced(alloc, before, spaces, after)?;
     check_topology(rt, alloc, &text, wanted);
     Ok(())
 }

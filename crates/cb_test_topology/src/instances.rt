@@ -1,7 +1,7 @@
 //! Instances of two classes of the sample model, by their names: a base with many ports, each of which has one owner.
 ghost use Rattle.std.specs.Prelude.{◌≡◌, ◌↔◌, IfOk, IfSome, IsTrue};
 ghost use Rattle.cb_model.specs.WellTyped.{IsClass, IsRelation};
-ghost use Rattle.cb_instances.specs.Net.{IsLive, HasEventAt};
+ghost use Rattle.cb_instances.specs.Net.{IsLiveInstance, HasEventAt};
 
 use cb_instances::{InstanceId, Net};
 use cb_model::{ClassId, EventId, Model, RelId};
@@ -36,7 +36,7 @@ fn is_relation(model: &Model, rel: RelId) -> bool
 
 // The event of this name that the instance's class has.
 fn event_at(net: &Net, id: InstanceId, name: &[u8]) -> Option<EventId>
-    requires { IsLive net.now id }
+    requires { IsLiveInstance net.now id }
     ensures { IfSome result (HasEventAt net.now id) }
 {
     let class = net.class_of(id);
@@ -47,14 +47,14 @@ fn event_at(net: &Net, id: InstanceId, name: &[u8]) -> Option<EventId>
     }
 }
 
-// Whether the name was free, and is that of a new instance now, for which there is as much room as was foretold.
+// Whether the name was free, and is that of a new instance now, for which there is as much capacity as was expected.
 fn create(alloc: Global, net: &mut Net, name: &[u8], class: ClassId) -> Result<bool, AllocError> {
     if !is_class(net.model(), class) || net.instance_named(name).is_some() {
         return Ok(false);
     }
-    let foretold = net.room_with_one();
+    let foretold = net.capacity_with_one();
     let id = net.create(alloc, name, class)?;
-    Ok(net.room() == foretold && net.instance_named(name) == Some(id))
+    Ok(net.capacity() == foretold && net.instance_named(name) == Some(id))
 }
 
 // Whether the link was absent, and is added.

@@ -215,7 +215,7 @@ const LATER_PROBLEMS: [(&[u8], &[u8]); 3] = [(b"P", b"alpha"), (b"P", b"hub"), (
 fn keep_numbers(alloc: Global, topology: &mut Topology) -> Result<bool, AllocError> {
     let instance = topology.instance_named(b"hub");
     let node = topology.node_named(b"T", b"hub");
-    let room = topology.node_room();
+    let capacity = topology.node_capacity();
     fault_of(alloc, topology, EditKind::Delete, [b"low", b"", b""])?;
     fault_of(alloc, topology, EditKind::Create, [b"new", b"Mid", b""])?;
     Ok(
@@ -223,7 +223,7 @@ fn keep_numbers(alloc: Global, topology: &mut Topology) -> Result<bool, AllocErr
             && topology.node_named(b"T", b"hub") == node
             && node.is_some()
             && topology.node_named(b"P", b"new").is_some()
-            && topology.node_room() == room,
+            && topology.node_capacity() == capacity,
     )
 }
 

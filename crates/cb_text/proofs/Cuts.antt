@@ -6,7 +6,7 @@ use Rattle.std.proofs.lemmas.List.{append_cancel_left, append_assoc, take-append
 use Rattle.std.proofs.lemmas.List.Elements.{All-cons}
 use Rattle.std.proofs.lemmas.List.Splits.{slice_split_at}
 use Rattle.memchr.specs.Find.{IsFirstByte, is_byte}
-use Rattle.cb_text.specs.Names.{is_letter, is_name_byte, IsRun, IsNode, NodesAreReadOnce}
+use Rattle.cb_text.specs.Names.{is_letter, is_name_byte, IsRun, IsNodeText, NodesAreReadOnce}
 
 -- no byte is the cut
 abbrev pub Lacks : ℕ → List ℕ → Type 0
@@ -44,7 +44,7 @@ name_lacks_at (b ∷ bs) run =
     All-cons (λ c. nat_eq c 64 ≡ false) b bs (byte_is_no_at b (letter_is_name_byte b run.0)) (λ k d low. byte_is_no_at (get_or bs k d) (run.1 k d low))
 
 -- a node is its event, `@` and its instance
-node_is_cut : (bytes event instance : List ℕ) → IsNode bytes event instance → bytes ≡ event ++ 64 ∷ instance
+node_is_cut : (bytes event instance : List ℕ) → IsNodeText bytes event instance → bytes ≡ event ++ 64 ∷ instance
 node_is_cut bytes event instance node = node.written ∙ append_assoc event (codes "@") instance
 
 -- so a node's bytes have one event and one instance
@@ -54,7 +54,7 @@ node_read_once bytes event instance other_event other_instance node other =
     (name_lacks_at other_event other.event_is.run) (sym (node_is_cut bytes event instance node) ∙ node_is_cut bytes other_event other_instance other)
 
 -- a node's event ends at the first `@`, and its instance begins after it
-pub node_parts_are : (bytes event instance : List ℕ) (at : ℕ) → IsFirstByte (is_byte 64) bytes (Some at) → IsNode bytes event instance →
+pub node_parts_are : (bytes event instance : List ℕ) (at : ℕ) → IsFirstByte (is_byte 64) bytes (Some at) → IsNodeText bytes event instance →
     (event ≡ take at bytes) × (instance ≡ drop (at + 1) bytes)
 node_parts_are bytes event instance at first node =
     let low : at < length bytes = first.0.high in

@@ -4,7 +4,7 @@ use Rattle.std.proofs.lemmas.List.{append_assoc, append-nil, length-append}
 use Rattle.cb_text.specs.Lines.{lines_of, IsLineOf}
 use Rattle.cb_text.proofs.LineLemmas.{lines_are_few}
 
--- so many lines were read, P holds of them, and these are still to come
+-- how many lines were read, P holds of them, and these are still to come
 pub record ReadTo (text : List ℕ) (P : List (List ℕ) → Type 0) (rest : List (List ℕ)) (number : ℕ) : Type 0 where
   pub before : List (List ℕ)
   pub whole : before ++ rest ≡ lines_of text

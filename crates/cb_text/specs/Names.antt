@@ -43,7 +43,7 @@ pub record IsInstance (bytes : List ℕ) : Type 0 where
   pub bytes_are : All (λ b. IsTrue (is_instance_byte b)) bytes
 
 -- a node, written `event@instance`
-pub record IsNode (bytes event instance : List ℕ) : Type 0 where
+pub record IsNodeText (bytes event instance : List ℕ) : Type 0 where
   pub written : bytes ≡ event ++ codes "@" ++ instance
   pub event_is : IsName event
   pub instance_is : IsInstance instance
@@ -51,5 +51,5 @@ pub record IsNode (bytes event instance : List ℕ) : Type 0 where
 -- `@`, which is 64, is no byte of a name, so a node's bytes have one event and one instance
 abbrev pub NodesAreReadOnce : Type 0
 NodesAreReadOnce =
-    (bytes event instance other_event other_instance : List ℕ) → IsNode bytes event instance → IsNode bytes other_event other_instance
+    (bytes event instance other_event other_instance : List ℕ) → IsNodeText bytes event instance → IsNodeText bytes other_event other_instance
     → (event ≡ other_event) × (instance ≡ other_instance)

@@ -10,7 +10,7 @@ use Rattle.cb_outcome.specs.Roles.{Role}
 use Rattle.cb_report.specs.Text.{bytes_of_text}
 use Rattle.cb_report.specs.Status.{OnAnswer}
 use Rattle.cb_report.specs.Faults.{status_of, ending}
-use Rattle.cb_report.specs.FaultTexts.{fault_text, line_text}
+use Rattle.cb_report.specs.FaultTexts.{fault_text, fault_line_text}
 use Rattle.cb_report.specs.Said.{TakesLine}
 use Rattle.cb_report.specs.declared.fault.Fault.{Fault}
 use Rattle.cb_report.specs.declared.fault.Fault.TheVariants as faults
@@ -19,7 +19,7 @@ use Rattle.cb_report.specs.declared.status.Status.TheVariants as statuses
 use Rattle.cb_outcome.specs.Outcome.{Outcome, refused}
 use Rattle.cb_outcome.specs.Judged.{Known, nothing, Gives, PassFrom}
 use Rattle.cb_outcome.specs.Contents.{Left, Reads, HasRole, with_texts, files_from, log_from}
-use Rattle.cb_outcome.specs.Command.{Command, Task, makes as task_makes, follows as task_follows, refuses as task_refuses, IsDoing, IsRefusal, reads_of, file_words, TaskGives, TaskFaults, JobGives}
+use Rattle.cb_outcome.specs.Command.{Command, Task, makes as task_makes, follows as task_follows, refuses as task_refuses, IsDoing, IsTaskRefusal, reads_of, file_words, TaskGives, TaskFaults, JobGives}
 use Rattle.cb_outcome.specs.Answer.{IsOutcome}
 use Rattle.cb_outcome.specs.Point.{Point}
 use Rattle.cb_outcome.specs.Reading.{WhereReported, ReadsTo}
@@ -28,8 +28,8 @@ use Rattle.cb_outcome.specs.Ends.{MayEnd}
 use Rattle.cb_outcome.specs.Clauses.{Answers, AnswersOutcome, WritesDue, ReadsJudged, HaveAllPassed, KeepsQuiet, NamesFileWord, SaysStatus, ReadsInOrder, Blames}
 use Rattle.cb_outcome.specs.Finds.{Finds}
 use Rattle.cb_file_kinds.specs.declared.output.Output.{Output}
-use Rattle.cb_file_kinds.specs.Kinds.{file_of, IsWant, FailsToRead}
-use Rattle.cb_file_kinds.specs.Ending.{names, Makes, WantsMemory, IsRefusedThere, StopsAt, Comes, IsDelivered, IsCutOff, Delivers}
+use Rattle.cb_file_kinds.specs.Kinds.{file_in_role, IsWant, FailsToRead}
+use Rattle.cb_file_kinds.specs.Ending.{names, MakesOutput, WantsMemory, IsRefusedThere, FileStops, Comes, IsDelivered, IsCutOff, Delivers}
 use Rattle.cb_log_commands.specs.Following.{FollowsLog}
 use Rattle.cb_log_commands.specs.Ways.{EndsFor, Ends}
 use Rattle.cb_outcome.proofs.Ended.{some_name}
@@ -46,7 +46,7 @@ use Rattle.cb_top.proofs.Plain.{IsPlain, refused_plain, fit}
 pub record Wrote (bytes : List ℕ) (fault : Option Fault) (status : Status) (s : Seen) : Type 0 where
   pub written : WritesAll s.out s.out_after bytes
   pub status_is : status ≡ ending fault
-  pub says : TakesLine s.err s.err_after (line_text fault)
+  pub says : TakesLine s.err s.err_after (fault_line_text fault)
 
 -- a write failed, and the run ends with that
 pub record Broke (bytes : List ℕ) (status : Status) (s : Seen) : Type 0 where
@@ -70,19 +70,19 @@ pub record Stopped (c : Command) (s : Seen) (fault : Fault) : Type 0 where
   pub read : ReadsTo (length earlier) (file_words c) s.files s.files_after
 
 pub data Story (c : Command) (status : Status) (s : Seen) : Type 0 where
-  idle : (fault : Fault) → IsRefusal c.task fault → s.files_after ≡ s.files → Ended fault status s → Story c status s
-  made : IsDoing c.task → (bytes : List ℕ) (fault : Option Fault) → Makes c s.files s.files_after bytes fault → Wrote bytes fault status s → Story c status s
-  unwritten : IsDoing c.task → (bytes : List ℕ) (fault : Option Fault) → Makes c s.files s.files_after bytes fault → Broke bytes status s → Story c status s
+  idle : (fault : Fault) → IsTaskRefusal c.task fault → s.files_after ≡ s.files → Ended fault status s → Story c status s
+  made : IsDoing c.task → (bytes : List ℕ) (fault : Option Fault) → MakesOutput c s.files s.files_after bytes fault → Wrote bytes fault status s → Story c status s
+  unwritten : IsDoing c.task → (bytes : List ℕ) (fault : Option Fault) → MakesOutput c s.files s.files_after bytes fault → Broke bytes status s → Story c status s
   wanting : IsDoing c.task → (fault : Fault) → WantsMemory (reads_of c) s.files s.files_after fault → Ended fault status s → Story c status s
   failed : IsDoing c.task → (fault : Fault) → (stopped : Stopped c s fault) → FailsToRead stopped.file.1 s.files s.files_after fault
       → Ended fault status s → Story c status s
   refusing : IsDoing c.task → (fault : Fault) → (stopped : Stopped c s fault)
       → IsRefusedThere stopped.earlier stopped.file stopped.known s.files fault → Ended fault status s → Story c status s
   followed : IsDoing c.task → (end : Option Fault) → FollowsLog c s.files s.files_after s.out s.out_after end → status ≡ ending end
-      → TakesLine s.err s.err_after (line_text end) → Story c status s
+      → TakesLine s.err s.err_after (fault_line_text end) → Story c status s
 
 module _ (c : Command) (doing : IsDoing c.task) (s : Seen) (status : Status) where
-  stopped_of : (fault : Fault) → StopsAt (reads_of c) s.files s.files_after fault → Stopped c s fault
+  stopped_of : (fault : Fault) → FileStops (reads_of c) s.files s.files_after fault → Stopped c s fault
   stopped_of fault at = record {
     earlier = at.earlier;
     file = at.file;
@@ -93,18 +93,18 @@ module _ (c : Command) (doing : IsDoing c.task) (s : Seen) (status : Status) whe
     read = at.read;
   }
 
-  why_stopped : (fault : Fault) (at : StopsAt (reads_of c) s.files s.files_after fault)
+  why_stopped : (fault : Fault) (at : FileStops (reads_of c) s.files s.files_after fault)
       → FailsToRead at.file.1 s.files s.files_after fault ⊎ IsRefusedThere at.earlier at.file at.known s.files fault → Ended fault status s → Story c status s
   unfolding stopped_of
   why_stopped fault at (inl fails) end = failed doing fault (stopped_of fault at) fails end
   why_stopped fault at (inr is) end = refusing doing fault (stopped_of fault at) is end
 
-module _ (s : Seen) (status : Status) (end : Option Fault) (status_is : status ≡ ending end) (says : TakesLine s.err s.err_after (line_text end)) where
+module _ (s : Seen) (status : Status) (end : Option Fault) (status_is : status ≡ ending end) (says : TakesLine s.err s.err_after (fault_line_text end)) where
   wrote : (bytes : List ℕ) (fault : Option Fault) → IsDelivered bytes fault end s.out s.out_after → Wrote bytes fault status s
   wrote bytes fault is = record {
     written = is.written;
     status_is = status_is ∙ ap ending is.end_is;
-    says = subst (λ (e : Option Fault). TakesLine s.err s.err_after (line_text e)) is.end_is says;
+    says = subst (λ (e : Option Fault). TakesLine s.err s.err_after (fault_line_text e)) is.end_is says;
   }
 
   broke : (bytes : List ℕ) → IsCutOff bytes end s.out s.out_after → Broke bytes status s
@@ -112,7 +112,7 @@ module _ (s : Seen) (status : Status) (end : Option Fault) (status_is : status �
     prefix = is.prefix;
     failed = is.failed;
     status_is = status_is ∙ ap ending is.end_is;
-    says = subst (λ (e : Option Fault). TakesLine s.err s.err_after (line_text e)) is.end_is says;
+    says = subst (λ (e : Option Fault). TakesLine s.err s.err_after (fault_line_text e)) is.end_is says;
   }
 
   made_story : (c : Command) → IsDoing c.task → (made : Result Output Fault) → Comes c s.files s.files_after made
@@ -123,7 +123,7 @@ module _ (s : Seen) (status : Status) (end : Option Fault) (status_is : status �
   made_story c doing (Err fault) (inl want) is = wanting doing fault want (wrote [] (Some fault) is)
   made_story c doing (Err fault) (inr at) is = why_stopped c doing s status fault at at.why (wrote [] (Some fault) is)
 
-  task_story : (c : Command) (task : Task) → (IsDoing task → IsDoing c.task) → ((fault : Fault) → IsRefusal task fault → IsRefusal c.task fault)
+  task_story : (c : Command) (task : Task) → (IsDoing task → IsDoing c.task) → ((fault : Fault) → IsTaskRefusal task fault → IsTaskRefusal c.task fault)
       → EndsFor task c s.files s.files_after s.out s.out_after end → Story c status s
   task_story c (task_makes making) doing refusal ends = made_story c (doing tt) ends.made ends.comes ends.delivers
   task_story c (task_follows name watches) doing refusal (inl ends) = made_story c (doing tt) ends.made ends.comes ends.delivers
@@ -173,7 +173,7 @@ abbrev outcome_of : Command → List ℕ → Option Fault → Outcome
 outcome_of c bytes fault = record { out = bytes; fault = fault; whole = length c.files }
 
 module _ (c : Command) where
-  module _ (s : Seen) (bytes : List ℕ) (fault : Option Fault) (makes : Makes c s.files s.files_after bytes fault) where
+  module _ (s : Seen) (bytes : List ℕ) (fault : Option Fault) (makes : MakesOutput c s.files s.files_after bytes fault) where
     outcome_is : (left : Left) → PassFrom nothing (files_from left (reads_of c)) makes.known → IsOutcome c left (outcome_of c bytes fault)
     outcome_is left said =
         gives_job (JobGives left c) (files_from left (reads_of c)) nothing makes.known 0 (outcome_of c bytes fault) said
@@ -252,7 +252,7 @@ record TaskIsIdle (task : Task) (reads : Reads) (fault : Fault) : Type 0 where
   pub gives : (log : List ℕ → List ℕ) (known : Known) (whole : ℕ) → TaskGives log task known whole (refused fault whole)
   pub faults : TaskFaults task fault
 
-task_idle : (task : Task) (range : Type 0) (reads : Reads) → LawfulFor range reads task → (fault : Fault) → IsRefusal task fault → TaskIsIdle task reads fault
+task_idle : (task : Task) (range : Type 0) (reads : Reads) → LawfulFor range reads task → (fault : Fault) → IsTaskRefusal task fault → TaskIsIdle task reads fault
 task_idle (task_makes making) range reads law fault is = absurd is
 task_idle (task_follows name watches) range reads law fault is = absurd is
 task_idle (task_refuses other) range reads law fault is = record {
@@ -262,7 +262,7 @@ task_idle (task_refuses other) range reads law fault is = record {
   faults = sym is;
 }
 
-idle_is : (c : Command) → IsLawful c → (fault : Fault) → IsRefusal c.task fault → IsIdle c fault
+idle_is : (c : Command) → IsLawful c → (fault : Fault) → IsTaskRefusal c.task fault → IsIdle c fault
 idle_is c law fault is =
     let none = task_idle c.task c.range (reads_of c) law fault is in record {
       usage = none.usage;
@@ -375,7 +375,7 @@ module _ (c : Command) (law : IsLawful c) (s : Seen) where
   plain_of : IsDoing c.task → (fault : Fault) (at : Stopped c s fault)
       → IsRefusedThere at.earlier at.file at.known s.files fault → IsPlain c (Some fault) s
   plain_of doing fault at is =
-      refused_plain c s doing at.known (file_of at.file.0 at.file.1 is.text) fault (has_role c s fault at) (among c s fault at) (some_file c s fault at) is.refuses
+      refused_plain c s doing at.known (file_in_role at.file.0 at.file.1 is.text) fault (has_role c s fault at) (among c s fault at) (some_file c s fault at) is.refuses
 
   pub line : (status : Status) → Story c status s → SaysStatus c status s
   line status (idle fault is same end) =

@@ -14,7 +14,7 @@ use Rattle.cb_io.proofs.Reported.{ReadFailed-after, ReadsEach-nil, ReadsEach-nex
 use Rattle.cb_outcome.specs.Roles.{Role}
 use Rattle.cb_report.specs.Status.{OnAnswer}
 use Rattle.cb_report.specs.Faults.{ending}
-use Rattle.cb_report.specs.FaultTexts.{line_text}
+use Rattle.cb_report.specs.FaultTexts.{fault_line_text}
 use Rattle.cb_report.specs.Said.{TakesLine}
 use Rattle.cb_report.specs.declared.fault.Fault.{Fault}
 use Rattle.cb_report.specs.declared.fault.Fault.TheVariants as faults
@@ -211,11 +211,11 @@ module _ (c : Command) (law : IsLawful c) (doing : IsDoing c.task) (s : Seen) (e
   TellsIt e = IfSome (left_of follows.now follows.name) (λ log. TellsLog follows.watch log (left_of s.files_after follows.name) s.out s.out_after e)
 
   -- the fault names the log
-  named : (f : List ℕ → Fault) (other : List ℕ) → other ≡ follows.name → TakesLine s.err s.err_after (line_text (Some (f other)))
-      → TakesLine s.err s.err_after (line_text (Some (f follows.name)))
-  named f other e says = subst (λ (n : List ℕ). TakesLine s.err s.err_after (line_text (Some (f n)))) e says
+  named : (f : List ℕ → Fault) (other : List ℕ) → other ≡ follows.name → TakesLine s.err s.err_after (fault_line_text (Some (f other)))
+      → TakesLine s.err s.err_after (fault_line_text (Some (f follows.name)))
+  named f other e says = subst (λ (n : List ℕ). TakesLine s.err s.err_after (fault_line_text (Some (f n)))) e says
 
-  answer_by : (e : Option Fault) → Wrong e → TellsIt e → TakesLine s.err s.err_after (line_text e) → OnAnswer (ending e) (WhereReported s.files (Answers c (ending e) s))
+  answer_by : (e : Option Fault) → Wrong e → TellsIt e → TakesLine s.err s.err_after (fault_line_text e) → OnAnswer (ending e) (WhereReported s.files (Answers c (ending e) s))
   answer_by None wrong tells says =
       if_some2 s.files.left _ _ _ (λ left passed is. record {
         outcome = done is.due (suc (length c.files));
@@ -374,7 +374,7 @@ module _ (c : Command) (law : IsLawful c) (doing : IsDoing c.task) (s : Seen) (e
       }) begun (in_log _ tells)
 
   blames_read : Wrong (Some (faults.ReadFault follows.name)) → TellsIt (Some (faults.ReadFault follows.name))
-      → TakesLine s.err s.err_after (line_text (Some (faults.ReadFault follows.name))) → BlamesRead c s
+      → TakesLine s.err s.err_after (fault_line_text (Some (faults.ReadFault follows.name))) → BlamesRead c s
   blames_read wrong tells says = record {
     place = length c.files;
     name = follows.name;
@@ -474,7 +474,7 @@ module _ (c : Command) (law : IsLawful c) (doing : IsDoing c.task) (s : Seen) (e
       omega (arith, size, near)))
       begun (in_log _ tells)
 
-  blames_write : Wrong (Some faults.WriteFault) → TellsIt (Some faults.WriteFault) → TakesLine s.err s.err_after (line_text (Some faults.WriteFault))
+  blames_write : Wrong (Some faults.WriteFault) → TellsIt (Some faults.WriteFault) → TakesLine s.err s.err_after (fault_line_text (Some faults.WriteFault))
       → BlamesWrite c s
   blames_write wrong tells says = record {
     failed = wrong;
@@ -513,7 +513,7 @@ module _ (c : Command) (law : IsLawful c) (doing : IsDoing c.task) (s : Seen) (e
         written = is.written;
       }) come (in_log _ tells)
 
-  fault_by : (e : Option Fault) → Wrong e → TellsIt e → TakesLine s.err s.err_after (line_text e) → Blames c (ending e) s
+  fault_by : (e : Option Fault) → Wrong e → TellsIt e → TakesLine s.err s.err_after (fault_line_text e) → Blames c (ending e) s
   fault_by None wrong tells says = tt
   fault_by (Some (faults.LimitBytes other)) wrong tells says = tt
   fault_by (Some (faults.ReadFault other)) wrong tells says =
@@ -540,7 +540,7 @@ module _ (c : Command) (law : IsLawful c) (doing : IsDoing c.task) (s : Seen) (e
 
   -- ---- the clauses
 
-  pub answer : TakesLine s.err s.err_after (line_text end) → OnAnswer (ending end) (WhereReported s.files (Answers c (ending end) s))
+  pub answer : TakesLine s.err s.err_after (fault_line_text end) → OnAnswer (ending end) (WhereReported s.files (Answers c (ending end) s))
   answer says = answer_by end follows.ends.wrong follows.ends.tells says
 
   pub prefix : WritesDue c s
@@ -558,7 +558,7 @@ module _ (c : Command) (law : IsLawful c) (doing : IsDoing c.task) (s : Seen) (e
   pub order : ReadsTo (length c.files) (file_words c) s.files s.files_after
   order = read_judged
 
-  pub fault : TakesLine s.err s.err_after (line_text end) → Blames c (ending end) s
+  pub fault : TakesLine s.err s.err_after (fault_line_text end) → Blames c (ending end) s
   fault says = fault_by end follows.ends.wrong follows.ends.tells says
 
   pub finds : Finds c (ending end) s

@@ -4,9 +4,9 @@ use Rattle.cb_io.specs.Outside.{contents}
 use Rattle.cb_outcome.specs.Roles.{Role}
 use Rattle.cb_report.specs.declared.fault.Fault.{Fault}
 use Rattle.cb_outcome.specs.Outcome.{Outcome, refused}
-use Rattle.cb_outcome.specs.Judged.{File, Known, Refuses, Job, Gives, PassFrom}
+use Rattle.cb_outcome.specs.Judged.{File, Known, RefusesFile, Job, Gives, PassFrom}
 use Rattle.cb_outcome.specs.Contents.{Left, with_texts}
-use Rattle.cb_file_kinds.specs.Kinds.{file_of}
+use Rattle.cb_file_kinds.specs.Kinds.{file_in_role}
 use Rattle.cb_file_kinds.specs.Ending.{names}
 
 -- where all files say something, the outcome is the job's
@@ -24,12 +24,12 @@ append_nil {X} (x ∷ xs) = ap (λ (ys : List X). x ∷ ys) (append_nil xs)
 -- a file that is refused after others that say something decides the outcome
 pub gives_refused : (job : Job) (left : Left) (before : List (List ℕ)) (earlier : List (Role × List ℕ)) (file : Role × List ℕ) (later : List (Role × List ℕ))
     (known last : Known) (whole : ℕ) (text : List ℕ) (fault : Fault) → PassFrom known (with_texts left before earlier) last
-    → text ≡ contents left (before ++ names earlier) file.1 → Refuses last (file_of file.0 file.1 text) fault
+    → text ≡ contents left (before ++ names earlier) file.1 → RefusesFile last (file_in_role file.0 file.1 text) fault
     → Gives job known whole (with_texts left before (earlier ++ file ∷ later)) (refused fault (whole + length earlier))
 gives_refused job left before [] file later known last whole text fault same is refuses =
     let text_is : text ≡ contents left before file.1 = is ∙ ap (λ (ns : List (List ℕ)). contents left ns file.1) (append_nil before) in
-    let here : Refuses known (file_of file.0 file.1 (contents left before file.1)) fault =
-    subst (λ (t : List ℕ). Refuses known (file_of file.0 file.1 t) fault) text_is (subst (λ (k : Known). Refuses k (file_of file.0 file.1 text) fault) (sym same) refuses) in
+    let here : RefusesFile known (file_in_role file.0 file.1 (contents left before file.1)) fault =
+    subst (λ (t : List ℕ). RefusesFile known (file_in_role file.0 file.1 t) fault) text_is (subst (λ (k : Known). RefusesFile k (file_in_role file.0 file.1 text) fault) (sym same) refuses) in
     inl (fault, here, ap (refused fault) (omega arith))
 gives_refused job left before (first ∷ earlier) file later known last whole text fault (next, says, all) is refuses =
     let moved : before ++ first.1 ∷ names earlier ≡ (before ++ first.1 ∷ []) ++ names earlier = assoc before first.1 (names earlier) in

@@ -4,7 +4,7 @@ use Rattle.std.specs.Prelude.{Option, Some}
 use Rattle.std.specs.List.{Contains}
 use Rattle.cb_io.specs.Outside.{WritesAll}
 use Rattle.cb_report.specs.Faults.{status_of, ending}
-use Rattle.cb_report.specs.FaultTexts.{line_text}
+use Rattle.cb_report.specs.FaultTexts.{fault_line_text}
 use Rattle.cb_report.specs.Said.{TakesLine}
 use Rattle.cb_outcome.specs.Roles.{Role}
 use Rattle.cb_report.specs.declared.fault.Fault.{Fault}
@@ -12,14 +12,14 @@ use Rattle.cb_report.specs.declared.fault.Fault.TheVariants as faults
 use Rattle.cb_report.specs.declared.status.Status.{Status}
 use Rattle.cb_report.specs.declared.status.Status.TheVariants as statuses
 use Rattle.cb_outcome.specs.Outcome.{Outcome}
-use Rattle.cb_outcome.specs.Judged.{Known, File, HasFault, Refuses}
+use Rattle.cb_outcome.specs.Judged.{Known, File, HasFault, RefusesFile}
 use Rattle.cb_outcome.specs.Contents.{Left, Reads, HasRole, log_from}
 use Rattle.cb_outcome.specs.Command.{Command, IsDoing, reads_of, file_words, TaskFinds}
 use Rattle.cb_outcome.specs.Ends.{FilesMayEnd, MayEnd}
 use Rattle.cb_outcome.specs.Seen.{Seen}
 use Rattle.cb_outcome.specs.Clauses.{KeepsQuiet, NamesFileWord, Blames}
 use Rattle.cb_outcome.specs.Finds.{OnOutput, Finds}
-use Rattle.cb_file_kinds.specs.Ending.{Makes}
+use Rattle.cb_file_kinds.specs.Ending.{MakesOutput}
 use Rattle.cb_file_kinds.proofs.Chain.{if_some}
 use Rattle.cb_outcome.proofs.Ended.{TaskEnds, well, wrong, task_ends, task_shown}
 use Rattle.cb_outcome.proofs.Lawful.{IsOwnStatus, NamesNoFile, IsQuietAt, IsLawful}
@@ -70,7 +70,7 @@ module _ (c : Command) (s : Seen) where
       }
 
   pub refused_plain : IsDoing c.task → (known : Known) (file : File) (fault : Fault) → HasRole (reads_of c) file.role
-      → Contains (file_words c) file.name → file_words c ≢ [] → Refuses known file fault → IsPlain c (Some fault) s
+      → Contains (file_words c) file.name → file_words c ≢ [] → RefusesFile known file fault → IsPlain c (Some fault) s
   refused_plain doing known file fault role name some (inl past) =
       subst (λ (f : Fault). IsPlain c (Some f) s) (sym past.is) (record { names = name; ends = inl (doing, some); blames = tt; finds = tt })
   refused_plain doing known file fault role name some (inr (inl past)) =
@@ -85,8 +85,8 @@ pub record IsFit (c : Command) (fault : Option Fault) (s : Seen) : Type 0 where
   pub quiet : KeepsQuiet c (ending fault) s
 
 module _ (c : Command) (law : IsLawful c) (doing : IsDoing c.task) (s : Seen) (bytes : List ℕ) (fault : Option Fault)
-    (makes : Makes c s.files s.files_after bytes fault) (written : WritesAll s.out s.out_after bytes)
-    (says : TakesLine s.err s.err_after (line_text fault)) where
+    (makes : MakesOutput c s.files s.files_after bytes fault) (written : WritesAll s.out s.out_after bytes)
+    (says : TakesLine s.err s.err_after (fault_line_text fault)) where
   abbrev job_outcome : Outcome
   job_outcome = record { out = bytes; fault = fault; whole = 0 }
 

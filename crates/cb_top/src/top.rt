@@ -5,7 +5,7 @@ ghost use Rattle.cb_outcome.specs.Command.{file_words};
 ghost use Rattle.cb_outcome.specs.Clauses.{AnswersOutcome, WritesDue, KeepsQuiet, SaysStatus, ReadsInOrder, Blames, IsComplete, BoundsSteps};
 ghost use Rattle.cb_outcome.specs.Ends.{MayEnd};
 ghost use Rattle.cb_outcome.specs.Finds.{Finds};
-ghost use Rattle.cb_outcome.specs.Seen.{seen};
+ghost use Rattle.cb_outcome.specs.Seen.{seen_from};
 ghost use Rattle.cb_log_commands.specs.Ways.{Ends};
 ghost use Rattle.cb_file_kinds.specs.Ending.{wrong};
 
@@ -29,13 +29,13 @@ pub fn run<F: Files, O: Sink, E: Sink, L: Ledger>(
     steps: &mut Steps<L>,
 ) -> Status
     // What comes out. At every status but 8, 9 and 10 status, output, line and the files read are those of the outcome.
-    ensures answer { AnswersOutcome (command_in words.now) result (seen F.tells O.tells E.tells files.old files.new out.old out.new err.old err.new) }
+    ensures answer { AnswersOutcome (command_in words.now) result (seen_from F.tells O.tells E.tells files.old files.new out.old out.new err.old err.new) }
     // At each, what was written is a prefix of what was due at some point of the run.
-    ensures prefix { WritesDue (command_in words.now) (seen F.tells O.tells E.tells files.old files.new out.old out.new err.old err.new) }
+    ensures prefix { WritesDue (command_in words.now) (seen_from F.tells O.tells E.tells files.old files.new out.old out.new err.old err.new) }
     // Nothing was written at any status but 0, 6 and 9; at 7, 8 and 10 unless the run has come to a log.
-    ensures quiet { KeepsQuiet (command_in words.now) result (seen F.tells O.tells E.tells files.old files.new out.old out.new err.old err.new) }
+    ensures quiet { KeepsQuiet (command_in words.now) result (seen_from F.tells O.tells E.tells files.old files.new out.old out.new err.old err.new) }
     // The line is that of a fault of this status, which names no file but a file word; at 0 there is none.
-    ensures line { SaysStatus (command_in words.now) result (seen F.tells O.tells E.tells files.old files.new out.old out.new err.old err.new) }
+    ensures line { SaysStatus (command_in words.now) result (seen_from F.tells O.tells E.tells files.old files.new out.old out.new err.old err.new) }
 
     // Which words end how, whatever the files have: 2 comes exactly where they are none of the table, 4 only for commands with a topology, 12 only for
     // `levels`, and 13 only for `pairs`.
@@ -44,14 +44,14 @@ pub fn run<F: Files, O: Sink, E: Sink, L: Ledger>(
     ensures unread { file_words (command_in words.now) ≡ [] → files.new ≡ files.old }
 
     // What was read: files in the order of the words, each whole before the next, and no other.
-    ensures order { ReadsInOrder (command_in words.now) (seen F.tells O.tells E.tells files.old files.new out.old out.new err.old err.new) }
+    ensures order { ReadsInOrder (command_in words.now) (seen_from F.tells O.tells E.tells files.old files.new out.old out.new err.old err.new) }
     // At 8 a read of the file failed that the line names, and those before it have passed; at 9 a write failed, once all have passed, and the
     // log was read at most 65,536 bytes past the first line whose events weren't all written; at 10 in a log all was written that was due at
     // a point of it.
-    ensures fault { Blames (command_in words.now) result (seen F.tells O.tells E.tells files.old files.new out.old out.new err.old err.new) }
+    ensures fault { Blames (command_in words.now) result (seen_from F.tells O.tells E.tells files.old files.new out.old out.new err.old err.new) }
 
     // Where no read of a file word and no write fails, the run answers the outcome, or 10.
-    ensures complete { IsComplete (command_in words.now) result (seen F.tells O.tells E.tells files.old files.new out.old out.new err.old err.new) }
+    ensures complete { IsComplete (command_in words.now) result (seen_from F.tells O.tells E.tells files.old files.new out.old out.new err.old err.new) }
 
     // The headline: what `burst` prints at 0 are exactly the groups nearest to what is raised, by codes from what causes what; and
     // where no more symptoms of one group are lost or spurious than the radius says, that group alone, and it is sure. What
@@ -61,11 +61,11 @@ pub fn run<F: Files, O: Sink, E: Sink, L: Ledger>(
     // columns that they cause. What `levels` prints at 0 spells valid levels, and those that `prove` accepts are valid: they list exactly what their
     // problem causes, each node with its least number of edges. Of each window of a log that `correlate` or `decode` follows to 0 the same as of
     // `burst` is said, over the codebook in use, and each thin line names two groups that are closer than wanted, too. No distance of 1 is refused so.
-    ensures finds { Finds (command_in words.now) result (seen F.tells O.tells E.tells files.old files.new out.old out.new err.old err.new) }
+    ensures finds { Finds (command_in words.now) result (seen_from F.tells O.tells E.tells files.old files.new out.old out.new err.old err.new) }
     // No step is counted by `model`, nor where no topology results from the files; by `burst`, `matrix` and `pairs` no more than it costs to search
     // from each problem of the topology; by `correlate` and `grow` no more than that, and again after each edit of the log for the problems that it makes dirty or new, of
     // `correlate` as far as the log was read. Of the others nothing is said.
-    ensures steps { BoundsSteps (command_in words.now) (seen F.tells O.tells E.tells files.old files.new out.old out.new err.old err.new) steps.old steps.new }
+    ensures steps { BoundsSteps (command_in words.now) (seen_from F.tells O.tells E.tells files.old files.new out.old out.new err.old err.new) steps.old steps.new }
 {
     let end = answer(alloc, words, files, out, steps);
     conclude(end, err)

@@ -6,11 +6,11 @@ use Rattle.cb_model.specs.declared.id.RelId.{RelId}
 use Rattle.cb_model.specs.WellTyped.{IsRelation}
 use Rattle.cb_network.specs.declared.edit.Edit.TheVariants.{Link, Unlink, Mute, Unmute}
 use Rattle.cb_network.specs.Topology.{Topology, HasLink, IsMuted}
-use Rattle.cb_network.specs.Edits.{NamesPair, HasNamedLink, with_link, without_link, with_mute, without_mute, node_of as name_of}
+use Rattle.cb_network.specs.Edits.{NamesPair, HasNamedLink, with_link, without_link, with_mute, without_mute, node_name_of as name_of}
 use Rattle.cb_instances.specs.declared.id.InstanceId.{InstanceId}
 use Rattle.cb_instances.specs.Net.{Net, LinkAt, IsMutedAt, name_at, node_at, inverse_in, inverse_of, linked, unlinked, muted, unmuted}
-use Rattle.cb_accept.specs.Refusals.{AreEnds, IsSymptomNamed}
-use Rattle.cb_topo.specs.Made.{Rewires}
+use Rattle.cb_accept.specs.Refusals.{AreEnds, NamesSymptom}
+use Rattle.cb_topo.specs.Made.{RewiresNet}
 use Rattle.cb_topo.proofs.Named.{one_name, name_is}
 
 module _ (n : Net) (a rel b : List ℕ) (i : InstanceId) (r : RelId) (j : InstanceId)
@@ -30,7 +30,7 @@ module _ (n : Net) (a rel b : List ℕ) (i : InstanceId) (r : RelId) (j : Instan
       let to = one_name n j l.to b l.to_is are.to in
       none (r, are.at_a, subst (λ x. HasLink n.topology x r b) from (subst (λ y. HasLink n.topology l.from r y) to l.linked))
 
-  pub link_rewires : (m : Net) → m ≡ linked n i r j → Rewires n (Link a rel b) m
+  pub link_rewires : (m : Net) → m ≡ linked n i r j → RewiresNet n (Link a rel b) m
   link_rewires m is =
       let u : Topology = with_link n.topology (name_at n i) r back (name_at n j) in
       record {
@@ -47,7 +47,7 @@ module _ (n : Net) (a rel b : List ℕ) (i : InstanceId) (r : RelId) (j : Instan
         );
       }
 
-  pub unlink_rewires : (m : Net) → m ≡ unlinked n i r j → Rewires n (Unlink a rel b) m
+  pub unlink_rewires : (m : Net) → m ≡ unlinked n i r j → RewiresNet n (Unlink a rel b) m
   unlink_rewires m is =
       let u : Topology = without_link n.topology (name_at n i) r back (name_at n j) in
       record {
@@ -65,11 +65,11 @@ module _ (n : Net) (a rel b : List ℕ) (i : InstanceId) (r : RelId) (j : Instan
       }
 
 module _ (n : Net) (event name : List ℕ) (id : InstanceId) (e : EventId)
-    (are : IsSymptomNamed n event name (record { id = id; event = e })) where
+    (are : NamesSymptom n event name (record { id = id; event = e })) where
   pub not_muted : ¬ IsMuted n.topology (name_of event name) → ¬ IsMutedAt n id e
   not_muted none muted = none (subst (IsMuted n.topology) are.symptom.node muted)
 
-  pub mute_rewires : (m : Net) → m ≡ muted n id e → Rewires n (Mute event name) m
+  pub mute_rewires : (m : Net) → m ≡ muted n id e → RewiresNet n (Mute event name) m
   mute_rewires m is = record {
     links = n.topology.links;
     mutes = (with_mute n.topology (node_at n id e)).mutes;
@@ -77,7 +77,7 @@ module _ (n : Net) (event name : List ℕ) (id : InstanceId) (e : EventId)
     changes = ap (λ (k : Net). k.topology) is ∙ ap (with_mute n.topology) are.symptom.node;
   }
 
-  pub unmute_rewires : (m : Net) → m ≡ unmuted n id e → Rewires n (Unmute event name) m
+  pub unmute_rewires : (m : Net) → m ≡ unmuted n id e → RewiresNet n (Unmute event name) m
   unmute_rewires m is = record {
     links = n.topology.links;
     mutes = (without_mute n.topology (node_at n id e)).mutes;

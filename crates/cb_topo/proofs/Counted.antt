@@ -14,10 +14,10 @@ use Rattle.cb_network.proofs.Counts.{same_count}
 use Rattle.cb_network.proofs.Kept.{live_of}
 use Rattle.cb_network.proofs.Sets.{in_insert}
 use Rattle.cb_instances.specs.declared.id.InstanceId.{InstanceId}
-use Rattle.cb_instances.specs.Net.{Net, slot, IsLive, HasEventAt, IsWhole as IsWholeNet}
+use Rattle.cb_instances.specs.Net.{Net, slot, IsLiveInstance, HasEventAt, IsWholeNet}
 use Rattle.cb_nodes.specs.declared.id.NodeId.{NodeId}
 use Rattle.cb_nodes.specs.declared.node.Node.{Node}
-use Rattle.cb_nodes.specs.Table.{Table, IsNode, HasEvent as HasEventIn, IsOne, count_of}
+use Rattle.cb_nodes.specs.Table.{Table, IsNode, NumbersEvent as HasEventIn, IsOne, count_of}
 use Rattle.cb_topo.proofs.Named.{name_is, node_is, event_is, node_name, same_node}
 
 -- one for what is there
@@ -93,9 +93,9 @@ module _ {X : Type 0} (name_of : X → NodeName) where
 
 -- a table of exactly the events of live instances, each once
 module _ (net : Net) (nodes : Table) (typed : WellTyped net.topology.model) (whole : IsWholeNet net) (one : IsOne nodes)
-    (live : (id : NodeId) (node : Node) → IsNode nodes id node → IsLive net node.instance)
+    (live : (id : NodeId) (node : Node) → IsNode nodes id node → IsLiveInstance net node.instance)
     (had : (id : NodeId) (node : Node) → IsNode nodes id node → HasEventAt net node.instance node.event)
-    (all : (i : InstanceId) (e : EventId) → IsLive net i → HasEventAt net i e → HasEventIn nodes i e) where
+    (all : (i : InstanceId) (e : EventId) → IsLiveInstance net i → HasEventAt net i e → HasEventIn nodes i e) where
   apart : AreApart (node_name net) nodes
   apart i j x y at_x at_y same =
       let i' : NodeId = record { 0 = i } in

@@ -14,11 +14,11 @@ use Rattle.cb_network.specs.Edits.{with_instance, Changes, IsAccepted}
 use Rattle.cb_network.proofs.Kept.{live_of}
 use Rattle.cb_network.proofs.Sets.{got_insert}
 use Rattle.cb_instances.specs.declared.id.InstanceId.{InstanceId}
-use Rattle.cb_instances.specs.Net.{Net, slot, IsNamed, IsLive, IsFree, SetsOnly, Creates, HasEventAt, IsWhole as IsWholeNet, name_at}
+use Rattle.cb_instances.specs.Net.{Net, slot, IsNamed, IsLiveInstance, IsFree, SetsOnly, Creates, HasEventAt, IsWholeNet, name_at}
 use Rattle.cb_instances.proofs.Placing.{decide_id}
 use Rattle.cb_nodes.specs.declared.id.NodeId.{NodeId}
 use Rattle.cb_nodes.specs.declared.node.Node.{Node}
-use Rattle.cb_nodes.specs.Table.{Table, IsNode, HasEvent as HasEventIn, IsOne, Adds, count_of}
+use Rattle.cb_nodes.specs.Table.{Table, IsNode, NumbersEvent as HasEventIn, IsOne, Adds, count_of}
 use Rattle.cb_accept.proofs.Own.{event_is_listed, listed_is_event}
 use Rattle.cb_topo.specs.Applied.{KeepsInstances, KeepsNodes}
 use Rattle.cb_topo.specs.Kept.{FitsTable, IsTopologyOf}
@@ -35,9 +35,9 @@ use Rattle.std.proofs.lemmas.Option.{slice_get_within}
 use Rattle.cb_topo.proofs.Counted.{fits_count}
 use Rattle.cb_topo.proofs.Named.{name_is, one_class_of}
 
--- the net with the instance, whose names, room and next number are these
+-- the net with the instance, whose names, capacity and next number are these
 abbrev pub created : Net → List ℕ → ClassId → List (Option (List ℕ)) → ℕ → ℕ → Net
-created n name c names room next = record { topology = with_instance n.topology name c; names = names; room = room; next = next }
+created n name c names capacity next = record { topology = with_instance n.topology name c; names = names; capacity = capacity; next = next }
 
 -- of new instances, those before stay
 module _ (t : Topology) (name : List ℕ) (c : ClassId) (fresh : ¬ IsLiveName t name) where
@@ -55,10 +55,10 @@ module _ (t : Topology) (name : List ℕ) (c : ClassId) (fresh : ¬ IsLiveName t
   pub class_new : HasClass (with_instance t name c) name c
   class_new = (got_insert name_cmp_total name_cmp_exact t.instances name c name c).1 (inl (refl, refl))
 
-module _ (n : Net) (name : List ℕ) (c : ClassId) (names : List (Option (List ℕ))) (room next : ℕ) (id : InstanceId)
+module _ (n : Net) (name : List ℕ) (c : ClassId) (names : List (Option (List ℕ))) (capacity next : ℕ) (id : InstanceId)
     (old_whole : IsWholeNet n) (fresh : ¬ IsLiveName n.topology name) (free : IsFree n id) (sets : SetsOnly n.names names id (Some name)) where
   abbrev new : Net
-  new = created n name c names room next
+  new = created n name c names capacity next
 
   elsewhere : (i : InstanceId) (x : List ℕ) → IsNamed n i x → i ≢ id
   elsewhere i x is e = let f : None ≡ Some x = sym free ∙ (ap (λ (k : InstanceId). slot n.names k.0) (sym e) ∙ is) in cc
@@ -66,10 +66,10 @@ module _ (n : Net) (name : List ℕ) (c : ClassId) (names : List (Option (List �
   pub named_stays : (i : InstanceId) (x : List ℕ) → IsNamed n i x → IsNamed new i x
   named_stays i x is = sets.others i (elsewhere i x is) ∙ is
 
-  pub live_stays : (i : InstanceId) → IsLive n i → IsLive new i
+  pub live_stays : (i : InstanceId) → IsLiveInstance n i → IsLiveInstance new i
   live_stays i (x, is) = (x, named_stays i x is)
 
-  pub had_stays : (i : InstanceId) (e : EventId) → IsLive n i → HasEventAt n i e → HasEventAt new i e
+  pub had_stays : (i : InstanceId) (e : EventId) → IsLiveInstance n i → HasEventAt n i e → HasEventAt new i e
   had_stays i e (x, is) (d, of_d, has) =
       let same : name_at n i ≡ name_at new i = name_is n i x is ∙ sym (name_is new i x (named_stays i x is)) in
       (d, subst (λ q. HasClass new.topology q d) same (class_stays n.topology name c fresh (name_at n i) d of_d), has)
@@ -77,7 +77,7 @@ module _ (n : Net) (name : List ℕ) (c : ClassId) (names : List (Option (List �
   had_new : (e : EventId) → HasEvent n.topology.model c e → HasEventAt new id e
   had_new e has = (c, subst (λ q. HasClass new.topology q c) (sym (name_is new id name sets.this)) (class_new n.topology name c fresh), has)
 
-  had_before : (i : InstanceId) (e : EventId) → i ≢ id → IsLive new i → HasEventAt new i e → IsLive n i × HasEventAt n i e
+  had_before : (i : InstanceId) (e : EventId) → i ≢ id → IsLiveInstance new i → HasEventAt new i e → IsLiveInstance n i × HasEventAt n i e
   had_before i e ne (x, is) (d, of_d, has) =
       let was : IsNamed n i x = sym (sets.others i ne) ∙ is in
       let same : name_at new i ≡ name_at n i = name_is new i x is ∙ sym (name_is n i x was) in
@@ -99,7 +99,7 @@ module _ (n : Net) (name : List ℕ) (c : ClassId) (names : List (Option (List �
   module _ (ns ms : Table) (fits : FitsTable n ns) (typed : WellTyped n.topology.model) (whole : IsWholeNet new) (one : IsOne ms)
       (events : List EventId) (are : AreEventsOf n.topology.model c events) (adds : Adds ns ms id events)
       (not_beyond : ¬ IsBeyond (IsNodeOf new.topology) node_limit) where
-    live : (k : NodeId) (node : Node) → IsNode ms k node → IsLive new node.instance
+    live : (k : NodeId) (node : Node) → IsNode ms k node → IsLiveInstance new node.instance
     live k node is = elim (adds.each k node is) [
       | inl was ↦ live_stays node.instance (fits.live k node was)
       | inr now ↦ (name, subst (λ i. IsNamed new i name) (sym now.0) sets.this)
@@ -111,7 +111,7 @@ module _ (n : Net) (name : List ℕ) (c : ClassId) (names : List (Option (List �
       | inr now ↦ subst (λ i. HasEventAt new i node.event) (sym now.0) (had_new node.event (listed_is_event n.topology.model c events are node.event now.1))
     ]
 
-    all : (i : InstanceId) (e : EventId) → IsLive new i → HasEventAt new i e → HasEventIn ms i e
+    all : (i : InstanceId) (e : EventId) → IsLiveInstance new i → HasEventAt new i e → HasEventIn ms i e
     all i e live_i has = elim (decide_id i id) [
       | inl same ↦
           let has_id = events_of_new e (subst (λ k. HasEventAt new k e) same has) in
@@ -134,9 +134,9 @@ module _ (n : Net) (name : List ℕ) (c : ClassId) (names : List (Option (List �
           | inr (inr above) ↦ absurd (not_beyond (count_of ms, count, above))
         ] in
         let more = adds.count in
-        let room = adds.room in
+        let capacity = adds.capacity in
         let before = fits.few in
-        limited (length ms) (length ns) (count_of ns + length events) node_limit room before (omega arith)
+        limited (length ms) (length ns) (count_of ns + length events) node_limit capacity before (omega arith)
       where
         limited : (m a b limit : ℕ) → m ≡ max a b → a ≤ limit → b ≤ limit → m ≤ limit
         limited m a b limit is low_a low_b = omega arith
@@ -162,22 +162,22 @@ pub create_makes : (n m : Net) (ns ms : Table) (counts counts' : NodeCounts) (na
     → Creates n m id name c → AddsAll n c ns ms id → IsWholeNet m → IsOne ms → CountWith n.topology.model counts c counts'
     → Makes n ns (Create name class) m ms counts'
 create_makes n m ns ms counts counts' name class c id kept good accepted named creates (events, are, adds) whole one with =
-    let v : Net = created n name c m.names m.room m.next in
+    let v : Net = created n name c m.names m.capacity m.next in
     let made = creates.made in
-    let same : m ≡ v = λ i. record { topology = made i; names = m.names; room = m.room; next = m.next } in
+    let same : m ≡ v = λ i. record { topology = made i; names = m.names; capacity = m.capacity; next = m.next } in
     let fresh = accepted Exists in
     let changes : Changes n.topology (Create name class) v.topology = (c, named, refl) in
     let regular = typed_is_regular n.topology.model kept.typed in
     let new_whole = subst IsWholeNet same whole in
-    let fits = created_fits n name c m.names m.room m.next id kept.whole fresh creates.free creates.named ns ms kept.table kept.typed new_whole one events are adds
+    let fits = created_fits n name c m.names m.capacity m.next id kept.whole fresh creates.free creates.named ns ms kept.table kept.typed new_whole one events are adds
     (λ many. accepted NodeLimit (v.topology, changes, many)) in
     let all : Makes n ns (Create name class) v ms counts' = record {
       applies = record {
         after = (accepted, changes);
-        instances = keeps_instances n name c m.names m.room m.next id kept.whole fresh creates.free creates.named ns ms;
-        nodes = keeps_nodes n name c m.names m.room m.next id kept.whole fresh creates.free creates.named ns ms events adds;
-        node_room = (c, events, named, are, adds.room);
-        instance_room = creates.room;
+        instances = keeps_instances n name c m.names m.capacity m.next id kept.whole fresh creates.free creates.named ns ms;
+        nodes = keeps_nodes n name c m.names m.capacity m.next id kept.whole fresh creates.free creates.named ns ms events adds;
+        node_capacity = (c, events, named, are, adds.capacity);
+        instance_capacity = creates.capacity;
       };
       kept = record {
         sound = edit_keeps_sound n.topology v.topology (Create name class) regular good kept.sound (accepted, changes);

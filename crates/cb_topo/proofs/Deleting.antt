@@ -11,10 +11,10 @@ use Rattle.cb_network.specs.Sound.{node_limit}
 use Rattle.cb_network.proofs.Kept.{class_of}
 use Rattle.cb_network.proofs.Sets.{got_remove}
 use Rattle.cb_instances.specs.declared.id.InstanceId.{InstanceId}
-use Rattle.cb_instances.specs.Net.{Net, slot, IsNamed, IsLive, HasEventAt, IsWhole as IsWholeNet, name_at, without}
+use Rattle.cb_instances.specs.Net.{Net, slot, IsNamed, IsLiveInstance, HasEventAt, IsWholeNet, name_at, net_without}
 use Rattle.cb_nodes.specs.declared.id.NodeId.{NodeId}
 use Rattle.cb_nodes.specs.declared.node.Node.{Node}
-use Rattle.cb_nodes.specs.Table.{Table, IsNode, HasEvent as HasEventIn, IsOne, Removes}
+use Rattle.cb_nodes.specs.Table.{Table, IsNode, NumbersEvent as HasEventIn, IsOne, Removes}
 use Rattle.cb_topo.specs.Applied.{KeepsInstances, KeepsNodes}
 use Rattle.cb_topo.specs.Kept.{FitsTable, IsTopologyOf}
 use Rattle.cb_topo.specs.Made.{Makes}
@@ -39,9 +39,9 @@ module _ (t : Topology) (name : List ℕ) where
   pub class_was : (q : List ℕ) (d : ClassId) → HasClass (without_instance t name) q d → (q ≢ name) × HasClass t q d
   class_was q d is = (got_remove name_cmp_total name_cmp_exact t.instances name q d).0 is
 
-module _ (n : Net) (id : InstanceId) (here : IsLive n id) (whole : IsWholeNet n) where
+module _ (n : Net) (id : InstanceId) (here : IsLiveInstance n id) (whole : IsWholeNet n) where
   abbrev new : Net
-  new = without n id
+  new = net_without n id
 
   abbrev gone : List ℕ
   gone = name_at n id
@@ -63,14 +63,14 @@ module _ (n : Net) (id : InstanceId) (here : IsLive n id) (whole : IsWholeNet n)
   other_id : (i : InstanceId) (x : List ℕ) → x ≢ gone → IsNamed n i x → i ≢ id
   other_id i x other is e = other (sym (name_is n i x is) ∙ ap (name_at n) e)
 
-  had_stays : (i : InstanceId) (e : EventId) → i ≢ id → IsLive n i → HasEventAt n i e → HasEventAt new i e
+  had_stays : (i : InstanceId) (e : EventId) → i ≢ id → IsLiveInstance n i → HasEventAt n i e → HasEventAt new i e
   had_stays i e other (x, is) (d, of_d, has) =
       let was : name_at n i ≡ x = name_is n i x is in
       let now : name_at new i ≡ x = name_is new i x (named_stays i x other is) in
       let left = class_left n.topology gone x d (other_name i x other is) (subst (λ q. HasClass n.topology q d) was of_d) in
       (d, subst (λ q. HasClass new.topology q d) (sym now) left, has)
 
-  had_was : (i : InstanceId) (e : EventId) → IsLive new i → HasEventAt new i e → IsLive n i × HasEventAt n i e
+  had_was : (i : InstanceId) (e : EventId) → IsLiveInstance new i → HasEventAt new i e → IsLiveInstance n i × HasEventAt n i e
   had_was i e (x, is) (d, of_d, has) =
       let was = named_was i x is in
       let now : name_at new i ≡ x = name_is new i x is in
@@ -82,7 +82,7 @@ module _ (n : Net) (id : InstanceId) (here : IsLive n id) (whole : IsWholeNet n)
     one : IsOne ms
     one i j node at_i at_j = fits.one i j node ((removes.each i node).0 at_i).0 ((removes.each j node).0 at_j).0
 
-    live : (k : NodeId) (node : Node) → IsNode ms k node → IsLive new node.instance
+    live : (k : NodeId) (node : Node) → IsNode ms k node → IsLiveInstance new node.instance
     live k node is =
         let was = (removes.each k node).0 is in
         let (x, named) = fits.live k node was.0 in
@@ -93,14 +93,14 @@ module _ (n : Net) (id : InstanceId) (here : IsLive n id) (whole : IsWholeNet n)
         let was = (removes.each k node).0 is in
         had_stays node.instance node.event was.1 (fits.live k node was.0) (fits.had k node was.0)
 
-    all : (i : InstanceId) (e : EventId) → IsLive new i → HasEventAt new i e → HasEventIn ms i e
+    all : (i : InstanceId) (e : EventId) → IsLiveInstance new i → HasEventAt new i e → HasEventIn ms i e
     all i e (x, is) has =
         let was = had_was i e (x, is) has in
         let (k, node) = fits.all i e was.0 was.1 in
         (k, (removes.each k _).1 (node, (named_was i x is).0))
 
     few : length ms ≤ node_limit
-    few = let before = fits.few in let same = removes.room in omega arith
+    few = let before = fits.few in let same = removes.capacity in omega arith
 
     pub deleted_fits : FitsTable new ms
     deleted_fits = record { one = one; live = live; had = had; all = all; few = few }
@@ -123,11 +123,11 @@ module _ (n : Net) (id : InstanceId) (here : IsLive n id) (whole : IsWholeNet n)
 
 -- an accepted delete is made on the whole
 pub delete_makes : (n m : Net) (ns ms : Table) (counts counts' : NodeCounts) (name : List ℕ) (c : ClassId) (id : InstanceId)
-    → IsTopologyOf n ns counts → IsAccepted n.topology (Delete name) → IsNamed n id name → HasClass n.topology name c → m ≡ without n id
+    → IsTopologyOf n ns counts → IsAccepted n.topology (Delete name) → IsNamed n id name → HasClass n.topology name c → m ≡ net_without n id
     → Removes ns ms id → IsWholeNet m → CountWithout n.topology.model counts c counts' → Makes n ns (Delete name) m ms counts'
 delete_makes n m ns ms counts counts' name c id kept accepted named of_class same removes whole less =
-    let v : Net = without n id in
-    let here : IsLive n id = (name, named) in
+    let v : Net = net_without n id in
+    let here : IsLiveInstance n id = (name, named) in
     let is : name_at n id ≡ name = name_is n id name named in
     let changes : Changes n.topology (Delete name) v.topology = ap (without_instance n.topology) is in
     let regular = typed_is_regular n.topology.model kept.typed in
@@ -137,8 +137,8 @@ delete_makes n m ns ms counts counts' name c id kept accepted named of_class sam
         after = (accepted, changes);
         instances = keeps_instances n id here kept.whole ns ms;
         nodes = keeps_nodes n id here kept.whole ns ms removes;
-        node_room = removes.room;
-        instance_room = refl;
+        node_capacity = removes.capacity;
+        instance_capacity = refl;
       };
       kept = record {
         sound = edit_keeps_sound n.topology v.topology (Delete name) regular tt kept.sound (accepted, changes);

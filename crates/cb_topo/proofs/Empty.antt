@@ -12,10 +12,10 @@ use Rattle.cb_network.specs.Edits.{link_of}
 use Rattle.cb_network.proofs.Accepted.{empty_is_sound}
 use Rattle.cb_network.proofs.Kept.{class_of}
 use Rattle.cb_instances.specs.declared.id.InstanceId.{InstanceId}
-use Rattle.cb_instances.specs.Net.{Net, empty_net, IsLive, HasEventAt, IsWhole as IsWholeNet}
+use Rattle.cb_instances.specs.Net.{Net, empty_net, IsLiveInstance, HasEventAt, IsWholeNet}
 use Rattle.cb_nodes.specs.declared.id.NodeId.{NodeId}
 use Rattle.cb_nodes.specs.declared.node.Node.{Node}
-use Rattle.cb_nodes.specs.Table.{Table, IsNode, HasEvent as HasEventIn, IsOne}
+use Rattle.cb_nodes.specs.Table.{Table, IsNode, NumbersEvent as HasEventIn, IsOne}
 use Rattle.cb_accept.specs.declared.counts.NodeCounts.{NodeCounts}
 use Rattle.cb_accept.specs.Counts.{AreCounts}
 use Rattle.cb_topo.specs.Kept.{IsTopologyOf}
@@ -41,13 +41,13 @@ module _ (tables : Tables) (typed : WellTyped tables) where
   one : IsOne nodes
   one i j node is is' = absurd (cc)
 
-  live : (id : NodeId) (node : Node) → IsNode nodes id node → IsLive net node.instance
+  live : (id : NodeId) (node : Node) → IsNode nodes id node → IsLiveInstance net node.instance
   live id node is = absurd (cc)
 
   had : (id : NodeId) (node : Node) → IsNode nodes id node → HasEventAt net node.instance node.event
   had id node is = absurd (cc)
 
-  all : (i : InstanceId) (e : EventId) → IsLive net i → HasEventAt net i e → HasEventIn nodes i e
+  all : (i : InstanceId) (e : EventId) → IsLiveInstance net i → HasEventAt net i e → HasEventIn nodes i e
   all i e (name, is) has = absurd (cc)
 
   pub empty_kept : (counts : NodeCounts) → AreCounts net.topology counts → IsTopologyOf net nodes counts

@@ -14,7 +14,7 @@ use Rattle.std.specs.declared.cmp.Ordering.TheVariants.{Less}
 use Rattle.cb_network.specs.declared.edit.Edit.{Edit}
 use Rattle.cb_network.specs.declared.edit.Edit.TheVariants.{Create, Delete, Link, Unlink, Mute, Unmute}
 use Rattle.cb_network.specs.declared.edit.EditRefusal.TheVariants.{Exists}
-use Rattle.cb_network.specs.Edits.{with_link, without_link, with_mute, without_mute, node_of}
+use Rattle.cb_network.specs.Edits.{with_link, without_link, with_mute, without_mute, node_name_of}
 use Rattle.cb_network.specs.Nodes.{IsNodeOf}
 use Rattle.cb_network.specs.Topology.{IsLive as IsLiveName}
 use Rattle.cb_network.proofs.Counts.{nodes_are}
@@ -28,7 +28,7 @@ use Rattle.cb_nodes.specs.declared.node.Node.{Node}
 use Rattle.cb_nodes.specs.Table.{Table, IsNode, HasNumber}
 use Rattle.cb_topo.specs.Applied.{Applies}
 use Rattle.cb_topo.specs.Numbered.{Numbered, topology_of, IsNodeNamed, IsLiveNode, IsWhole}
-use Rattle.cb_topo.specs.Settled.{IsBefore, AreRising, IsSettled, IsAt, has_node, LacksInstance, MayBeGone, PutsIn, WereSettled, IsOrderOf, WasOrderOf}
+use Rattle.cb_topo.specs.Settled.{IsBefore, AreRisingNodes, IsSettled, IsAt, has_node, LacksInstance, MayBeGone, PutsIn, WereSettled, IsSettledOrder, WasOrderOf}
 use Rattle.cb_topo.proofs.Creating.{class_stays, class_before}
 use Rattle.cb_topo.proofs.Deleting.{class_was}
 use Rattle.cb_topo.proofs.Named.{one_name as one_instance_name}
@@ -84,14 +84,14 @@ rewired_settled new (Mute event name) ids were no_create no_delete =
     let t = topology_of were.old in
     let is = were.applies.after.1 in
     stays_settled were.old new (Mute event name) ids were.old_whole were.whole were.settled were.applies
-    (λ x at. (nodes_are t x).1 ((nodes_are (with_mute t (node_of event name)) x).0 (subst (λ v. IsNodeOf v x) is at)))
-    (λ x at. subst (λ v. IsNodeOf v x) (sym is) ((nodes_are (with_mute t (node_of event name)) x).1 ((nodes_are t x).0 at)))
+    (λ x at. (nodes_are t x).1 ((nodes_are (with_mute t (node_name_of event name)) x).0 (subst (λ v. IsNodeOf v x) is at)))
+    (λ x at. subst (λ v. IsNodeOf v x) (sym is) ((nodes_are (with_mute t (node_name_of event name)) x).1 ((nodes_are t x).0 at)))
 rewired_settled new (Unmute event name) ids were no_create no_delete =
     let t = topology_of were.old in
     let is = were.applies.after.1 in
     stays_settled were.old new (Unmute event name) ids were.old_whole were.whole were.settled were.applies
-    (λ x at. (nodes_are t x).1 ((nodes_are (without_mute t (node_of event name)) x).0 (subst (λ v. IsNodeOf v x) is at)))
-    (λ x at. subst (λ v. IsNodeOf v x) (sym is) ((nodes_are (without_mute t (node_of event name)) x).1 ((nodes_are t x).0 at)))
+    (λ x at. (nodes_are t x).1 ((nodes_are (without_mute t (node_name_of event name)) x).0 (subst (λ v. IsNodeOf v x) is at)))
+    (λ x at. subst (λ v. IsNodeOf v x) (sym is) ((nodes_are (without_mute t (node_name_of event name)) x).1 ((nodes_are t x).0 at)))
 
 -- a deletion
 pub deleted_may_be_gone : (new : Numbered) (name : List ℕ) (ids : List NodeId) → WereSettled new (Delete name) ids → MayBeGone new ids
@@ -179,7 +179,7 @@ gone_settled n ids whole may = record {
 
 -- the nodes of the instance whose numbers are below k were put in
 pub record IsPartly (n : Numbered) (i : InstanceId) (k : ℕ) (ids : List NodeId) : Type 0 where
-  pub rising : AreRising n ids
+  pub rising : AreRisingNodes n ids
   pub later : (id : NodeId) → IsAt n i id → k ≤ id.0 → ¬ Contains ids id
   pub all : (id : NodeId) → IsLiveNode n id → Contains ids id ⊎ (IsAt n i id × (k ≤ id.0))
 
@@ -246,6 +246,6 @@ module _ (n : Numbered) (i : InstanceId) where
   }
 
 -- what is known of nodes in order, once an edit is made
-pub were_order : (old new : Numbered) (edit : Edit) (order : Option (Vec NodeId Global)) → IsWhole old → IsWhole new → Applies old edit new → IsOrderOf old order → WasOrderOf new edit order
+pub were_order : (old new : Numbered) (edit : Edit) (order : Option (Vec NodeId Global)) → IsWhole old → IsWhole new → Applies old edit new → IsSettledOrder old order → WasOrderOf new edit order
 were_order old new edit None old_whole whole applies is = tt
 were_order old new edit (Some order) old_whole whole applies is = record { old = old; old_whole = old_whole; whole = whole; settled = is; applies = applies }

@@ -10,7 +10,7 @@ pub mod Empty
 pub mod Naming
 pub mod Sorting
 pub mod Listing
-pub mod Rooms
-pub mod OneRoom
+pub mod Capacities
+pub mod OneCapacity
 pub mod Rising
 pub mod Following

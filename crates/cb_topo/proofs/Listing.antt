@@ -20,7 +20,7 @@ use Rattle.cb_topo.specs.declared.kind.NodeKind.{NodeKind}
 use Rattle.cb_topo.specs.declared.kind.NodeKind.TheVariants.{Column, Problem, Any}
 use Rattle.cb_topo.specs.declared.order.NamedNode.{NamedNode}
 use Rattle.cb_topo.specs.Numbered.{Numbered, topology_of, IsNodeNamed, AreNamed, IsWhole}
-use Rattle.cb_topo.specs.Ordered.{IsOfKind, AreOfKind, called, number}
+use Rattle.cb_topo.specs.Ordered.{IsOfKind, AreOfKind, called, node_number}
 use Rattle.cb_topo.proofs.Naming.{one_name}
 use Rattle.cb_topo.proofs.Sorting.{rises_sorted}
 
@@ -67,9 +67,9 @@ module _ (n : Numbered) (kind : NodeKind) (k : ℕ) (old : List NamedNode) (are 
     unlike_more : AllPairs (λ a b. called a ≢ called b) (old ++ one ∷ [])
     unlike_more = all_pairs_push (λ a b. called a ≢ called b) old one are.unlike (λ i d lt same.
         let was = slice_index_or old i d in
-        let number = whole.one was.node one.node (called one) (subst (IsNodeNamed n was.node) same (are.named i d lt)) named in
+        let node_number = whole.one was.node one.node (called one) (subst (IsNodeNamed n was.node) same (are.named i d lt)) named in
         let low = are.below i d lt in
-        let equal = ap (λ (id : NodeId). id.0) number in
+        let equal = ap (λ (id : NodeId). id.0) node_number in
         omega arith)
 
     has_all : (name : NodeName) (id : NodeId) → id.0 < k + 1 → IsNodeNamed n id name → IsOfKind kind (topology_of n) name → Contains (map called old ++ called one ∷ []) name
@@ -108,7 +108,7 @@ below_all n kind k nodes whole below are = record {
       are.all name id (below id named.node named.is) named is;
 }
 
-zipped : (n : Numbered) (nodes : List NamedNode) → All (λ one. IsNodeNamed n one.node (called one)) nodes → AreNamed n (map number nodes) (map called nodes)
+zipped : (n : Numbered) (nodes : List NamedNode) → All (λ one. IsNodeNamed n one.node (called one)) nodes → AreNamed n (map node_number nodes) (map called nodes)
 zipped n [] all = tt
 zipped n (one ∷ nodes) all =
     let P : NamedNode → Type 0 = λ one. IsNodeNamed n one.node (called one) in
@@ -125,5 +125,5 @@ module _ (n : Numbered) (kind : NodeKind) (found nodes : List NamedNode) (are : 
         all = λ name is. Contains-permutation (map called found) (map called nodes) name (IsPermutation-map called found nodes moved) (are.all name is);
       }
 
-  pub numbers_are : AreNamed n (map number nodes) (map called nodes)
+  pub numbers_are : AreNamed n (map node_number nodes) (map called nodes)
   numbers_are = zipped n nodes (All-permutation (λ (one : NamedNode). IsNodeNamed n one.node (called one)) found nodes moved are.named)

@@ -8,9 +8,9 @@ use Rattle.cb_model.specs.Classes.{HasEvent, NamesEvent}
 use Rattle.cb_model.specs.WellTyped.{WellTyped}
 use Rattle.cb_network.specs.Topology.{Topology, HasClass}
 use Rattle.cb_network.specs.Nodes.{IsEventAt}
-use Rattle.cb_network.specs.Edits.{node_of as name_of}
+use Rattle.cb_network.specs.Edits.{node_name_of as name_of}
 use Rattle.cb_instances.specs.declared.id.InstanceId.{InstanceId}
-use Rattle.cb_instances.specs.Net.{Net, IsNamed, IsLive, HasEventAt, IsWhole as IsWholeNet, name_or, name_at, name_in_row, event_name}
+use Rattle.cb_instances.specs.Net.{Net, IsNamed, IsLiveInstance, HasEventAt, IsWholeNet, name_or, name_at, name_in_row, event_name}
 use Rattle.cb_nodes.specs.declared.node.Node.{Node}
 use Rattle.cb_accept.proofs.Members.{one_event}
 
@@ -22,7 +22,7 @@ pub one_name : (net : Net) (id : InstanceId) (x y : List ℕ) → IsNamed net id
 one_name net id x y a b = sym (name_is net id x a) ∙ name_is net id y b
 
 -- a live number has the name that is seen there
-pub named_at : (net : Net) (id : InstanceId) → IsLive net id → IsNamed net id (name_at net id)
+pub named_at : (net : Net) (id : InstanceId) → IsLiveInstance net id → IsNamed net id (name_at net id)
 named_at net id (name, is) = subst (IsNamed net id) (sym (name_is net id name is)) is
 
 pub event_name_is : (tables : Tables) (c : ClassId) (e : EventId) (has : HasEvent tables c e) → event_name tables e ≡ has.row.name
@@ -53,7 +53,7 @@ abbrev pub node_name : Net → Node → NodeName
 node_name net node = name_of (event_name net.topology.model node.event) (name_at net node.instance)
 
 -- nodes of live instances that have one name are one
-pub same_node : (net : Net) → WellTyped net.topology.model → IsWholeNet net → (x y : Node) → IsLive net x.instance → IsLive net y.instance
+pub same_node : (net : Net) → WellTyped net.topology.model → IsWholeNet net → (x y : Node) → IsLiveInstance net x.instance → IsLiveInstance net y.instance
     → HasEventAt net x.instance x.event → HasEventAt net y.instance y.event → node_name net x ≡ node_name net y → x ≡ y
 same_node net typed whole x y live_x live_y (c, of_c, has_x) (d, of_d, has_y) same =
     let tables : Tables = net.topology.model in

@@ -8,13 +8,13 @@ use Rattle.cb_model.specs.declared.id.EventId.{EventId}
 use Rattle.cb_model.specs.declared.node.NodeName.{NodeName}
 use Rattle.cb_model.specs.declared.tables.EventRow.{EventRow}
 use Rattle.cb_model.specs.declared.tables.Tables.{Tables}
-use Rattle.cb_network.specs.Edits.{node_of as name_of}
+use Rattle.cb_network.specs.Edits.{node_name_of as name_of}
 use Rattle.cb_network.specs.Nodes.{IsNodeOf, IsEventAt, IsProblem, IsSymptomNode}
 use Rattle.cb_network.specs.Topology.{Topology, HasClass}
 use Rattle.cb_network.proofs.Counts.{Kind, IsAt, of_problems, of_symptoms, problems_are, symptoms_are}
 use Rattle.cb_network.proofs.Kept.{live_of}
 use Rattle.cb_instances.specs.declared.id.InstanceId.{InstanceId}
-use Rattle.cb_instances.specs.Net.{Net, IsNamed, IsLive, HasEventAt, name_at, name_or, name_in_row, node_at, event_name}
+use Rattle.cb_instances.specs.Net.{Net, IsNamed, IsLiveInstance, HasEventAt, name_at, name_or, name_in_row, node_at, event_name}
 use Rattle.cb_instances.proofs.Muting.{event_reported}
 use Rattle.cb_instances.proofs.Showing.{same_inside}
 use Rattle.cb_nodes.specs.declared.id.NodeId.{NodeId}
@@ -34,7 +34,7 @@ pub name_is : (net : Net) (i : InstanceId) (name : List ℕ) → IsNamed net i n
 name_is net i name is = ap name_or is
 
 -- a live instance has the name at its number
-pub is_named : (net : Net) (i : InstanceId) → IsLive net i → IsNamed net i (name_at net i)
+pub is_named : (net : Net) (i : InstanceId) → IsLiveInstance net i → IsNamed net i (name_at net i)
 is_named net i (name, is) = is ∙ ap Some (sym (name_is net i name is))
 
 -- the name of an event is that in its row

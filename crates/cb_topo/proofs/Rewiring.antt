@@ -12,13 +12,13 @@ use Rattle.cb_network.specs.Edits.{Changes, IsAccepted}
 use Rattle.cb_network.proofs.Accepted.{edit_keeps_sound}
 use Rattle.cb_network.proofs.Counts.{nodes_are, problems_are, symptoms_are, same_count}
 use Rattle.cb_network.proofs.Kept.{live_of}
-use Rattle.cb_instances.specs.Net.{Net, IsWhole as IsWholeNet}
+use Rattle.cb_instances.specs.Net.{Net, IsWholeNet}
 use Rattle.cb_nodes.specs.Table.{Table}
 use Rattle.cb_accept.specs.declared.counts.NodeCounts.{NodeCounts}
 use Rattle.cb_accept.specs.Counts.{AreCounts}
-use Rattle.cb_topo.specs.Applied.{IsNodeRoomAfter, IsInstanceRoomAfter}
+use Rattle.cb_topo.specs.Applied.{IsNodeCapacityAfter, IsInstanceCapacityAfter}
 use Rattle.cb_topo.specs.Kept.{IsTopologyOf, FitsTable}
-use Rattle.cb_topo.specs.Made.{Makes, Rewires, rewired}
+use Rattle.cb_topo.specs.Made.{Makes, RewiresNet, rewired}
 use Rattle.cb_network.proofs.Typed.{typed_is_regular}
 
 module _ (n : Net) (links : set.FinSet link_cmp) (mutes : set.FinSet node_cmp) where
@@ -83,25 +83,25 @@ module _ (n : Net) (links : set.FinSet link_cmp) (mutes : set.FinSet node_cmp) w
 
   -- an edit of links and mutes alone is made on the whole
   pub rewired_makes : (nodes : Table) (counts : NodeCounts) (edit : Edit) → IsTopologyOf n nodes counts → HasGoodName edit
-      → IsAccepted n.topology edit → IsNodeRoomAfter (record { net = n; nodes = nodes }) edit (length nodes) → IsInstanceRoomAfter (record { net = n; nodes = nodes }) edit n.room
+      → IsAccepted n.topology edit → IsNodeCapacityAfter (record { net = n; nodes = nodes }) edit (length nodes) → IsInstanceCapacityAfter (record { net = n; nodes = nodes }) edit n.capacity
       → Changes n.topology edit new.topology → Makes n nodes edit new nodes counts
-  rewired_makes nodes counts edit kept good accepted room above changes =
+  rewired_makes nodes counts edit kept good accepted capacity above changes =
       let sound = edit_keeps_sound n.topology new.topology edit (typed_is_regular n.topology.model kept.typed) good kept.sound (accepted, changes) in
       record {
         applies = record {
           after = (accepted, changes);
           instances = λ i x is live. is;
           nodes = λ k q named is_node. record { node = named.node; is = named.is; instance = named.instance; event = named.event };
-          node_room = room;
-          instance_room = above;
+          node_capacity = capacity;
+          instance_capacity = above;
         };
         kept = rewired_kept nodes counts kept sound;
       }
 
 pub rewires_makes : (n m : Net) (nodes : Table) (counts : NodeCounts) (edit : Edit) → IsTopologyOf n nodes counts → HasGoodName edit
-    → IsAccepted n.topology edit → IsNodeRoomAfter (record { net = n; nodes = nodes }) edit (length nodes) → IsInstanceRoomAfter (record { net = n; nodes = nodes }) edit n.room
-    → Rewires n edit m → Makes n nodes edit m nodes counts
-rewires_makes n m nodes counts edit kept good accepted room above rewires =
+    → IsAccepted n.topology edit → IsNodeCapacityAfter (record { net = n; nodes = nodes }) edit (length nodes) → IsInstanceCapacityAfter (record { net = n; nodes = nodes }) edit n.capacity
+    → RewiresNet n edit m → Makes n nodes edit m nodes counts
+rewires_makes n m nodes counts edit kept good accepted capacity above rewires =
     let changes = subst (λ (k : Net). Changes n.topology edit k.topology) rewires.is rewires.changes in
     subst (λ k. Makes n nodes edit k nodes counts) (sym rewires.is)
-    (rewired_makes n rewires.links rewires.mutes nodes counts edit kept good accepted room above changes)
+    (rewired_makes n rewires.links rewires.mutes nodes counts edit kept good accepted capacity above changes)

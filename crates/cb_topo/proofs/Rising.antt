@@ -17,7 +17,7 @@ use Rattle.cb_nodes.specs.declared.id.NodeId.{NodeId}
 use Rattle.cb_topo.specs.declared.kind.NodeKind.{NodeKind}
 use Rattle.cb_topo.specs.Numbered.{Numbered, topology_of, IsNodeNamed, IsLiveNode, AreNamed, IsWhole}
 use Rattle.cb_topo.specs.Ordered.{IsOfKind}
-use Rattle.cb_topo.specs.Settled.{IsBefore, AreRising, IsSettled, PutsIn}
+use Rattle.cb_topo.specs.Settled.{IsBefore, AreRisingNodes, IsSettled, PutsIn}
 use Rattle.cb_topo.proofs.Naming.{one_name}
 use Rattle.cb_topo.proofs.Listing.{of_topology}
 
@@ -106,7 +106,7 @@ module _ (n : Numbered) (whole : IsWhole n) where
       ] refl
 
   -- a node that is put where the first of those stands that aren't before it
-  pub puts_in : (order : List NodeId) (p : ℕ) (id : NodeId) → AreRising n order → IsLiveNode n id → ¬ Contains order id → p ≤ length order
+  pub puts_in : (order : List NodeId) (p : ℕ) (id : NodeId) → AreRisingNodes n order → IsLiveNode n id → ¬ Contains order id → p ≤ length order
       → IsPartitionPoint (λ other. IsBefore n other id) (λ other. ¬ IsBefore n other id) order p → PutsIn n order (insert order p id) id
   puts_in order p id rising live new within point = record {
     rising = record {
@@ -170,7 +170,7 @@ names_of n (id ∷ ids) all =
 
 -- these are those of the kind among the nodes that were taken
 pub record ArePicked (n : Numbered) (kind : NodeKind) (taken nodes : List NodeId) : Type 0 where
-  pub rising : AreRising n nodes
+  pub rising : AreRisingNodes n nodes
   pub among : All (Contains taken) nodes
   pub each : All (λ id. (x : NodeName) → IsNodeNamed n id x → IsOfKind kind (topology_of n) x) nodes
   pub all : (id : NodeId) (x : NodeName) → Contains taken id → IsNodeNamed n id x → IsOfKind kind (topology_of n) x → Contains nodes id
@@ -245,7 +245,7 @@ before_next R xs i d pairs within x (k, lt, e) =
     subst (R x) (get_or_default xs i x d within) (subst (λ y. R y (slice_index_or xs i x)) (sym (get_or-take i xs k x low) ∙ e) (pairs k i x low within))
 
 -- a search by halves
-module _ (n : Numbered) (order : List NodeId) (rising : AreRising n order) (id : NodeId) (m : ℕ) (zero : NodeId) (within : m < length order) where
+module _ (n : Numbered) (order : List NodeId) (rising : AreRisingNodes n order) (id : NodeId) (m : ℕ) (zero : NodeId) (within : m < length order) where
   pub low_half : IsBefore n (slice_index_or order m zero) id → AllWithin (λ other. IsBefore n other id) order 0 (m + 1)
   low_half is k d _ lt =
       let here = subst (λ other. IsBefore n other id) (get_or_default order m zero d within) is in

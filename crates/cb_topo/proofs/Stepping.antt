@@ -11,7 +11,7 @@ use Rattle.cb_network.specs.declared.edit.EditRefusal.TheVariants.{Linked, Alrea
 use Rattle.cb_network.specs.Edits.{IsAccepted}
 use Rattle.cb_network.specs.Laws.{HasGoodName}
 use Rattle.cb_instances.specs.declared.id.InstanceId.{InstanceId}
-use Rattle.cb_instances.specs.Net.{Net, IsLive, LinkAt, HasEventAt, IsMutedAt, name_at, linked, unlinked, muted, unmuted}
+use Rattle.cb_instances.specs.Net.{Net, IsLiveInstance, LinkAt, HasEventAt, IsMutedAt, name_at, linked, unlinked, muted, unmuted}
 use Rattle.cb_nodes.specs.Table.{Table}
 use Rattle.cb_accept.specs.declared.counts.NodeCounts.{NodeCounts}
 use Rattle.cb_accept.specs.declared.step.Step.TheVariants as step
@@ -29,14 +29,14 @@ create_step n (Create name class) c named = (name, class, refl, named)
 create_step n edit c is = absurd is
 
 -- a step that deletes is that of the edit that deletes the instance by its name
-pub delete_step : (n : Net) (edit : Edit) (id : InstanceId) → IsStepOf n edit (step.Delete id) → IsLive n id × (edit ≡ Delete (name_at n id))
+pub delete_step : (n : Net) (edit : Edit) (id : InstanceId) → IsStepOf n edit (step.Delete id) → IsLiveInstance n id × (edit ≡ Delete (name_at n id))
 delete_step n (Delete name) id named = ((name, named), ap Delete (sym (name_is n id name named)))
 delete_step n edit id is = absurd is
 
 -- the ends of a link are there, and the relation
 pub record IsLinkable (n : Net) (i : InstanceId) (r : RelId) (j : InstanceId) : Type 0 where
-  pub from : IsLive n i
-  pub to : IsLive n j
+  pub from : IsLiveInstance n i
+  pub to : IsLiveInstance n j
   pub rel : IsRelation n.topology.model r
 
 module _ (n : Net) (i : InstanceId) (r : RelId) (j : InstanceId) where
@@ -64,11 +64,11 @@ module _ (n : Net) (i : InstanceId) (r : RelId) (j : InstanceId) where
     unlink_makes edit good accepted other is = absurd other
 
 module _ (n : Net) (id : InstanceId) (e : EventId) where
-  pub mutable : (edit : Edit) → IsStepOf n edit (step.Mute id e) → IsLive n id × HasEventAt n id e
+  pub mutable : (edit : Edit) → IsStepOf n edit (step.Mute id e) → IsLiveInstance n id × HasEventAt n id e
   mutable (Mute event name) are = ((name, are.named), are.symptom.has)
   mutable edit is = absurd is
 
-  pub unmutable : (edit : Edit) → IsStepOf n edit (step.Unmute id e) → IsLive n id × HasEventAt n id e
+  pub unmutable : (edit : Edit) → IsStepOf n edit (step.Unmute id e) → IsLiveInstance n id × HasEventAt n id e
   unmutable (Unmute event name) are = ((name, are.named), are.symptom.has)
   unmutable edit is = absurd is
 

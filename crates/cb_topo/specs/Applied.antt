@@ -13,7 +13,7 @@ use Rattle.cb_network.specs.Edits.{IsAfter, IsAccepted, IsRefused}
 use Rattle.cb_instances.specs.declared.id.InstanceId.{InstanceId}
 use Rattle.cb_instances.specs.Net.{IsNamed}
 use Rattle.cb_nodes.specs.declared.id.NodeId.{NodeId}
-use Rattle.cb_nodes.specs.Table.{room_with}
+use Rattle.cb_nodes.specs.Table.{capacity_with}
 use Rattle.cb_topo.specs.declared.fault.EditFault.{EditFault}
 use Rattle.cb_topo.specs.declared.fault.EditFault.TheVariants.{Refused, NoMemory}
 use Rattle.cb_topo.specs.Numbered.{Numbered, topology_of, IsNodeNamed}
@@ -28,23 +28,23 @@ abbrev pub KeepsNodes : Numbered → Numbered → Type 0
 KeepsNodes old new = (id : NodeId) (name : NodeName) → IsNodeNamed old id name → IsNodeOf (topology_of new) name → IsNodeNamed new id name
 
 -- numbers of nodes are below this once the edit is made: a further instance alone needs new ones, where the free ones are too few
-abbrev pub IsNodeRoomAfter : Numbered → Edit → ℕ → Type 0
-IsNodeRoomAfter n (Create name class) room = (c : ClassId) × (events : List EventId) × NamesClass (topology_of n).model class c
-    × AreEventsOf (topology_of n).model c events × (room ≡ room_with n.nodes (length events))
-IsNodeRoomAfter n edit room = room ≡ length n.nodes
+abbrev pub IsNodeCapacityAfter : Numbered → Edit → ℕ → Type 0
+IsNodeCapacityAfter n (Create name class) capacity = (c : ClassId) × (events : List EventId) × NamesClass (topology_of n).model class c
+    × AreEventsOf (topology_of n).model c events × (capacity ≡ capacity_with n.nodes (length events))
+IsNodeCapacityAfter n edit capacity = capacity ≡ length n.nodes
 
 -- numbers of instances are below this once the edit is made: a further instance alone needs a new one, where none is free
-abbrev pub IsInstanceRoomAfter : Numbered → Edit → ℕ → Type 0
-IsInstanceRoomAfter n (Create name class) room = room ≡ max n.net.room (n.net.next + 1)
-IsInstanceRoomAfter n edit room = room ≡ n.net.room
+abbrev pub IsInstanceCapacityAfter : Numbered → Edit → ℕ → Type 0
+IsInstanceCapacityAfter n (Create name class) capacity = capacity ≡ max n.net.capacity (n.net.next + 1)
+IsInstanceCapacityAfter n edit capacity = capacity ≡ n.net.capacity
 
 -- the accepted edit makes the new of the old
 pub record Applies (old : Numbered) (edit : Edit) (new : Numbered) : Type 0 where
   pub after : IsAfter (topology_of old) edit (Ok (topology_of new))
   pub instances : KeepsInstances old new
   pub nodes : KeepsNodes old new
-  pub node_room : IsNodeRoomAfter old edit (length new.nodes)
-  pub instance_room : IsInstanceRoomAfter old edit new.net.room
+  pub node_capacity : IsNodeCapacityAfter old edit (length new.nodes)
+  pub instance_capacity : IsInstanceCapacityAfter old edit new.net.capacity
 
 -- the edit is one that may need memory
 abbrev pub MayGrow : Edit → Type 0

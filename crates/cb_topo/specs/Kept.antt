@@ -6,10 +6,10 @@ use Rattle.cb_model.specs.WellTyped.{WellTyped, IsClass}
 use Rattle.cb_network.specs.Topology.{Topology, HasClass}
 use Rattle.cb_network.specs.Sound.{Sound, node_limit}
 use Rattle.cb_instances.specs.declared.id.InstanceId.{InstanceId}
-use Rattle.cb_instances.specs.Net.{Net, IsLive, HasEventAt, IsWhole as IsWholeNet}
+use Rattle.cb_instances.specs.Net.{Net, IsLiveInstance, HasEventAt, IsWholeNet}
 use Rattle.cb_nodes.specs.declared.id.NodeId.{NodeId}
 use Rattle.cb_nodes.specs.declared.node.Node.{Node}
-use Rattle.cb_nodes.specs.Table.{Table, IsNode, HasEvent as HasEventIn, IsOne}
+use Rattle.cb_nodes.specs.Table.{Table, IsNode, NumbersEvent as HasEventIn, IsOne}
 use Rattle.cb_accept.specs.declared.counts.NodeCounts.{NodeCounts}
 use Rattle.cb_accept.specs.Counts.{AreCounts}
 use Rattle.cb_network.specs.Words.{InstanceName}
@@ -17,9 +17,9 @@ use Rattle.cb_network.specs.Words.{InstanceName}
 -- exactly the events of live instances have numbers, each has one, and the numbers are below the limit of nodes
 pub record FitsTable (net : Net) (nodes : Table) : Type 0 where
   pub one : IsOne nodes
-  pub live : (id : NodeId) (node : Node) → IsNode nodes id node → IsLive net node.instance
+  pub live : (id : NodeId) (node : Node) → IsNode nodes id node → IsLiveInstance net node.instance
   pub had : (id : NodeId) (node : Node) → IsNode nodes id node → HasEventAt net node.instance node.event
-  pub all : (i : InstanceId) (e : EventId) → IsLive net i → HasEventAt net i e → HasEventIn nodes i e
+  pub all : (i : InstanceId) (e : EventId) → IsLiveInstance net i → HasEventAt net i e → HasEventIn nodes i e
   pub few : length nodes ≤ node_limit
 
 -- instances are of classes of the model

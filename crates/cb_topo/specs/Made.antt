@@ -21,7 +21,7 @@ abbrev pub rewired : Net → set.FinSet link_cmp → set.FinSet node_cmp → Net
 rewired net links mutes = record net { topology = record net.topology { links = links; mutes = mutes } }
 
 -- the edit changes links and mutes alone
-pub record Rewires (old : Net) (edit : Edit) (new : Net) : Type 0 where
+pub record RewiresNet (old : Net) (edit : Edit) (new : Net) : Type 0 where
   pub links : set.FinSet link_cmp
   pub mutes : set.FinSet node_cmp
   pub is : new ≡ rewired old links mutes

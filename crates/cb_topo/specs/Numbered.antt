@@ -4,7 +4,7 @@ use Rattle.std.specs.List.{AllZip}
 use Rattle.cb_model.specs.declared.node.NodeName.{NodeName}
 use Rattle.cb_network.specs.Topology.{Topology}
 use Rattle.cb_network.specs.Nodes.{IsNodeOf}
-use Rattle.cb_instances.specs.Net.{Net, IsNamed, HasEventAt, event_name, IsWhole as IsWholeNet}
+use Rattle.cb_instances.specs.Net.{Net, IsNamed, HasEventAt, event_name, IsWholeNet}
 use Rattle.cb_nodes.specs.declared.id.NodeId.{NodeId}
 use Rattle.cb_nodes.specs.declared.node.Node.{Node}
 use Rattle.cb_nodes.specs.Table.{Table, IsNode}

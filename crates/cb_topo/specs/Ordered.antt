@@ -20,8 +20,8 @@ IsOfKind Any = IsNodeOf
 abbrev pub called : NamedNode → NodeName
 called one = record { event = one.event.now; instance = one.instance.now }
 
-abbrev pub number : NamedNode → NodeId
-number one = one.node
+abbrev pub node_number : NamedNode → NodeId
+node_number one = one.node
 
 -- these are exactly the nodes of the kind, each once, with their names
 pub record AreOfKind (n : Numbered) (kind : NodeKind) (nodes : List NamedNode) : Type 0 where

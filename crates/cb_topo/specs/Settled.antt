@@ -22,13 +22,13 @@ abbrev pub IsBefore : Numbered → NodeId → NodeId → Type 0
 IsBefore n a b = (x y : NodeName) → IsNodeNamed n a x → IsNodeNamed n b y → node_cmp x y ≡ Less
 
 -- these are nodes, and their names rise
-pub record AreRising (n : Numbered) (ids : List NodeId) : Type 0 where
+pub record AreRisingNodes (n : Numbered) (ids : List NodeId) : Type 0 where
   pub live : All (IsLiveNode n) ids
   pub rise : AllPairs (IsBefore n) ids
 
 -- these are all nodes, and their names rise
 pub record IsSettled (n : Numbered) (ids : List NodeId) : Type 0 where
-  pub rising : AreRising n ids
+  pub rising : AreRisingNodes n ids
   pub all : (id : NodeId) → IsLiveNode n id → Contains ids id
 
 -- the node is at the instance
@@ -41,7 +41,7 @@ has_node nodes id = is_some (slot nodes id.0)
 
 -- these are all nodes but those at the instance, and their names rise
 pub record LacksInstance (n : Numbered) (i : InstanceId) (ids : List NodeId) : Type 0 where
-  pub rising : AreRising n ids
+  pub rising : AreRisingNodes n ids
   pub others : (id : NodeId) → IsLiveNode n id → ¬ IsAt n i id → Contains ids id
   pub none : (id : NodeId) → Contains ids id → ¬ IsAt n i id
 
@@ -52,7 +52,7 @@ pub record MayBeGone (n : Numbered) (ids : List NodeId) : Type 0 where
 
 -- the node is among them now, and the others are those that were
 pub record PutsIn (n : Numbered) (old new : List NodeId) (id : NodeId) : Type 0 where
-  pub rising : AreRising n new
+  pub rising : AreRisingNodes n new
   pub this : Contains new id
   pub kept : (k : NodeId) → Contains old k → Contains new k
   pub others : (k : NodeId) → Contains new k → Contains old k ⊎ (k ≡ id)
@@ -66,9 +66,9 @@ pub record WereSettled (n : Numbered) (edit : Edit) (ids : List NodeId) : Type 0
   pub applies : Applies old edit n
 
 -- nodes that are kept in order are all nodes
-abbrev pub IsOrderOf : Numbered → Option (Vec NodeId Global) → Type 0
-IsOrderOf n None = Unit {0}
-IsOrderOf n (Some order) = IsSettled n order.items
+abbrev pub IsSettledOrder : Numbered → Option (Vec NodeId Global) → Type 0
+IsSettledOrder n None = Unit {0}
+IsSettledOrder n (Some order) = IsSettled n order.items
 
 -- so they were before the edit
 abbrev pub WasOrderOf : Numbered → Edit → Option (Vec NodeId Global) → Type 0
@@ -76,6 +76,6 @@ WasOrderOf n edit None = Unit {0}
 WasOrderOf n edit (Some order) = WereSettled n edit order.items
 
 -- what is kept of a topology: its parts, and the order of its nodes where they are settled
-pub record IsKept (net : Net) (nodes : Table) (counts : NodeCounts) (order : Option (Vec NodeId Global)) : Type 0 where
+pub record IsTopologyState (net : Net) (nodes : Table) (counts : NodeCounts) (order : Option (Vec NodeId Global)) : Type 0 where
   pub topology : IsTopologyOf net nodes counts
-  pub settled : IsOrderOf (record { net = net; nodes = nodes }) order
+  pub settled : IsSettledOrder (record { net = net; nodes = nodes }) order

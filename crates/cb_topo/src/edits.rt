@@ -5,7 +5,7 @@ ghost use Rattle.cb_network.specs.Laws.{HasGoodName};
 ghost use Rattle.cb_accept.specs.Steps.{IsStepOf};
 ghost use Rattle.cb_instances.specs.Net.{empty_net};
 ghost use Rattle.cb_topo.specs.Numbered.{topology_of, IsWhole};
-ghost use Rattle.cb_topo.specs.Applied.{Applies, Prevents, MayGrow, IsNodeRoomAfter, IsInstanceRoomAfter};
+ghost use Rattle.cb_topo.specs.Applied.{Applies, Prevents, MayGrow, IsNodeCapacityAfter, IsInstanceCapacityAfter};
 ghost use Rattle.cb_topo.specs.Kept.{IsTopologyOf};
 ghost use Rattle.cb_topo.specs.Made.{Makes};
 
@@ -34,30 +34,30 @@ impl Topology {
         }
     }
 
-    /// What `node_room` is once an accepted edit is made.
-    pub fn node_room_after(&self, edit: &Edit) -> usize
+    /// What `node_capacity` is once an accepted edit is made.
+    pub fn node_capacity_after(&self, edit: &Edit) -> usize
         requires { IsAccepted (topology_of self.now) edit.now }
-        ensures { IsNodeRoomAfter self.now edit.now result }
+        ensures { IsNodeCapacityAfter self.now edit.now result }
     {
         match edit {
             Edit::Create { class, .. } => {
                 let model = self.net.model();
                 match model.class_named(class.bytes()) {
-                    Some(class) => self.nodes.room_with(model.events_of(class).len()),
-                    None => self.nodes.room(),
+                    Some(class) => self.nodes.capacity_with(model.events_of(class).len()),
+                    None => self.nodes.capacity(),
                 }
             }
-            _ => self.nodes.room(),
+            _ => self.nodes.capacity(),
         }
     }
 
-    /// What `instance_room` is once an accepted edit is made.
-    pub fn instance_room_after(&self, edit: &Edit) -> usize
-        ensures { IsInstanceRoomAfter self.now edit.now result }
+    /// What `instance_capacity` is once an accepted edit is made.
+    pub fn instance_capacity_after(&self, edit: &Edit) -> usize
+        ensures { IsInstanceCapacityAfter self.now edit.now result }
     {
         match edit {
-            Edit::Create { .. } => self.net.room_with_one(),
-            _ => self.net.room(),
+            Edit::Create { .. } => self.net.capacity_with_one(),
+            _ => self.net.capacity(),
         }
     }
 
@@ -80,7 +80,7 @@ impl Topology {
         let order = self.take_order();
         match self.change(alloc, edit) {
             Ok(()) => {
-                let order = self.followed(edit, order);
+                let order = self.order_after(edit, order);
                 self.put_order(order);
                 Ok(())
             }

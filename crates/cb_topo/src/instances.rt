@@ -3,7 +3,7 @@ ghost use Rattle.std.specs.Prelude.{◌≡◌, ℕ, List, IfOk, OnErr};
 ghost use Rattle.cb_network.specs.declared.edit.Edit.TheVariants.{Create, Delete};
 ghost use Rattle.cb_network.specs.Edits.{IsAccepted};
 ghost use Rattle.cb_network.specs.Laws.{HasGoodName};
-ghost use Rattle.cb_instances.specs.Net.{IsLive, name_at};
+ghost use Rattle.cb_instances.specs.Net.{IsLiveInstance, name_at};
 ghost use Rattle.cb_accept.specs.Steps.{IsStepOf};
 ghost use Rattle.cb_accept.specs.declared.step.Step.TheVariants as step;
 ghost use Rattle.cb_topo.specs.Kept.{IsTopologyOf};
@@ -55,7 +55,7 @@ pub(crate) fn delete(
     id: InstanceId,
 ) -> NodeCounts
     requires kept { IsTopologyOf net.old nodes.old counts }
-    requires live { IsLive net.old id }
+    requires live { IsLiveInstance net.old id }
     requires accepted { IsAccepted net.old.topology (Delete (name_at net.old id)) }
     ensures { Makes net.old nodes.old (Delete (name_at net.old id)) net.new nodes.new result }
 {

@@ -16,5 +16,5 @@ pub use cb_instances::InstanceId;
 pub use cb_network::{Edit, EditRefusal};
 pub use cb_nodes::NodeId;
 pub use fault::EditFault;
-pub use laws::node_room_is_one;
+pub use laws::node_capacity_is_one;
 pub use topology::Topology;

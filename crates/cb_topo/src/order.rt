@@ -104,7 +104,7 @@ impl Topology {
         ensures { IfOk result (λ nodes. AreOfKind self.now kind nodes.items) }
     {
         let mut nodes = Vec::new(alloc);
-        for place in 0..self.nodes.room() {
+        for place in 0..self.nodes.capacity() {
             let node = NodeId(place as u32);
             if self.is_live(node) && self.is_of(node, kind) {
                 let (event, instance) = self.node_name(node);

@@ -7,9 +7,9 @@ ghost use Rattle.cb_network.specs.Topology.{IsLive as IsLiveName, HasClass, IsMu
 ghost use Rattle.cb_network.specs.Nodes.{IsNodeOf, IsColumn, IsProblem, IsSymptomNode, IsCount};
 ghost use Rattle.cb_model.specs.WellTyped.{IsClass, WellTyped};
 ghost use Rattle.cb_network.specs.Sound.{Sound, node_limit};
-ghost use Rattle.cb_network.specs.Edits.{node_of as name_of};
+ghost use Rattle.cb_network.specs.Edits.{node_name_of as name_of};
 ghost use Rattle.cb_instances.specs.declared.id.InstanceId.{InstanceId as Id};
-ghost use Rattle.cb_instances.specs.Net.{IsNamed, IsLive, LinkAt, Once, HasEventAt};
+ghost use Rattle.cb_instances.specs.Net.{IsNamed, IsLiveInstance, LinkAt, Once, HasEventAt};
 ghost use Rattle.cb_nodes.specs.declared.id.NodeId.{NodeId as NodeNumber};
 ghost use Rattle.cb_nodes.specs.declared.node.Node.{Node as NodeAt};
 ghost use Rattle.cb_nodes.specs.Table.{IsNode, node_of};
@@ -41,7 +41,7 @@ impl Topology {
 
     /// The bytes of the instance's name, for as long as the topology is lent.
     pub fn instance_name(&self, id: InstanceId) -> &[u8]
-        requires { IsLive self.now.net id }
+        requires { IsLiveInstance self.now.net id }
         ensures { IsNamed self.now.net id result.now }
     {
         self.net.name_of(id)
@@ -49,7 +49,7 @@ impl Topology {
 
     /// The class that the instance was created with, one of the model's.
     pub fn class_of(&self, id: InstanceId) -> ClassId
-        requires { IsLive self.now.net id }
+        requires { IsLiveInstance self.now.net id }
         ensures named { (name : Items ℕ) → IsNamed self.now.net id name → HasClass (topology_of self.now) name result }
         ensures class { IsClass (topology_of self.now).model result }
     {
@@ -58,7 +58,7 @@ impl Topology {
 
     /// The instances that the relation leads to from this one.
     pub fn links(&self, id: InstanceId, rel: RelId) -> &[InstanceId]
-        requires { IsLive self.now.net id }
+        requires { IsLiveInstance self.now.net id }
         ensures exactly { (to : Id) → Contains result.now to ↔ LinkAt self.now.net id rel to }
         ensures once { Once result.now }
     {
@@ -88,7 +88,7 @@ impl Topology {
 
     /// The node of the instance's event, where its class has the event.
     pub fn node_at(&self, instance: InstanceId, event: EventId) -> Option<NodeId>
-        requires { IsLive self.now.net instance }
+        requires { IsLiveInstance self.now.net instance }
         ensures found { IfSome result (λ id. IsNode self.now.nodes id (node_of instance event)) }
         ensures absent { IfNone result (¬ HasEventAt self.now.net instance event) }
         ensures whole { IsWhole self.now }
@@ -159,22 +159,22 @@ impl Topology {
     }
 
     /// Above the number of each instance.
-    pub fn instance_room(&self) -> usize
-        ensures value { result ≡ self.now.net.room }
-        ensures above { (id : Id) → IsLive self.now.net id → id.0 < result }
+    pub fn instance_capacity(&self) -> usize
+        ensures value { result ≡ self.now.net.capacity }
+        ensures above { (id : Id) → IsLiveInstance self.now.net id → id.0 < result }
     {
-        self.net.room()
+        self.net.capacity()
     }
 
     /// Above the number of each node. It is at most 65,536.
-    pub fn node_room(&self) -> usize
+    pub fn node_capacity(&self) -> usize
         ensures value { result ≡ length self.now.nodes }
         ensures above { (id : NodeNumber) → IsLiveNode self.now id → id.0 < result }
         ensures few { result ≤ node_limit }
         ensures sound { Sound (topology_of self.now) }
         ensures whole { IsWhole self.now }
     {
-        self.nodes.room()
+        self.nodes.capacity()
     }
 
     // The instance and the event of a node.

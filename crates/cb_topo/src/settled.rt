@@ -4,7 +4,7 @@ ghost use Rattle.std.specs.List.{Contains};
 ghost use Rattle.std.specs.List.Sorted.{IsPartitionPoint};
 ghost use Rattle.cb_topo.specs.Numbered.{IsLiveNode, IsNodeNamed, IsWhole};
 ghost use Rattle.cb_topo.specs.Ordered.{called};
-ghost use Rattle.cb_topo.specs.Settled.{IsBefore, IsAt, has_node, AreRising, IsSettled, LacksInstance, MayBeGone, PutsIn, IsOrderOf, WasOrderOf};
+ghost use Rattle.cb_topo.specs.Settled.{IsBefore, IsAt, has_node, AreRisingNodes, IsSettled, LacksInstance, MayBeGone, PutsIn, IsSettledOrder, WasOrderOf};
 
 use crate::kind::NodeKind;
 use crate::order::NamedNode;
@@ -29,7 +29,7 @@ impl Topology {
     // The nodes in order, which aren't settled any more.
     pub(crate) fn take_order(&mut self) -> Option<Vec<NodeId>>
         ensures same { self.new ≡ self.old }
-        ensures order { IsOrderOf self.old result }
+        ensures order { IsSettledOrder self.old result }
         ensures whole { IsWhole self.old }
     {
         mem::replace(&mut self.order, None)
@@ -37,16 +37,16 @@ impl Topology {
 
     // Keeps the nodes in order.
     pub(crate) fn put_order(&mut self, order: Option<Vec<NodeId>>)
-        requires { IsOrderOf self.old order }
+        requires { IsSettledOrder self.old order }
         ensures { self.new ≡ self.old }
     {
         drop(mem::replace(&mut self.order, order));
     }
 
     // The nodes in order after the edit, from those before it. If memory is short for the new ones, the order is dropped.
-    pub(crate) fn followed(&self, edit: &Edit, order: Option<Vec<NodeId>>) -> Option<Vec<NodeId>>
+    pub(crate) fn order_after(&self, edit: &Edit, order: Option<Vec<NodeId>>) -> Option<Vec<NodeId>>
         requires { WasOrderOf self.now edit.now order }
-        ensures { IsOrderOf self.now result }
+        ensures { IsSettledOrder self.now result }
     {
         let order = order?;
         match edit {
@@ -69,7 +69,7 @@ impl Topology {
         ensures { IfOk result (λ order. IsSettled self.now order.items) }
     {
         let mut order = order;
-        for place in 0..self.nodes.room() {
+        for place in 0..self.nodes.capacity() {
             let node = NodeId(place as u32);
             if self.is_at(node, instance) {
                 self.put_in(&mut order, node)?;
@@ -107,7 +107,7 @@ impl Topology {
     // Puts the node where it belongs.
     fn put_in(&self, order: &mut Vec<NodeId>, node: NodeId) -> Result<(), AllocError>
         requires whole { IsWhole self.now }
-        requires rising { AreRising self.now order.old.items }
+        requires rising { AreRisingNodes self.now order.old.items }
         requires live { IsLiveNode self.now node }
         requires new { ¬ Contains order.old.items node }
         ensures { OnOk result (PutsIn self.now order.old.items order.new.items node) }
@@ -119,7 +119,7 @@ impl Topology {
 
     // The position of the first node whose name isn't less than that of this one.
     fn position_of(&self, order: &[NodeId], node: NodeId) -> usize
-        requires rising { AreRising self.now order.now }
+        requires rising { AreRisingNodes self.now order.now }
         requires live { IsLiveNode self.now node }
         ensures within { result ≤ length order.now }
         ensures point { IsPartitionPoint (λ other. IsBefore self.now other node) (λ other. ¬ IsBefore self.now other node) order.now result }

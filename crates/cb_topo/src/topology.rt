@@ -16,7 +16,7 @@ pub struct Topology {
 impl std::marker::Model for Topology {
     ghost use Rattle.cb_topo.specs.Numbered.{Numbered};
     ghost use Rattle.cb_topo.specs.Encoding.{numbered_encoding};
-    ghost use Rattle.cb_topo.specs.Settled.{IsKept};
+    ghost use Rattle.cb_topo.specs.Settled.{IsTopologyState};
 
     ghost Value = { Numbered };
 
@@ -24,5 +24,5 @@ impl std::marker::Model for Topology {
 
     ghost view = { λ s. record { net = s.net; nodes = s.nodes } };
 
-    ghost invariant = { λ s. IsKept s.net s.nodes s.counts s.order };
+    ghost invariant = { λ s. IsTopologyState s.net s.nodes s.counts s.order };
 }

@@ -30,7 +30,7 @@ use Rattle.cb_cert.specs.declared.certificate.Certificate.TheVariants as certifi
 use Rattle.cb_validity.specs.declared.verdict.Rejected.{Rejected}
 use Rattle.cb_validity.specs.declared.verdict.Rejected.TheVariants as why
 use Rattle.cb_validity.specs.Spans.{ListsNode}
-use Rattle.cb_validity.specs.Reading.{IsCodeOf, IsSideCode, MakeGroups, ArePlaces, AreAt}
+use Rattle.cb_validity.specs.Reading.{IsSpanCode, IsSideCode, MakeGroups, ArePlaces, AreSidesApart}
 use Rattle.cb_cert.specs.Format.{nodes_of}
 use Rattle.cb_validity.specs.Checks.{Check, node_check, column_check, root_check, parent_check, edge_check, new_check, closed_check, no_more_problems, no_more_spans, claim_check, AreChecks, book_checks, Passes, IsLeastOutside, AreTooClose, TellsClaim, ReportsCheck, IsFirstFail}
 use Rattle.cb_validity.proofs.SpanLaws.{stands_for_one, listed_at_one}
@@ -50,8 +50,8 @@ first_is_one P (z ∷ xs) (z' ∷ ys) x y us vs e pass fails pass' fails' =
     first_is_one P xs ys x y us vs (cc) (All-tail P z xs pass) fails (All-tail P z' ys pass') fails'
 
 -- a span has one code
-code_read_once : (nodes : List NodeName) (span : Span) (columns : List NodeName) (v w : List Bool) → IsCodeOf nodes columns span v
-    → IsCodeOf nodes columns span w → v ≡ w
+code_read_once : (nodes : List NodeName) (span : Span) (columns : List NodeName) (v w : List Bool) → IsSpanCode nodes columns span v
+    → IsSpanCode nodes columns span w → v ≡ w
 code_read_once nodes span [] [] [] a b = refl
 code_read_once nodes span [] [] (y ∷ w) a b = absurd b
 code_read_once nodes span [] (x ∷ v) w a b = absurd a
@@ -70,8 +70,8 @@ side_read_once nodes (side.Root span) columns v w a b = code_read_once nodes spa
 -- problems with the same names and spans are the same
 problems_read_once : (nodes columns : List NodeName) (spans : List Span) (ps qs : List Problem)
     → map (λ (p : Problem). p.name) ps ≡ map (λ (p : Problem). p.name) qs
-    → AllZip (λ span (p : Problem). IsCodeOf nodes columns span p.code) spans ps
-    → AllZip (λ span (p : Problem). IsCodeOf nodes columns span p.code) spans qs → ps ≡ qs
+    → AllZip (λ span (p : Problem). IsSpanCode nodes columns span p.code) spans ps
+    → AllZip (λ span (p : Problem). IsSpanCode nodes columns span p.code) spans qs → ps ≡ qs
 problems_read_once nodes columns [] [] [] same a b = refl
 problems_read_once nodes columns [] [] (q ∷ qs) same a b = absurd b
 problems_read_once nodes columns [] (p ∷ ps) qs same a b = absurd a
@@ -91,8 +91,8 @@ pub made_is_one : (t : Topology) (nodes : List NodeName) (spans : List Span) (xs
 made_is_one t nodes spans xs ys gs hs a b =
     let columns = columns_are_one t xs ys a.columns_are b.columns_are in
     let names = problems_are_one t _ _ a.problems_are b.problems_are in
-    let over : AllZip (λ span (p : Problem). IsCodeOf nodes xs span p.code) spans b.problems =
-    subst (λ cs. AllZip (λ span (p : Problem). IsCodeOf nodes cs span p.code) spans b.problems) (sym columns) b.codes_are
+    let over : AllZip (λ span (p : Problem). IsSpanCode nodes xs span p.code) spans b.problems =
+    subst (λ cs. AllZip (λ span (p : Problem). IsSpanCode nodes cs span p.code) spans b.problems) (sym columns) b.codes_are
     in
     let problems = problems_read_once nodes xs spans a.problems b.problems names a.codes_are over in
     let groups : AreGroups (length xs) a.problems hs = subst (λ cs. AreGroups (length cs) a.problems hs) (sym columns)
@@ -117,12 +117,12 @@ places_found_once nodes columns rise (n ∷ numbers) (p ∷ ps) (q ∷ qs) a b =
     cc
 
 -- what is far from where, once the columns are known
-far_is_one : (t : Topology) (nodes : List NodeName) (first : Side) (second : Span) (m n : ℕ) → AreAt t nodes first second m
-    → AreAt t nodes first second n → m ≡ n
+far_is_one : (t : Topology) (nodes : List NodeName) (first : Side) (second : Span) (m n : ℕ) → AreSidesApart t nodes first second m
+    → AreSidesApart t nodes first second n → m ≡ n
 far_is_one t nodes first second m n a b =
     let columns = columns_are_one t a.columns b.columns a.columns_are b.columns_are in
     let v : a.v ≡ b.v = side_read_once nodes first a.columns a.v b.v a.first_is (subst (λ cs. IsSideCode nodes cs first b.v) (sym columns) b.first_is) in
-    let w : a.w ≡ b.w = code_read_once nodes second a.columns a.w b.w a.second_is (subst (λ cs. IsCodeOf nodes cs second b.w) (sym columns) b.second_is) in
+    let w : a.w ≡ b.w = code_read_once nodes second a.columns a.w b.w a.second_is (subst (λ cs. IsSpanCode nodes cs second b.w) (sym columns) b.second_is) in
     let ours = a.far_is in
     let theirs = b.far_is in
     cc
@@ -174,7 +174,7 @@ reported_of_book t d nodes columns spans _ p = absurd p
 
 -- what is reported of the claim of a thin certificate
 reported_of_thin : (t : Topology) (w d : ℕ) (nodes : List NodeName) (first : Side) (second : Span) (reported : Rejected)
-    → TellsClaim t (certificate.Thin w d nodes first second) reported → (far : ℕ) × (reported ≡ why.NotThin far) × AreAt t nodes first second far
+    → TellsClaim t (certificate.Thin w d nodes first second) reported → (far : ℕ) × (reported ≡ why.NotThin far) × AreSidesApart t nodes first second far
 reported_of_thin t w d nodes first second (why.NotThin far) p = (far, refl, p)
 reported_of_thin t w d nodes first second _ p = absurd p
 

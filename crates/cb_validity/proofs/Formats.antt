@@ -18,7 +18,7 @@ use Rattle.cb_model.specs.Order.{Rises}
 use Rattle.cb_model.specs.NodeOrder.{node_cmp}
 use Rattle.cb_model.proofs.Rising.{node_cmp_total, node_cmp_exact}
 use Rattle.cb_network.specs.Topology.{Topology}
-use Rattle.cb_network.specs.Nodes.{IsNodeOf, IsProblem, IsSymptomNode, IsColumn, IsCount, IsWithin}
+use Rattle.cb_network.specs.Nodes.{IsNodeOf, IsProblem, IsSymptomNode, IsColumn, IsCount, IsCountWithin}
 use Rattle.cb_network.specs.Sound.{Sound}
 use Rattle.cb_network.proofs.Counts.{count_of_rising}
 use Rattle.cb_network.proofs.Sets.{len_of_part}
@@ -31,7 +31,7 @@ use Rattle.cb_cert.specs.declared.certificate.Certificate.{Certificate}
 use Rattle.cb_cert.specs.declared.certificate.Certificate.TheVariants.{Book, Thin}
 use Rattle.cb_cert.specs.declared.line.CertificateLine.TheVariants as line
 use Rattle.cb_cert.specs.Lines.{certificate_lines, node_lines, column_lines, all_span_lines, span_lines, side_lines}
-use Rattle.cb_cert.specs.Format.{Fits, IsWanted, IsCertificate, entries_in, entry_limit, node_limit, column_limit, nodes_of}
+use Rattle.cb_cert.specs.Format.{Fits, IsWanted, IsCertificate, entries_in, entry_limit, certificate_node_limit, column_limit, nodes_of}
 use Rattle.cb_cert.proofs.Sizes.{no_entries, one_span_entries}
 use Rattle.cb_validity.specs.Spans.{AreNodes, StandsFor, IsListedAt, IsSpanOf}
 use Rattle.cb_validity.specs.Valid.{AreColumnNumbers, AreSpans, IsSide, IsSpanOfProblem}
@@ -41,7 +41,7 @@ use Rattle.cb_validity.proofs.Canonicals.{contains_from_get}
 use Rattle.cb_validity.proofs.Passing.{zip_lengths, all_joined, all_left, all_right}
 
 -- a list in order of some nodes of a kind is no longer than the kind's limit
-few_among : (P : NodeName → Type 0) (limit : ℕ) (xs : List NodeName) → Rises node_cmp xs → ((n : NodeName) → Contains xs n → P n) → IsWithin P limit
+few_among : (P : NodeName → Type 0) (limit : ℕ) (xs : List NodeName) → Rises node_cmp xs → ((n : NodeName) → Contains xs n → P n) → IsCountWithin P limit
     → length xs ≤ limit
 few_among P limit xs rise are within =
     let count : IsCount (Contains xs) (length xs) = count_of_rising (Contains xs) xs rise (λ n. ((λ c. c), (λ c. c))) in
@@ -161,14 +161,14 @@ names_fit t sound named n (e, at) =
     let by_row = All-contains (λ (row : EventRow). IsName row.name) t.model.events has.row named.events (contains_from_get t.model.events e.0 has.row has.is) in
     (subst IsName at.named.1 by_row, sound.names n.instance (live_of t n.instance at.class at.of_class))
 
-module _ (t : Topology) (c : Certificate) (few : length (nodes_of c) ≤ node_limit) where
+module _ (t : Topology) (c : Certificate) (few : length (nodes_of c) ≤ certificate_node_limit) where
   span_fits : (root : NodeName) (span : Span) → IsSpanOf t (nodes_of c) root span → All (Fits c) (span_lines span)
   span_fits root span is =
       let nodes = nodes_of c in
       let es = span.entries in
       let short = few_entries t nodes root span is in
       let some = slice_get_within es 0 is.begins.entry is.begins.first in
-      let count : (0 < length es) × (length es ≤ node_limit) = (some, omega arith) in
+      let count : (0 < length es) × (length es ≤ certificate_node_limit) = (some, omega arith) in
       All-cons (Fits c) (line.Span (length es)) (map line.Entry es) count (All-map (Fits c) line.Entry es (λ k d low.
       let at = slice_get-get_or es k d low in
       let number = entry_number t nodes root span is k (get_or es k d) at in
@@ -188,8 +188,8 @@ pub book_is_of_format : (t : Topology) (far : ℕ) (nodes : List NodeName) (numb
 book_is_of_format t far nodes numbers spans sound named are_nodes are_columns are_spans wanted few =
     let c = Book far nodes numbers spans in
     let P = Fits c in
-    let few_nodes : length nodes ≤ node_limit =
-    few_among (IsNodeOf t) node_limit nodes are_nodes.rise (λ n in_nodes. All-contains (IsNodeOf t) nodes n are_nodes.live in_nodes) sound.few_nodes
+    let few_nodes : length nodes ≤ certificate_node_limit =
+    few_among (IsNodeOf t) certificate_node_limit nodes are_nodes.rise (λ n in_nodes. All-contains (IsNodeOf t) nodes n are_nodes.live in_nodes) sound.few_nodes
     in
     let columns = are_columns.columns in
     let few_columns : length columns ≤ column_limit =
@@ -238,7 +238,7 @@ book_is_of_format t far nodes numbers spans sound named are_nodes are_columns ar
     record { fit = whole; few = omega arith }
 
 -- the lines of a side fit, and tell no more entries than there are nodes
-side_fits : (t : Topology) (c : Certificate) → length (nodes_of c) ≤ node_limit → (first : Side) → IsSide t (nodes_of c) first
+side_fits : (t : Topology) (c : Certificate) → length (nodes_of c) ≤ certificate_node_limit → (first : Side) → IsSide t (nodes_of c) first
     → All (Fits c) (side_lines first) × (sum_by entries_in (side_lines first) ≤ length (nodes_of c))
 side_fits t c few side.Quiet is = (All-cons (Fits c) line.Quiet [] tt (All-nil (Fits c)), (let e = sum_by-cons entries_in line.Quiet [] in omega arith))
 side_fits t c few (side.Root span) is =
@@ -252,8 +252,8 @@ pub thin_is_of_format : (t : Topology) (wanted far : ℕ) (nodes : List NodeName
 thin_is_of_format t wanted far nodes first second sound named are_nodes side_is span_is may low =
     let c = Thin wanted far nodes first second in
     let P = Fits c in
-    let few_nodes : length nodes ≤ node_limit =
-    few_among (IsNodeOf t) node_limit nodes are_nodes.rise (λ n in_nodes. All-contains (IsNodeOf t) nodes n are_nodes.live in_nodes) sound.few_nodes
+    let few_nodes : length nodes ≤ certificate_node_limit =
+    few_among (IsNodeOf t) certificate_node_limit nodes are_nodes.rise (λ n in_nodes. All-contains (IsNodeOf t) nodes n are_nodes.live in_nodes) sound.few_nodes
     in
     let nl = node_lines nodes in
     let fl = side_lines first in

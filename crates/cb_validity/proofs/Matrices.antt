@@ -11,14 +11,14 @@ use Rattle.cb_finding.specs.Matrix.{IsCode, AreCoded, IsMatrix}
 use Rattle.cb_network.proofs.One.{problems_are_one}
 use Rattle.cb_cert.specs.declared.certificate.Span.{Span}
 use Rattle.cb_validity.specs.Spans.{IsSpanOf}
-use Rattle.cb_validity.specs.Reading.{IsCodeOf, MakeGroups}
+use Rattle.cb_validity.specs.Reading.{IsSpanCode, MakeGroups}
 use Rattle.cb_validity.specs.Valid.{AreSpans}
 use Rattle.cb_validity.proofs.SpanLaws.{span_lists_caused}
 
 module _ (t : Topology) (nodes : List NodeName) where
   -- the code that is read off a root's span is the root's
   pub code_of_root : (root : NodeName) (span : Span) → IsSpanOf t nodes root span → (columns : List NodeName) (code : List Bool)
-      → IsCodeOf nodes columns span code → IsCode t columns root code
+      → IsSpanCode nodes columns span code → IsCode t columns root code
   code_of_root root span is [] [] read = read
   code_of_root root span is [] (b ∷ code) read = absurd read
   code_of_root root span is (c ∷ columns) [] read = absurd read
@@ -28,7 +28,7 @@ module _ (t : Topology) (nodes : List NodeName) where
 
   -- the root's code is read off its span
   pub code_of_span : (root : NodeName) (span : Span) → IsSpanOf t nodes root span → (columns : List NodeName) (code : List Bool)
-      → IsCode t columns root code → IsCodeOf nodes columns span code
+      → IsCode t columns root code → IsSpanCode nodes columns span code
   code_of_span root span is [] [] read = read
   code_of_span root span is [] (b ∷ code) read = absurd read
   code_of_span root span is (c ∷ columns) [] read = absurd read
@@ -38,7 +38,7 @@ module _ (t : Topology) (nodes : List NodeName) where
 
   module _ (columns : List NodeName) where
     codes_of_problems : (problems : List Problem) (spans : List Span) → AllZip (IsSpanOf t nodes) (map (λ (p : Problem). p.name) problems) spans
-        → AllZip (λ span (p : Problem). IsCodeOf nodes columns span p.code) spans problems → All (λ (p : Problem). IsCode t columns p.name p.code) problems
+        → AllZip (λ span (p : Problem). IsSpanCode nodes columns span p.code) spans problems → All (λ (p : Problem). IsCode t columns p.name p.code) problems
     codes_of_problems [] spans are read = All-nil (λ (p : Problem). IsCode t columns p.name p.code)
     codes_of_problems (p ∷ problems) [] are read = absurd are
     codes_of_problems (p ∷ problems) (span ∷ spans) are read =
@@ -46,7 +46,7 @@ module _ (t : Topology) (nodes : List NodeName) where
         (codes_of_problems problems spans are.1 read.1)
 
     codes_of_spans : (problems : List Problem) (spans : List Span) → AllZip (IsSpanOf t nodes) (map (λ (p : Problem). p.name) problems) spans
-        → All (λ (p : Problem). IsCode t columns p.name p.code) problems → AllZip (λ span (p : Problem). IsCodeOf nodes columns span p.code) spans problems
+        → All (λ (p : Problem). IsCode t columns p.name p.code) problems → AllZip (λ span (p : Problem). IsSpanCode nodes columns span p.code) spans problems
     codes_of_spans [] [] are coded = tt
     codes_of_spans [] (span ∷ spans) are coded = absurd are
     codes_of_spans (p ∷ problems) [] are coded = absurd are

@@ -26,7 +26,7 @@ use Rattle.cb_validity.specs.declared.verdict.Rejected.{Rejected}
 use Rattle.cb_validity.specs.Spans.{AreNodes, StandsFor, IsListedAt, IsEarlier, HasEdge, IsSpanOf}
 use Rattle.cb_validity.specs.Valid.{AreColumnNumbers, IsSpanOfProblem, IsSide, IsValidBook, IsValidThin, IsValid}
 use Rattle.cb_cert.specs.Format.{nodes_of}
-use Rattle.cb_validity.specs.Checks.{Asked, Check, node_check, column_check, root_check, parent_check, edge_check, new_check, closed_check, no_more_problems, no_more_spans, claim_check, places, entry_checks, span_checks, asked_of, asked_sides, book_checks, thin_checks, AreChecks, IsGoodNode, IsGoodColumn, IsAskedFor, IsGoodRoot, EntryIs, IsNew, IsClosedAt, Passes, IsFirstFail}
+use Rattle.cb_validity.specs.Checks.{Asked, Check, node_check, column_check, root_check, parent_check, edge_check, new_check, closed_check, no_more_problems, no_more_spans, claim_check, places, entry_checks, span_checks, asked_of, asked_sides, book_checks, thin_checks, AreChecks, IsGoodNode, IsGoodColumn, IsAskedFor, IsGoodRoot, EntryIs, IsNewInSpan, IsClosedAt, Passes, IsFirstFail}
 use Rattle.cb_validity.proofs.SpanLaws.{stands_for_one}
 
 -- lists that go together
@@ -175,7 +175,7 @@ module _ (t : Topology) (c : Certificate) (a : Asked) where
       let edge : (k : ℕ) → 0 < k → k < n → EntryIs span k (HasEdge t nodes span) =
       λ k low high. All-head P (edge_check a k) (new_check a k ∷ []) (after_parent k low high)
       in
-      let new : (k : ℕ) → 0 < k → k < n → IsNew nodes span k =
+      let new : (k : ℕ) → 0 < k → k < n → IsNewInSpan nodes span k =
       λ k low high. All-head P (new_check a k) [] (All-tail P (edge_check a k) (new_check a k ∷ []) (after_parent k low high))
       in
       let closed : (k : ℕ) → k < n → IsClosedAt t nodes span k = checks_of_places P (closed_check a) span.entries (all_right P later closing rest) in

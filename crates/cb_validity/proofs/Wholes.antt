@@ -25,7 +25,7 @@ use Rattle.cb_cert.specs.declared.certificate.Side.TheVariants as side
 use Rattle.cb_cert.specs.declared.certificate.Certificate.{Certificate}
 use Rattle.cb_cert.specs.declared.certificate.Certificate.TheVariants.{Book}
 use Rattle.cb_validity.specs.Spans.{StandsFor, ListsNode, IsSpanOf}
-use Rattle.cb_validity.specs.Reading.{IsCodeOf, IsSideCode, ArePlaces}
+use Rattle.cb_validity.specs.Reading.{IsSpanCode, IsSideCode, ArePlaces}
 use Rattle.cb_validity.specs.Valid.{IsSide, IsClose, IsValidThin, IsValid}
 use Rattle.cb_validity.specs.Canonical.{IsCanonicalSpan, AreUsed, IsCanonicalBook, IsCanonicalSide, side_spans, IsCanonicalThin}
 use Rattle.cb_validity.specs.Laws.{IsSideProblem, IsCodeOfSide}
@@ -210,7 +210,7 @@ canonical_thin_is_valid t columns first second v w wanted far c columns_are of_f
     let at = valid.apart in
     let same = columns_are_one t at.columns columns at.columns_are columns_are in
     let first_read : IsSideCode nodes columns s at.v = subst (λ cs. IsSideCode nodes cs s at.v) same at.first_is in
-    let second_read : IsCodeOf nodes columns span at.w = subst (λ cs. IsCodeOf nodes cs span at.w) same at.second_is in
+    let second_read : IsSpanCode nodes columns span at.w = subst (λ cs. IsSpanCode nodes cs span at.w) same at.second_is in
     let first_same = code_of_side t nodes columns first s v at.v is.side_is of_v first_read in
     let second_same : at.w ≡ w = code_is_one t columns second at.w w (code_of_root t nodes second span canonical.is columns at.w second_read) of_w in
     let far_is = at.far_is in

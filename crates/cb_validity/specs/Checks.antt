@@ -23,7 +23,7 @@ use Rattle.cb_cert.specs.Format.{nodes_of}
 use Rattle.cb_validity.specs.declared.verdict.Rejected.{Rejected}
 use Rattle.cb_validity.specs.declared.verdict.Rejected.TheVariants.{BadNode, BadColumn, NoSpan, ExtraSpan, BadRoot, BadParent, NoEdge, Repeated, NotClosed, TooClose, NotThin, NoMemory}
 use Rattle.cb_validity.specs.Spans.{StandsFor, IsListedAt, ListsNode, IsEarlier, HasEdge}
-use Rattle.cb_validity.specs.Reading.{MakeGroups, ArePlaces, AreApart, AreAt}
+use Rattle.cb_validity.specs.Reading.{MakeGroups, ArePlaces, AreApart, AreSidesApart}
 use Rattle.cb_validity.specs.Valid.{IsClose}
 
 -- a span that is checked: how many entries stand in spans before it, and its root, or none where any problem may be the root
@@ -88,9 +88,9 @@ AreChecks t (Book distance nodes columns spans) checks =
 AreChecks t (Thin wanted distance nodes first second) checks = checks ≡ thin_checks nodes first second
 
 -- the columns of a certificate; a thin one speaks of all
-abbrev pub columns_of : Certificate → List ℕ
-columns_of (Book distance nodes columns spans) = columns
-columns_of (Thin wanted distance nodes first second) = []
+abbrev pub certificate_columns : Certificate → List ℕ
+certificate_columns (Book distance nodes columns spans) = columns
+certificate_columns (Thin wanted distance nodes first second) = []
 
 -- at this position there is a node of the topology, above the one before
 pub record IsGoodNode (t : Topology) (nodes : List NodeName) (place : ℕ) : Type 0 where
@@ -128,8 +128,8 @@ abbrev pub EntryIs : Span → ℕ → (Entry → Type 0) → Type 0
 EntryIs span place P = (entry : Entry) × (slice_get span.entries place ≡ Some entry) × P entry
 
 -- the node of the entry at the position isn't listed before
-abbrev pub IsNew : List NodeName → Span → ℕ → Type 0
-IsNew nodes span place = (before : ℕ) (node : NodeName) → before < place → IsListedAt nodes span before node
+abbrev pub IsNewInSpan : List NodeName → Span → ℕ → Type 0
+IsNewInSpan nodes span place = (before : ℕ) (node : NodeName) → before < place → IsListedAt nodes span before node
     → ¬ IsListedAt nodes span place node
 
 -- all successors of the node of the entry at the position are listed
@@ -137,22 +137,22 @@ abbrev pub IsClosedAt : Topology → List NodeName → Span → ℕ → Type 0
 IsClosedAt t nodes span place = (p q : NodeName) → IsListedAt nodes span place p → Edge t p q → ListsNode nodes span q
 
 -- what is claimed holds
-abbrev pub Holds : Topology → Certificate → Type 0
-Holds t (Book distance nodes columns spans) = AreApart t nodes columns spans distance
-Holds t (Thin wanted distance nodes first second) = AreAt t nodes first second distance × IsClose wanted distance
+abbrev pub ClaimHolds : Topology → Certificate → Type 0
+ClaimHolds t (Book distance nodes columns spans) = AreApart t nodes columns spans distance
+ClaimHolds t (Thin wanted distance nodes first second) = AreSidesApart t nodes first second distance × IsClose wanted distance
 
 -- the certificate passes the check
 abbrev pub Passes : Topology → Certificate → Check → Type 0
 Passes t c (node_check place) = IsGoodNode t (nodes_of c) place
-Passes t c (column_check place) = IsGoodColumn t (nodes_of c) (columns_of c) place
+Passes t c (column_check place) = IsGoodColumn t (nodes_of c) (certificate_columns c) place
 Passes t c (root_check a) = IsGoodRoot t (nodes_of c) a
 Passes t c (parent_check a place) = EntryIs a.span place (λ entry. IsEarlier entry place)
 Passes t c (edge_check a place) = EntryIs a.span place (HasEdge t (nodes_of c) a.span)
-Passes t c (new_check a place) = IsNew (nodes_of c) a.span place
+Passes t c (new_check a place) = IsNewInSpan (nodes_of c) a.span place
 Passes t c (closed_check a place) = IsClosedAt t (nodes_of c) a.span place
 Passes t c (no_more_problems problems spans) = length problems ≤ length spans
 Passes t c (no_more_spans problems spans) = length spans ≤ length problems
-Passes t c claim_check = Holds t c
+Passes t c claim_check = ClaimHolds t c
 
 -- the least successor of the entry's node that the span doesn't list
 pub record IsLeastOutside (t : Topology) (nodes : List NodeName) (span : Span) (place : ℕ) (successor : NodeName) : Type 0 where
@@ -179,7 +179,7 @@ pub record AreTooClose (t : Topology) (nodes : List NodeName) (numbers : List �
 -- what is reported where the claim doesn't hold
 abbrev pub TellsClaim : Topology → Certificate → Rejected → Type 0
 TellsClaim t (Book distance nodes columns spans) (TooClose first second far) = AreTooClose t nodes columns spans distance first second far
-TellsClaim t (Thin wanted distance nodes first second) (NotThin far) = AreAt t nodes first second far
+TellsClaim t (Thin wanted distance nodes first second) (NotThin far) = AreSidesApart t nodes first second far
 TellsClaim t c why = ⊥
 
 -- what is reported where a check fails: the position of a node, a column or a span, or the number of an entry, all of which count from 1

@@ -15,13 +15,13 @@ use Rattle.cb_cert.specs.declared.certificate.Side.TheVariants.{Quiet, Root}
 use Rattle.cb_validity.specs.Spans.{StandsFor, ListsNode}
 
 -- for each column, whether the span lists it
-abbrev pub IsCodeOf : List NodeName → List NodeName → Span → List Bool → Type 0
-IsCodeOf nodes columns span code = AllZip (λ column bit. IsTrue bit ↔ ListsNode nodes span column) columns code
+abbrev pub IsSpanCode : List NodeName → List NodeName → Span → List Bool → Type 0
+IsSpanCode nodes columns span code = AllZip (λ column bit. IsTrue bit ↔ ListsNode nodes span column) columns code
 
 -- the code of the quiet group has no symptom; that of another is read off its span
 abbrev pub IsSideCode : List NodeName → List NodeName → Side → List Bool → Type 0
 IsSideCode nodes columns Quiet code = code ≡ zeros (length columns)
-IsSideCode nodes columns (Root span) code = IsCodeOf nodes columns span code
+IsSideCode nodes columns (Root span) code = IsSpanCode nodes columns span code
 
 -- all columns of the topology, and the groups that the codes of the spans make, one span for each problem
 pub record MakeGroups (t : Topology) (nodes : List NodeName) (spans : List Span) (columns : List NodeName) (groups : List Group) : Type 0
@@ -29,18 +29,18 @@ pub record MakeGroups (t : Topology) (nodes : List NodeName) (spans : List Span)
     pub problems : List Problem
     pub columns_are : AreColumns t columns
     pub problems_are : AreProblems t (map (λ p. p.name) problems)
-    pub codes_are : AllZip (λ span p. IsCodeOf nodes columns span p.code) spans problems
+    pub codes_are : AllZip (λ span p. IsSpanCode nodes columns span p.code) spans problems
     pub groups_are : AreGroups (length columns) problems groups
 
 -- the column with this number has this position among all columns
-pub record IsPlaceOf (nodes columns : List NodeName) (number place : ℕ) : Type 0 where
+pub record IsColumnPlace (nodes columns : List NodeName) (number place : ℕ) : Type 0 where
   pub column : NodeName
   pub names : StandsFor nodes number column
   pub is : slice_get columns place ≡ Some column
 
 -- the columns with these numbers have these positions among all columns
 abbrev pub ArePlaces : List NodeName → List NodeName → List ℕ → List ℕ → Type 0
-ArePlaces nodes columns numbers places = AllZip (IsPlaceOf nodes columns) numbers places
+ArePlaces nodes columns numbers places = AllZip (IsColumnPlace nodes columns) numbers places
 
 -- over the columns with these numbers, the groups that the spans make are at least the distance apart
 pub record AreApart (t : Topology) (nodes : List NodeName) (numbers : List ℕ) (spans : List Span) (wanted : ℕ) : Type 0 where
@@ -52,11 +52,11 @@ pub record AreApart (t : Topology) (nodes : List NodeName) (numbers : List ℕ) 
   pub good : Good (codes_of groups) places wanted
 
 -- over all columns, the codes that are read off the two sides are so far apart
-pub record AreAt (t : Topology) (nodes : List NodeName) (first : Side) (second : Span) (far : ℕ) : Type 0 where
+pub record AreSidesApart (t : Topology) (nodes : List NodeName) (first : Side) (second : Span) (far : ℕ) : Type 0 where
   pub columns : List NodeName
   pub columns_are : AreColumns t columns
   pub v : List Bool
   pub w : List Bool
   pub first_is : IsSideCode nodes columns first v
-  pub second_is : IsCodeOf nodes columns second w
+  pub second_is : IsSpanCode nodes columns second w
   pub far_is : far ≡ distance (all_columns (length columns)) v w

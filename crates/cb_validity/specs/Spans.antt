@@ -43,7 +43,7 @@ pub record HasEdge (t : Topology) (nodes : List NodeName) (span : Span) (entry :
   pub edge : Edge t from to
 
 -- the span begins with this node, without a parent
-pub record BeginsWith (nodes : List NodeName) (span : Span) (root : NodeName) : Type 0 where
+pub record BeginsWithRoot (nodes : List NodeName) (span : Span) (root : NodeName) : Type 0 where
   pub entry : Entry
   pub first : slice_get span.entries 0 ≡ Some entry
   pub names : StandsFor nodes entry.node root
@@ -52,7 +52,7 @@ pub record BeginsWith (nodes : List NodeName) (span : Span) (root : NodeName) : 
 -- the span begins with the root, each later entry has an edge from an earlier one, no node is listed twice, and with a node
 -- all its successors are listed
 pub record IsSpanOf (t : Topology) (nodes : List NodeName) (root : NodeName) (span : Span) : Type 0 where
-  pub begins : BeginsWith nodes span root
+  pub begins : BeginsWithRoot nodes span root
   pub earlier : (place : ℕ) (entry : Entry) → 0 < place → slice_get span.entries place ≡ Some entry → IsEarlier entry place
   pub edges : (place : ℕ) (entry : Entry) → 0 < place → slice_get span.entries place ≡ Some entry → HasEdge t nodes span entry
   pub once : (i j : ℕ) (node : NodeName) → IsListedAt nodes span i node → IsListedAt nodes span j node → i ≡ j

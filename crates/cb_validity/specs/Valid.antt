@@ -12,7 +12,7 @@ use Rattle.cb_cert.specs.declared.certificate.Side.TheVariants.{Quiet, Root}
 use Rattle.cb_cert.specs.declared.certificate.Certificate.{Certificate}
 use Rattle.cb_cert.specs.declared.certificate.Certificate.TheVariants.{Book, Thin}
 use Rattle.cb_validity.specs.Spans.{AreNodes, StandsFor, IsSpanOf}
-use Rattle.cb_validity.specs.Reading.{AreApart, AreAt}
+use Rattle.cb_validity.specs.Reading.{AreApart, AreSidesApart}
 
 -- the numbers are those of columns, in order and each once
 pub record AreColumnNumbers (t : Topology) (nodes : List NodeName) (numbers : List ℕ) : Type 0 where
@@ -55,7 +55,7 @@ pub record IsValidThin (t : Topology) (wanted distance : ℕ) (nodes : List Node
   pub nodes_are : AreNodes t nodes
   pub first_is : IsSide t nodes first
   pub second_is : IsSpanOfProblem t nodes second
-  pub apart : AreAt t nodes first second distance
+  pub apart : AreSidesApart t nodes first second distance
   pub close : IsClose wanted distance
 
 -- what the certificate claims holds of the topology

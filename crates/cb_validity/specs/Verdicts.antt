@@ -16,7 +16,7 @@ use Rattle.cb_validity.specs.declared.verdict.Accepted.{Accepted}
 use Rattle.cb_validity.specs.declared.verdict.Accepted.TheVariants as accepted
 use Rattle.cb_validity.specs.declared.verdict.Rejected.{Rejected}
 use Rattle.cb_validity.specs.declared.verdict.Rejected.TheVariants.{NoMemory}
-use Rattle.cb_validity.specs.Spans.{BeginsWith}
+use Rattle.cb_validity.specs.Spans.{BeginsWithRoot}
 use Rattle.cb_validity.specs.Reading.{MakeGroups}
 use Rattle.cb_validity.specs.Canonical.{side_spans}
 use Rattle.cb_validity.specs.Checks.{IsFirstFail}
@@ -24,7 +24,7 @@ use Rattle.cb_validity.specs.Checks.{IsFirstFail}
 -- a side is called quiet, or by its root
 abbrev pub IsSideName : List NodeName → Side → GroupName → Type 0
 IsSideName nodes Quiet name = name ≡ group.Quiet
-IsSideName nodes (Root span) name = (root : NodeName) × BeginsWith nodes span root × (name ≡ group.Least root)
+IsSideName nodes (Root span) name = (root : NodeName) × BeginsWithRoot nodes span root × (name ≡ group.Least root)
 
 -- a book's distance with its radius, and the numbers of groups and of columns
 pub record ShowsBook (t : Topology) (nodes : List NodeName) (numbers : List ℕ) (spans : List Span) (distance radius groups columns : ℕ) : Type 0
@@ -37,11 +37,11 @@ pub record ShowsBook (t : Topology) (nodes : List NodeName) (numbers : List ℕ)
     pub columns_are : columns ≡ length numbers
 
 -- what an accepted certificate shows
-abbrev pub Shows : Topology → Certificate → Accepted → Type 0
-Shows t (Book distance nodes columns spans) (accepted.Book d r g k) = (d ≡ distance) × ShowsBook t nodes columns spans distance r g k
-Shows t (Book distance nodes columns spans) (accepted.Thin w f s x) = ⊥
-Shows t (Thin wanted distance nodes first second) (accepted.Book d r g k) = ⊥
-Shows t (Thin wanted distance nodes first second) (accepted.Thin w f s x) =
+abbrev pub CertificateShows : Topology → Certificate → Accepted → Type 0
+CertificateShows t (Book distance nodes columns spans) (accepted.Book d r g k) = (d ≡ distance) × ShowsBook t nodes columns spans distance r g k
+CertificateShows t (Book distance nodes columns spans) (accepted.Thin w f s x) = ⊥
+CertificateShows t (Thin wanted distance nodes first second) (accepted.Book d r g k) = ⊥
+CertificateShows t (Thin wanted distance nodes first second) (accepted.Thin w f s x) =
     (w ≡ wanted) × IsSideName nodes first f × IsSideName nodes (Root second) s × (x ≡ distance)
 
 -- how many entries some spans have

@@ -19,10 +19,10 @@ use Rattle.cb_model.specs.Order.{name_cmp}
 use Rattle.cb_model.proofs.Rising.{name_cmp_total, name_cmp_exact, node_cmp_total, node_cmp_exact}
 use Rattle.cb_network.proofs.Sets.{tied, tied_same, decide_key}
 use Rattle.cb_log.specs.Kept.{Kept, OpenWindow}
-use Rattle.cb_log.specs.Passing.{StaysUnlessDue, Passes, Raises, with_node}
+use Rattle.cb_log.specs.Passing.{StaysUnlessDue, TimePasses, Raises, with_node}
 use Rattle.cb_window.specs.declared.turn.Turn.{Turn}
 use Rattle.cb_window.specs.declared.windows.Open.{Open}
-use Rattle.cb_window.specs.Kept.{turn_cmp, shown, shown_map, IsQueued, TakesOut, GainsNode, GainsIn, OpensIn, LooksSame, OpenedSame, OpenedBefore, IsOpenStill, Puts}
+use Rattle.cb_window.specs.Kept.{turn_cmp, shown, shown_map, IsQueued, TakesOut, GainsNode, GainsIn, OpensIn, LooksSame, OpenedSame, OpenedBefore, IsOpenStill, PutsNode}
 use Rattle.cb_window.proofs.Seen.{seen, kept_of}
 use Rattle.cb_window.proofs.Turns.{turn_total, turn_exact, not_same, written, unwritten}
 
@@ -212,7 +212,7 @@ first_node keys node is = ap (λ (ks : List NodeName). set.from_list {R = node_c
     ∙ sym (set.contains-insert node_cmp_total set.empty node q ∙ ap (λ (b : Bool). eq_by_cmp node_cmp q node || b) (set.contains-empty node_cmp q)))
 
 module _ (w now time : ℕ) (old new : BTreeMap (List ℕ) Open) (from : List ℕ) (node : NodeName) where
-  pub puts_into : IsOpenStill old from w time → GainsIn old new from node → Puts (kept_of w now old) (kept_of w now new) time from node
+  pub puts_into : IsOpenStill old from w time → GainsIn old new from node → PutsNode (kept_of w now old) (kept_of w now new) time from node
   puts_into still gains =
       let grown = gains.own still.0 still.1 in
       record {
@@ -228,7 +228,7 @@ module _ (w now time : ℕ) (old new : BTreeMap (List ℕ) Open) (from : List �
         others = λ other ne. seen new other ∙ (ap (option_map shown) (gains.others other ne) ∙ sym (seen old other));
       }
 
-  pub puts_first : (¬ IsOpenStill old from w time) → OpensIn old new from time node → Puts (kept_of w now old) (kept_of w now new) time from node
+  pub puts_first : (¬ IsOpenStill old from w time) → OpensIn old new from time node → PutsNode (kept_of w now old) (kept_of w now new) time from node
   puts_first over opens = record {
     length = refl;
     now = refl;
@@ -258,7 +258,7 @@ over_before w time windows from some over o is =
 
 -- the node is put in, and then time goes by
 pub put_then_passed : (old mid new : Kept) (at time : ℕ) (source : List ℕ) (node : NodeName) → 1 ≤ old.length → time ≡ max old.now at
-    → Puts old mid time source node → Passes mid new at → Raises old new at source node
+    → PutsNode old mid time source node → TimePasses mid new at → Raises old new at source node
 put_then_passed old mid new at time source node some is puts passes =
     let now : new.now ≡ max old.now at = passes.now ∙ ap (λ (t : ℕ). max t at) puts.now in
     let by : time ≡ new.now = is ∙ sym now in

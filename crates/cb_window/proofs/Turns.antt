@@ -14,7 +14,7 @@ use Rattle.cb_model.specs.declared.node.NodeName.{NodeName}
 use Rattle.cb_model.specs.Order.{name_cmp}
 use Rattle.cb_model.proofs.Rising.{then_ties, name_cmp_total, name_cmp_exact}
 use Rattle.cb_network.proofs.Sets.{tied, tied_same, decide_key}
-use Rattle.cb_window.specs.Kept.{turn_cmp, IsQueued, TakesOut, NoneIsDue, GoesOrStays, GoesIfDue, LosesNode, ClearsIn, IsLive}
+use Rattle.cb_window.specs.Kept.{turn_cmp, IsQueued, TakesOut, NoneIsDue, GoesOrStays, GoesIfDue, LosesNode, ClearsIn, IsWindowOpen}
 use Rattle.cb_window.specs.declared.turn.Turn.{Turn}
 use Rattle.cb_window.specs.declared.windows.Open.{Open}
 
@@ -166,7 +166,7 @@ queued_still old new queue from node queued clears turn =
       )
     ]
   where
-    back : (o : Option Open) → tree.get name_cmp old from ≡ o → turn.from ≡ from → IsLive new turn → tree_set.contains turn_cmp queue turn ≡ true
+    back : (o : Option Open) → tree.get name_cmp old from ≡ o → turn.from ≡ from → IsWindowOpen new turn → tree_set.contains turn_cmp queue turn ≡ true
     back None is same of = let none = clears.none is in let some = sym (ap (tree.get name_cmp new) same) ∙ of.1 in absurd (cc)
     back (Some o) is same of =
         let n = clears.own o is in

@@ -54,8 +54,8 @@ abbrev pub GoesIfDue : BTreeMap (List ℕ) Open → BTreeMap (List ℕ) Open →
 GoesIfDue old new w time = (source : List ℕ) → GoesOrStays w time (tree.get name_cmp old source) (tree.get name_cmp new source)
 
 -- the window of the turn is open
-abbrev pub IsLive : BTreeMap (List ℕ) Open → Turn → Type 0
-IsLive windows turn = (o : Open) × (tree.get name_cmp windows turn.from ≡ Some o) × (o.opened ≡ turn.opened)
+abbrev pub IsWindowOpen : BTreeMap (List ℕ) Open → Turn → Type 0
+IsWindowOpen windows turn = (o : Open) × (tree.get name_cmp windows turn.from ≡ Some o) × (o.opened ≡ turn.opened)
 
 -- this is reported of the window of the turn, which closes at that time
 pub record IsReportedSo (windows : BTreeMap (List ℕ) Open) (turn : Turn) (time : ℕ) (c : Closed) : Type 0 where
@@ -127,7 +127,7 @@ abbrev pub IsOpenStill : BTreeMap (List ℕ) Open → List ℕ → ℕ → ℕ �
 IsOpenStill windows from w time = (o : Open) × (tree.get name_cmp windows from ≡ Some o) × (time < o.opened + w)
 
 -- the node goes into what is left of the source's window by that time, and the others stay
-pub record Puts (old new : Kept) (time : ℕ) (source : List ℕ) (node : NodeName) : Type 0 where
+pub record PutsNode (old new : Kept) (time : ℕ) (source : List ℕ) (node : NodeName) : Type 0 where
   pub length : new.length ≡ old.length
   pub now : new.now ≡ old.now
   pub left : Option OpenWindow

@@ -2,7 +2,7 @@
 ghost use Rattle.std.specs.Prelude.{◌≡◌, ◌++◌, [], ◌∷◌, IfOk, OnOk};
 ghost use Rattle.std.specs.List.Sorted.{IsStrictlySortedBy};
 ghost use Rattle.cb_model.specs.NodeOrder.{node_cmp};
-ghost use Rattle.cb_window.specs.Kept.{IsLive, IsReportedSo, IsQueued, AreReportedUpTo, AreReportedAll};
+ghost use Rattle.cb_window.specs.Kept.{IsWindowOpen, IsReportedSo, IsQueued, AreReportedUpTo, AreReportedAll};
 
 use crate::turn::Turn;
 use crate::windows::Open;
@@ -33,7 +33,7 @@ pub(crate) fn closing_of(
     turn: &Turn,
     time: u64,
 ) -> Result<Closed, AllocError>
-    requires live { IsLive live.now turn.now }
+    requires live { IsWindowOpen live.now turn.now }
     ensures { IfOk result (IsReportedSo live.now turn.now time) }
 {
     let nodes = match live.get(&turn.from) {

@@ -2,10 +2,10 @@
 ghost use Rattle.std.specs.Prelude.{◌≡◌, ◌≤◌, ◌<◌, ◌++◌, max, length, List as Items, [], ◌∷◌, IfOk, OnOk, OnErr};
 ghost use Rattle.cb_log.specs.declared.record.Body.TheVariants.{Clear, Raise};
 ghost use Rattle.cb_log.specs.declared.record.Record.{Record};
-ghost use Rattle.cb_log.specs.Kept.{StandsFor};
-ghost use Rattle.cb_log.specs.Passing.{Passes, Clears, AreDue};
+ghost use Rattle.cb_log.specs.Kept.{StandsForRecords};
+ghost use Rattle.cb_log.specs.Passing.{TimePasses, Clears, AreDue};
 ghost use Rattle.cb_log.specs.Closing.{AreClosing};
-ghost use Rattle.cb_window.specs.Kept.{Puts};
+ghost use Rattle.cb_window.specs.Kept.{PutsNode};
 ghost use Rattle.cb_log.specs.Records.{IsByNone};
 
 use crate::closing::{close_all, close_up_to};
@@ -64,7 +64,7 @@ impl Windows {
     pub fn new(alloc: Global, length: u64) -> Windows
         requires { 1 ≤ length }
         ensures length { result.length ≡ length }
-        ensures stands { StandsFor result [] }
+        ensures stands { StandsForRecords result [] }
     {
         Windows {
             length,
@@ -83,7 +83,7 @@ impl Windows {
 
     // Time goes by, and the windows that are due go.
     fn go_to(&mut self, at: u64)
-        ensures { Passes self.old self.new at }
+        ensures { TimePasses self.old self.new at }
     {
         self.time = later(self.time, at);
         drop_due(&mut self.live, &mut self.queue, self.time, self.length);
@@ -92,8 +92,8 @@ impl Windows {
     /// Goes on by a record of that time that no source says: a tick, or an edit.
     pub fn pass(&mut self, at: u64)
         ensures length { self.new.length ≡ self.old.length }
-        ensures stands { (records : Items Record) (r : Record) → r.at ≡ at → IsByNone r → StandsFor self.old records
-            → StandsFor self.new (records ++ r ∷ []) }
+        ensures stands { (records : Items Record) (r : Record) → r.at ≡ at → IsByNone r → StandsForRecords self.old records
+            → StandsForRecords self.new (records ++ r ∷ []) }
     {
         self.go_to(at);
     }
@@ -101,7 +101,7 @@ impl Windows {
     /// The windows that a record of that time closes, by their opening times and then by their sources. They stay until the
     /// log goes on.
     pub fn due(&self, alloc: Global, at: u64) -> Result<List<Closed>, AllocError>
-        ensures { IfOk result (λ closing. (records : Items Record) (r : Record) → r.at ≡ at → StandsFor self.now records
+        ensures { IfOk result (λ closing. (records : Items Record) (r : Record) → r.at ≡ at → StandsForRecords self.now records
             → AreClosing (records ++ r ∷ []) self.now.length (length records) closing) }
     {
         self.due_by(alloc, later(self.time, at))
@@ -119,7 +119,7 @@ impl Windows {
 
     /// The windows that the end of the log closes, in the same order.
     pub fn rest(&self, alloc: Global) -> Result<List<Closed>, AllocError>
-        ensures { IfOk result (λ closing. (records : Items Record) → StandsFor self.now records
+        ensures { IfOk result (λ closing. (records : Items Record) → StandsForRecords self.now records
             → AreClosing records self.now.length (length records) closing) }
     {
         close_all(alloc, &self.live, &self.queue, self.time)
@@ -135,7 +135,7 @@ impl Windows {
     ) -> Result<(), AllocError>
         ensures length { self.new.length ≡ self.old.length }
         ensures stands { OnOk result ((records : Items Record) (r : Record) → r.at ≡ at → r.body ≡ Raise from.now node.now
-            → StandsFor self.old records → StandsFor self.new (records ++ r ∷ [])) }
+            → StandsForRecords self.old records → StandsForRecords self.new (records ++ r ∷ [])) }
         ensures same { OnErr result (self.new ≡ self.old) }
     {
         self.put_node(alloc, later(self.time, at), from, node)?;
@@ -151,7 +151,7 @@ impl Windows {
         from: &Name,
         node: &NodeName,
     ) -> Result<(), AllocError>
-        ensures put { OnOk result (Puts self.old self.new time from.now node.now) }
+        ensures put { OnOk result (PutsNode self.old self.new time from.now node.now) }
         ensures same { OnErr result (self.new ≡ self.old) }
     {
         if is_open_still(&self.live, from, self.length, time) {
@@ -164,8 +164,8 @@ impl Windows {
     /// Goes on by a clear of that time, which does nothing where the source has no window.
     pub fn clear(&mut self, at: u64, from: &Name, node: &NodeName)
         ensures length { self.new.length ≡ self.old.length }
-        ensures stands { (records : Items Record) (r : Record) → r.at ≡ at → r.body ≡ Clear from.now node.now → StandsFor self.old records
-            → StandsFor self.new (records ++ r ∷ []) }
+        ensures stands { (records : Items Record) (r : Record) → r.at ≡ at → r.body ≡ Clear from.now node.now → StandsForRecords self.old records
+            → StandsForRecords self.new (records ++ r ∷ []) }
     {
         self.go_to(at);
         self.take_node(from, node);

@@ -1,6 +1,6 @@
 use Rattle.std.proofs.Common.{subst}
 use Rattle.cb_topo.specs.Numbered.{Numbered}
-use Rattle.cb_cache.specs.Created.{IsRoomWith}
+use Rattle.cb_cache.specs.Created.{IsCapacityWith}
 use Rattle.cb_cache.proofs.Creating.{kept_spared}
 use Rattle.cb_cache.proofs.create.create.Goals as goal
 
@@ -12,4 +12,4 @@ create_in-requires-clause-kept g c = kept_spared c.args.graph.now c.args.store.n
 
 pub create_in-requires-clause-further : goal.create_in-requires-clause-further
 create_in-requires-clause-further g c =
-    subst (λ (n : Numbered). IsRoomWith n c.args.edit.now c.further_for.new.rows c.in_ok-further.further) c.topology-2.ensures c.in_ok-further.ensures.further
+    subst (λ (n : Numbered). IsCapacityWith n c.args.edit.now c.further_for.new.rows c.in_ok-further.further) c.topology-2.ensures c.in_ok-further.ensures.further

@@ -23,19 +23,19 @@ pub list_new-requires-clause-made : goal.list_new-requires-clause-made
 list_new-requires-clause-made g c =
     (c.args.graph.now, subst (λ (m : Numbered). Applies c.args.graph.now c.args.edit.now m) (sym c.topology.ensures) c.in_ok-edit_graph.ensures.made.applies)
 
-pub list_new-requires-clause-room : goal.list_new-requires-clause-room
-list_new-requires-clause-room g c =
+pub list_new-requires-clause-capacity : goal.list_new-requires-clause-capacity
+list_new-requires-clause-capacity g c =
     let old = c.args.graph.now in
     let new = c.edit_graph.new.graph in
     let edit = c.args.edit.now in
     let edited = c.in_ok-edit_graph.ensures.made in
-    let (typed, more, within, room) = c.requires.further in
+    let (typed, more, within, capacity) = c.requires.further in
     let rows = c.args.store.now.rows in
     let further = c.args.further.now in
-    let fits = room new edited.applies in
+    let fits = capacity new edited.applies in
     let there = c.move_in.new.store.rows in
     let model = (near (topology_of old) (topology_of new) edit edited.applies.after).model in
-    let needs = events_fit old typed edit (length new.nodes) c.requires.creates edited.applies.node_room in
+    let needs = events_fit old typed edit (length new.nodes) c.requires.creates edited.applies.node_capacity in
     let enough = fits.agenda.listed in
     let same = ap (λ (a : Agenda). vec_capacity a.problems) c.move_in.ensures.agenda in
     let wide = more_within (topology_of old).model edit (length new.nodes) (vec_capacity c.move_in.new.store.agenda.problems) needs (omega arith) in
@@ -48,10 +48,10 @@ add_rows-requires-clause-live g c =
     let new = c.edit_graph.new.graph in
     let edit = c.args.edit.now in
     let edited = c.in_ok-edit_graph.ensures.made in
-    let (typed, more, within, room) = c.requires.further in
+    let (typed, more, within, capacity) = c.requires.further in
     let rows = c.args.store.now.rows in
     let further = c.args.further.now in
-    let fits = room new edited.applies in
+    let fits = capacity new edited.applies in
     let there = c.move_in.new.store.rows in
     let moved = subst (λ (xs : List (Option Slot)). AreMoved rows.slots.items xs rows.pool there.pool) (sym (ap (λ (v : Vec (Option Slot) Global). v.items) c.move_in.ensures.slots))
     (subst (λ (q : Pool). AreMoved rows.slots.items further.slots.items rows.pool q) (sym c.move_in.ensures.pool) (moved_for (length new.nodes) more rows further fits)) in
@@ -69,10 +69,10 @@ add_rows-requires-clause-none g c =
     let new = c.edit_graph.new.graph in
     let edit = c.args.edit.now in
     let edited = c.in_ok-edit_graph.ensures.made in
-    let (typed, more, within, room) = c.requires.further in
+    let (typed, more, within, capacity) = c.requires.further in
     let rows = c.args.store.now.rows in
     let further = c.args.further.now in
-    let fits = room new edited.applies in
+    let fits = capacity new edited.applies in
     let there = c.move_in.new.store.rows in
     let moved = subst (λ (xs : List (Option Slot)). AreMoved rows.slots.items xs rows.pool there.pool) (sym (ap (λ (v : Vec (Option Slot) Global). v.items) c.move_in.ensures.slots))
     (subst (λ (q : Pool). AreMoved rows.slots.items further.slots.items rows.pool q) (sym c.move_in.ensures.pool) (moved_for (length new.nodes) more rows further fits)) in
@@ -90,10 +90,10 @@ add_rows-requires-clause-rows g c =
     let new = c.edit_graph.new.graph in
     let edit = c.args.edit.now in
     let edited = c.in_ok-edit_graph.ensures.made in
-    let (typed, more, within, room) = c.requires.further in
+    let (typed, more, within, capacity) = c.requires.further in
     let rows = c.args.store.now.rows in
     let further = c.args.further.now in
-    let fits = room new edited.applies in
+    let fits = capacity new edited.applies in
     let there = c.move_in.new.store.rows in
     let moved = subst (λ (xs : List (Option Slot)). AreMoved rows.slots.items xs rows.pool there.pool) (sym (ap (λ (v : Vec (Option Slot) Global). v.items) c.move_in.ensures.slots))
     (subst (λ (q : Pool). AreMoved rows.slots.items further.slots.items rows.pool q) (sym c.move_in.ensures.pool) (moved_for (length new.nodes) more rows further fits)) in
@@ -111,10 +111,10 @@ add_rows-requires-clause-apart g c =
     let new = c.edit_graph.new.graph in
     let edit = c.args.edit.now in
     let edited = c.in_ok-edit_graph.ensures.made in
-    let (typed, more, within, room) = c.requires.further in
+    let (typed, more, within, capacity) = c.requires.further in
     let rows = c.args.store.now.rows in
     let further = c.args.further.now in
-    let fits = room new edited.applies in
+    let fits = capacity new edited.applies in
     let there = c.move_in.new.store.rows in
     let moved = subst (λ (xs : List (Option Slot)). AreMoved rows.slots.items xs rows.pool there.pool) (sym (ap (λ (v : Vec (Option Slot) Global). v.items) c.move_in.ensures.slots))
     (subst (λ (q : Pool). AreMoved rows.slots.items further.slots.items rows.pool q) (sym c.move_in.ensures.pool) (moved_for (length new.nodes) more rows further fits)) in
@@ -132,10 +132,10 @@ returns-clause-kept g c =
     let new = c.edit_graph.new.graph in
     let edit = c.args.edit.now in
     let edited = c.in_ok-edit_graph.ensures.made in
-    let (typed, more, within, room) = c.requires.further in
+    let (typed, more, within, capacity) = c.requires.further in
     let rows = c.args.store.now.rows in
     let further = c.args.further.now in
-    let fits = room new edited.applies in
+    let fits = capacity new edited.applies in
     let there = c.move_in.new.store.rows in
     let moved = subst (λ (xs : List (Option Slot)). AreMoved rows.slots.items xs rows.pool there.pool) (sym (ap (λ (v : Vec (Option Slot) Global). v.items) c.move_in.ensures.slots))
     (subst (λ (q : Pool). AreMoved rows.slots.items further.slots.items rows.pool q) (sym c.move_in.ensures.pool) (moved_for (length new.nodes) more rows further fits)) in
@@ -149,10 +149,10 @@ returns-clause-kept g c =
     let kept : IsCacheOf new record { rows = c.add_rows.new.rows; agenda = record { touched = there_agenda.touched; problems = c.list_new.new.list } } = record {
       whole = edited.whole_after;
       right = fit.right c.add_rows.new.rows.slots.items c.add_rows.new.rows.pool c.add_rows.ensures.rows;
-      room = c.add_rows.ensures.room;
+      capacity = c.add_rows.ensures.capacity;
       agenda = record {
         touched = ap (λ (a : Agenda). length a.touched) c.move_in.ensures.agenda ∙ fits.agenda.touched;
-        listed = (let e = c.list_new.ensures.room in let f = fits.agenda.listed in let h = ap (λ (a : Agenda). vec_capacity a.problems) c.move_in.ensures.agenda in omega arith);
+        listed = (let e = c.list_new.ensures.capacity in let f = fits.agenda.listed in let h = ap (λ (a : Agenda). vec_capacity a.problems) c.move_in.ensures.agenda in omega arith);
       };
     } in
     subst (λ (m : Numbered). IsCacheOf m record { rows = c.add_rows.new.rows; agenda = record { touched = there_agenda.touched; problems = c.list_new.new.list } }) (sym c.add_rows.ensures.same) kept
@@ -163,10 +163,10 @@ returns-clause-cost g c =
     let new = c.edit_graph.new.graph in
     let edit = c.args.edit.now in
     let edited = c.in_ok-edit_graph.ensures.made in
-    let (typed, more, within, room) = c.requires.further in
+    let (typed, more, within, capacity) = c.requires.further in
     let rows = c.args.store.now.rows in
     let further = c.args.further.now in
-    let fits = room new edited.applies in
+    let fits = capacity new edited.applies in
     let there = c.move_in.new.store.rows in
     let moved = subst (λ (xs : List (Option Slot)). AreMoved rows.slots.items xs rows.pool there.pool) (sym (ap (λ (v : Vec (Option Slot) Global). v.items) c.move_in.ensures.slots))
     (subst (λ (q : Pool). AreMoved rows.slots.items further.slots.items rows.pool q) (sym c.move_in.ensures.pool) (moved_for (length new.nodes) more rows further fits)) in

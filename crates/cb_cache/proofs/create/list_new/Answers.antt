@@ -42,8 +42,8 @@ list_problems_among-requires-clause-once c =
     let are = subst (λ (xs : List EventId). AreEventsOf m class xs) (sym c.as_slice-events.ensures) c.events_of.ensures in
     events_once m class c.as_slice-events.result.now are
 
-pub list_problems_among-requires-clause-room : goal.list_problems_among-requires-clause-room
-list_problems_among-requires-clause-room c =
+pub list_problems_among-requires-clause-capacity : goal.list_problems_among-requires-clause-capacity
+list_problems_among-requires-clause-capacity c =
     let new = c.args.topology.now in
     let name = c.in-Create.name in
     let class = c.in-Create.class in
@@ -57,7 +57,7 @@ list_problems_among-requires-clause-room c =
     let events = c.as_slice-events.result.now in
     let listed = subst (λ (xs : List EventId). AreEventsOf c.model-2.result.now k xs) (sym c.as_slice-events.ensures) c.events_of.ensures in
     let are = subst (λ (m : Tables). AreEventsOf m k events) c.model-2.ensures.value listed in
-    let within = subst (λ (e : Edit). HasEventsWithin (topology_of new).model e (vec_capacity c.args.list.now)) c.in-Create.is c.requires.room in
+    let within = subst (λ (e : Edit). HasEventsWithin (topology_of new).model e (vec_capacity c.args.list.now)) c.in-Create.is c.requires.capacity in
     let few = no_more_events old new name class applies c.model.ensures.whole c.model.ensures.typed instance called k names events are (vec_capacity c.args.list.now) within in
     let same = c.clear.ensures.capacity in
     omega arith

@@ -28,7 +28,7 @@ loop-event-preserved c =
     let prefix : take (i + 1) events ≡ take i events ++ e ∷ [] = take_more events i zero low in
     let Among : List EventId → List NodeId → Type 0 = λ few ids. (id : NodeId) → Contains ids id ↔ IsProblemAmong n instance few id in
     let After : Vec NodeId Global → Type 0 = λ made.
-    record { problems : Among (take (i + 1) events) made.items; once : AreOnce made.items; few : length made.items ≤ i + 1; room : vec_capacity made ≡ vec_capacity c.args.list.now } in
+    record { problems : Among (take (i + 1) events) made.items; once : AreOnce made.items; few : length made.items ≤ i + 1; capacity : vec_capacity made ≡ vec_capacity c.args.list.now } in
     elim c.match-problem_at.branch [
       | in-Some w ↦
           let id = w.in-Some.node in
@@ -40,14 +40,14 @@ loop-event-preserved c =
                 (among_more n whole instance events c.requires.once i zero low list kept.problems kept.once id is problem));
             once = subst AreOnce (sym items) (once_among n whole instance events c.requires.once i zero low list kept.problems kept.once id is problem);
             few = subst (λ (ids : List NodeId). length ids ≤ i + 1) (sym items) (let long = length_push list id in let few = kept.few in omega arith);
-            room = w.push_reserved.ensures.capacity ∙ kept.room;
+            capacity = w.push_reserved.ensures.capacity ∙ kept.capacity;
           }
       | in_default w ↦ subst After (sym w.list-is) record {
         problems = subst (λ (few : List EventId). Among few list) (sym prefix)
             (among_past n whole instance events c.requires.once i zero low list kept.problems kept.once w.in_default.ensures.none);
         once = kept.once;
         few = (let few = kept.few in omega arith);
-        room = kept.room;
+        capacity = kept.capacity;
       }
     ]
 

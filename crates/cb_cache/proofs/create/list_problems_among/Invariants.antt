@@ -10,5 +10,5 @@ invariant-loop-event l = record {
   problems : (id : NodeId) → Contains l.list.items id ↔ IsProblemAmong l.topology l.instance (take l.event-index l.events) id;
   once : AreOnce l.list.items;
   few : length l.list.items ≤ l.event-index;
-  room : vec_capacity l.list ≡ vec_capacity l.fn.list;
+  capacity : vec_capacity l.list ≡ vec_capacity l.fn.list;
 }

@@ -1,7 +1,7 @@
 use Rattle.std.proofs.Common.{◌<◌, ℕ, Some, refl, ◌∙◌, arith}
 use Rattle.std.proofs.lemmas.Option.{slice_get_within}
 use Rattle.cb_pool.specs.declared.slot.Slot.{Slot}
-use Rattle.cb_pool.specs.Pool.{row_of}
+use Rattle.cb_pool.specs.Pool.{slot_row}
 use Rattle.cb_graph.specs.Edges.{number}
 use Rattle.cb_cache.specs.Reached.{HasSlot}
 use Rattle.cb_cache.proofs.Stale.{back_more, all_back}
@@ -11,7 +11,7 @@ pub take_back_one-requires-clause-taken : goal.take_back_one-requires-clause-tak
 take_back_one-requires-clause-taken c = λ slot has.
     let back = c.loop-place.invariant.back in
     let place = c.loop-place.place in
-    ((back.rows place slot has (row_of c.args.rows.now.pool slot)).1 (c.requires.taken place slot (back.had place slot has), refl)).0
+    ((back.rows place slot has (slot_row c.args.rows.now.pool slot)).1 (c.requires.taken place slot (back.had place slot has), refl)).0
 
 pub loop-place-preserved : goal.loop-place-preserved
 loop-place-preserved c =

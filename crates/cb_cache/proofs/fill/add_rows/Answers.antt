@@ -5,7 +5,7 @@ use Rattle.cb_instances.proofs.Showing.{slot_within}
 use Rattle.cb_nodes.specs.declared.id.NodeId.{NodeId}
 use Rattle.cb_nodes.proofs.Listing.{not_before}
 use Rattle.cb_topo.specs.Numbered.{Numbered, IsLiveNode}
-use Rattle.cb_cache.specs.Kept.{HaveRoom}
+use Rattle.cb_cache.specs.Kept.{HaveCapacity}
 use Rattle.cb_cache.specs.Filled.{AddsRow, AddsRows, CostsAtMost, CostAtMost}
 use Rattle.cb_cache.proofs.Filling.{rows_more, cost_more}
 use Rattle.cb_cache.proofs.fill.add_rows.Goals as goal
@@ -26,13 +26,13 @@ loop-node-preserved g c =
     let kept = c.loop-node.invariant in
     let more : take (i + 1) ids ≡ take i ids ++ id ∷ [] = take_more ids i zero c.loop-node-test.true in
     let live = c.requires.live i zero c.loop-node-test.true in
-    let low : id.0 < length c.loop-node.rows.slots.items = (let e = slot_within n.nodes id.0 live.1.node live.1.is in let f = kept.room.slots in omega arith) in
+    let low : id.0 < length c.loop-node.rows.slots.items = (let e = slot_within n.nodes id.0 live.1.node live.1.is in let f = kept.capacity.slots in omega arith) in
     let adds : AddsRow n id.0 c.loop-node.rows.slots.items c.add_row.new.rows.slots.items c.loop-node.rows.pool c.add_row.new.rows.pool =
     subst (λ (m : Numbered). AddsRow m id.0 c.loop-node.rows.slots.items c.add_row.new.rows.slots.items c.loop-node.rows.pool c.add_row.new.rows.pool) kept.same c.add_row.ensures.adds in
     let cost : CostsAtMost n id c.loop-node.steps c.add_row.new.steps = subst (λ (m : Numbered). CostsAtMost m id c.loop-node.steps c.add_row.new.steps) kept.same c.add_row.ensures.cost in
     record {
       same = c.add_row.ensures.same ∙ kept.same;
-      room = subst (λ (m : Numbered). HaveRoom m c.add_row.new.rows) kept.same c.add_row.ensures.room;
+      capacity = subst (λ (m : Numbered). HaveCapacity m c.add_row.new.rows) kept.same c.add_row.ensures.capacity;
       rows = subst (λ prefix. AddsRows n prefix c.args.rows.now.slots.items c.add_row.new.rows.slots.items c.args.rows.now.pool c.add_row.new.rows.pool) (sym more)
           (rows_more n (take i ids) id c.args.rows.now.slots.items c.loop-node.rows.slots.items c.add_row.new.rows.slots.items c.args.rows.now.pool c.loop-node.rows.pool c.add_row.new.rows.pool kept.rows
           (λ slot. c.requires.none id slot (Contains-get_or ids i zero c.loop-node-test.true)) (not_before ids i zero c.requires.once c.loop-node-test.true) low adds);

@@ -1,9 +1,9 @@
 use Rattle.std.proofs.Common.{ℕ, List, length, false, slice_index_or, refl, sym, ap, subst, ◌∙◌, arith}
-use Rattle.cb_pool.specs.Pool.{row_of}
+use Rattle.cb_pool.specs.Pool.{slot_row}
 use Rattle.cb_topo.specs.Numbered.{Numbered}
 use Rattle.cb_graph.specs.Edges.{EdgeAt}
 use Rattle.cb_cache.specs.Extended.{HasLed, CountsExpanded, IsSettledBut}
-use Rattle.cb_cache.specs.Kept.{HasRoom}
+use Rattle.cb_cache.specs.Kept.{ScratchFits}
 use Rattle.cb_cache.proofs.Extending.{within_link, none_extended, extended_past, extended_more}
 use Rattle.cb_cache.proofs.Linked.{right_later, row_taken, settled_but, who_later}
 use Rattle.cb_cache.proofs.Slots.{slot_at, no_slot_at, slot_low}
@@ -13,7 +13,7 @@ use Rattle.cb_cache.proofs.link.extend_rows.Goals.{in-Some, in_default}
 pub loop-place-init : goal.loop-place-init
 loop-place-init g c = record {
   same = refl;
-  room = c.requires.room;
+  capacity = c.requires.capacity;
   extended = none_extended c.args.graph.now c.args.touched.now c.args.slots.now c.args.pool.now c.args.steps.now;
 }
 
@@ -33,7 +33,7 @@ extend_row-requires-clause-settled g c =
     let kept = c.loop-place.invariant in
     let same = kept.extended.left c.loop-place.place slot (omega arith) has in
     let settled = settled_but old c.args.graph.now edit c.args.touched.now c.args.slots.now c.args.pool.now linked c.loop-place.place slot has in
-    subst (λ (n : Numbered). IsSettledBut (EdgeAt n) c.args.touched.now (row_of c.loop-place.pool slot)) (sym kept.same)
+    subst (λ (n : Numbered). IsSettledBut (EdgeAt n) c.args.touched.now (slot_row c.loop-place.pool slot)) (sym kept.same)
     (subst (λ (words : List ℕ). IsSettledBut (EdgeAt c.args.graph.now) c.args.touched.now words) (sym same) settled)
 
 pub loop-place-preserved : goal.loop-place-preserved
@@ -51,16 +51,16 @@ loop-place-preserved g c =
           let has = slot_at slots place slot w.in-Some.is in
           let owner = who_later old n edit touched slots p linked place slot has in
           let now = w.extend_row.ensures in
-          let led = subst (λ (m : Numbered). HasLed (EdgeAt m) w.extend_row.new.pool slot (row_of c.loop-place.pool slot)) kept.same now.row in
-          let cost = subst (λ (m : Numbered). CountsExpanded (EdgeAt m) touched (row_of c.loop-place.pool slot) (length m.nodes) c.loop-place.steps w.extend_row.new.steps) kept.same now.cost in
-          let room = subst (λ (m : Numbered). HasRoom m w.extend_row.new.scratch) kept.same now.room in
+          let led = subst (λ (m : Numbered). HasLed (EdgeAt m) w.extend_row.new.pool slot (slot_row c.loop-place.pool slot)) kept.same now.row in
+          let cost = subst (λ (m : Numbered). CountsExpanded (EdgeAt m) touched (slot_row c.loop-place.pool slot) (length m.nodes) c.loop-place.steps w.extend_row.new.steps) kept.same now.cost in
+          let capacity = subst (λ (m : Numbered). ScratchFits m w.extend_row.new.scratch) kept.same now.capacity in
           let next = extended_more n touched slots p linked.edited.whole_after linked.right.apart place slot has owner.0 owner.1 c.loop-place.pool w.extend_row.new.pool
           c.args.steps.now c.loop-place.steps w.extend_row.new.steps (length n.nodes) kept.extended now.width now.taken now.spare now.others led cost
           (λ i other its. row_taken old n edit touched slots p linked i other its) in
-          rw (w.graph-is, w.pool-is, w.scratch-is, w.steps-is) (record { same = now.same ∙ kept.same; room = room; extended = next })
+          rw (w.graph-is, w.pool-is, w.scratch-is, w.steps-is) (record { same = now.same ∙ kept.same; capacity = capacity; extended = next })
       | in_default w ↦
           let next = extended_past n touched slots p c.loop-place.pool place c.args.steps.now c.loop-place.steps (λ slot. no_slot_at slots place slot w.in_default.is) kept.extended in
-          rw (w.graph-is, w.pool-is, w.scratch-is, w.steps-is) (record { same = kept.same; room = kept.room; extended = next })
+          rw (w.graph-is, w.pool-is, w.scratch-is, w.steps-is) (record { same = kept.same; capacity = kept.capacity; extended = next })
     ]
 
 pub returns-clause-right : goal.returns-clause-right

@@ -5,5 +5,5 @@ use Rattle.cb_cache.proofs.order.scatter.Goals as goal
 pub loop-place-preserved : goal.loop-place-preserved
 loop-place-preserved g c = record {
   items = IsPermutation-trans _ _ _ c.loop-place.invariant.items c.trade.ensures.items;
-  room = c.trade.ensures.room ∙ c.loop-place.invariant.room;
+  capacity = c.trade.ensures.capacity ∙ c.loop-place.invariant.capacity;
 }

@@ -5,5 +5,5 @@ use Rattle.cb_cache.proofs.order.scatter.Given as goal
 abbrev pub invariant-loop-place : goal.invariant-loop-place
 invariant-loop-place g l = record {
   items : IsPermutation l.fn.items.items l.items.items;
-  room : vec_capacity l.items ≡ vec_capacity l.fn.items;
+  capacity : vec_capacity l.items ≡ vec_capacity l.fn.items;
 }

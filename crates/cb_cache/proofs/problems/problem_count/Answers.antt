@@ -33,16 +33,16 @@ returns-clause-count c =
     let n = c.args.topology.now in
     let (ids, below, count) = c.loop-place.invariant in
     let above : (id : NodeId) → IsLiveNode n id → id.0 < c.loop-place.place = λ id live.
-    let low = c.node_room-place-end.ensures.above id live in
+    let low = c.node_capacity-place-end.ensures.above id live in
     omega (arith, low, c.loop-place-test.false) in
-    subst (IsCount (IsProblem (topology_of n))) (sym count) (count_of_all n c.node_room-place-end.ensures.whole c.loop-place.place ids below above)
+    subst (IsCount (IsProblem (topology_of n))) (sym count) (count_of_all n c.node_capacity-place-end.ensures.whole c.loop-place.place ids below above)
 
 pub returns-clause-few : goal.returns-clause-few
 returns-clause-few c =
     let n = c.args.topology.now in
     let (ids, below, count) = c.loop-place.invariant in
     let above : (id : NodeId) → IsLiveNode n id → id.0 < c.loop-place.place = λ id live.
-    let low = c.node_room-place-end.ensures.above id live in
+    let low = c.node_capacity-place-end.ensures.above id live in
     omega (arith, low, c.loop-place-test.false) in
-    let few = few_of_all n c.node_room-place-end.ensures.whole c.loop-place.place ids below above c.node_room-place-end.ensures.sound in
+    let few = few_of_all n c.node_capacity-place-end.ensures.whole c.loop-place.place ids below above c.node_capacity-place-end.ensures.sound in
     omega arith

@@ -14,11 +14,11 @@ loop-place-init c = (subst (AreBelow c.args.topology.now 0) (sym c.requires.empt
 
 pub push_reserved-requires : goal.push_reserved-requires
 push_reserved-requires c =
-    let (below, room) = c.loop-place.invariant in
+    let (below, capacity) = c.loop-place.invariant in
     let low = c.loop-place-test.true in
-    let most = c.node_room-place-end.ensures.value in
+    let most = c.node_capacity-place-end.ensures.value in
     let few = below.few in
-    let enough = c.requires.room in
+    let enough = c.requires.capacity in
     let long = c.loop-place.list.ok.0 in
     omega arith
 
@@ -28,21 +28,21 @@ loop-place-preserved c =
     let k = c.loop-place.place in
     let id : NodeId = record { 0 = k } in
     let ids = c.loop-place.list.items in
-    let (below, room) = c.loop-place.invariant in
+    let (below, capacity) = c.loop-place.invariant in
     let After : Vec NodeId Global → Type 0 = λ list. AreBelow n (k + 1) list.items × (vec_capacity list ≡ vec_capacity c.args.list.now) in
     elim c.if-is_problem_number.branch [
       | then-is_problem_number w ↦
           let more = below_more n k ids below id refl (c.is_problem_number.ensures.0 w.if-is_problem_number.true) in
-          subst After (sym w.list-is) (subst (AreBelow n (k + 1)) (sym w.push_reserved.ensures.items) more, w.push_reserved.ensures.capacity ∙ room)
+          subst After (sym w.list-is) (subst (AreBelow n (k + 1)) (sym w.push_reserved.ensures.items) more, w.push_reserved.ensures.capacity ∙ capacity)
       | else-is_problem_number w ↦
           let past = below_past n k ids below id refl (λ problem. false≢true (sym w.if-is_problem_number.false ∙ c.is_problem_number.ensures.1 problem)) in
-          subst After (sym w.list-is) (past, room)
+          subst After (sym w.list-is) (past, capacity)
     ]
 
 pub returns-clause-problems : goal.returns-clause-problems
 returns-clause-problems c =
     let n = c.args.topology.now in
     let above : (id : NodeId) → IsLiveNode n id → id.0 < c.loop-place.place = λ id live.
-    let low = c.node_room-place-end.ensures.above id live in
+    let low = c.node_capacity-place-end.ensures.above id live in
     omega (arith, low, c.loop-place-test.false) in
-    all_gathered n c.node_room-place-end.ensures.whole c.loop-place.place c.loop-place.list.items c.loop-place.invariant.0 above c.node_room-place-end.ensures.sound
+    all_gathered n c.node_capacity-place-end.ensures.whole c.loop-place.place c.loop-place.list.items c.loop-place.invariant.0 above c.node_capacity-place-end.ensures.sound

@@ -11,8 +11,8 @@ use Rattle.cb_cache.proofs.Gathered.{within_most}
 use Rattle.cb_cache.proofs.Pooled.{none_taken}
 use Rattle.cb_cache.proofs.rows.search_each.Goals as goal
 
-pub list_problems-requires-clause-room : goal.list_problems-requires-clause-room
-list_problems-requires-clause-room g c =
+pub list_problems-requires-clause-capacity : goal.list_problems-requires-clause-capacity
+list_problems-requires-clause-capacity g c =
     let (count, most, empty) = c.requires in
     subst (λ (m : Numbered). length m.nodes ≤ vec_capacity c.args.store.now.agenda.problems) (sym c.topology.ensures) empty.agenda.listed
 
@@ -46,8 +46,8 @@ add_rows-requires-clause-apart g c =
     let (count, most, empty) = c.requires in
     none_apart (length c.args.graph.now.nodes) c.args.store.now.rows.slots.items empty.slots
 
-pub add_rows-requires-clause-room : goal.add_rows-requires-clause-room
-add_rows-requires-clause-room g c =
+pub add_rows-requires-clause-capacity : goal.add_rows-requires-clause-capacity
+add_rows-requires-clause-capacity g c =
     let (count, most, empty) = c.requires in
     let n = c.args.graph.now in
     record { slots = ap length empty.slots ∙ length-replicate (length n.nodes) _; width = empty.width; scratch = empty.scratch }
@@ -60,7 +60,7 @@ add_rows-requires-clause-spare g c =
     let whole = subst IsWhole c.topology.ensures c.list_problems.ensures.whole in
     let are = subst (λ (m : Numbered). AreProblemNumbers m ids) c.topology.ensures c.list_problems.ensures.problems in
     let few = within_most n whole ids count are most in
-    let room = empty.spare in
+    let capacity = empty.spare in
     let long = ap length c.deref.ensures.value in
     omega arith
 
@@ -78,10 +78,10 @@ returns-clause-kept g c =
     record {
       whole = whole;
       right = are_right n whole ids are slots made.slots.items pool made.pool (no_slot (length n.nodes) slots empty.slots) (λ slot. none_taken pool slot empty.taken) rows;
-      room = c.add_rows.ensures.room;
+      capacity = c.add_rows.ensures.capacity;
       agenda = record {
         touched = empty.agenda.touched;
-        listed = (let e = empty.agenda.listed in let f = c.list_problems.ensures.room in omega arith);
+        listed = (let e = empty.agenda.listed in let f = c.list_problems.ensures.capacity in omega arith);
       };
     }
 

@@ -4,7 +4,7 @@ use Rattle.cb_reduce.specs.Reduced.{IsReduced}
 use Rattle.cb_codes.specs.Groups.{named_of}
 use Rattle.cb_model.specs.declared.node.NamedGroup.{NamedGroup}
 use Rattle.cb_topo.specs.Numbered.{Numbered, topology_of}
-use Rattle.cb_certify.specs.Members.{HasNode, IsCalledBy, IsMemberAt, IsPairOf}
+use Rattle.cb_certify.specs.Members.{HasLeastNode, IsCalledBy, IsMemberAt, IsPairOf}
 use Rattle.cb_certify.proofs.Reduced.{rows_fit, columns_fit, has_codebook, first_close, places_within, pair_far, first_pair, called_member, pair_called, has_node}
 use Rattle.cb_certify.proofs.codebook.by_groups.Goals as goal
 
@@ -31,8 +31,8 @@ close_named-close-requires g c =
     let pair = c.in-Err-TooClose.pair in
     let is = subst (λ (why : Refused). IsReduced c.codes.result.now c.args.wanted (Err why)) c.in-Err-TooClose.field-0-is c.in-Err-TooClose.ensures in
     let (below, within) = places_within (topology_of n) made are c.codes.result.now c.codes.ensures.width c.codes.ensures.rows c.args.wanted pair is in
-    let node : (place : ℕ) → 0 < place → place < length made.groups → HasNode c.topology.result.now c.named.result.now place =
-    λ place later low. subst₂ (λ (m : Numbered) (named : List NamedGroup). HasNode m named place) (sym c.topology.ensures) (sym c.named.ensures)
+    let node : (place : ℕ) → 0 < place → place < length made.groups → HasLeastNode c.topology.result.now c.named.result.now place =
+    λ place later low. subst₂ (λ (m : Numbered) (named : List NamedGroup). HasLeastNode m named place) (sym c.topology.ensures) (sym c.named.ensures)
     (has_node n are.columns made.groups are.matrix place later low) in
     record { first = λ later. node pair.first later (omega arith); second = node pair.second (omega arith) within; later = omega arith }
 

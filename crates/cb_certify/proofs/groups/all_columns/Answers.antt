@@ -13,7 +13,7 @@ column_index-requires-clause-once c =
 pub column_index-requires-clause-below : goal.column_index-requires-clause-below
 column_index-requires-clause-below c =
     let listed = c.in_ok-nodes.ensures in
-    all_below c.args.topology.now c.node_room-room.result c.in_ok-nodes.nodes listed.0 c.node_room-room.ensures.above listed.2
+    all_below c.args.topology.now c.node_capacity-capacity.result c.in_ok-nodes.nodes listed.0 c.node_capacity-capacity.ensures.above listed.2
 
 pub returns : goal.returns
 returns c =
@@ -22,6 +22,6 @@ returns c =
     let made = c.in_ok-columns.columns in
     record {
       all = subst (AreAllColumns c.args.topology.now) (sym is.nodes) (record { names = listed.0; are = listed.1; named = listed.2 });
-      places = subst (λ room. IsColumnIndex room made.nodes made.places.items) c.node_room-room.ensures.value
-          (subst (λ (ids : List NodeId). IsColumnIndex c.node_room-room.result ids made.places.items) (sym is.nodes) is.places);
+      places = subst (λ capacity. IsColumnIndex capacity made.nodes made.places.items) c.node_capacity-capacity.ensures.value
+          (subst (λ (ids : List NodeId). IsColumnIndex c.node_capacity-capacity.result ids made.places.items) (sym is.nodes) is.places);
     }

@@ -4,7 +4,7 @@ use Rattle.cb_breadth.specs.declared.visit.Visit.{Visit}
 use Rattle.cb_codes.specs.EachOnce.{FindsPlace}
 use Rattle.cb_nodes.specs.declared.id.NodeId.{NodeId}
 use Rattle.cb_span.proofs.Zips.{zip_count}
-use Rattle.cb_span.specs.Numberings.{AreBelow as AreVisitsBelow}
+use Rattle.cb_span.specs.Numberings.{HaveRanksBelow as AreVisitsBelow}
 use Rattle.cb_span.specs.Searched.{IsTreeOf}
 use Rattle.cb_certify.specs.Groups.{IsCodeBy}
 use Rattle.cb_certify.proofs.Adding.{AreAdded, none_added, one_more_added}

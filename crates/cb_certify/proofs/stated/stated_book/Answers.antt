@@ -18,7 +18,7 @@ places_of-requires-clause-rise c =
 pub places_of-requires-clause-few : goal.places_of-requires-clause-few
 places_of-requires-clause-few c =
     few_columns (topology_of c.args.topology.now) c.in_ok-all.all
-    (copied_columns c.args.topology.now c.in_ok-ids.ids c.in_ok-all.all c.in_ok-ids.ensures c.in_ok-all.ensures) c.node_room-room.ensures.sound
+    (copied_columns c.args.topology.now c.in_ok-ids.ids c.in_ok-all.all c.in_ok-ids.ensures c.in_ok-all.ensures) c.node_capacity-capacity.ensures.sound
 
 pub places_of-requires-clause-among : goal.places_of-requires-clause-among
 places_of-requires-clause-among c =

@@ -4,8 +4,8 @@ use Rattle.cb_checker.proofs.all_columns.table_of.Goals as goal
 
 pub loop-place-preserved : goal.loop-place-preserved
 loop-place-preserved c =
-    place_more c.args.room c.args.columns.now c.loop-place.place c.loop-place.places.items c.at.result.now c.requires.once c.requires.below c.loop-place.invariant c.at.ensures
+    place_more c.args.capacity c.args.columns.now c.loop-place.place c.loop-place.places.items c.at.result.now c.requires.once c.requires.below c.loop-place.invariant c.at.ensures
 
 pub returns : goal.returns
 returns c =
-    all_places c.args.room c.args.columns.now c.loop-place.place c.loop-place.places.items (omega (arith, c.loop-place-test.false, c.len-place-end.ensures)) c.loop-place.invariant
+    all_places c.args.capacity c.args.columns.now c.loop-place.place c.loop-place.places.items (omega (arith, c.loop-place-test.false, c.len-place-end.ensures)) c.loop-place.invariant

@@ -4,7 +4,7 @@ use Rattle.cb_cert.specs.declared.certificate.Certificate.TheVariants.{Book}
 use Rattle.cb_validity.specs.Checks.{IsGoodNode}
 use Rattle.cb_topo.specs.Numbered.{Numbered, topology_of, AreNamed}
 use Rattle.cb_checker.specs.Firsts.{AreAll, JudgesNodes}
-use Rattle.cb_checker.specs.Known.{AreLive, ended}
+use Rattle.cb_checker.specs.Known.{AreLive, verdict_of}
 use Rattle.cb_checker.specs.Columns.{IsColumnAt, JudgesColumns}
 use Rattle.cb_checker.specs.Places.{AreThere}
 use Rattle.cb_checker.specs.Claims.{JudgesBook}
@@ -25,7 +25,7 @@ returns-in_err-ids-clause-judges g c = λ names are named.
     let spans = c.args.spans.now in
     let reported = c.in_err-ids.field-0.0 in
     let failed = (subst (λ (m : Numbered). JudgesNodes (topology_of m) nodes (Err reported)) c.topology.ensures c.in_err-ids.ensures.judges) (Book d nodes numbers spans) refl in
-    exit (λ r. IsJudged (topology_of n) d nodes numbers spans names (ended r)) c.from_residual.result reported c.from_residual.ensures.1
+    exit (λ r. IsJudged (topology_of n) d nodes numbers spans names (verdict_of r)) c.from_residual.result reported c.from_residual.ensures.1
     (in_nodes (topology_of n) d nodes numbers spans names reported failed)
 
 pub check_columns-requires-clause-live : goal.check_columns-requires-clause-live
@@ -60,7 +60,7 @@ returns-in_err-check_columns-clause-judges g c = λ names are named.
     let failed = (subst (λ xs. JudgesColumns n xs numbers (Err reported)) c.deref.ensures.value
     (subst (λ (m : Numbered). JudgesColumns m c.deref.result.now numbers (Err reported)) c.topology-2.ensures c.in_err-check_columns.ensures.judges)) (Book d nodes numbers spans) known refl
     in
-    exit (λ r. IsJudged (topology_of n) d nodes numbers spans names (ended r)) c.from_residual-in_err-check_columns.result reported c.from_residual-in_err-check_columns.ensures.1
+    exit (λ r. IsJudged (topology_of n) d nodes numbers spans names (verdict_of r)) c.from_residual-in_err-check_columns.result reported c.from_residual-in_err-check_columns.ensures.1
     (in_columns (topology_of n) d nodes numbers spans names reported first failed)
 
 pub check_spans-requires-clause-live : goal.check_spans-requires-clause-live
@@ -104,7 +104,7 @@ returns-in_err-coded-clause-judges g c = λ names are named.
     in
     let reported = c.in_err-coded.field-0.0 in
     let failed = (subst (λ xs. JudgesSpans n xs sides.problems spans (Err reported)) c.deref-2.ensures.value c.in_err-coded.ensures.judges) (Book d nodes numbers spans) names known named in
-    exit (λ r. IsJudged (topology_of n) d nodes numbers spans names (ended r)) c.from_residual-in_err-coded.result reported c.from_residual-in_err-coded.ensures.1
+    exit (λ r. IsJudged (topology_of n) d nodes numbers spans names (verdict_of r)) c.from_residual-in_err-coded.result reported c.from_residual-in_err-coded.ensures.1
     (in_spans (topology_of n) d nodes numbers spans names reported first second failed)
 
 pub check_count-requires-clause-live : goal.check_count-requires-clause-live
@@ -139,7 +139,7 @@ returns-in_err-check_count-clause-judges g c = λ names are named.
     let there = c.topology-3.ensures ∙ c.in_ok-coded.ensures.same in
     let reported = c.in_err-check_count.field-0.0 in
     let failed = (subst (λ (m : Numbered). JudgesCount m sides.problems spans (Err reported)) there c.in_err-check_count.ensures.judges) (Book d nodes numbers spans) names named in
-    exit (λ r. IsJudged (topology_of n) d nodes numbers spans names (ended r)) c.from_residual-in_err-check_count.result reported c.from_residual-in_err-check_count.ensures.1
+    exit (λ r. IsJudged (topology_of n) d nodes numbers spans names (verdict_of r)) c.from_residual-in_err-check_count.result reported c.from_residual-in_err-check_count.ensures.1
     (in_count (topology_of n) d nodes numbers spans names reported first second third failed)
 
 pub judge_book-requires-clause-there : goal.judge_book-requires-clause-there
@@ -208,7 +208,7 @@ returns-in-Ok-clause-judges g c = λ names are named.
     in
     let judged = subst (λ xs. JudgesBook sides.columns xs numbers c.in_ok-coded.coded d c.in-Ok.judged) c.deref-3.ensures.value c.in-Ok.ensures in
     let fourth = (subst (λ (m : Numbered). JudgesCount m sides.problems spans (Ok tt)) there c.in_ok-check_count.ensures.judges) (Book d nodes numbers spans) names named in
-    in_claim (topology_of n) d nodes numbers spans names (ended c.in-Ok.judged) first second third fourth
+    in_claim (topology_of n) d nodes numbers spans names (verdict_of c.in-Ok.judged) first second third fourth
     (claim_judged n ids d nodes numbers spans known sides c.requires.sides c.in_ok-coded.coded read same c.in-Ok.judged judged)
 
 pub returns-in-Ok-clause-shows : goal.returns-in-Ok-clause-shows

@@ -5,9 +5,9 @@ use Rattle.cb_cert.specs.declared.certificate.Certificate.{Certificate}
 use Rattle.cb_cert.specs.declared.certificate.Certificate.TheVariants.{Book, Thin}
 use Rattle.cb_validity.specs.Checks.{book_checks, thin_checks}
 use Rattle.cb_validity.specs.Valid.{IsValid}
-use Rattle.cb_validity.specs.Verdicts.{IsCheckable, Shows, TellsWhy}
+use Rattle.cb_validity.specs.Verdicts.{IsCheckable, CertificateShows, TellsWhy}
 use Rattle.cb_topo.specs.Numbered.{topology_of}
-use Rattle.cb_checker.specs.Known.{ended}
+use Rattle.cb_checker.specs.Known.{verdict_of}
 use Rattle.cb_checker.specs.Thin.{JudgesThinOver, ShowsThinOver}
 use Rattle.cb_checker.specs.Verdicts.{JudgesBookOver, ShowsBookOver}
 use Rattle.cb_checker.proofs.Thinning.{valid_of, why_of}
@@ -22,8 +22,8 @@ returns-in-Book-clause-valid g c =
     let same : book ≡ c.args.certificate.now = cc in
     let names = c.requires.sides.problem_names in
     let checks = book_checks names w.nodes w.columns w.spans in
-    let judged = subst (λ (ns : List NodeName). JudgesBookOver n c.args.sides.now.problems ns w.columns w.spans w.distance (ended c.check_book.result)) c.as_slice.ensures
-    (subst (λ (cs : List ℕ). JudgesBookOver n c.args.sides.now.problems c.as_slice.result.now cs w.spans w.distance (ended c.check_book.result)) c.as_slice-in-Book.ensures c.check_book.ensures.judges)
+    let judged = subst (λ (ns : List NodeName). JudgesBookOver n c.args.sides.now.problems ns w.columns w.spans w.distance (verdict_of c.check_book.result)) c.as_slice.ensures
+    (subst (λ (cs : List ℕ). JudgesBookOver n c.args.sides.now.problems c.as_slice.result.now cs w.spans w.distance (verdict_of c.check_book.result)) c.as_slice-in-Book.ensures c.check_book.ensures.judges)
     in
     let all = judged names c.requires.sides.problems_are c.requires.sides.problems_named in
     subst (λ (x : Certificate). OnOk c.check_book.result (IsValid (topology_of n) x)) same
@@ -38,8 +38,8 @@ returns-in-Book-clause-why g c =
     let same : book ≡ c.args.certificate.now = cc in
     let names = c.requires.sides.problem_names in
     let checks = book_checks names w.nodes w.columns w.spans in
-    let judged = subst (λ (ns : List NodeName). JudgesBookOver n c.args.sides.now.problems ns w.columns w.spans w.distance (ended c.check_book.result)) c.as_slice.ensures
-    (subst (λ (cs : List ℕ). JudgesBookOver n c.args.sides.now.problems c.as_slice.result.now cs w.spans w.distance (ended c.check_book.result)) c.as_slice-in-Book.ensures c.check_book.ensures.judges)
+    let judged = subst (λ (ns : List NodeName). JudgesBookOver n c.args.sides.now.problems ns w.columns w.spans w.distance (verdict_of c.check_book.result)) c.as_slice.ensures
+    (subst (λ (cs : List ℕ). JudgesBookOver n c.args.sides.now.problems c.as_slice.result.now cs w.spans w.distance (verdict_of c.check_book.result)) c.as_slice-in-Book.ensures c.check_book.ensures.judges)
     in
     let all = judged names c.requires.sides.problems_are c.requires.sides.problems_named in
     subst (λ (x : Certificate). IfErr c.check_book.result (TellsWhy (topology_of n) x)) same
@@ -53,7 +53,7 @@ returns-in-Thin-clause-valid g c =
     let thin = Thin w.wanted w.distance w.nodes w.first w.second in
     let same : thin ≡ c.args.certificate.now = cc in
     let checks = thin_checks w.nodes w.first w.second in
-    let all = subst (λ (ns : List NodeName). JudgesThinOver n ns w.first w.second w.wanted w.distance (ended c.check_thin.result)) c.as_slice-in-Thin.ensures c.check_thin.ensures.judges in
+    let all = subst (λ (ns : List NodeName). JudgesThinOver n ns w.first w.second w.wanted w.distance (verdict_of c.check_thin.result)) c.as_slice-in-Thin.ensures c.check_thin.ensures.judges in
     subst (λ (x : Certificate). OnOk c.check_thin.result (IsValid (topology_of n) x)) same
     (valid_of (topology_of n) thin checks refl c.check_thin.result all)
 
@@ -65,7 +65,7 @@ returns-in-Thin-clause-why g c =
     let thin = Thin w.wanted w.distance w.nodes w.first w.second in
     let same : thin ≡ c.args.certificate.now = cc in
     let checks = thin_checks w.nodes w.first w.second in
-    let all = subst (λ (ns : List NodeName). JudgesThinOver n ns w.first w.second w.wanted w.distance (ended c.check_thin.result)) c.as_slice-in-Thin.ensures c.check_thin.ensures.judges in
+    let all = subst (λ (ns : List NodeName). JudgesThinOver n ns w.first w.second w.wanted w.distance (verdict_of c.check_thin.result)) c.as_slice-in-Thin.ensures c.check_thin.ensures.judges in
     subst (λ (x : Certificate). IfErr c.check_thin.result (TellsWhy (topology_of n) x)) same
     (why_of (topology_of n) thin checks refl c.check_thin.result all)
 
@@ -76,7 +76,7 @@ returns-in-Book-clause-shows g c =
     let is = c.in-Book.is in
     let book = Book w.distance w.nodes w.columns w.spans in
     let same : book ≡ c.args.certificate.now = cc in
-    subst (λ (x : Certificate). IfOk c.check_book.result (Shows (topology_of n) x)) same
+    subst (λ (x : Certificate). IfOk c.check_book.result (CertificateShows (topology_of n) x)) same
     (subst (λ (ns : List NodeName). IfOk c.check_book.result (ShowsBookOver n ns w.columns w.spans w.distance)) c.as_slice.ensures
     (subst (λ (cs : List ℕ). IfOk c.check_book.result (ShowsBookOver n c.as_slice.result.now cs w.spans w.distance)) c.as_slice-in-Book.ensures c.check_book.ensures.shows))
 
@@ -87,7 +87,7 @@ returns-in-Thin-clause-shows g c =
     let is = c.in-Thin.is in
     let thin = Thin w.wanted w.distance w.nodes w.first w.second in
     let same : thin ≡ c.args.certificate.now = cc in
-    subst (λ (x : Certificate). IfOk c.check_thin.result (Shows (topology_of n) x)) same
+    subst (λ (x : Certificate). IfOk c.check_thin.result (CertificateShows (topology_of n) x)) same
     (subst (λ (ns : List NodeName). IfOk c.check_thin.result (ShowsThinOver n ns w.first w.second w.wanted w.distance)) c.as_slice-in-Thin.ensures c.check_thin.ensures.shows)
 
 pub check_book-requires-clause-some : goal.check_book-requires-clause-some

@@ -10,7 +10,7 @@ returns-clause-closed g c = λ yes.
     let listed = c.args.marks.now.listed in
     let found = c.add_all.new.found in
     let wiped = ap length c.wipe.ensures ∙ length-replicate (length c.args.marks.now.found) false in
-    let same : length found ≡ length listed = c.add_all.ensures.length ∙ (wiped ∙ (c.requires.marked.spare ∙ sym c.requires.marked.room)) in
+    let same : length found ≡ length listed = c.add_all.ensures.length ∙ (wiped ∙ (c.requires.marked.spare ∙ sym c.requires.marked.capacity)) in
     closed_by c.args.graph.now c.args.marks.now.placed.items listed found same
     (subst (λ (ids : List NodeId). HasSuccessorsTo c.args.graph.now ids (length ids) found) c.deref.ensures.value c.add_all.ensures.each)
     (none_found c.next_not_in.result c.next_not_in.ensures.none (c.is_none.ensures ∙ ap not yes))

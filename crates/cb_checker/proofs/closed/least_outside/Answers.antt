@@ -8,9 +8,9 @@ overflow_cast-node c =
     let same : length c.args.found.now ≡ length c.args.listed.now = c.requires.found ∙ sym c.requires.listed in
     let out = outside_at c.args.found.now c.args.listed.now same c.in-Some.node c.in-Some.ensures.next.is in
     let low = has_below c.args.found.now c.in-Some.node out.0 in
-    let few = c.node_room-room.ensures.few in
-    let value = c.node_room-room.ensures.value in
-    let room = c.requires.found in
+    let few = c.node_capacity-capacity.ensures.few in
+    let value = c.node_capacity-capacity.ensures.value in
+    let capacity = c.requires.found in
     omega arith
 
 pub copy_name-requires : goal.copy_name-requires

@@ -9,7 +9,7 @@ use Rattle.cb_checker.proofs.entries.check_entries.Goals as goal
 pub list_entries-listed-requires-clause-below : goal.list_entries-listed-requires-clause-below
 list_entries-listed-requires-clause-below g c = λ i id at.
     let low = live_below c.args.graph.now id (c.requires.live i id at) in
-    let room = c.requires.marked.room in
+    let capacity = c.requires.marked.capacity in
     omega arith
 
 pub first_unled-requires-clause-live : goal.first_unled-requires-clause-live
@@ -44,8 +44,8 @@ returns-clause-marked g c =
     let now : SpanNodes = record marks { reasons = c.first_unled.new.reasons; found = c.first_unled.new.found } in
     let marked = c.requires.marked in
     let are : AreListed marks.listed marks.placed.items → AreMarked n now = λ listed. record {
-      room = c.list_entries-listed.ensures.room ∙ marked.room;
-      spare = c.first_unled.ensures.room ∙ (ap length c.list_entries-listed.ensures.found ∙ marked.spare);
+      capacity = c.list_entries-listed.ensures.capacity ∙ marked.capacity;
+      spare = c.first_unled.ensures.capacity ∙ (ap length c.list_entries-listed.ensures.found ∙ marked.spare);
       each = listed;
     } in
     on_ok_weaker c.list_entries-listed.result are c.list_entries-listed.ensures.listed

@@ -12,7 +12,7 @@ pub loop-place-init : goal.loop-place-init
 loop-place-init c = record {
   placed = c.requires.first;
   listed = c.requires.listed;
-  room = refl;
+  capacity = refl;
   found = refl;
   stated = subst (AreStated c.args.ids.now c.args.span.now 1) (sym c.clear.ensures.items) (none_stated c.args.ids.now c.args.span.now 1);
   passed = λ n whole root known j least low. absurd (omega arith);
@@ -21,7 +21,7 @@ loop-place-init c = record {
 pub list_entry-requires-clause-below : goal.list_entry-requires-clause-below
 list_entry-requires-clause-below c = λ i id at.
     let low = c.requires.below i id at in
-    let room = c.loop-place.invariant.room in
+    let capacity = c.loop-place.invariant.capacity in
     omega arith
 
 pub returns-in_err-list_entry-clause-led : goal.returns-in_err-list_entry-clause-led
@@ -62,7 +62,7 @@ loop-place-preserved c =
     record {
       placed = c.in_ok-list_entry.ensures.placed;
       listed = c.in_ok-list_entry.ensures.listed;
-      room = c.in_ok-list_entry.ensures.room ∙ kept.room;
+      capacity = c.in_ok-list_entry.ensures.capacity ∙ kept.capacity;
       found = c.in_ok-list_entry.ensures.found ∙ kept.found;
       stated = c.in_ok-list_entry.ensures.stated;
       passed = pass_more c.args.ids.now c.args.before span new place

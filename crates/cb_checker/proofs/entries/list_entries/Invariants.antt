@@ -8,7 +8,7 @@ abbrev pub invariant-loop-place : goal.invariant-loop-place
 invariant-loop-place l = record {
   placed : ArePlaced l.ids l.span l.place l.marks.placed.items;
   listed : AreListed l.marks.listed l.marks.placed.items;
-  room : length l.marks.listed ≡ length l.initial.marks.listed;
+  capacity : length l.marks.listed ≡ length l.initial.marks.listed;
   found : l.marks.found ≡ l.initial.marks.found;
   stated : AreStated l.ids l.span l.place l.marks.reasons.items;
   passed : PassIfLed l.ids l.before l.span l.marks.reasons.items l.place;

@@ -2,7 +2,7 @@ use Rattle.std.proofs.Common.{◌≡◌, Some, subst}
 use Rattle.std.specs.Prelude.{slice_get}
 use Rattle.cb_nodes.specs.declared.id.NodeId.{NodeId}
 use Rattle.cb_checker.specs.Known.{IsIdAt}
-use Rattle.cb_checker.specs.Listed.{IsAmong}
+use Rattle.cb_checker.specs.Listed.{IsAmongPlaced}
 use Rattle.cb_checker.proofs.Naming.{one_id}
 use Rattle.cb_checker.proofs.Claiming.{some_from, found_some}
 use Rattle.cb_checker.proofs.places.place_of.Goals as goal
@@ -12,7 +12,7 @@ unwrap-requires c =
     let there = c.requires.there in
     let is = found_some (IsIdAt c.args.ids.now c.args.number) c.id_at.result c.unwrap-id.result c.unwrap-id.ensures c.id_at.ensures.found in
     let same = one_id c.args.ids.now c.args.number there.0 c.unwrap-id.result there.1 is in
-    some_from c.place.result c.place.ensures.none (subst (λ (x : NodeId). IsAmong c.args.all.now x.0) same there.2)
+    some_from c.place.result c.place.ensures.none (subst (λ (x : NodeId). IsAmongPlaced c.args.all.now x.0) same there.2)
 
 pub returns : goal.returns
 returns c = (

@@ -12,7 +12,7 @@ clear-requires c =
     let i = c.loop-i.i in
     let siblings = c.args.siblings.now in
     let low = c.requires (get_or siblings i none) (Contains-get_or siblings i none c.loop-i-test.true) in
-    let room = c.loop-i.invariant.room in
+    let capacity = c.loop-i.invariant.capacity in
     omega arith
 
 pub loop-i-preserved : goal.loop-i-preserved
@@ -23,10 +23,10 @@ loop-i-preserved c =
     let reason = get_or siblings i none in
     let found = c.loop-i.found in
     let low = c.requires reason (Contains-get_or siblings i none c.loop-i-test.true) in
-    let room = c.loop-i.invariant.room in
+    let capacity = c.loop-i.invariant.capacity in
     let within : reason.to.0 < length found = omega arith in
     record {
-      room = ap length c.clear.ensures ∙ (length-set found reason.to.0 false ∙ room);
+      capacity = ap length c.clear.ensures ∙ (length-set found reason.to.0 false ∙ capacity);
       none = subst (λ xs. HasNoEnds xs c.clear.new.self) (sym (take_more siblings i none c.loop-i-test.true))
           (subst (HasNoEnds (take i siblings ++ (reason ∷ []))) (sym c.clear.ensures) (no_ends_more (take i siblings) reason found within c.loop-i.invariant.none));
     }

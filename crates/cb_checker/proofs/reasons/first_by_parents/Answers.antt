@@ -37,7 +37,7 @@ loop-start-preserved g c =
     let here = subst (λ (m : Numbered). IsFirstUnled m (slice_range reasons start end) unled) kept.same c.first_of_siblings-unled.ensures.first in
     record {
       same = c.first_of_siblings-unled.ensures.same ∙ kept.same;
-      room = c.first_of_siblings-unled.ensures.room ∙ kept.room;
+      capacity = c.first_of_siblings-unled.ensures.capacity ∙ kept.capacity;
       within = within;
       first = subst (λ xs. IsFirstUnled n xs c.sooner-first.result) (sym (range_joined reasons start end within (omega arith)))
           (first_joined (IsLed n) (take start reasons) (slice_range reasons start end) c.loop-start.first unled c.sooner-first.result kept.first here c.sooner-first.ensures);

@@ -5,7 +5,7 @@ use Rattle.cb_checker.proofs.reasons.first_by_parents.Given as goal
 abbrev pub invariant-loop-start : goal.invariant-loop-start
 invariant-loop-start g l = record {
   same : l.graph ≡ l.initial.graph;
-  room : length l.found ≡ length l.initial.found;
+  capacity : length l.found ≡ length l.initial.found;
   within : l.start ≤ length l.reasons;
   first : IsFirstUnled l.initial.graph (take l.start l.reasons) l.first;
 }

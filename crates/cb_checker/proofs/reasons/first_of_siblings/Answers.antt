@@ -9,14 +9,14 @@ use Rattle.cb_checker.proofs.reasons.first_of_siblings.Goals as goal
 pub clear_ends-requires : goal.clear_ends-requires
 clear_ends-requires g c = λ reason in'.
     let low = live_below c.args.graph.now reason.to (c.requires.live reason in').1 in
-    let room = c.requires.found in
+    let capacity = c.requires.found in
     omega arith
 
 pub first_outside-requires : goal.first_outside-requires
 first_outside-requires g c = λ reason in'.
     let low = live_below c.args.graph.now reason.to (c.requires.live reason in').1 in
-    let room = c.requires.found in
-    let cleared = c.clear_ends.ensures.room in
+    let capacity = c.requires.found in
+    let cleared = c.clear_ends.ensures.capacity in
     let added = c.add_successors.ensures.length in
     omega arith
 

@@ -16,14 +16,14 @@ pub of-requires-clause-below : goal.of-requires-clause-below
 of-requires-clause-below c = λ i id at.
     let columns = c.in_ok-nodes.ensures in
     let low = live_below c.args.topology.now id (live_named c.args.topology.now c.in_ok-nodes.nodes columns.0 columns.2 i id at) in
-    let room = c.node_room-room.ensures.value in
+    let capacity = c.node_capacity-capacity.ensures.value in
     omega arith
 
 pub of-requires-clause-few : goal.of-requires-clause-few
 of-requires-clause-few c =
     let n = c.args.topology.now in
     let columns = c.in_ok-nodes.ensures in
-    let few = few_columns (topology_of n) c.node_room-room.ensures.sound columns.0 columns.1 in
+    let few = few_columns (topology_of n) c.node_capacity-capacity.ensures.sound columns.0 columns.1 in
     let size = zip_lengths (IsNodeNamed n) c.in_ok-nodes.nodes columns.0 columns.2 in
     omega arith
 
@@ -32,7 +32,7 @@ returns c =
     let n = c.args.topology.now in
     let problems = c.in_ok-problems.ensures in
     let columns = c.in_ok-nodes.ensures in
-    let few = few_columns (topology_of n) c.node_room-room.ensures.sound columns.0 columns.1 in
+    let few = few_columns (topology_of n) c.node_capacity-capacity.ensures.sound columns.0 columns.1 in
     let size = zip_lengths (IsNodeNamed n) c.in_ok-nodes.nodes columns.0 columns.2 in
     let same = c.in_ok-columns.ensures in
     let long = ap length same in
@@ -43,6 +43,6 @@ returns c =
       column_names = columns.0;
       columns_are = columns.1;
       columns_named = subst (λ (ids : List NodeId). AreNamed n ids columns.0) (sym same) columns.2;
-      whole = c.node_room-room.ensures.whole;
+      whole = c.node_capacity-capacity.ensures.whole;
       few = omega arith;
     }

@@ -3,7 +3,7 @@ use Rattle.std.specs.Prelude.{Ok, Err}
 use Rattle.std.specs.List.{flat_map}
 use Rattle.cb_validity.specs.Checks.{Judges, asked_of, span_checks}
 use Rattle.cb_topo.specs.Numbered.{Numbered, topology_of, IsLiveNode}
-use Rattle.cb_checker.specs.Known.{ended}
+use Rattle.cb_checker.specs.Known.{verdict_of}
 use Rattle.cb_checker.specs.Books.{AreReadTo, IsCodedBy, IsReadOff}
 use Rattle.cb_checker.specs.Listed.{AreMarked}
 use Rattle.cb_checker.specs.Spans.{JudgesSpan}
@@ -57,7 +57,7 @@ returns-in_err-check_span-clause-judges g c = λ whole names known named.
     let reported = c.in_err-check_span.field-0.0 in
     let kept = c.loop-place.invariant in
     let judged = subst (λ (m : Numbered). JudgesSpan m ids (Some root) c.loop-place.before span span_checks (Err reported)) kept.same c.in_err-check_span.ensures.judges in
-    exit (λ r. Judges (topology_of n) whole (flat_map span_checks (asked_of 0 names spans)) (ended r)) c.from_residual.result reported c.from_residual.ensures.1
+    exit (λ r. Judges (topology_of n) whole (flat_map span_checks (asked_of 0 names spans)) (verdict_of r)) c.from_residual.result reported c.from_residual.ensures.1
     (spans_fail n ids c.args.problems.now spans c.loop-place.place root span c.loop-place.before c.at-root.ensures c.at-span.ensures kept.before reported kept.passed judged whole names known named)
 
 pub add_problem-requires-clause-node : goal.add_problem-requires-clause-node

@@ -4,11 +4,11 @@ use Rattle.std.specs.List.{flat_map}
 use Rattle.cb_cert.specs.declared.certificate.Certificate.TheVariants.{Thin}
 use Rattle.cb_validity.specs.Checks.{IsGoodNode, Judges, thin_checks, node_check, places, asked_sides, span_checks, claim_check}
 use Rattle.cb_validity.specs.declared.verdict.Rejected.TheVariants.{NotThin}
-use Rattle.cb_validity.specs.Reading.{AreAt}
+use Rattle.cb_validity.specs.Reading.{AreSidesApart}
 use Rattle.cb_validity.proofs.Stages.{passed_go_on, failed_stop}
 use Rattle.cb_topo.specs.Numbered.{Numbered, topology_of, AreNamed}
 use Rattle.cb_checker.specs.Firsts.{AreAll, JudgesNodes}
-use Rattle.cb_checker.specs.Known.{AreLive, ended}
+use Rattle.cb_checker.specs.Known.{AreLive, verdict_of}
 use Rattle.cb_checker.specs.Pairs.{JudgesSides, IsSideRead, IsRead}
 use Rattle.cb_checker.proofs.Joined.{exit}
 use Rattle.cb_checker.proofs.Naming.{live_below}
@@ -29,7 +29,7 @@ returns-in_err-ids-clause-judges g c =
     let of_sides = flat_map span_checks (asked_sides first second) in
     let reported = c.in_err-ids.field-0.0 in
     let failed = (subst (λ (m : Numbered). JudgesNodes (topology_of m) nodes (Err reported)) c.topology.ensures c.in_err-ids.ensures.judges) thin refl in
-    exit (λ r. Judges (topology_of n) thin (thin_checks nodes first second) (ended r)) c.from_residual.result reported c.from_residual.ensures.1
+    exit (λ r. Judges (topology_of n) thin (thin_checks nodes first second) (verdict_of r)) c.from_residual.result reported c.from_residual.ensures.1
     (failed_stop (topology_of n) thin of_nodes (of_sides ++ claim_check ∷ []) reported failed)
 
 pub read_sides-requires-clause-live : goal.read_sides-requires-clause-live
@@ -70,7 +70,7 @@ returns-in_err-codes-clause-judges g c =
     let one = (subst (λ (m : Numbered). JudgesNodes (topology_of m) nodes (Ok tt)) c.topology.ensures c.in_ok-ids.ensures.judges) thin refl in
     let reported = c.in_err-codes.field-0.0 in
     let failed = (subst (λ xs. JudgesSides n xs first second (Err reported)) c.deref.ensures.value c.in_err-codes.ensures.judges) thin known in
-    exit (λ r. Judges (topology_of n) thin (thin_checks nodes first second) (ended r)) c.from_residual-in_err-codes.result reported c.from_residual-in_err-codes.ensures.1
+    exit (λ r. Judges (topology_of n) thin (thin_checks nodes first second) (verdict_of r)) c.from_residual-in_err-codes.result reported c.from_residual-in_err-codes.ensures.1
     (passed_go_on (topology_of n) thin of_nodes (of_sides ++ claim_check ∷ []) (Err reported) one (failed_stop (topology_of n) thin of_sides (claim_check ∷ []) reported failed))
 
 pub distance-far-requires : goal.distance-far-requires
@@ -114,7 +114,7 @@ returns-then-not-holds-clause-judges g c =
     let two = (subst (λ xs. JudgesSides n xs first second (Ok tt)) c.deref.ensures.value c.in_ok-codes.ensures.judges) thin known in
     let read_first = subst (λ xs. IsSideRead xs sides.columns first c.in_ok-codes.codes.first) c.deref.ensures.value c.in_ok-codes.ensures.first in
     let read_second = subst (λ xs. IsRead xs sides.columns second c.in_ok-codes.codes.second) c.deref.ensures.value c.in_ok-codes.ensures.second in
-    let at : AreAt (topology_of n) nodes first second c.distance-far.result =
+    let at : AreSidesApart (topology_of n) nodes first second c.distance-far.result =
     at_read n ids thin known sides.columns c.requires.sides.column_names c.requires.sides.columns_are c.requires.sides.columns_named first second
     c.in_ok-codes.codes.first c.in_ok-codes.codes.second read_first read_second c.distance-far.result c.distance-far.ensures
     in
@@ -181,7 +181,7 @@ returns-clause-judges g c =
     let two = (subst (λ xs. JudgesSides n xs first second (Ok tt)) c.deref.ensures.value c.in_ok-codes.ensures.judges) thin known in
     let read_first = subst (λ xs. IsSideRead xs sides.columns first c.in_ok-codes.codes.first) c.deref.ensures.value c.in_ok-codes.ensures.first in
     let read_second = subst (λ xs. IsRead xs sides.columns second c.in_ok-codes.codes.second) c.deref.ensures.value c.in_ok-codes.ensures.second in
-    let at : AreAt (topology_of n) nodes first second c.distance-far.result =
+    let at : AreSidesApart (topology_of n) nodes first second c.distance-far.result =
     at_read n ids thin known sides.columns c.requires.sides.column_names c.requires.sides.columns_are c.requires.sides.columns_named first second
     c.in_ok-codes.codes.first c.in_ok-codes.codes.second read_first read_second c.distance-far.result c.distance-far.ensures
     in

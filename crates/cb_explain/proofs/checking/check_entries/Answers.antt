@@ -3,7 +3,7 @@ use Rattle.cb_topo.specs.Numbered.{Numbered, topology_of, IsWhole}
 use Rattle.cb_explain.specs.declared.entries.EntryFault.{EntryFault}
 use Rattle.cb_explain.specs.declared.survey.WrongSuccessor.{WrongSuccessor}
 use Rattle.cb_explain.specs.Checking.{AreListedNodes, ListsAll, FaultOf, AreMarkedLed, IsFirstNotLed}
-use Rattle.cb_explain.specs.Surveyed.{IsFirstWrong, ReportsWrong}
+use Rattle.cb_explain.specs.Surveyed.{IsFirstWrongIfAny, ReportsWrong}
 use Rattle.cb_explain.proofs.Listing.{root_listed}
 use Rattle.cb_explain.proofs.Judging.{rejected_tells, unled_rejected, fault_rejected, lack_rejected, none_rejected}
 use Rattle.cb_explain.proofs.checking.check_entries.Goals as goal
@@ -13,9 +13,9 @@ list_entries-requires-clause-listed g c =
     let n = c.args.graph.now in
     let levels = c.args.levels.now in
     let first = c.in_ok-listed.listed in
-    let whole = subst IsWhole c.topology.ensures c.node_room.ensures.whole in
-    let room : c.node_room.result ≡ length n.nodes = c.node_room.ensures.value ∙ ap (λ (m : Numbered). length m.nodes) c.topology.ensures in
-    let empty = subst (λ k. first.positions.items ≡ replicate k None) room c.in_ok-listed.ensures.positions in
+    let whole = subst IsWhole c.topology.ensures c.node_capacity.ensures.whole in
+    let capacity : c.node_capacity.result ≡ length n.nodes = c.node_capacity.ensures.value ∙ ap (λ (m : Numbered). length m.nodes) c.topology.ensures in
+    let empty = subst (λ k. first.positions.items ≡ replicate k None) capacity c.in_ok-listed.ensures.positions in
     subst (λ (m : Numbered). AreListedNodes m levels c.add.new.self) (sym c.topology-2.ensures)
     (root_listed n levels c.args.root first c.add.new.self whole c.requires.root c.in_ok-listed.ensures.nodes empty c.in_ok-add.ensures.nodes c.in_ok-add.ensures.positions)
 
@@ -57,7 +57,7 @@ returns-in-Some-wrong-clause-why g c =
     let survey = c.in_ok-survey.survey in
     let found = c.in_ok-survey.ensures.survey in
     let lack = c.in-Some-wrong.wrong in
-    let first = subst (λ (l : Option WrongSuccessor). IsFirstWrong n levels listed.nodes.items to l) c.in-Some-wrong.is found.wrong in
+    let first = subst (λ (l : Option WrongSuccessor). IsFirstWrongIfAny n levels listed.nodes.items to l) c.in-Some-wrong.is found.wrong in
     let reported = c.in_ok-wrong_fault.field-0 in
     let reports = subst (λ (m : Numbered). ReportsWrong m lack reported) (c.topology-in-Some-wrong.ensures ∙ c.in_ok-survey.ensures.same) c.in_ok-wrong_fault.ensures in
     rejected_tells (topology_of n) levels reported
@@ -74,5 +74,5 @@ returns-clause-valid g c =
     let all = subst (λ (f : Option EntryFault). ListsAll c.topology-2.result.now levels to f) c.in_default-fault.is c.in_ok-fault.ensures.fault in
     let survey = c.in_ok-survey.survey in
     let found = c.in_ok-survey.ensures.survey in
-    let none = subst (λ (l : Option WrongSuccessor). IsFirstWrong n levels listed.nodes.items to l) c.in_default-wrong.is found.wrong in
+    let none = subst (λ (l : Option WrongSuccessor). IsFirstWrongIfAny n levels listed.nodes.items to l) c.in_default-wrong.is found.wrong in
     none_rejected n levels listed are c.in_ok-fault.ensures.parents c.requires.nodes c.args.root c.requires.root survey found led all none

@@ -38,7 +38,7 @@ returns-in-Some-index-clause-fault c =
     let found = c.in-Some.ensures.found in
     let stands = subst (λ (ns : List NodeName). StandsFor ns entry.node found.0) c.as_slice.ensures found.1 in
     let lists : ListsNumber n levels (length listed.nodes.items) node = record { entry = entry; node = found.0; is = record { is = at; names = stands }; named = found.2 } in
-    let room = c.requires.listed.room in
+    let capacity = c.requires.listed.capacity in
     let live = live_below n node (found.0, found.2) in
     let there = slice_get_read listed.positions.items (length listed.positions.items) node.0 c.index.result.now refl (omega arith) c.index.ensures ∙ ap Some c.in-Some-index.is in (
       (entry, at, (earlier.0, omega (arith, earlier.1))),
@@ -59,7 +59,7 @@ returns-then-not-is_next-clause-fault c =
     let found = c.in-Some.ensures.found in
     let stands = subst (λ (ns : List NodeName). StandsFor ns entry.node found.0) c.as_slice.ensures found.1 in
     let lists : ListsNumber n levels (length listed.nodes.items) node = record { entry = entry; node = found.0; is = record { is = at; names = stands }; named = found.2 } in
-    let room = c.requires.listed.room in
+    let capacity = c.requires.listed.capacity in
     let live = live_below n node (found.0, found.2) in
     let there = slice_get_read listed.positions.items (length listed.positions.items) node.0 c.index.result.now refl (omega arith) c.index.ensures ∙ ap Some c.in_default-index.is in (
       (entry, at, (earlier.0, omega (arith, earlier.1))),
@@ -80,7 +80,7 @@ returns-clause-node c =
     let node = c.in-Some.node in
     let found = c.in-Some.ensures.found in
     let stands = subst (λ (ns : List NodeName). StandsFor ns entry.node found.0) c.as_slice.ensures found.1 in
-    let room = c.requires.listed.room in
+    let capacity = c.requires.listed.capacity in
     let live = live_below n node (found.0, found.2) in
     record {
       lists = record { entry = entry; node = found.0; is = record { is = at; names = stands }; named = found.2 };

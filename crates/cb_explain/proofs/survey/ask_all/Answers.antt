@@ -7,7 +7,7 @@ use Rattle.cb_topo.specs.Numbered.{Numbered}
 use Rattle.cb_graph.specs.Edges.{EdgeAt}
 use Rattle.cb_span.specs.Orders.{IsOrderOf}
 use Rattle.cb_levels.specs.declared.levels.LevelEntry.{LevelEntry}
-use Rattle.cb_explain.specs.Surveyed.{IsChildAmong, IsLedBefore, IsLeastWrongAmong, IsKnownOr, IsFirstWrong}
+use Rattle.cb_explain.specs.Surveyed.{IsChildAmong, IsLedBefore, IsLeastWrongAmong, IsKnownOr, IsFirstWrongIfAny}
 use Rattle.cb_explain.proofs.Listing.{live_below, lists_live}
 use Rattle.cb_explain.proofs.Leading.{ends_below, led_more}
 use Rattle.cb_explain.proofs.Lacking.{lack_more}
@@ -31,7 +31,7 @@ mark_children-requires-clause-below g c =
     let items = c.list_successors.new.list.items in
     let edges = subst (λ (m : Numbered). (k : ℕ) → Contains items k ↔ EdgeAt m id.0 k) c.loop-position.invariant.same c.in_ok-list_successors.ensures.list in
     subst (λ (xs : List ℕ). AreBelow (length c.args.listed.now.positions.items) xs) (sym c.deref.ensures.value)
-    (subst (λ k. AreBelow k items) (sym c.requires.room) (ends_below c.args.graph.now id.0 items edges))
+    (subst (λ k. AreBelow k items) (sym c.requires.capacity) (ends_below c.args.graph.now id.0 items edges))
 
 pub first_wrong-wrong-requires-clause-below : goal.first_wrong-wrong-requires-clause-below
 first_wrong-wrong-requires-clause-below g c =
@@ -39,7 +39,7 @@ first_wrong-wrong-requires-clause-below g c =
     let items = c.list_successors.new.list.items in
     let edges = subst (λ (m : Numbered). (k : ℕ) → Contains items k ↔ EdgeAt m id.0 k) c.loop-position.invariant.same c.in_ok-list_successors.ensures.list in
     subst (λ (xs : List ℕ). AreBelow (length c.args.listed.now.positions.items) xs) (sym c.deref-in-loop-position-2.ensures.value)
-    (subst (λ k. AreBelow k items) (sym c.requires.room) (ends_below c.args.graph.now id.0 items edges))
+    (subst (λ k. AreBelow k items) (sym c.requires.capacity) (ends_below c.args.graph.now id.0 items edges))
 
 pub loop-position-preserved : goal.loop-position-preserved
 loop-position-preserved g c =
@@ -71,7 +71,7 @@ loop-position-preserved g c =
     record {
       same = listed.same ∙ kept.same;
       asked = let step = listed.step in let before = kept.asked in omega arith;
-      room = c.mark_children.ensures.room ∙ kept.room;
+      capacity = c.mark_children.ensures.capacity ∙ kept.capacity;
       led = led_more n levels nodes position id items old new at edges kept.led marked;
       wrong = lack_more n levels nodes order ord items position id at (get_or levels.entries position none) entry_is edges known lack kept.wrong by_items;
     }
@@ -86,7 +86,7 @@ returns-clause-survey g c =
     let most = c.loop-position.auto.position-end in
     let end : c.loop-position.position ≡ length nodes = omega (arith, c.loop-position-test.false, c.len-position-end.ensures) in
     record {
-      room = kept.room;
+      capacity = kept.capacity;
       led = subst (λ k. (i : ℕ) → Has led i ↔ IsLedBefore n levels nodes k i) end kept.led;
-      wrong = subst (λ k. IsFirstWrong n levels nodes k c.loop-position.wrong) end kept.wrong;
+      wrong = subst (λ k. IsFirstWrongIfAny n levels nodes k c.loop-position.wrong) end kept.wrong;
     }

@@ -21,7 +21,7 @@ index_mut-requires c =
     let node = c.args.node in
     let at = slice_get_read positions (length positions) node c.index.result.now refl c.requires.node c.index.ensures ∙ ap Some c.in-Some.is in
     let low = slice_get_within nodes c.in-Some.position (number node) (c.requires.table.only node c.in-Some.position at) in
-    let room = c.requires.led in
+    let capacity = c.requires.led in
     omega (arith, c.args.led.now.ok.0)
 
 pub returns-then-at-parent-clause-led : goal.returns-then-at-parent-clause-led
@@ -31,7 +31,7 @@ returns-then-at-parent-clause-led c =
     let node = c.args.node in
     let at = slice_get_read positions (length positions) node c.index.result.now refl c.requires.node c.index.ensures ∙ ap Some c.in-Some.is in
     let low = slice_get_within nodes c.in-Some.position (number node) (c.requires.table.only node c.in-Some.position at) in
-    let room = c.requires.led in
+    let capacity = c.requires.led in
     let same : c.at.result.now.parent ≡ c.args.parent + 1 = omega (arith, c.if-at-parent.true) in
     child_marked c.args.levels.now nodes c.args.parent positions c.requires.table node c.in-Some.position at c.at.result.now c.at.ensures same c.args.led.now.items (omega arith)
 

@@ -15,7 +15,7 @@ loop-position-preserved c =
     let first = c.args.led.now.items in
     let new = c.mark_child.new.led.items in
     record {
-      room = c.mark_child.ensures.room ∙ c.loop-position.invariant.room;
+      capacity = c.mark_child.ensures.capacity ∙ c.loop-position.invariant.capacity;
       led = subst (λ (xs : List ℕ). (i : ℕ) → Has new i ↔ (Has first i ⊎ IsChildAmong levels nodes c.args.parent xs i)) (sym (take_more successors position 0 low))
           (marked_more levels nodes c.args.parent (take position successors) (get_or successors position 0) first c.loop-position.led.items new c.loop-position.invariant.led c.mark_child.ensures.led);
     }

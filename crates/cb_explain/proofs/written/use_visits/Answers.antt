@@ -14,7 +14,7 @@ set-requires c =
     let v = get_or visits position (level_visit 0 0 0) in
     let low : position < length visits = omega (arith, c.loop-position-test.true) in
     let below = c.requires position v (slice_get-get_or visits position (level_visit 0 0 0) low) in
-    let room = c.loop-position.invariant.room in
+    let capacity = c.loop-position.invariant.capacity in
     omega arith
 
 pub loop-position-preserved : goal.loop-position-preserved
@@ -25,7 +25,7 @@ loop-position-preserved c =
     let low : position < length visits = omega (arith, c.loop-position-test.true) in
     let at = slice_get-get_or visits position (level_visit 0 0 0) low in
     let below = c.requires position v at in
-    let room = c.loop-position.invariant.room in
+    let capacity = c.loop-position.invariant.capacity in
     let fits : v.node < length c.loop-position.used = omega arith in
     subst (AreUsedTo visits (position + 1) c.args.used.now) (sym c.set.ensures)
     (one_used visits position c.args.used.now c.loop-position.used c.loop-position.invariant v at fits)

@@ -16,7 +16,7 @@ loop-id-preserved c =
     let x = get_or ids c.loop-id.id-index (record { 0 = 0 }) in
     record {
       listed = c.add_one.ensures.listed;
-      room = c.add_one.ensures.room;
+      capacity = c.add_one.ensures.capacity;
       gained = gained_next IsNumber c.args.row.now ids c.loop-id.id-index c.loop-id.row c.loop-id.invariant.gained x c.loop-id-test.true
           (read_at ids c.loop-id.id-index (record { 0 = 0 }) c.loop-id-test.true) c.add_one.new.row c.add_one.ensures.length c.add_one.ensures.each;
       prefix = λ place y is. c.add_one.ensures.prefix place y (c.loop-id.invariant.prefix place y is);

@@ -6,7 +6,7 @@ use Rattle.cb_graph.proofs.instances.add_each.Given as goal
 abbrev pub invariant-loop-id : goal.invariant-loop-id
 invariant-loop-id l = record {
   listed : IsListed l.list.items l.row;
-  room : length l.row ≤ vec_capacity l.list;
+  capacity : length l.row ≤ vec_capacity l.list;
   gained : HasGained IsNumber l.fn.row l.row (take l.id-index l.ids);
   prefix : IsPrefix l.fn.list.items l.list.items;
 }

@@ -9,17 +9,17 @@ pub push_reserved-requires : goal.push_reserved-requires
 push_reserved-requires c =
     let off : slice_index_or c.args.row.now c.args.id.0 false ≡ false = grind (arith, c.get.ensures, c.if-not-get.true) in
     let fewer = listed_fewer c.args.list.now.items c.args.row.now c.requires.listed c.args.id c.requires.place off in
-    omega (arith, c.args.list.now.ok.0, c.requires.room)
+    omega (arith, c.args.list.now.ok.0, c.requires.capacity)
 
 pub returns-then-not-get-clause-listed : goal.returns-then-not-get-clause-listed
 returns-then-not-get-clause-listed c =
     let off : slice_index_or c.args.row.now c.args.id.0 false ≡ false = grind (arith, c.get.ensures, c.if-not-get.true) in
     rw (c.push_reserved.ensures.items, c.set.ensures) (listed_more c.args.list.now.items c.args.row.now c.requires.listed c.args.id c.requires.place off)
 
-pub returns-then-not-get-clause-room : goal.returns-then-not-get-clause-room
-returns-then-not-get-clause-room c =
+pub returns-then-not-get-clause-capacity : goal.returns-then-not-get-clause-capacity
+returns-then-not-get-clause-capacity c =
     let len = length-set c.args.row.now c.args.id.0 true in
-    rw c.set.ensures (omega (arith, len, c.requires.room, c.push_reserved.ensures.capacity))
+    rw c.set.ensures (omega (arith, len, c.requires.capacity, c.push_reserved.ensures.capacity))
 
 pub returns-then-not-get-clause-each : goal.returns-then-not-get-clause-each
 returns-then-not-get-clause-each c = rw c.set.ensures (set_gains c.args.row.now c.args.id.0 c.requires.place)

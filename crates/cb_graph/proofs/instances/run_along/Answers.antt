@@ -8,7 +8,7 @@ use Rattle.cb_graph.proofs.instances.run_along.Goals as goal
 
 pub loop-place-init : goal.loop-place-init
 loop-place-init c = record {
-  room = c.requires.room;
+  capacity = c.requires.capacity;
   running = running_begun c.args.topology.now.net c.args.rel c.args.row.now c.args.list.now.items c.requires.listed;
 }
 
@@ -41,7 +41,7 @@ loop-place-preserved c =
     let low : c.loop-place.place < length list = omega (arith, c.loop-place-test.true, c.len.ensures, c.loop-place.list.ok.0) in
     let here = slice_get_read list (length list) c.loop-place.place id refl low c.index-id.ensures in
     record {
-      room = c.add_each.ensures.room;
+      capacity = c.add_each.ensures.capacity;
       running = running_more c.args.topology.now.net c.args.rel c.args.row.now c.loop-place.place list c.loop-place.row c.loop-place.invariant.running id here
           c.links.result.now c.links.ensures.exactly c.add_each.new.list.items c.add_each.new.row c.add_each.ensures.listed c.add_each.ensures.length c.add_each.ensures.each
           c.add_each.ensures.prefix;

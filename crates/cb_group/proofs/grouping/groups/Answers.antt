@@ -1,6 +1,6 @@
 use Rattle.std.proofs.Common.{length, refl, sym, ap, subst, arith}
 use Rattle.std.proofs.lemmas.Option.{slice_get_read}
-use Rattle.cb_coding.specs.Groups.{AreProblems, AreGroups}
+use Rattle.cb_coding.specs.Groups.{AreCodedProblems, AreGroups}
 use Rattle.cb_group.proofs.Grouped.{AreGrouped, quiet_grouped, one_more_grouped, all_grouped}
 use Rattle.cb_group.proofs.grouping.groups.Goals as goal
 
@@ -14,7 +14,7 @@ loop-problem-init c = record {
 pub loop-problem-preserved : goal.loop-problem-preserved
 loop-problem-preserved c =
     let problems = c.as_slice-problem-items.result.now in
-    let are = subst (AreProblems c.args.width) (sym c.as_slice-problem-items.ensures) c.requires in
+    let are = subst (AreCodedProblems c.args.width) (sym c.as_slice-problem-items.ensures) c.requires in
     let at = slice_get_read problems _ c.loop-problem.problem-index c.problem-item.result refl c.loop-problem-test.true c.problem-item.is in
     record {
       words = c.in_ok-add.ensures.words;

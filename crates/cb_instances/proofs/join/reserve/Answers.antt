@@ -24,7 +24,7 @@ returns-in-Some-clause-spare c =
     let new = set old c.args.at.0 (Some y) in
     let now : At new c.args.at y = get_or-set_same old c.args.at.0 (Some y) None (slot_within old c.args.at.0 x (sym c.in-Some.ensures.value)) in
     on_ok c.reserve.result (HasSpare y.links.rows.items c.args.rel) (HasSpareAt new c.args.at c.args.rel)
-    (λ room z at. subst (λ (w : Instance). HasSpare w.links.rows.items c.args.rel) (one_at new c.args.at y z now at) room)
+    (λ capacity z at. subst (λ (w : Instance). HasSpare w.links.rows.items c.args.rel) (one_at new c.args.at y z now at) capacity)
     c.reserve.ensures.spare
 
 pub returns-in-None-clause-same : goal.returns-in-None-clause-same

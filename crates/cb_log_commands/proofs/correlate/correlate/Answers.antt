@@ -9,7 +9,7 @@ use Rattle.cb_outcome.specs.Judged.{network}
 use Rattle.cb_outcome.specs.LogJobs.{Watch}
 use Rattle.cb_file_kinds.proofs.Chain.{err_is, reads_prefix}
 use Rattle.cb_log_commands.proofs.Counted.{correlate_none, correlate_opened, correlate_followed}
-use Rattle.cb_log_commands.specs.Telling.{Opens}
+use Rattle.cb_log_commands.specs.Telling.{OpensLog}
 use Rattle.cb_log_commands.proofs.Following.{reads_nothing}
 use Rattle.cb_log_commands.proofs.correlate.correlate.Goals as goal
 
@@ -86,7 +86,7 @@ returns-clause-steps g c =
     let t = topology_of c.in_ok-topology.topology in
     let watch : Watch = record { opening = []; from = t; mode = wanted c.args.asked.distance; window = c.args.asked.window } in
     let passed = c.in_ok-topology.ensures.passed in
-    let opens : Opens watch c.in_ok-session.session out out = record {
+    let opens : OpensLog watch c.in_ok-session.session out out = record {
       regular = c.in_ok-session.ensures.regular;
       mode = c.in_ok-session.ensures.mode;
       window = c.in_ok-session.ensures.length;

@@ -16,6 +16,6 @@ invariant-loop g l =
     → Going watch now before l.initial.reader (g.F.Files.tells l.initial.files) (g.O.Sink.tells l.initial.out) l.initial.session
     → HasCounted watch now l.initial.reader start l.initial.steps → HasCounted watch now l.reader start l.steps)
 
--- so many bytes may come at most
+-- the most bytes that may be read
 abbrev pub decreases-loop : goal.decreases-loop
 decreases-loop g l = l.reader.total_most - l.reader.given

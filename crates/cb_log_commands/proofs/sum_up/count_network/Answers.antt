@@ -8,13 +8,13 @@ use Rattle.cb_log_commands.proofs.sum_up.count_network.Goals as goal
 
 pub overflow_cast-summary-2 : goal.overflow_cast-summary-2
 overflow_cast-summary-2 c =
-    let few = few_of (IsNodeOf (topology_of c.topology-topology.result.now)) node_limit c.node_count.result c.node_count.ensures c.node_room-room.ensures.sound.few_nodes in
+    let few = few_of (IsNodeOf (topology_of c.topology-topology.result.now)) node_limit c.node_count.result c.node_count.ensures c.node_capacity-capacity.ensures.sound.few_nodes in
     omega (arith, few)
 
 pub overflow_cast-summary-3 : goal.overflow_cast-summary-3
 overflow_cast-summary-3 c =
     let same : c.topology-topology.result.now ≡ c.args.cache.now.graph = c.topology-topology.ensures ∙ c.graph.ensures in
-    let sound = subst (λ (n : Numbered). Sound (topology_of n)) same c.node_room-room.ensures.sound in
+    let sound = subst (λ (n : Numbered). Sound (topology_of n)) same c.node_capacity-capacity.ensures.sound in
     let few = few_problems (topology_of c.args.cache.now.graph) (map (λ p. p.name) c.in_ok-matrix.matrix.problems) sound c.in_ok-matrix.ensures.problems.names in
     let names = ap length c.problems.ensures in
     let len = c.len.ensures in

@@ -1,5 +1,5 @@
 use Rattle.std.proofs.Common.{◌≡◌, ◌∙◌, ◌+◌, ◌++◌, ◌∷◌, [], ℕ, List, append_assoc, length, arith, sym, subst, ap}
-use Rattle.cb_alarm.specs.Lines.{line_of}
+use Rattle.cb_alarm.specs.Lines.{numbered_line}
 use Rattle.cb_text.proofs.LinesRead.{ReadTo, read_all, read_more, number_within}
 use Rattle.cb_session.specs.State.{network_of}
 use Rattle.cb_log_commands.specs.Counting.{CountsLine}
@@ -29,9 +29,9 @@ loop-line-preserved g c =
           c.in_ok-take_line.ensures.asked c.in_ok-take_line.ensures.mode c.in_ok-take_line.ensures.length
           (λ opening earlier regular has.
           let taken = c.in_ok-take_line.ensures.takes opening earlier regular has in
-          subst (λ (n : ℕ). HasSummedUp opening (earlier ++ line_of (n, line) ∷ []) new summary) number taken),
+          subst (λ (n : ℕ). HasSummedUp opening (earlier ++ numbered_line (n, line) ∷ []) new summary) number taken),
       steps_more old mid c.args.summary.now c.loop-line.summary c.args.steps.now c.loop-line.steps c.take_line.new.steps read.before line so.1 so.0.mode so.0.takes
-          (subst (λ (n : ℕ). CountsLine (network_of mid) (line_of (n, line)) c.loop-line.steps c.take_line.new.steps) number c.in_ok-take_line.ensures.counts),
+          (subst (λ (n : ℕ). CountsLine (network_of mid) (numbered_line (n, line)) c.loop-line.steps c.take_line.new.steps) number c.in_ok-take_line.ensures.counts),
     ))
 
 pub returns-in_err-take_line-clause-counts : goal.returns-in_err-take_line-clause-counts
@@ -42,7 +42,7 @@ returns-in_err-take_line-clause-counts g c =
     let old = c.args.session.now in
     let mid = c.loop-line.session in
     let number : c.loop-line.number + 1 ≡ length read.before + 1 = ap (λ (n : ℕ). n + 1) read.number_is in
-    let counts = subst (λ (n : ℕ). CountsLine (network_of mid) (line_of (n, line)) c.loop-line.steps c.take_line.new.steps) number c.take_line.ensures.counts in
+    let counts = subst (λ (n : ℕ). CountsLine (network_of mid) (numbered_line (n, line)) c.loop-line.steps c.take_line.new.steps) number c.take_line.ensures.counts in
     let more = steps_more old mid c.args.summary.now c.loop-line.summary c.args.steps.now c.loop-line.steps c.take_line.new.steps read.before line so.1 so.0.mode
     so.0.takes counts in
     let whole = ap (λ (ls : List (List ℕ)). read.before ++ ls) (sym c.in-Some.ensures.steps) ∙ read.whole in

@@ -2,7 +2,7 @@ use Rattle.std.proofs.Common.{◌≡◌, ◌<◌, ◌≤◌, ℕ, List, length, 
 use Rattle.std.specs.Prelude.{Option}
 use Rattle.cb_codes.specs.Codes.{Coded}
 use Rattle.cb_topo.specs.Numbered.{topology_of}
-use Rattle.cb_pairs.specs.Fits.{IsRefused}
+use Rattle.cb_pairs.specs.Fits.{ArePairsRefused}
 use Rattle.cb_report.specs.Text.{bytes_of_text}
 use Rattle.cb_file_kinds.proofs.Chain.{if_ok_more}
 use Rattle.cb_network_commands.proofs.FitsGiven.{as_many_codes, have_names, fitted_gives, refused_gives}
@@ -52,4 +52,4 @@ returns-clause-gives g c =
     let same : length c.codes.result.now.rows ≡ length made.groups = ap length c.codes.ensures.rows ∙ as_many_codes made.groups in
     if_ok_more c.refused.result _ _ (λ output is. λ whole.
     refused_gives (topology_of c.args.topology) made.columns made.groups c.in_ok-matrix.ensures.matrix c.args.raised.now (bytes_of_text output.text) output.fault is whole)
-    (c.refused.ensures (length made.groups) (subst (λ n. IsRefused n c.in-Err.fault) same c.in-Err.ensures.fault))
+    (c.refused.ensures (length made.groups) (subst (λ n. ArePairsRefused n c.in-Err.fault) same c.in-Err.ensures.fault))

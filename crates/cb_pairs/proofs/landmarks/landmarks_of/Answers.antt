@@ -4,7 +4,7 @@ use Rattle.cb_model.proofs.Numbers.{all_at, take_more, zip_push}
 use Rattle.cb_coding.specs.Distance.{HaveWidth}
 use Rattle.cb_pairs.specs.declared.landmarks.Landmarks.{Landmarks}
 use Rattle.cb_pairs.specs.Guesses.{IsOfGroups}
-use Rattle.cb_pairs.specs.Landmarks.{AreLandmarks, AreMarked, IsLandmark}
+use Rattle.cb_pairs.specs.Landmarks.{AreLandmarks, HaveLandmarks, IsLandmark}
 use Rattle.cb_pairs.proofs.landmarks.landmarks_of.Goals as goal
 
 pub at-code-requires : goal.at-code-requires
@@ -47,8 +47,8 @@ loop-at-preserved c =
       first = subst (λ n. IsLandmark n rows code c.as_seen-first.result) long c.as_seen-first.ensures;
       second = subst (λ n. IsLandmark n rows code c.as_seen-second.result) long c.as_seen-second.ensures;
     } in
-    subst (λ (ms : List Landmarks). AreMarked width rows (take (at + 1) codes) ms) (sym c.in_ok-push.ensures.ok)
-    (subst (λ (cs : List (List Bool)). AreMarked width rows cs (c.loop-at.marks ++ marks ∷ [])) (sym (take_more codes at code c.at-code.ensures))
+    subst (λ (ms : List Landmarks). HaveLandmarks width rows (take (at + 1) codes) ms) (sym c.in_ok-push.ensures.ok)
+    (subst (λ (cs : List (List Bool)). HaveLandmarks width rows cs (c.loop-at.marks ++ marks ∷ [])) (sym (take_more codes at code c.at-code.ensures))
     (zip_push (AreLandmarks width rows) (take at codes) c.loop-at.marks code marks c.loop-at.invariant are))
 
 pub returns : goal.returns
@@ -56,4 +56,4 @@ returns c =
     let done = c.loop-at-test.false in
     let end = c.len-at-end.ensures in
     let all = c.requires.all in
-    subst (λ (cs : List (List Bool)). AreMarked c.args.width c.args.rows.now cs c.loop-at.marks) (take_all c.loop-at.at c.args.codes.now (omega arith)) c.loop-at.invariant
+    subst (λ (cs : List (List Bool)). HaveLandmarks c.args.width c.args.rows.now cs c.loop-at.marks) (take_all c.loop-at.at c.args.codes.now (omega arith)) c.loop-at.invariant

@@ -9,6 +9,6 @@ loop-i-preserved c =
     (c.add_wider.ensures.words ∙ append_assoc c.loop-i.made.items c.row_in.result.now (replicate (c.args.wider - length c.row_in.result.now) 0)) c.loop-i.invariant.rows in
     record {
       block = let e = more.0 in omega arith;
-      room = let e = c.add_wider.ensures.room in let f = c.loop-i.invariant.room in omega arith;
+      capacity = let e = c.add_wider.ensures.capacity in let f = c.loop-i.invariant.capacity in omega arith;
       rows = more.1;
     }

@@ -4,14 +4,14 @@ use Rattle.cb_log.specs.Entries.{said}
 use Rattle.cb_topo.specs.Numbered.{topology_of}
 use Rattle.cb_session.specs.declared.basis.Ready.{Ready}
 use Rattle.cb_session.specs.Course.{wanted_state}
-use Rattle.cb_session.specs.Settled.{IsSettled}
+use Rattle.cb_session.specs.Settled.{IsSessionSettled}
 use Rattle.cb_session.specs.State.{State}
 use Rattle.cb_session.specs.Steps.{EntryTells, EntryStands}
 use Rattle.cb_session.proofs.Stepping.{due_rise, Goes, settled_still, record_tells, record_stands}
 use Rattle.cb_session.proofs.wanted.go_on_wanted.Goals as goal
 
-pub tell-reported-requires-clause-rise : goal.tell-reported-requires-clause-rise
-tell-reported-requires-clause-rise g c =
+pub closing_report-reported-requires-clause-rise : goal.closing_report-reported-requires-clause-rise
+closing_report-reported-requires-clause-rise g c =
     due_rise c.args.windows.now c.args.next.now c.in_ok-closing.closing c.requires.settled.over c.in_ok-closing.ensures
 
 pub returns-clause-settled : goal.returns-clause-settled
@@ -32,7 +32,7 @@ returns-clause-settled g c =
       same_length = c.in_ok-changed.ensures.length;
       settled = c.requires.settled;
     } in
-    subst (IsSettled (topology_of fresh.graph) d later) (sym c.keep.ensures) (settled_still d c.args.number c.args.next.now cache fresh windows later ready c.in_ok-closing.closing reported c.in_ok-changed.changed acts.0 goes)
+    subst (IsSessionSettled (topology_of fresh.graph) d later) (sym c.keep_ready.ensures) (settled_still d c.args.number c.args.next.now cache fresh windows later ready c.in_ok-closing.closing reported c.in_ok-changed.changed acts.0 goes)
 
 pub returns-clause-gives : goal.returns-clause-gives
 returns-clause-gives g c =
@@ -75,5 +75,5 @@ returns-clause-stands g c =
       settled = c.requires.settled;
     } in
     let entry = said c.args.number c.args.next.now in
-    subst (λ (kept : Option Ready). EntryStands (wanted_state cache d windows ready) (wanted_state fresh d later kept) entry) (sym c.keep.ensures)
+    subst (λ (kept : Option Ready). EntryStands (wanted_state cache d windows ready) (wanted_state fresh d later kept) entry) (sym c.keep_ready.ensures)
     (record_stands d c.args.number c.args.next.now cache fresh windows later ready c.in_ok-closing.closing reported c.in_ok-changed.changed acts.0 goes)

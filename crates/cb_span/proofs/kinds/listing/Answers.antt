@@ -2,18 +2,18 @@ use Rattle.std.proofs.Common.{rules, ◌≡◌, ◌<◌, ◌∙◌, Some, length
 use Rattle.std.proofs.lemmas.Bool.{false≢true}
 use Rattle.std.proofs.lemmas.Option.{slice_get_read}
 use Rattle.cb_topo.specs.Numbered.{topology_of}
-use Rattle.cb_span.specs.Kinds.{IsOfKind}
+use Rattle.cb_span.specs.Kinds.{IsOfListedKind}
 use Rattle.cb_span.proofs.Filtered.{none_listed, one_left, one_listed, all_listed, of_topology}
 use Rattle.cb_span.proofs.kinds.listing.Goals as goal
 use Rattle.cb_span.proofs.kinds.listing.Goals.{then-is_of+in_ok-push, else-is_of}
 
 pub loop-rank-init : goal.loop-rank-init
-loop-rank-init c = rw c.new-nodes.ensures (none_listed c.args.topology.now (IsOfKind c.args.kind (topology_of c.args.topology.now)) c.args.order.now)
+loop-rank-init c = rw c.new-nodes.ensures (none_listed c.args.topology.now (IsOfListedKind c.args.kind (topology_of c.args.topology.now)) c.args.order.now)
 
 pub loop-rank-preserved : goal.loop-rank-preserved
 loop-rank-preserved c =
     let n = c.args.topology.now in
-    let of_kind = IsOfKind c.args.kind (topology_of n) in
+    let of_kind = IsOfListedKind c.args.kind (topology_of n) in
     let order = c.args.order.now in
     let rank = c.loop-rank.rank in
     let node = c.index.result.now in
@@ -33,5 +33,5 @@ returns c =
     let n = c.args.topology.now in
     let order = c.args.order.now in
     let end : c.loop-rank.rank ≡ length order.nodes.items = search rules in
-    all_listed n c.model-model.ensures.whole (IsOfKind c.args.kind (topology_of n)) (of_topology c.args.kind (topology_of n)) order c.requires c.loop-rank.rank
+    all_listed n c.model-model.ensures.whole (IsOfListedKind c.args.kind (topology_of n)) (of_topology c.args.kind (topology_of n)) order c.requires c.loop-rank.rank
     c.loop-rank.nodes c.loop-rank.invariant end

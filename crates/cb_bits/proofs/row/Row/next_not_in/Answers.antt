@@ -1,6 +1,6 @@
 use Rattle.std.proofs.Common.{length, sym, ap, ◌∙◌, arith}
 use Rattle.cb_lanes.specs.Words.{in_not}
-use Rattle.cb_bits.specs.Bits.{without}
+use Rattle.cb_bits.specs.Bits.{difference}
 use Rattle.cb_bits.proofs.NextOnes.{in_one, long_enough, without_length, next_found, none_found}
 use Rattle.cb_bits.proofs.United.{one_count}
 use Rattle.cb_bits.proofs.row.Row.next_not_in.Goals as goal
@@ -13,7 +13,7 @@ next_in_a_not_b-requires-clause-same c =
 
 pub returns-clause-next : goal.returns-clause-next
 returns-clause-next c =
-    next_found (without c.args.self.now c.args.other.now) c.deref.result.now c.deref-2.result.now
+    next_found (difference c.args.self.now c.args.other.now) c.deref.result.now c.deref-2.result.now
     (λ k. ap (λ words. in_not words c.deref-2.result.now k) c.deref.ensures.value ∙ ap (λ others. in_not c.self.inside.words.items others k) c.deref-2.ensures.value
     ∙ in_one c.self.inside.words.items c.self.inside.len c.args.self.now c.self.invariant c.self.view_is
     c.other.inside.words.items c.other.inside.len c.args.other.now c.other.invariant c.other.view_is c.requires k)
@@ -24,7 +24,7 @@ returns-clause-none c =
     let enough = long_enough c.self.inside.words.items c.self.inside.len c.args.self.now c.self.invariant c.self.view_is in
     let all = ap length c.deref.ensures.value in
     let long = without_length c.args.self.now c.args.other.now c.requires in
-    none_found (without c.args.self.now c.args.other.now) c.deref.result.now c.deref-2.result.now
+    none_found (difference c.args.self.now c.args.other.now) c.deref.result.now c.deref-2.result.now
     (λ k. ap (λ words. in_not words c.deref-2.result.now k) c.deref.ensures.value ∙ ap (λ others. in_not c.self.inside.words.items others k) c.deref-2.ensures.value
     ∙ in_one c.self.inside.words.items c.self.inside.len c.args.self.now c.self.invariant c.self.view_is
     c.other.inside.words.items c.other.inside.len c.args.other.now c.other.invariant c.other.view_is c.requires k)

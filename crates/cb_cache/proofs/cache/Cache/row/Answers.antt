@@ -1,7 +1,7 @@
 use Rattle.std.proofs.Common.{◌≡◌, ◌≤◌, ◌*◌, ◌∙◌, ℕ, length, sym, subst, arith}
 use Rattle.cb_bits.specs.Bits.{words_for}
 use Rattle.cb_pool.specs.declared.slot.Slot.{Slot}
-use Rattle.cb_pool.specs.Pool.{HasRow}
+use Rattle.cb_pool.specs.Pool.{SlotHasRow}
 use Rattle.cb_topo.specs.Numbered.{IsWhole}
 use Rattle.cb_graph.specs.Edges.{EdgeAt}
 use Rattle.cb_cache.specs.Cached.{Cached, IsReachedRow}
@@ -35,8 +35,8 @@ pub returns-clause-slot : goal.returns-clause-slot
 returns-clause-slot c = λ slot has.
     let i = c.args.problem.0 in
     let same = one_slot c.args.self.now.slots i c.slot.result slot c.slot.ensures.slot has in
-    subst (λ (s : Slot). HasRow c.args.self.now.pool s c.row.result.now) same
-    (subst (λ (k : Cached). HasRow k.pool c.slot.result c.row.result.now) c.self.view_is c.row.ensures.row)
+    subst (λ (s : Slot). SlotHasRow c.args.self.now.pool s c.row.result.now) same
+    (subst (λ (k : Cached). SlotHasRow k.pool c.slot.result c.row.result.now) c.self.view_is c.row.ensures.row)
 
 fits : (n m : ℕ) → m ≡ words_for n → n ≤ 64 * m
 fits n m is = omega (arith, is)
@@ -44,5 +44,5 @@ fits n m is = omega (arith, is)
 pub returns-clause-bits : goal.returns-clause-bits
 returns-clause-bits c =
     let n = c.self.inside.graph in
-    let width : length c.row.result.now ≡ words_for (length n.nodes) = c.row.ensures.width ∙ c.self.invariant.room.width in
+    let width : length c.row.result.now ≡ words_for (length n.nodes) = c.row.ensures.width ∙ c.self.invariant.capacity.width in
     subst (λ (k : Cached). length k.graph.nodes ≤ 64 * length c.row.result.now) c.self.view_is (fits (length n.nodes) (length c.row.result.now) width)

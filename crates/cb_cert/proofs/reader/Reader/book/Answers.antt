@@ -3,7 +3,7 @@ use Rattle.cb_cert.specs.declared.line.CertificateLine.TheVariants as line
 use Rattle.cb_cert.specs.Ahead.{at_distance, at_nodes, at_columns, at_spans}
 use Rattle.cb_cert.specs.Format.{IsBetween, nodes_of, wanted_limit}
 use Rattle.cb_cert.specs.Lines.{claim_lines, node_lines, column_lines, all_span_lines}
-use Rattle.cb_cert.specs.Steps.{HasRead, ComesTo}
+use Rattle.cb_cert.specs.Steps.{HasRead, ReadsOrFails}
 use Rattle.cb_cert.proofs.Loops.{exit}
 use Rattle.cb_cert.proofs.Moved.{took, took_not}
 use Rattle.cb_cert.proofs.Openings.{regroup_book}
@@ -13,7 +13,7 @@ use Rattle.cb_cert.proofs.reader.Reader.book.Goals as goal
 pub returns-in_err-distance : goal.returns-in_err-distance
 returns-in_err-distance c text before ahead read =
     let begun = before ++ line.Book ∷ [] in
-    exit (ComesTo text c.number.new.self before ahead claim_lines (λ x. length (nodes_of x))) c.from_residual.result _ c.from_residual.ensures.1
+    exit (ReadsOrFails text c.number.new.self before ahead claim_lines (λ x. length (nodes_of x))) c.from_residual.result _ c.from_residual.ensures.1
     (took_not 0 at_distance line.Distance (IsBetween 1 wanted_limit) (stand.distance 0) text c.args.self.now begun (at_nodes ∷ at_columns ∷ at_spans ∷ ahead) read _ c.in_err-distance.ensures)
 
 pub returns-in_err-nodes : goal.returns-in_err-nodes
@@ -22,7 +22,7 @@ returns-in_err-nodes c text before ahead read =
     let one = took 0 at_distance line.Distance (IsBetween 1 wanted_limit) (stand.distance 0) text c.args.self.now c.number.new.self begun
     (at_nodes ∷ at_columns ∷ at_spans ∷ ahead) read c.in_ok-distance.distance c.in_ok-distance.ensures
     in
-    exit (ComesTo text c.nodes.new.self before ahead claim_lines (λ x. length (nodes_of x))) c.from_residual-in_err-nodes.result _ c.from_residual-in_err-nodes.ensures.1
+    exit (ReadsOrFails text c.nodes.new.self before ahead claim_lines (λ x. length (nodes_of x))) c.from_residual-in_err-nodes.result _ c.from_residual-in_err-nodes.ensures.1
     (c.in_err-nodes.ensures.lines text (begun ++ line.Distance c.in_ok-distance.distance ∷ []) (at_columns ∷ at_spans ∷ ahead) one)
 
 pub returns-in_err-columns : goal.returns-in_err-columns
@@ -35,7 +35,7 @@ returns-in_err-columns c text before ahead read =
     let listed = c.in_ok-nodes.ensures.lines text with_distance (at_columns ∷ at_spans ∷ ahead) one in
     let with_nodes = with_distance ++ node_lines c.in_ok-nodes.nodes in
     let two = subst (λ k. HasRead text c.nodes.new.self with_nodes k (at_columns ∷ at_spans ∷ ahead)) (sym c.len-count.ensures) listed in
-    exit (ComesTo text c.columns.new.self before ahead claim_lines (λ x. length (nodes_of x))) c.from_residual-in_err-columns.result _ c.from_residual-in_err-columns.ensures.1
+    exit (ReadsOrFails text c.columns.new.self before ahead claim_lines (λ x. length (nodes_of x))) c.from_residual-in_err-columns.result _ c.from_residual-in_err-columns.ensures.1
     (c.in_err-columns.ensures text with_nodes (at_spans ∷ ahead) two)
 
 pub returns-in_err-spans : goal.returns-in_err-spans
@@ -50,7 +50,7 @@ returns-in_err-spans c text before ahead read =
     let two = subst (λ k. HasRead text c.nodes.new.self with_nodes k (at_columns ∷ at_spans ∷ ahead)) (sym c.len-count.ensures) listed in
     let three = c.in_ok-columns.ensures text with_nodes (at_spans ∷ ahead) two in
     let with_columns = with_nodes ++ column_lines c.in_ok-columns.columns in
-    exit (ComesTo text c.spans.new.self before ahead claim_lines (λ x. length (nodes_of x))) c.from_residual-in_err-spans.result _ c.from_residual-in_err-spans.ensures.1
+    exit (ReadsOrFails text c.spans.new.self before ahead claim_lines (λ x. length (nodes_of x))) c.from_residual-in_err-spans.result _ c.from_residual-in_err-spans.ensures.1
     (c.in_err-spans.ensures text with_columns ahead three)
 
 pub returns : goal.returns

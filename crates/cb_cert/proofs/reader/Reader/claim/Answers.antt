@@ -3,7 +3,7 @@ use Rattle.cb_cert.specs.declared.line.CertificateLine.TheVariants as line
 use Rattle.cb_cert.specs.Ahead.{at_kind}
 use Rattle.cb_cert.specs.Format.{nodes_of}
 use Rattle.cb_cert.specs.Lines.{claim_lines, line_text}
-use Rattle.cb_cert.specs.Steps.{ComesTo}
+use Rattle.cb_cert.specs.Steps.{ReadsOrFails}
 use Rattle.cb_cert.proofs.Loops.{exit}
 use Rattle.cb_cert.proofs.Moved.{is_bad, missed}
 use Rattle.cb_cert.proofs.Openings.{no_line, fixed, other_kind}
@@ -11,7 +11,7 @@ use Rattle.cb_cert.proofs.reader.Reader.claim.Goals as goal
 
 pub returns-in_err-kind : goal.returns-in_err-kind
 returns-in_err-kind c text before ahead read =
-    exit (ComesTo text c.next.new.self before ahead claim_lines (λ x. length (nodes_of x))) c.from_residual.result _ c.from_residual.ensures.1
+    exit (ReadsOrFails text c.next.new.self before ahead claim_lines (λ x. length (nodes_of x))) c.from_residual.result _ c.from_residual.ensures.1
     (no_line text c.args.self.now before 0 at_kind ahead read _ c.in_err-kind.ensures.none)
 
 pub returns-then-is_text : goal.returns-then-is_text

@@ -4,7 +4,7 @@ use Rattle.cb_cert.specs.declared.line.CertificateLine.TheVariants as line
 use Rattle.cb_cert.specs.Ahead.{TextPlace, at_columns, at_column}
 use Rattle.cb_cert.specs.Format.{IsBetween, column_limit}
 use Rattle.cb_cert.specs.Lines.{column_lines}
-use Rattle.cb_cert.specs.Steps.{HasRead, ComesTo}
+use Rattle.cb_cert.specs.Steps.{HasRead, ReadsOrFails}
 use Rattle.cb_cert.proofs.Loops.{Looped, exit, looped_at, looped_more, looped_all, one_more}
 use Rattle.cb_cert.proofs.Moved.{took, took_not}
 use Rattle.cb_cert.proofs.Stands as stand
@@ -12,7 +12,7 @@ use Rattle.cb_cert.proofs.reader.Reader.columns.Goals as goal
 
 pub returns-in_err-count : goal.returns-in_err-count
 returns-in_err-count c text before ahead read =
-    exit (ComesTo text c.number.new.self before ahead column_lines (λ xs. c.args.nodes)) c.from_residual.result _ c.from_residual.ensures.1
+    exit (ReadsOrFails text c.number.new.self before ahead column_lines (λ xs. c.args.nodes)) c.from_residual.result _ c.from_residual.ensures.1
     (took_not c.args.nodes at_columns line.Columns (IsBetween 0 column_limit) (stand.columns c.args.nodes) text c.args.self.now before ahead read _ c.in_err-count.ensures)
 
 pub returns-in_err-number : goal.returns-in_err-number
@@ -20,7 +20,7 @@ returns-in_err-number c text before ahead read =
     let count = c.in_ok-count.count in
     let given : List ℕ → List CertificateLine → List TextPlace → Type 0 = λ text before ahead. HasRead text c.args.self.now before c.args.nodes (at_columns ∷ ahead) in
     let lines : List _ → List CertificateLine = λ xs. line.Columns count ∷ map line.Column xs in
-    exit (ComesTo text c.number-in-loop.new.self before ahead column_lines (λ xs. c.args.nodes)) c.from_residual-in_err-number.result _ c.from_residual-in_err-number.ensures.1
+    exit (ReadsOrFails text c.number-in-loop.new.self before ahead column_lines (λ xs. c.args.nodes)) c.from_residual-in_err-number.result _ c.from_residual-in_err-number.ensures.1
     (took_not c.args.nodes at_column line.Column (IsBetween 1 c.args.nodes) (stand.column c.args.nodes) text c.loop.self _ _
     (looped_at given lines at_column c.args.nodes count c.loop.counter c.loop.self c.loop.columns c.loop.invariant (omega arith) text before ahead read) _ c.in_err-number.ensures)
 

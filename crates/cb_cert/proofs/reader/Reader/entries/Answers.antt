@@ -4,7 +4,7 @@ use Rattle.cb_cert.specs.declared.line.CertificateLine.TheVariants as line
 use Rattle.cb_cert.specs.Ahead.{TextPlace, at_entry}
 use Rattle.cb_cert.specs.Format.{IsEntry}
 use Rattle.cb_cert.specs.Lines.{span_lines}
-use Rattle.cb_cert.specs.Steps.{HasRead, ComesTo}
+use Rattle.cb_cert.specs.Steps.{HasRead, ReadsOrFails}
 use Rattle.cb_cert.proofs.Loops.{Looped, exit, looped_at, looped_more, looped_all, one_more}
 use Rattle.cb_cert.proofs.Moved.{took, took_not}
 use Rattle.cb_cert.proofs.Stands as stand
@@ -15,7 +15,7 @@ returns-in_err-entry c text before ahead read =
     let count = c.args.count in
     let given : List ℕ → List CertificateLine → List TextPlace → Type 0 = λ text before ahead. HasRead text c.args.self.now (before ++ line.Span count ∷ []) c.args.nodes (replicate count at_entry ++ ahead) in
     let lines : List _ → List CertificateLine = λ xs. line.Span count ∷ map line.Entry xs in
-    exit (ComesTo text c.entry.new.self before ahead span_lines (λ xs. c.args.nodes)) c.from_residual.result _ c.from_residual.ensures.1
+    exit (ReadsOrFails text c.entry.new.self before ahead span_lines (λ xs. c.args.nodes)) c.from_residual.result _ c.from_residual.ensures.1
     (took_not c.args.nodes at_entry line.Entry (IsEntry c.args.nodes) (stand.entry c.args.nodes) text c.loop.self _ _
     (looped_at given lines at_entry c.args.nodes count c.loop.counter c.loop.self c.loop.entries c.loop.invariant (omega arith) text before ahead read) _ c.in_err-entry.ensures)
 

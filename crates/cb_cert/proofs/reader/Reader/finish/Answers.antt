@@ -1,7 +1,7 @@
 use Rattle.std.proofs.Common.{◌≡◌, ◌≢◌, sym, subst}
 use Rattle.cb_cert.specs.Prefixes.{IsFault}
 use Rattle.cb_cert.specs.Lines.{line_text}
-use Rattle.cb_cert.specs.Steps.{EndsWell}
+use Rattle.cb_cert.specs.Steps.{SpellsOrFails}
 use Rattle.cb_cert.specs.declared.line.CertificateLine.TheVariants as line
 use Rattle.cb_cert.proofs.Ending.{no_end, other_end, spelt, further}
 use Rattle.cb_cert.proofs.Loops.{exit}
@@ -10,7 +10,7 @@ use Rattle.cb_cert.proofs.reader.Reader.finish.Goals as goal
 pub returns-in_err-line : goal.returns-in_err-line
 returns-in_err-line c text claim n read =
     let none = c.in_err-line.ensures.none in
-    exit (EndsWell text claim) c.from_residual.result _ c.from_residual.ensures.1
+    exit (SpellsOrFails text claim) c.from_residual.result _ c.from_residual.ensures.1
     (subst (IsFault text) (sym none.0) (no_end text claim n c.args.self.now read none.1))
 
 pub returns-then-not-is_text : goal.returns-then-not-is_text

@@ -4,7 +4,7 @@ use Rattle.cb_model.specs.declared.node.NodeName.{NodeName}
 use Rattle.cb_model.proofs.Numbers.{take_more, all_at}
 use Rattle.cb_network.specs.Nodes.{IsProblem}
 use Rattle.cb_topo.specs.Numbered.{Numbered, topology_of}
-use Rattle.cb_chain_commands.specs.Explaining.{AddsChains, AddsMembers}
+use Rattle.cb_chain_commands.specs.Explaining.{AddsChains, AddsMemberChains}
 use Rattle.cb_chain_commands.proofs.Adding.{no_members, members_more, nothing_pushed, is_of_itself, pushed_more}
 use Rattle.cb_chain_commands.proofs.explanation.Explanation.push_members.Goals as goal
 
@@ -34,7 +34,7 @@ loop-at-preserved g c =
     let here : AddsChains t columns member c.loop-at.out.items c.push_chains.new.out.items =
     subst (λ (n : Numbered). AddsChains (topology_of n) columns member c.loop-at.out.items c.push_chains.new.out.items) before.same.graph added
     in
-    subst (λ (ms : List NodeName). AddsMembers t columns ms c.args.out.now.items c.push_chains.new.out.items) (sym (take_more members i member c.at.ensures))
+    subst (λ (ms : List NodeName). AddsMemberChains t columns ms c.args.out.now.items c.push_chains.new.out.items) (sym (take_more members i member c.at.ensures))
     (members_more t columns (take i members) member c.args.out.now.items c.loop-at.out.items c.push_chains.new.out.items adds here))
 
 pub returns-clause-network : goal.returns-clause-network
@@ -47,5 +47,5 @@ pub returns-clause-lines : goal.returns-clause-lines
 returns-clause-lines g c = λ columns named.
     let past = c.loop-at-test.false in
     let end = c.len-at-end.ensures in
-    subst (λ (ms : List NodeName). AddsMembers (topology_of c.args.self.now.graph) columns ms c.args.out.now.items c.loop-at.out.items)
+    subst (λ (ms : List NodeName). AddsMemberChains (topology_of c.args.self.now.graph) columns ms c.args.out.now.items c.loop-at.out.items)
     (take_all c.loop-at.at c.args.members.now (omega (arith, past, end))) (c.loop-at.invariant.lines columns named)

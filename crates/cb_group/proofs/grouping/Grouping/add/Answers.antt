@@ -1,7 +1,7 @@
 use Rattle.std.proofs.Common.{◌++◌, ◌∷◌, [], refl, ap, ◌∙◌, inl, inr}
 use Rattle.cb_model.specs.declared.node.NodeName.{NodeName}
 use Rattle.cb_model.proofs.Numbers.{read_at}
-use Rattle.cb_group.specs.Adding.{group}
+use Rattle.cb_group.specs.Adding.{group_of_code}
 use Rattle.cb_group.proofs.Found.{same_words, joins_found, opens_new, place_within}
 use Rattle.cb_group.proofs.grouping.Grouping.add.Goals as goal
 
@@ -28,5 +28,5 @@ returns-in_ok-open-in-None-clause-added c =
     let members = c.in_ok-push-in-None.ensures.ok ∙ ap (λ ns. ns ++ c.in_ok-name.name ∷ []) c.new-members.ensures ∙ ap (λ (n : NodeName). n ∷ []) c.in_ok-name.ensures in
     inr (opens_new groups c.args.self.now.words.keys c.requires.words p c.requires.width c.in-None.ensures.none c.open.new.self.groups.items
     (c.in_ok-open-in-None.ensures.opened
-    ∙ ap (λ code. groups ++ group code c.push-in-None.new.self ∷ []) c.in_ok-copy-in-None.ensures
-    ∙ ap (λ ns. groups ++ group p.code ns ∷ []) members))
+    ∙ ap (λ code. groups ++ group_of_code code c.push-in-None.new.self ∷ []) c.in_ok-copy-in-None.ensures
+    ∙ ap (λ ns. groups ++ group_of_code p.code ns ∷ []) members))

@@ -29,7 +29,7 @@ returns-in-Some-clause-spare c =
     let of_rel = read_passes (is_of c.args.rel) rows c.in-Some.place x at c.index_mut.ensures.value in
     let new : LinkRow = record { rel = x.rel; to = c.reserve.new.self } in
     on_ok c.reserve.result (vec_len new.to + 1 ≤ vec_capacity new.to) (HasSpare (slice_set rows c.in-Some.place new) c.args.rel)
-    (λ room. (new, set_this rows c.args.rel c.in-Some.place at new of_rel, omega arith))
+    (λ capacity. (new, set_this rows c.args.rel c.in-Some.place at new of_rel, omega arith))
     c.reserve.ensures.ok
 
 pub returns-in_ok-push-in-None-clause-same : goal.returns-in_ok-push-in-None-clause-same

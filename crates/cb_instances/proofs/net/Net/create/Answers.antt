@@ -31,8 +31,8 @@ invariant_of-self-2 c =
     let finds : (q : List ℕ) → place_of c.insert.new.self.entries q ≡ cond (bytes_eq q c.args.name.now) (Some id.0) (place_of entries q) = λ q.
     ap (λ es. place_of es q) c.in_ok-insert.ensures.entries
     ∙ (lookup-insert_entry (λ k. k.items) _ (λ a b. refl) q entries c.in_ok-key.key id.0 ∙ ap (λ n. cond (bytes_eq q n) (Some id.0) (place_of entries q)) c.in_ok-key.ensures.items) in
-    let above : c.max-self-inside.result ≡ max c.self.inside.room (id.0 + 1) = search rules in
-    let is = made c.self.inside.model old c.reserve.new.self.slots c.insert_reserved.new.self.slots entries c.insert.new.self.entries c.self.inside.room c.max-self-inside.result id c.insert_reserved.result x
+    let above : c.max-self-inside.result ≡ max c.self.inside.capacity (id.0 + 1) = search rules in
+    let is = made c.self.inside.model old c.reserve.new.self.slots c.insert_reserved.new.self.slots entries c.insert.new.self.entries c.self.inside.capacity c.max-self-inside.result id c.insert_reserved.result x
     c.args.name.now c.self.invariant (ap (λ s. s.slots) c.reserve.ensures.rest_kept) c.vacant_key-id.ensures.vacant key updates.changed updates.others c.in_ok-of.ensures absent c.new.ensures unmuted fits finds above in
     is.sound
 
@@ -50,12 +50,12 @@ returns-clause-created c =
     let finds : (q : List ℕ) → place_of c.insert.new.self.entries q ≡ cond (bytes_eq q c.args.name.now) (Some id.0) (place_of entries q) = λ q.
     ap (λ es. place_of es q) c.in_ok-insert.ensures.entries
     ∙ (lookup-insert_entry (λ k. k.items) _ (λ a b. refl) q entries c.in_ok-key.key id.0 ∙ ap (λ n. cond (bytes_eq q n) (Some id.0) (place_of entries q)) c.in_ok-key.ensures.items) in
-    let above : c.max-self-inside.result ≡ max c.self.inside.room (id.0 + 1) = search rules in
-    let is = made c.self.inside.model old c.reserve.new.self.slots c.insert_reserved.new.self.slots entries c.insert.new.self.entries c.self.inside.room c.max-self-inside.result id c.insert_reserved.result x
+    let above : c.max-self-inside.result ≡ max c.self.inside.capacity (id.0 + 1) = search rules in
+    let is = made c.self.inside.model old c.reserve.new.self.slots c.insert_reserved.new.self.slots entries c.insert.new.self.entries c.self.inside.capacity c.max-self-inside.result id c.insert_reserved.result x
     c.args.name.now c.self.invariant (ap (λ s. s.slots) c.reserve.ensures.rest_kept) c.vacant_key-id.ensures.vacant key updates.changed updates.others c.in_ok-of.ensures absent c.new.ensures unmuted fits finds above in
     record {
       free = subst (λ (n : Net). slot n.names id.0 ≡ None) c.self.view_is (named old id.0 ∙ ap name_in (subst (λ (s : Slots). slot s id.0 ≡ None) (ap (λ s. s.slots) c.reserve.ensures.rest_kept) c.vacant_key-id.ensures.vacant));
       named = subst (λ (n : Net). SetsOnly n.names (map name_in c.insert_reserved.new.self.slots) id (Some c.args.name.now)) c.self.view_is is.named;
       made = is.topology ∙ ap (λ (n : Net). with_instance n.topology c.args.name.now c.args.class) c.self.view_is;
-      room = search rules;
+      capacity = search rules;
     }

@@ -35,9 +35,9 @@ returns-clause-ok c =
     let rel = subst (λ (n : Net). IsRelation n.topology.model c.args.rel) (sym c.self.view_is) c.requires.rel in
     let back = c.inverse-back.ensures in
     let none = not_listed _ _ _ _ c.self.invariant _ _ c.self.view_is c.args.from c.args.rel c.args.to c.requires.absent in
-    ap (λ k. seen c.self.inside.model c.join.new.slots.slots c.self.inside.room (next_of k)) c.in_ok-join.ensures.next
+    ap (λ k. seen c.self.inside.model c.join.new.slots.slots c.self.inside.capacity (next_of k)) c.in_ok-join.ensures.next
     ∙ joined_net c.self.inside.model _ _ _ _ _ _ _ _ from.0 to.0 from.1 to.1 rel back c.self.invariant c.in_ok-join.ensures.ok (next_of c.self.inside.slots.vacant_key) none
     ∙ ap (λ n. linked n c.args.from c.args.rel c.args.to) c.self.view_is
 
 pub returns-in_err-join-clause-err : goal.returns-in_err-join-clause-err
-returns-in_err-join-clause-err c = on_err _ _ (ap (λ k. seen c.self.inside.model c.join.new.slots.slots c.self.inside.room (next_of k)) c.in_err-join.ensures.next ∙ (same_net _ _ c.in_err-join.ensures.err c.self.inside.model _ _ (next_of c.self.inside.slots.vacant_key) c.self.invariant ∙ c.self.view_is))
+returns-in_err-join-clause-err c = on_err _ _ (ap (λ k. seen c.self.inside.model c.join.new.slots.slots c.self.inside.capacity (next_of k)) c.in_err-join.ensures.next ∙ (same_net _ _ c.in_err-join.ensures.err c.self.inside.model _ _ (next_of c.self.inside.slots.vacant_key) c.self.invariant ∙ c.self.view_is))

@@ -29,6 +29,6 @@ returns c =
     let to = live_at _ _ _ _ _ c.self.view_is c.args.to c.requires.to in
     let rel = subst (λ (n : Net). IsRelation n.topology.model c.args.rel) (sym c.self.view_is) c.requires.rel in
     let back = c.inverse-back.ensures in
-    ap (λ k. seen c.self.inside.model c.part.new.slots.slots c.self.inside.room (next_of k)) c.part.ensures.next
+    ap (λ k. seen c.self.inside.model c.part.new.slots.slots c.self.inside.capacity (next_of k)) c.part.ensures.next
     ∙ parted_net c.self.inside.model _ _ _ _ _ _ _ _ from.0 to.0 from.1 to.1 rel back c.self.invariant c.part.ensures.parts (next_of c.self.inside.slots.vacant_key)
     ∙ ap (λ n. unlinked n c.args.from c.args.rel c.args.to) c.self.view_is

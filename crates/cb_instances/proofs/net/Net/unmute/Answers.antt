@@ -15,6 +15,6 @@ pub returns : goal.returns
 returns c =
     let x = (live_at _ _ _ _ _ c.self.view_is c.args.id c.requires.live).1 in
     let has = class_has _ _ _ _ _ _ c.self.view_is c.args.id x.0 x.1 c.args.event c.self.invariant c.requires.event in
-    ap (λ k. seen c.self.inside.model c.unmute.new.slots.slots c.self.inside.room (next_of k)) c.unmute.ensures.next
+    ap (λ k. seen c.self.inside.model c.unmute.new.slots.slots c.self.inside.capacity (next_of k)) c.unmute.ensures.next
     ∙ lost_net c.self.inside.model _ _ _ _ c.args.id x.0 x.1 c.args.event has c.unmute.ensures.remutes c.self.invariant (next_of c.self.inside.slots.vacant_key)
     ∙ ap (λ n. unmuted n c.args.id c.args.event) c.self.view_is

@@ -6,7 +6,7 @@ use Rattle.cb_io.proofs.line_reader.LineReader.next_line.Goals as goal
 pub returns-clause-says : goal.returns-clause-says
 returns-clause-says g c =
     rw (← c.self.view_is) (says_line _ c.find_end.new.hand (g.F.Files.tells c.args.files.now) (g.F.Files.tells c.find_end.new.files) c.in_ok-end.end
-    c.in_ok-end.ensures.found c.self.invariant.1 c.give.new.self c.give.result c.give.ensures)
+    c.in_ok-end.ensures.found c.self.invariant.1 c.take_line.new.self c.take_line.result c.take_line.ensures)
 
 pub returns-clause-advances : goal.returns-clause-advances
 returns-clause-advances g c =
@@ -23,7 +23,7 @@ returns-clause-advances g c =
       refused = inside.refused;
     } in
     rw (← c.self.view_is) (advances_line old c.find_end.new.hand (g.F.Files.tells c.args.files.now) (g.F.Files.tells c.find_end.new.files) c.in_ok-end.end
-    c.in_ok-end.ensures.found c.self.invariant.1 c.give.new.self c.give.result c.give.ensures)
+    c.in_ok-end.ensures.found c.self.invariant.1 c.take_line.new.self c.take_line.result c.take_line.ensures)
 
 pub returns-in_err-end-clause-says : goal.returns-in_err-end-clause-says
 returns-in_err-end-clause-says g c =

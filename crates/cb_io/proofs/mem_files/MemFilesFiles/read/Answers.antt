@@ -69,7 +69,7 @@ pub returns-clause-ok : goal.returns-clause-ok
 returns-clause-ok c =
     let at = at_place c.index_mut-entry.result.now
     (rw c.deref.ensures.value at (sym c.in-Some.ensures)) c.index_mut-entry.ensures.value in
-    rw (← c.self.view_is, c.count-due.ensures.counted) (given _ at c.give.new.self c.give.result c.give.ensures.left)
+    rw (← c.self.view_is, c.count-due.ensures.counted) (given _ at c.take_bytes.new.self c.take_bytes.result c.take_bytes.ensures.left)
 
 pub returns-clause-fails : goal.returns-clause-fails
 returns-clause-fails c =
@@ -88,18 +88,18 @@ pub returns-clause-count : goal.returns-clause-count
 returns-clause-count c =
     let at = at_place c.index_mut-entry.result.now
     (rw c.deref.ensures.value at (sym c.in-Some.ensures)) c.index_mut-entry.ensures.value in
-    rw (← c.self.view_is, look_up-at at) c.give.ensures.count
+    rw (← c.self.view_is, look_up-at at) c.take_bytes.ensures.count
 
 pub returns-clause-bytes : goal.returns-clause-bytes
 returns-clause-bytes c =
     let at = at_place c.index_mut-entry.result.now
     (rw c.deref.ensures.value at (sym c.in-Some.ensures)) c.index_mut-entry.ensures.value in
-    let moved : (file_of c.args.self.now c.args.name.now).left ≡ take c.give.result c.give.new.buf ++ drop c.give.result (file_of c.args.self.now c.args.name.now).left =
-    rw (← c.self.view_is, look_up-at at) (rw c.give.ensures.left at c.give.ensures.given) in
+    let moved : (file_of c.args.self.now c.args.name.now).left ≡ take c.take_bytes.result c.take_bytes.new.buf ++ drop c.take_bytes.result (file_of c.args.self.now c.args.name.now).left =
+    rw (← c.self.view_is, look_up-at at) (rw c.take_bytes.ensures.left at c.take_bytes.ensures.given) in
     subst (λ state. ReadsBytes {E = FileStop} (files_report c.args.self.now) (files_report state) c.args.name.now
-    (Ok c.give.result) c.give.new.buf) (sym (returns-clause-ok c))
-    (Reads-after c.args.self.now c.args.name.now c.give.new.buf c.give.result moved
-    (λ zero room. moved_none (file_of c.args.self.now c.args.name.now).left c.give.result c.args.self.now.piece
+    (Ok c.take_bytes.result) c.take_bytes.new.buf) (sym (returns-clause-ok c))
+    (Reads-after c.args.self.now c.args.name.now c.take_bytes.new.buf c.take_bytes.result moved
+    (λ zero capacity. moved_none (file_of c.args.self.now c.args.name.now).left c.take_bytes.result c.args.self.now.piece
     (length c.args.buf.now) (returns-clause-count c) (rw (← c.self.view_is) c.self.invariant) c.requires zero))
 
 pub returns-clause-others : goal.returns-clause-others

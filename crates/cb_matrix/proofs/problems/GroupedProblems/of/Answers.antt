@@ -26,9 +26,9 @@ column_index-requires-clause-below c =
     let n = c.args.cache.now.graph in
     let columns = c.in_ok-column_nodes.ensures in
     let wide : c.width.result ≡ words_for (length n.nodes) = c.width.ensures ∙ c.pool.ensures.same_width ∙ c.pool.ensures.width in
-    let room : c.node_room-room.result ≡ length n.nodes = c.node_room-room.ensures.value ∙ ap (λ (m : Numbered). length m.nodes) (c.topology-topology.ensures ∙ c.graph.ensures) in
+    let capacity : c.node_capacity-capacity.result ≡ length n.nodes = c.node_capacity-capacity.ensures.value ∙ ap (λ (m : Numbered). length m.nodes) (c.topology-topology.ensures ∙ c.graph.ensures) in
     all_below c.topology-topology.result.now (64 * c.width.result) c.in_ok-column_nodes.column_nodes columns.0
-    (λ id live. let low = c.node_room-room.ensures.above id live in omega arith) columns.2
+    (λ id live. let low = c.node_capacity-capacity.ensures.above id live in omega arith) columns.2
 
 pub grouping_of-requires-clause-problems : goal.grouping_of-requires-clause-problems
 grouping_of-requires-clause-problems c =
@@ -50,8 +50,8 @@ returns c =
     let named = subst (λ (m : Numbered). AreNamed m nodes c.in_ok-columns.columns) here c.in_ok-columns.ensures in
     all_in_groups n (topology_of n) nodes ids (record { columns = c.in_ok-columns.columns; grouping = grouping }) grouped named
     (all_coded n
-    (subst IsWhole here c.node_room-room.ensures.whole)
-    (subst (λ (m : Numbered). Sound (topology_of m)) here c.node_room-room.ensures.sound)
+    (subst IsWhole here c.node_capacity-capacity.ensures.whole)
+    (subst (λ (m : Numbered). Sound (topology_of m)) here c.node_capacity-capacity.ensures.sound)
     nodes ids c.in_ok-columns.columns grouped.problems columns.0 problems.0
     (subst (λ (m : Numbered). AreColumns (topology_of m) columns.0) here columns.1)
     (subst (λ (m : Numbered). AreNamed m nodes columns.0) here columns.2)

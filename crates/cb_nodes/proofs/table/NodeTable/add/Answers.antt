@@ -1,6 +1,6 @@
 use Rattle.std.proofs.Common.{◌≡◌, ◌≤◌, ◌+◌, ◌∙◌, vec_len, vec_capacity, length, refl, sym, ap, subst, arith}
 use Rattle.std.proofs.lemmas.Option.{slice_get_within, same_Some}
-use Rattle.cb_nodes.specs.Kept.{IsListOf, items_in}
+use Rattle.cb_nodes.specs.Kept.{ListsEvents, items_in}
 use Rattle.cb_nodes.proofs.Listing.{same_sound, numbered_sound, list_set, list_read, none_there}
 use Rattle.cb_nodes.proofs.table.NodeTable.add.Goals as goal
 
@@ -27,7 +27,7 @@ number_events-requires-clause-listed c =
     let lt = slice_get_within lists c.args.instance.0 fits.list fits.is in
     let same = c.in_ok-reserve.ensures.same in
     let sound = same_sound c.self.inside.numbers c.reserve.new.self c.self.inside.lists.items lists same.kept same.slots c.in_ok-reserve-2.ensures.same c.self.invariant in
-    subst (IsListOf c.reserve.new.self.slots.items c.args.instance) (ap items_in (list_read lists c.args.instance c.index_mut.result.now lt c.index_mut.ensures.value)) (sound.listed c.args.instance)
+    subst (ListsEvents c.reserve.new.self.slots.items c.args.instance) (ap items_in (list_read lists c.args.instance c.index_mut.result.now lt c.index_mut.ensures.value)) (sound.listed c.args.instance)
 
 pub number_events-requires-clause-new : goal.number_events-requires-clause-new
 number_events-requires-clause-new c = none_there c.args.self.now _ c.args.instance (c.in_ok-reserve.ensures.same.slots ∙ c.self.view_is) c.requires.new

@@ -6,7 +6,7 @@ use Rattle.cb_network.specs.Topology.{Topology}
 use Rattle.cb_instances.specs.declared.id.InstanceId.{InstanceId}
 use Rattle.cb_instances.specs.Net.{IsFree, Creates}
 use Rattle.cb_instances.proofs.Placing.{same_id}
-use Rattle.cb_nodes.specs.Kept.{HasSpareFor, IsListOf, items_in}
+use Rattle.cb_nodes.specs.Kept.{HasSpareFor, ListsEvents, items_in}
 use Rattle.cb_nodes.proofs.Events.{events_once, one_count}
 use Rattle.cb_nodes.proofs.Listing.{same_sound, numbered_sound, list_set, list_read, none_there}
 use Rattle.cb_nodes.proofs.table.NodeTable.create.Goals as goal
@@ -42,7 +42,7 @@ number_events-requires-clause-listed c =
     let lt = slice_get_within lists at.0 fits.list fits.is in
     let same = c.in_ok-reserve.ensures.same in
     let sound = same_sound c.self.inside.numbers c.reserve.new.self c.self.inside.lists.items lists same.kept same.slots c.in_ok-reserve-2.ensures.same c.self.invariant in
-    subst (IsListOf c.reserve.new.self.slots.items at) (ap items_in (list_read lists at c.index_mut-list.result.now lt c.index_mut-list.ensures.value)) (sound.listed at)
+    subst (ListsEvents c.reserve.new.self.slots.items at) (ap items_in (list_read lists at c.index_mut-list.result.now lt c.index_mut-list.ensures.value)) (sound.listed at)
 
 pub number_events-requires-clause-new : goal.number_events-requires-clause-new
 number_events-requires-clause-new c =

@@ -1,7 +1,7 @@
 use Rattle.std.proofs.Common.{◌≡◌, ◌*◌, ◌+◌, ◌-◌, ℕ, List, ◌++◌, length, take, drop, refl, ap, subst, ◌∙◌, arith}
 use Rattle.std.specs.Simd.Lanes.{put_chunk}
 use Rattle.std.specs.Vec.{with_items_from}
-use Rattle.cb_pool.specs.Pool.{Pool, row_at, row_of, with_row}
+use Rattle.cb_pool.specs.Pool.{Pool, row_at, slot_row, with_row}
 use Rattle.cb_pool.specs.Kept.{spare_of}
 use Rattle.cb_pool.proofs.Placed.{written_over, put_is}
 use Rattle.cb_pool.proofs.Rows.{row_length}
@@ -48,7 +48,7 @@ returns c =
       ),
       record {
         writes_back = tt;
-        row = (c.requires, lent c ∙ ap (λ (q : Pool). row_of q c.args.slot) c.self.view_is);
+        row = (c.requires, lent c ∙ ap (λ (q : Pool). slot_row q c.args.slot) c.self.view_is);
         width = long ∙ width;
       },
     )

@@ -11,13 +11,13 @@ invariant_of-self c =
     let len : c.len.result ≡ length c.self.inside.slots.taken.items = c.len.ensures ∙ c.self.inside.slots.taken.ok.0 in
     let block : length c.add_row.new.words.items ≡ c.self.inside.width * length c.self.inside.slots.taken.items + c.self.inside.width =
     c.add_row.ensures.words ∙ ap (λ n. c.self.inside.width * n + c.self.inside.width) len in
-    let room : c.take_next.new.self.room ≡ c.self.inside.slots.room = c.take_next.ensures.room in
-    let fits : c.self.inside.width * c.take_next.new.self.room ≡ c.self.inside.width * c.self.inside.slots.room = ap (λ n. c.self.inside.width * n) room in
+    let capacity : c.take_next.new.self.capacity ≡ c.self.inside.slots.capacity = c.take_next.ensures.capacity in
+    let fits : c.self.inside.width * c.take_next.new.self.capacity ≡ c.self.inside.width * c.self.inside.slots.capacity = ap (λ n. c.self.inside.width * n) capacity in
     let next : c.self.inside.width * length c.take_next.new.self.taken.items ≡ c.self.inside.width * (length c.self.inside.slots.taken.items + 1) =
     ap (λ n. c.self.inside.width * n) c.take_next.ensures.slots in
     record {
       block = omega (arith, block, next);
-      room = omega (arith, fits, c.add_row.ensures.room, c.self.invariant.room);
+      capacity = omega (arith, fits, c.add_row.ensures.capacity, c.self.invariant.capacity);
       slots = c.take_next.ensures.kept;
     }
 

@@ -4,8 +4,8 @@ use Rattle.cb_session.proofs.Following.{if_ok_more}
 use Rattle.cb_session.proofs.Sessions.{wanted_rise, wanted_tells, fixed_fits, fixed_rise, fixed_tells_end}
 use Rattle.cb_session.proofs.session.Session.reported_of.Goals as goal
 
-pub tell-requires-clause-rise : goal.tell-requires-clause-rise
-tell-requires-clause-rise c =
+pub closing_report-requires-clause-rise : goal.closing_report-requires-clause-rise
+closing_report-requires-clause-rise c =
     let parts = c.self.inside in
     wanted_rise parts.cache parts.windows parts.course c.args.self.now c.self.view_is c.self.invariant c.in-Wanted.distance c.in-Wanted.ready c.in-Wanted.is
     c.args.closing.now c.requires
@@ -21,11 +21,11 @@ reported_in_use-requires-clause-rise c =
     let parts = c.self.inside in
     fixed_rise parts.cache parts.windows parts.course c.args.self.now c.self.view_is c.self.invariant c.in-Fixed.ready c.in-Fixed.is c.args.closing.now c.requires
 
-pub returns-in_ok-tell-in-Wanted : goal.returns-in_ok-tell-in-Wanted
-returns-in_ok-tell-in-Wanted c =
+pub returns-in_ok-closing_report-in-Wanted : goal.returns-in_ok-closing_report-in-Wanted
+returns-in_ok-closing_report-in-Wanted c =
     let parts = c.self.inside in
     wanted_tells parts.cache parts.windows parts.course c.args.self.now c.self.view_is c.self.invariant c.in-Wanted.distance c.in-Wanted.ready c.in-Wanted.is
-    c.args.closing.now c.requires c.in_ok-tell-in-Wanted.field-0 c.in_ok-tell-in-Wanted.ensures
+    c.args.closing.now c.requires c.in_ok-closing_report-in-Wanted.field-0 c.in_ok-closing_report-in-Wanted.ensures
 
 pub returns-in-Fixed : goal.returns-in-Fixed
 returns-in-Fixed c =

@@ -6,7 +6,7 @@ use Rattle.cb_log.specs.Entries.{said, skipped, blank}
 use Rattle.cb_session.specs.declared.entry.Taken.{Taken}
 use Rattle.cb_session.specs.Counted.{CountsEntry}
 use Rattle.cb_session.specs.Numbers.{KeepsNumbers}
-use Rattle.cb_session.specs.State.{State, line_of, network_of}
+use Rattle.cb_session.specs.State.{State, log_line_of, network_of}
 use Rattle.cb_session.specs.Steps.{EntryTells, EntryStands}
 use Rattle.cb_session.specs.Taken.{entry_of_taken}
 use Rattle.cb_session.proofs.Counting.{none_counted, line_counted, if_line_counted}
@@ -15,14 +15,14 @@ use Rattle.cb_session.proofs.session.Session.step.Goals as goal
 
 pub returns-in-Blank-clause-stands : goal.returns-in-Blank-clause-stands
 returns-in-Blank-clause-stands g c =
-    let line = line_of c.args.line in
+    let line = log_line_of c.args.line in
     let comes : ComesTo line blank = subst (λ (taken : Taken). ComesTo line (entry_of_taken taken)) c.in-Blank.is c.in_ok-entry.ensures.comes in
     line_stands line blank comes c.args.self.now c.entry.new.self
     (subst (λ (s : State). EntryStands c.args.self.now s blank) (sym c.entry.ensures.same) (aside_stands c.args.self.now blank refl))
 
 pub returns-in_ok-push-in-Skipped-clause-gives : goal.returns-in_ok-push-in-Skipped-clause-gives
 returns-in_ok-push-in-Skipped-clause-gives g c =
-    let line = line_of c.args.line in
+    let line = log_line_of c.args.line in
     let number = c.in-Skipped.number in
     let why = c.in-Skipped.why in
     let comes : ComesTo line (skipped number why) = subst (λ (taken : Taken). ComesTo line (entry_of_taken taken)) c.in-Skipped.is c.in_ok-entry.ensures.comes in
@@ -33,7 +33,7 @@ returns-in_ok-push-in-Skipped-clause-gives g c =
 
 pub returns-in_ok-push-in-Skipped-clause-stands : goal.returns-in_ok-push-in-Skipped-clause-stands
 returns-in_ok-push-in-Skipped-clause-stands g c =
-    let line = line_of c.args.line in
+    let line = log_line_of c.args.line in
     let entry = skipped c.in-Skipped.number c.in-Skipped.why in
     let comes : ComesTo line entry = subst (λ (taken : Taken). ComesTo line (entry_of_taken taken)) c.in-Skipped.is c.in_ok-entry.ensures.comes in
     line_stands line entry comes c.args.self.now c.entry.new.self
@@ -41,7 +41,7 @@ returns-in_ok-push-in-Skipped-clause-stands g c =
 
 pub returns-in-Said-clause-gives : goal.returns-in-Said-clause-gives
 returns-in-Said-clause-gives g c =
-    let line = line_of c.args.line in
+    let line = log_line_of c.args.line in
     let entry = said c.in-Said.number c.in-Said.record in
     let comes : ComesTo line entry = subst (λ (taken : Taken). ComesTo line (entry_of_taken taken)) c.in-Said.is c.in_ok-entry.ensures.comes in
     if_line_tells line entry comes c.args.self.now c.go_on.result
@@ -49,7 +49,7 @@ returns-in-Said-clause-gives g c =
 
 pub returns-in-Said-clause-stands : goal.returns-in-Said-clause-stands
 returns-in-Said-clause-stands g c =
-    let line = line_of c.args.line in
+    let line = log_line_of c.args.line in
     let entry = said c.in-Said.number c.in-Said.record in
     let comes : ComesTo line entry = subst (λ (taken : Taken). ComesTo line (entry_of_taken taken)) c.in-Said.is c.in_ok-entry.ensures.comes in
     if_line_stands line entry comes c.args.self.now c.go_on.new.self c.go_on.result
@@ -57,28 +57,28 @@ returns-in-Said-clause-stands g c =
 
 pub returns-in-Blank-clause-alone : goal.returns-in-Blank-clause-alone
 returns-in-Blank-clause-alone g c =
-    let line = line_of c.args.line in
+    let line = log_line_of c.args.line in
     let comes : ComesTo line blank = subst (λ (taken : Taken). ComesTo line (entry_of_taken taken)) c.in-Blank.is c.in_ok-entry.ensures.comes in
     line_alone line c.args.self.now c.new.result (line_tells line blank comes c.args.self.now c.new.result (λ opening before regular stands. c.new.ensures))
 
 pub returns-in_ok-push-in-Skipped-clause-alone : goal.returns-in_ok-push-in-Skipped-clause-alone
 returns-in_ok-push-in-Skipped-clause-alone g c =
-    line_alone (line_of c.args.line) c.args.self.now c.push.new.self (returns-in_ok-push-in-Skipped-clause-gives g c)
+    line_alone (log_line_of c.args.line) c.args.self.now c.push.new.self (returns-in_ok-push-in-Skipped-clause-gives g c)
 
 pub returns-in-Said-clause-alone : goal.returns-in-Said-clause-alone
 returns-in-Said-clause-alone g c =
-    if_line_alone (line_of c.args.line) c.args.self.now c.go_on.result (returns-in-Said-clause-gives g c)
+    if_line_alone (log_line_of c.args.line) c.args.self.now c.go_on.result (returns-in-Said-clause-gives g c)
 
 pub returns-in-Blank-clause-cost : goal.returns-in-Blank-clause-cost
 returns-in-Blank-clause-cost g c =
-    let line = line_of c.args.line in
+    let line = log_line_of c.args.line in
     let comes : ComesTo line blank = subst (λ (taken : Taken). ComesTo line (entry_of_taken taken)) c.in-Blank.is c.in_ok-entry.ensures.comes in
     let s = c.args.self.now in
     line_counted line blank comes s.mode (network_of s) c.args.steps.now c.args.steps.now (none_counted s.mode (network_of s) blank c.args.steps.now refl)
 
 pub returns-in_ok-push-in-Skipped-clause-cost : goal.returns-in_ok-push-in-Skipped-clause-cost
 returns-in_ok-push-in-Skipped-clause-cost g c =
-    let line = line_of c.args.line in
+    let line = log_line_of c.args.line in
     let entry = skipped c.in-Skipped.number c.in-Skipped.why in
     let comes : ComesTo line entry = subst (λ (taken : Taken). ComesTo line (entry_of_taken taken)) c.in-Skipped.is c.in_ok-entry.ensures.comes in
     let s = c.args.self.now in
@@ -86,7 +86,7 @@ returns-in_ok-push-in-Skipped-clause-cost g c =
 
 pub returns-in-Said-clause-cost : goal.returns-in-Said-clause-cost
 returns-in-Said-clause-cost g c =
-    let line = line_of c.args.line in
+    let line = log_line_of c.args.line in
     let entry = said c.in-Said.number c.in-Said.record in
     let comes : ComesTo line entry = subst (λ (taken : Taken). ComesTo line (entry_of_taken taken)) c.in-Said.is c.in_ok-entry.ensures.comes in
     let s = c.args.self.now in

@@ -4,8 +4,8 @@ use Rattle.cb_topo.specs.Numbered.{Numbered}
 use Rattle.cb_topo.proofs.Following.{were_order}
 use Rattle.cb_topo.proofs.topology.Topology.apply.Goals as goal
 
-pub followed-order-requires : goal.followed-order-requires
-followed-order-requires c =
+pub order_after-order-requires : goal.order_after-order-requires
+order_after-order-requires c =
     let edit = c.args.edit.now in
     let new = c.change.new.self in
     let before = c.take_order-order.ensures in

@@ -42,6 +42,6 @@ returns c =
     let seen : Numbered = record { net = c.self.inside.net; nodes = c.self.inside.nodes } in
     let is_whole = subst IsWhole c.self.view_is (whole seen c.self.inside.counts c.self.invariant.topology) in
     let below : (id : NodeId) (node : Node) → IsNode c.self.inside.nodes id node → id.0 < c.loop-place.place = λ id node is.
-    let low = c.room-place-end.ensures.above id (node, is) in
+    let low = c.capacity-place-end.ensures.above id (node, is) in
     omega (arith, low, c.loop-place-test.false) in
     below_all n c.args.kind c.loop-place.place c.loop-place.nodes.items is_whole (subst (λ (m : Numbered). (id : NodeId) (node : Node) → IsNode m.nodes id node → id.0 < c.loop-place.place) c.self.view_is below) c.loop-place.invariant

@@ -4,7 +4,7 @@ use Rattle.std.proofs.lemmas.Option.{IfSome_then}
 use Rattle.cb_model.specs.declared.id.EventId.{EventId}
 use Rattle.cb_model.specs.declared.tables.Tables.{Tables}
 use Rattle.cb_model.specs.Classes.{NamesEvent}
-use Rattle.cb_network.specs.Edits.{node_of as name_of}
+use Rattle.cb_network.specs.Edits.{node_name_of as name_of}
 use Rattle.cb_network.specs.Nodes.{IsNodeOf}
 use Rattle.cb_nodes.specs.Table.{node_of}
 use Rattle.cb_topo.specs.Numbered.{Numbered, topology_of, IsNodeNamed}

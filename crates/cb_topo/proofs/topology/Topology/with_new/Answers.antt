@@ -40,7 +40,7 @@ pub returns : goal.returns
 returns c =
     let k = c.loop-place.place in
     let below : (id : NodeId) (node : Node) → IsNode c.self.inside.nodes id node → id.0 < k = λ id node is.
-    let low = c.room-place-end.ensures.above id (node, is) in
+    let low = c.capacity-place-end.ensures.above id (node, is) in
     omega (arith, low, c.loop-place-test.false) in
     let there = subst (λ (m : Numbered). (id : NodeId) (node : Node) → IsNode m.nodes id node → id.0 < k) c.self.view_is below in
     partly_all c.args.self.now c.args.instance k c.loop-place.order.items c.loop-place.invariant (λ id (x, named). there id named.node named.is)

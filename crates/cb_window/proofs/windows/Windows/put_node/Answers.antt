@@ -1,6 +1,6 @@
 use Rattle.std.proofs.Common.{◌≡◌, ◌∙◌, subst}
 use Rattle.cb_log.specs.Kept.{Kept}
-use Rattle.cb_window.specs.Kept.{GainsIn, OpensIn, LooksSame, IsOpenStill, Puts}
+use Rattle.cb_window.specs.Kept.{GainsIn, OpensIn, LooksSame, IsOpenStill, PutsNode}
 use Rattle.cb_window.proofs.Seen.{kept_of}
 use Rattle.cb_window.proofs.Raising.{on_ok_to, on_err_to, puts_into, puts_first, looks_same}
 use Rattle.cb_window.proofs.windows.Windows.put_node.Goals as goal
@@ -11,8 +11,8 @@ returns-then-is_open_still-clause-put c =
     let now = c.self.inside.time in
     let still = c.is_open_still.ensures.0 c.if-is_open_still.true in
     on_ok_to (GainsIn c.self.inside.live c.add_node.new.live c.args.from.now c.args.node.now)
-    (Puts c.args.self.now (kept_of w now c.add_node.new.live) c.args.time c.args.from.now c.args.node.now) c.add_node.result
-    (λ gains. subst (λ (k : Kept). Puts k (kept_of w now c.add_node.new.live) c.args.time c.args.from.now c.args.node.now) c.self.view_is
+    (PutsNode c.args.self.now (kept_of w now c.add_node.new.live) c.args.time c.args.from.now c.args.node.now) c.add_node.result
+    (λ gains. subst (λ (k : Kept). PutsNode k (kept_of w now c.add_node.new.live) c.args.time c.args.from.now c.args.node.now) c.self.view_is
     (puts_into w now c.args.time c.self.inside.live c.add_node.new.live c.args.from.now c.args.node.now still gains))
     c.add_node.ensures.gains
 
@@ -32,7 +32,7 @@ returns-else-is_open_still-clause-put c =
     let says = c.is_open_still.ensures.1 still in let says_not = c.if-is_open_still.false in absurd (cc)
     in
     on_ok_to (OpensIn c.self.inside.live c.open_window.new.live c.args.from.now c.args.time c.args.node.now)
-    (Puts c.args.self.now (kept_of w now c.open_window.new.live) c.args.time c.args.from.now c.args.node.now) c.open_window.result
-    (λ opens. subst (λ (k : Kept). Puts k (kept_of w now c.open_window.new.live) c.args.time c.args.from.now c.args.node.now) c.self.view_is
+    (PutsNode c.args.self.now (kept_of w now c.open_window.new.live) c.args.time c.args.from.now c.args.node.now) c.open_window.result
+    (λ opens. subst (λ (k : Kept). PutsNode k (kept_of w now c.open_window.new.live) c.args.time c.args.from.now c.args.node.now) c.self.view_is
     (puts_first w now c.args.time c.self.inside.live c.open_window.new.live c.args.from.now c.args.node.now over opens))
     c.open_window.ensures.opens

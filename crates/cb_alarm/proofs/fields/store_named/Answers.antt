@@ -3,7 +3,7 @@ use Rattle.serde_json.specs.Data.{put}
 use Rattle.serde_json.specs.Find.{get_member}
 use Rattle.serde_json.proofs.Views.{get_member-put, get_member-put_other}
 use Rattle.cb_alarm.specs.Plain.{data_of}
-use Rattle.cb_alarm.proofs.fields.keep.Goals as goal
+use Rattle.cb_alarm.proofs.fields.store_named.Goals as goal
 
 pub returns-then-eq : goal.returns-then-eq
 returns-then-eq c ms before =

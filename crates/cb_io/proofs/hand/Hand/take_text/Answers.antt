@@ -1,7 +1,7 @@
 use Rattle.std.proofs.Common.{arith}
 use Rattle.std.specs.Prelude.{slice_range}
 use Rattle.cb_io.proofs.HandLemmas.{given}
-use Rattle.cb_io.proofs.hand.Hand.give.Goals as goal
+use Rattle.cb_io.proofs.hand.Hand.take_text.Goals as goal
 
 pub returns : goal.returns
 returns c =

@@ -1,7 +1,7 @@
 use Rattle.std.proofs.Common.{sym, subst}
 use Rattle.cb_instances.specs.Net.{Net, IsNamed}
 use Rattle.cb_instances.proofs.Placing.{seen_at}
-use Rattle.cb_instances.proofs.net.Net.room.Goals as goal
+use Rattle.cb_instances.proofs.net.Net.capacity.Goals as goal
 
 pub returns-clause-above : goal.returns-clause-above
 returns-clause-above c = λ id live.

@@ -5,7 +5,7 @@ use Rattle.cb_instances.specs.Net.{IsNamed}
 use Rattle.cb_topo.specs.Numbered.{Numbered}
 use Rattle.cb_topo.specs.Settled.{WereSettled, WasOrderOf}
 use Rattle.cb_topo.proofs.Following.{rewired_settled, deleted_may_be_gone, created_lacks}
-use Rattle.cb_topo.proofs.topology.Topology.followed.Goals as goal
+use Rattle.cb_topo.proofs.topology.Topology.order_after.Goals as goal
 
 pub with_new-requires-clause-lacks : goal.with_new-requires-clause-lacks
 with_new-requires-clause-lacks c =

@@ -1,7 +1,7 @@
 use Rattle.std.proofs.Common.{arith, length-drop}
 use Rattle.std.proofs.lemmas.List.{take_rest}
 use Rattle.cb_io.proofs.Memory.{copied_prefix}
-use Rattle.cb_io.proofs.mem_files.NamedBytes.give.Goals as goal
+use Rattle.cb_io.proofs.mem_files.NamedBytes.take_bytes.Goals as goal
 
 pub returns-clause-given : goal.returns-clause-given
 returns-clause-given c =

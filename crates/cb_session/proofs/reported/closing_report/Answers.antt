@@ -4,7 +4,7 @@ use Rattle.cb_topo.specs.Numbered.{topology_of}
 use Rattle.cb_session.specs.declared.basis.Ready.{Ready}
 use Rattle.cb_session.specs.Ready.{IsReady}
 use Rattle.cb_session.proofs.Telling.{tells_made}
-use Rattle.cb_session.proofs.reported.tell.Goals as goal
+use Rattle.cb_session.proofs.reported.closing_report.Goals as goal
 
 pub reported_in_use-requires-clause-ready : goal.reported_in_use-requires-clause-ready
 reported_in_use-requires-clause-ready c =

@@ -1,7 +1,7 @@
 use Rattle.std.proofs.Common.{subst}
 use Rattle.cb_topo.specs.Numbered.{Numbered, IsWhole}
 use Rattle.cb_topo.proofs.Naming.{whole}
-use Rattle.cb_topo.proofs.topology.Topology.node_room.Goals as goal
+use Rattle.cb_topo.proofs.topology.Topology.node_capacity.Goals as goal
 
 pub returns-clause-whole : goal.returns-clause-whole
 returns-clause-whole c =
