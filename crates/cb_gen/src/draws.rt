@@ -1,6 +1,6 @@
 //! The generator of numbers.
 ghost use Rattle.std.specs.Prelude.{◌≡◌, ◌<◌};
-ghost use Rattle.cb_gen.specs.Draws.{next_state, drawn};
+ghost use Rattle.cb_gen.specs.Draws.{state_of_next_draw, drawn};
 
 /// Numbers that are drawn one after the other, the same ones from the same start.
 #[derive(Drop)]
@@ -12,8 +12,8 @@ impl Draws {
     /// Draws the next number, below this one.
     pub fn below(&mut self, below: u64) -> u64
         requires { 0 < below }
-        ensures state { self.new.state ≡ next_state self.old.state }
-        ensures value { result ≡ drawn (next_state self.old.state) below }
+        ensures state { self.new.state ≡ state_of_next_draw self.old.state }
+        ensures value { result ≡ drawn (state_of_next_draw self.old.state) below }
         ensures small { result < below }
     {
         self.step();
@@ -22,7 +22,7 @@ impl Draws {
 
     // Goes on to the next state.
     fn step(&mut self)
-        ensures { self.new.state ≡ next_state self.old.state }
+        ensures { self.new.state ≡ state_of_next_draw self.old.state }
     {
         self.state = self
             .state
