@@ -1,13 +1,15 @@
 #!/usr/bin/env python3
 """Brings texts that were written over the names before, such as a patch that waits, into the names of today.
 
-    bench/rename.py FOLDER [--only names,rooms,english,fmt] [--dry]
+    bench/rename.py FOLDER [--only names,rooms,english,second,capacity,fmt]
 
 FOLDER is laid out as a checkout, with crates/. Stages, in this order:
-  names    types, definitions and modules of antt: each name one meaning
-  rooms    crates under other names
-  english  standard words in comments and pages
-  fmt      `rt fmt` in each crate's folder, and a look at the must-fail edits
+  names     types, definitions and modules of antt: each name one meaning
+  rooms     crates under other names
+  english   standard words in comments and pages
+  second    definitions that two crates had under one name, by the list `bench/renamed.txt` (crate, old, new)
+  capacity  `room` is capacity in every name
+  fmt       `rt fmt` in each crate's folder, and a look at the must-fail edits
 A name is followed by what a file imports, and not by its place, so that files never seen before are done right. What isn't there is left
 alone and reported. A second run changes nothing.
 """
@@ -501,6 +503,13 @@ def names(top):
             write(path, new)
     modules(top)
 
+def second(top):
+    global TYPES, DEFS, MODULES
+    lines = [tuple(line.split()) for line in read(os.path.join(os.path.dirname(os.path.abspath(__file__)), 'renamed.txt')).splitlines()]
+    TYPES, MODULES = [line for line in lines if line[1] == 'Codes'], []
+    DEFS = [line for line in lines if line[1] != 'Codes']
+    names(top)
+
 def rename_edit(line, target):
     if not line.startswith(('old:', 'new:')):
         return line
@@ -566,6 +575,27 @@ def rooms(top):
                 if name == old or name.startswith(old + '.'):
                     os.rename(os.path.join(top, base, name), os.path.join(top, base, new + name[len(old):]))
                     print('rooms: moved', base + '/' + name)
+
+# ---------------------------------------------------------------------------------------------------------------- capacity
+
+CAPACITY = {'RoomyList': 'ReservedList', 'Roomy': 'Reserved', 'roomy_code': 'reserved_code', 'roomy_list': 'reserved_list', 'roomy': 'full_length',
+            'roomier': 'more_capacity', 'rooms': 'capacities', 'Rooms': 'Capacities', 'NoRoomForEdit': 'NoMemoryForEdit'}
+ROOM = re.compile(r'[A-Za-z_0-9]*[Rr]oom[A-Za-z_0-9]*')
+
+def capacity(top):
+    def put(m):
+        return CAPACITY.get(m.group(), m.group().replace('Room', 'Capacity').replace('room', 'capacity'))
+    for root in (os.path.join(top, 'crates'), os.path.join(top, 'bench', 'planted')):
+        for base, folders, files in os.walk(root, topdown=False):
+            for name in files:
+                path = os.path.join(base, name)
+                if name.endswith(('.rt', '.antt', '.edit', '.md')):
+                    text = read(path)
+                    if ROOM.search(text):
+                        write(path, ROOM.sub(put, text))
+            for name in files + folders:
+                if ROOM.search(name):
+                    os.rename(os.path.join(base, name), os.path.join(base, ROOM.sub(put, name)))
 
 # ---------------------------------------------------------------------------------------------------------------- english
 
@@ -696,7 +726,7 @@ def edits_stand(top):
 
 def main():
     words = sys.argv[1:]
-    only = ['names', 'rooms', 'english', 'fmt']
+    only = ['names', 'rooms', 'english', 'second', 'capacity', 'fmt']
     if '--only' in words:
         at = words.index('--only')
         only = words[at + 1].split(',')
@@ -704,7 +734,7 @@ def main():
     top = os.path.abspath(words[0])
     for stage in only:
         print('==', stage)
-        {'names': names, 'rooms': rooms, 'english': english, 'fmt': fmt, 'edits': edits_stand}[stage](top)
+        {'names': names, 'rooms': rooms, 'english': english, 'second': second, 'capacity': capacity, 'fmt': fmt, 'edits': edits_stand}[stage](top)
     print('==', len(notes), 'notes')
     for text in notes:
         print('  ', text)
