@@ -4,11 +4,11 @@ ghost use Rattle.cb_network.specs.declared.edit.Edit.TheVariants.{Create, Delete
 ghost use Rattle.cb_accept.specs.Counts.{AreCounts, AreWithin};
 ghost use Rattle.cb_network.specs.Edits.{IsAccepted, IsRefused};
 ghost use Rattle.cb_accept.specs.Refusals.{IsFirstLimit};
-ghost use Rattle.cb_accept.specs.Steps.{IsStepOf};
+ghost use Rattle.cb_accept.specs.NumberedEdits.{IsNumberedEdit};
 
 use crate::counts::NodeCounts;
 use crate::limits::{MOST_INSTANCES, MOST_NODES, MOST_PROBLEMS, MOST_SYMPTOMS};
-use crate::step::Step;
+use crate::numbered::NumberedEdit;
 use cb_instances::Net;
 use cb_network::EditRefusal;
 
@@ -34,11 +34,11 @@ pub(crate) fn may_create(
     counts: NodeCounts,
     name: &[u8],
     class: &[u8],
-) -> Result<Step, EditRefusal>
+) -> Result<NumberedEdit, EditRefusal>
     requires counts { AreCounts net.now.topology counts }
     requires few { AreWithin counts }
     ensures allowed { OnOk result (IsAccepted net.now.topology (Create name.now class.now)) }
-    ensures step { IfOk result (IsStepOf net.now (Create name.now class.now)) }
+    ensures numbered { IfOk result (IsNumberedEdit net.now (Create name.now class.now)) }
     ensures refused { IfErr result (IsRefused net.now.topology (Create name.now class.now)) }
 {
     let model = net.model();
@@ -51,17 +51,17 @@ pub(crate) fn may_create(
         return Err(EditRefusal::InstanceLimit);
     }
     are_within(counts.with(model, class))?;
-    Ok(Step::Create { class })
+    Ok(NumberedEdit::Create { class })
 }
 
 /// Whether the instance may be deleted.
-pub(crate) fn may_delete(net: &Net, name: &[u8]) -> Result<Step, EditRefusal>
+pub(crate) fn may_delete(net: &Net, name: &[u8]) -> Result<NumberedEdit, EditRefusal>
     ensures allowed { OnOk result (IsAccepted net.now.topology (Delete name.now)) }
-    ensures step { IfOk result (IsStepOf net.now (Delete name.now)) }
+    ensures numbered { IfOk result (IsNumberedEdit net.now (Delete name.now)) }
     ensures refused { IfErr result (IsRefused net.now.topology (Delete name.now)) }
 {
     match net.instance_named(name) {
-        Some(id) => Ok(Step::Delete { id }),
+        Some(id) => Ok(NumberedEdit::Delete { id }),
         None => Err(EditRefusal::NoInstance),
     }
 }

@@ -7,12 +7,12 @@ mod limits;
 mod link;
 mod lookup;
 mod mute;
+mod numbered;
 mod refusal;
-mod step;
 
 pub use counts::NodeCounts;
+pub use numbered::NumberedEdit;
 pub use refusal::decide;
-pub use step::Step;
 
 #[cfg(test)]
 mod tests;

@@ -6,10 +6,10 @@ ghost use Rattle.cb_model.specs.WellTyped.{WellTyped};
 ghost use Rattle.cb_instances.specs.Net.{IsWholeNet};
 ghost use Rattle.cb_network.specs.Edits.{IsAccepted, IsRefused};
 ghost use Rattle.cb_accept.specs.Refusals.{AreEnds};
-ghost use Rattle.cb_accept.specs.Steps.{IsStepOf};
+ghost use Rattle.cb_accept.specs.NumberedEdits.{IsNumberedEdit};
 
 use crate::lookup::{is_of_kind, is_taken, relation_at};
-use crate::step::Step;
+use crate::numbered::NumberedEdit;
 use cb_instances::{InstanceId, Net};
 use cb_model::RelId;
 use cb_network::EditRefusal;
@@ -40,9 +40,14 @@ impl Ends {
 }
 
 /// Whether the link may be added.
-pub(crate) fn may_link(net: &Net, a: &[u8], rel: &[u8], b: &[u8]) -> Result<Step, EditRefusal>
+pub(crate) fn may_link(
+    net: &Net,
+    a: &[u8],
+    rel: &[u8],
+    b: &[u8],
+) -> Result<NumberedEdit, EditRefusal>
     ensures allowed { OnOk result (IsAccepted net.now.topology (Link a.now rel.now b.now)) }
-    ensures step { IfOk result (IsStepOf net.now (Link a.now rel.now b.now)) }
+    ensures numbered { IfOk result (IsNumberedEdit net.now (Link a.now rel.now b.now)) }
     ensures refused { IfErr result (IsRefused net.now.topology (Link a.now rel.now b.now)) }
 {
     let Ends { from, rel, to } = Ends::of(net, a, rel, b)?;
@@ -54,19 +59,24 @@ pub(crate) fn may_link(net: &Net, a: &[u8], rel: &[u8], b: &[u8]) -> Result<Step
     } else if is_taken(net, from, rel) || is_taken(net, to, back) {
         Err(EditRefusal::Occupied)
     } else {
-        Ok(Step::Link { from, rel, to })
+        Ok(NumberedEdit::Link { from, rel, to })
     }
 }
 
 /// Whether the link may be removed.
-pub(crate) fn may_unlink(net: &Net, a: &[u8], rel: &[u8], b: &[u8]) -> Result<Step, EditRefusal>
+pub(crate) fn may_unlink(
+    net: &Net,
+    a: &[u8],
+    rel: &[u8],
+    b: &[u8],
+) -> Result<NumberedEdit, EditRefusal>
     ensures allowed { OnOk result (IsAccepted net.now.topology (Unlink a.now rel.now b.now)) }
-    ensures step { IfOk result (IsStepOf net.now (Unlink a.now rel.now b.now)) }
+    ensures numbered { IfOk result (IsNumberedEdit net.now (Unlink a.now rel.now b.now)) }
     ensures refused { IfErr result (IsRefused net.now.topology (Unlink a.now rel.now b.now)) }
 {
     let Ends { from, rel, to } = Ends::of(net, a, rel, b)?;
     if net.is_linked(from, rel, to) {
-        Ok(Step::Unlink { from, rel, to })
+        Ok(NumberedEdit::Unlink { from, rel, to })
     } else {
         Err(EditRefusal::NotLinked)
     }

@@ -4,10 +4,10 @@ ghost use Rattle.cb_network.specs.declared.edit.Edit.TheVariants.{Mute, Unmute};
 ghost use Rattle.cb_network.specs.Edits.{IsAccepted, IsRefused};
 ghost use Rattle.cb_instances.specs.Net.{IsWholeNet};
 ghost use Rattle.cb_accept.specs.Refusals.{NamesSymptom};
-ghost use Rattle.cb_accept.specs.Steps.{IsStepOf};
+ghost use Rattle.cb_accept.specs.NumberedEdits.{IsNumberedEdit};
 
 use crate::lookup::symptom_at;
-use crate::step::Step;
+use crate::numbered::NumberedEdit;
 use cb_instances::{InstanceId, Net};
 use cb_model::EventId;
 use cb_network::EditRefusal;
@@ -34,28 +34,28 @@ impl Symptom {
 }
 
 /// Whether the symptom may be muted.
-pub(crate) fn may_mute(net: &Net, event: &[u8], name: &[u8]) -> Result<Step, EditRefusal>
+pub(crate) fn may_mute(net: &Net, event: &[u8], name: &[u8]) -> Result<NumberedEdit, EditRefusal>
     ensures allowed { OnOk result (IsAccepted net.now.topology (Mute event.now name.now)) }
-    ensures step { IfOk result (IsStepOf net.now (Mute event.now name.now)) }
+    ensures numbered { IfOk result (IsNumberedEdit net.now (Mute event.now name.now)) }
     ensures refused { IfErr result (IsRefused net.now.topology (Mute event.now name.now)) }
 {
     let Symptom { id, event } = Symptom::of(net, event, name)?;
     if net.is_muted(id, event) {
         Err(EditRefusal::AlreadyMuted)
     } else {
-        Ok(Step::Mute { id, event })
+        Ok(NumberedEdit::Mute { id, event })
     }
 }
 
 /// Whether the symptom may be observed again.
-pub(crate) fn may_unmute(net: &Net, event: &[u8], name: &[u8]) -> Result<Step, EditRefusal>
+pub(crate) fn may_unmute(net: &Net, event: &[u8], name: &[u8]) -> Result<NumberedEdit, EditRefusal>
     ensures allowed { OnOk result (IsAccepted net.now.topology (Unmute event.now name.now)) }
-    ensures step { IfOk result (IsStepOf net.now (Unmute event.now name.now)) }
+    ensures numbered { IfOk result (IsNumberedEdit net.now (Unmute event.now name.now)) }
     ensures refused { IfErr result (IsRefused net.now.topology (Unmute event.now name.now)) }
 {
     let Symptom { id, event } = Symptom::of(net, event, name)?;
     if net.is_muted(id, event) {
-        Ok(Step::Unmute { id, event })
+        Ok(NumberedEdit::Unmute { id, event })
     } else {
         Err(EditRefusal::NotMuted)
     }

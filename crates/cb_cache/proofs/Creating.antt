@@ -32,8 +32,11 @@ use Rattle.cb_change.proofs.Kept.{never_meets}
 use Rattle.cb_change.proofs.Steps.{links_kept, grows, near, one_class}
 use Rattle.cb_accept.proofs.Members.{one_class as named_class}
 use Rattle.cb_accept.proofs.Own.{event_is_listed}
+use Rattle.cb_accept.specs.NumberedEdits.{IsNumberedEdit}
+use Rattle.cb_accept.specs.declared.numbered.NumberedEdit.{NumberedEdit}
+use Rattle.cb_accept.specs.declared.numbered.NumberedEdit.TheVariants as numbered
 use Rattle.cb_instances.specs.declared.id.InstanceId.{InstanceId}
-use Rattle.cb_instances.specs.Net.{IsNamed, Once, event_name, name_at, name_or}
+use Rattle.cb_instances.specs.Net.{Net, IsNamed, Once, event_name, name_at, name_or}
 use Rattle.cb_nodes.specs.declared.id.NodeId.{NodeId}
 use Rattle.cb_nodes.specs.declared.node.Node.{Node}
 use Rattle.cb_nodes.specs.Table.{IsNode, node_of}
@@ -237,6 +240,16 @@ module _ (old new : Numbered) (name class : List ℕ) (edited : IsEdited old (Cr
     pub within_new : (steps new_steps : ℕ) → CostAtMost new ids steps new_steps → CountsAtMost (IsTotal (λ q. IsProblem u q × ¬ IsProblem t q) (Causes u)) steps new_steps
     within_new = within_total new edited.whole_after ids once (λ q. IsProblem u q × ¬ IsProblem t q) new_numbers (λ q x. node_of_problem u q x.0)
 
+-- the class of the instance that the edit brought is the one that the edit names
+pub class_is_named : (old new : Numbered) (name class : List ℕ) → Applies old (Create name class) new → (c : ClassId) → HasClass (topology_of new) name c
+    → NamesClass (topology_of new).model class c
+class_is_named old new name class applies c of_c =
+    let (d, own, is) = applies.after.1 in
+    let model : (topology_of old).model ≡ (topology_of new).model = (near (topology_of old) (topology_of new) (Create name class) applies.after).model in
+    let here = subst (λ (w : Topology). HasClass w name d) (sym is) ((got_insert name_cmp_total name_cmp_exact (topology_of old).instances name d name d).1 (inl (refl, refl))) in
+    let same : d ≡ c = one_class (topology_of new) name d c here of_c in
+    subst (NamesClass (topology_of new).model class) same (subst (λ (m : Tables). NamesClass m class d) model own)
+
 -- the problems among the events of an instance are those of the instance that the edit brought
 module _ (old new : Numbered) (name class : List ℕ) (applies : Applies old (Create name class) new) (whole : IsWhole new) (typed : WellTyped (topology_of new).model)
     (instance : InstanceId) (called : IsNamed new.net instance name) (c : ClassId) (names : NamesClass (topology_of new).model class c) (events : List EventId)
@@ -327,6 +340,21 @@ capacity_grows old (Link a rel b) capacity none is = absurd none
 capacity_grows old (Unlink a rel b) capacity none is = absurd none
 capacity_grows old (Mute event name) capacity none is = absurd none
 capacity_grows old (Unmute event name) capacity none is = absurd none
+
+-- the events of the class of a Create by numbers are all that a further instance brings
+pub events_for : (n : Net) (edit : Edit) (c : ClassId) → WellTyped n.topology.model → IsNumberedEdit n edit (numbered.Create c) → (events : List EventId)
+    → AreEventsOf n.topology.model c events → (count : ℕ) → count ≡ length events → HasEventsWithin n.topology.model edit count
+events_for n (Create name class) c typed named events are count is = λ d other.
+    let same : c ≡ d = named_class n.topology.model typed class c d named other in
+    (events, subst (λ (k : ClassId). AreEventsOf n.topology.model k events) same are, (omega arith))
+events_for n edit c typed other events are count is = absurd other
+
+-- and any other edit brings none
+pub no_events : (n : Net) (edit : Edit) (other : NumberedEdit) → IsNumberedEdit n edit other → ((c : ClassId) → other ≢ numbered.Create c)
+    → HasEventsWithin n.topology.model edit 0
+no_events n (Create name class) (numbered.Create c) is none = absurd (none c refl)
+no_events n (Create name class) other is none = absurd is
+no_events n edit other is none = tt
 
 -- and there is a number for each event of the instance
 pub events_fit : (old : Numbered) → WellTyped (topology_of old).model → (edit : Edit) (capacity : ℕ) → MakesInstance edit → IsNodeCapacityAfter old edit capacity → HasEventsWithin (topology_of old).model edit capacity

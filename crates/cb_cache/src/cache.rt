@@ -6,7 +6,8 @@ ghost use Rattle.cb_change.specs.Costs.{IsOpenCost, IsEditCost, CountsAtMost};
 ghost use Rattle.cb_pool.specs.declared.slot.Slot.{Slot as SlotOf};
 ghost use Rattle.cb_pool.specs.Pool.{IsTaken, SlotHasRow};
 ghost use Rattle.cb_network.specs.Laws.{HasGoodName};
-ghost use Rattle.cb_topo.specs.Applied.{Applies, Prevents};
+ghost use Rattle.cb_topo.specs.Accepted.{IsDecided};
+ghost use Rattle.cb_topo.specs.Applied.{Applies, MayGrow, Prevents};
 ghost use Rattle.cb_topo.specs.Numbered.{topology_of, IsNodeNamed};
 ghost use Rattle.cb_graph.specs.Edges.{number};
 ghost use Rattle.cb_cache.specs.Cached.{IsReachedRow, IsCausedRow, but_spare};
@@ -22,7 +23,7 @@ use cb_graph::Graph;
 use cb_nodes::NodeId;
 use cb_pool::{RowPool, Slot};
 use cb_steps::Steps;
-use cb_topo::{Edit, EditFault};
+use cb_topo::{AcceptedEdit, Edit, EditFault};
 use std::alloc::{AllocError, Global};
 use std::sync::ledger::Ledger;
 
@@ -118,14 +119,35 @@ impl Cache {
         ensures kept { OnErr result (self.new ≡ self.old) }
         ensures steps { OnErr result (steps.new ≡ steps.old) }
     {
+        let accepted = self.graph.topology().decide(edit)?;
+        self.apply_accepted(alloc, &accepted, steps)?;
+        Ok(())
+    }
+
+    /// Makes an edit that was decided for the topology, as it is: every row is right again. Where memory runs out, nothing is changed, and
+    /// no step is counted.
+    pub fn apply_accepted<L: Ledger>(
+        &mut self,
+        alloc: Global,
+        accepted: &AcceptedEdit<'_>,
+        steps: &mut Steps<L>,
+    ) -> Result<(), AllocError>
+        requires name { HasGoodName accepted.now.edit.now }
+        requires decided { IsDecided self.old.graph accepted.now }
+        ensures made { OnOk result (Applies self.old.graph accepted.now.edit.now self.new.graph) }
+        ensures cost { OnOk result (CountsAtMost (IsEditCost (topology_of self.old.graph) accepted.now.edit.now (topology_of self.new.graph)) steps.old steps.new) }
+        ensures grows { OnErr result (MayGrow accepted.now.edit.now) }
+        ensures kept { OnErr result (self.new ≡ self.old) }
+        ensures steps { OnErr result (steps.new ≡ steps.old) }
+    {
         let graph = &mut self.graph;
-        match edit {
-            Edit::Create { .. } => create(alloc, graph, edit, &mut self.store, steps),
-            Edit::Link { .. } => link(alloc, graph, edit, &mut self.store, steps),
+        match accepted.edit {
+            Edit::Create { .. } => create(alloc, graph, accepted, &mut self.store, steps),
+            Edit::Link { .. } => link(alloc, graph, accepted, &mut self.store, steps),
             Edit::Delete { .. } | Edit::Unlink { .. } => {
-                cut(alloc, graph, edit, &mut self.store, steps)
+                cut(alloc, graph, accepted, &mut self.store, steps)
             }
-            Edit::Mute { .. } | Edit::Unmute { .. } => mark(alloc, graph, edit, &self.store),
+            Edit::Mute { .. } | Edit::Unmute { .. } => mark(alloc, graph, accepted, &self.store),
         }
     }
 

@@ -1,13 +1,13 @@
 //! Edits that bring an instance: there are more nodes then, and more problems.
-ghost use Rattle.std.specs.Prelude.{◌≡◌, ◌≤◌, ◌+◌, ◌↔◌, ◌++◌, ◌-◌, ℕ, [], length, replicate, None, vec_capacity, OnOk, OnErr, IfOk, IfErr, IfSome, IfNone};
+ghost use Rattle.std.specs.Prelude.{◌≡◌, ◌≤◌, ◌+◌, ◌↔◌, ◌++◌, ◌-◌, ℕ, [], length, replicate, None, vec_capacity, OnOk, OnErr, IfOk, IfSome, IfNone};
 ghost use Rattle.std.specs.List.{Contains};
 ghost use Rattle.cb_change.specs.Costs.{IsEditCost, CountsAtMost};
-ghost use Rattle.cb_network.specs.Edits.{IsAccepted};
 ghost use Rattle.cb_network.specs.Laws.{HasGoodName};
 ghost use Rattle.cb_instances.specs.Net.{IsLiveInstance, Once};
 ghost use Rattle.cb_nodes.specs.declared.id.NodeId.{NodeId as NodeNumber};
 ghost use Rattle.cb_nodes.specs.Table.{IsNode, node_of};
-ghost use Rattle.cb_topo.specs.Applied.{Applies, Prevents};
+ghost use Rattle.cb_topo.specs.Accepted.{IsDecided};
+ghost use Rattle.cb_topo.specs.Applied.{Applies};
 ghost use Rattle.cb_topo.specs.Numbered.{Numbered, topology_of, IsWhole};
 ghost use Rattle.cb_cache.specs.Cached.{but_spare};
 ghost use Rattle.cb_cache.specs.Created.{MakesInstance, IsNewProblem, IsPoolFor, IsProblemAmong, IsCapacityWith, pool_or};
@@ -27,7 +27,7 @@ use cb_model::EventId;
 use cb_nodes::NodeId;
 use cb_pool::{RowPool, Slot};
 use cb_steps::Steps;
-use cb_topo::{Edit, EditFault, InstanceId, Topology};
+use cb_topo::{AcceptedEdit, Edit, InstanceId, Topology};
 use std::alloc::{AllocError, Global};
 use std::mem::swap;
 use std::sync::ledger::Ledger;
@@ -45,50 +45,49 @@ pub struct Further {
 pub(crate) fn create<L: Ledger>(
     alloc: Global,
     graph: &mut Graph,
-    edit: &Edit,
+    accepted: &AcceptedEdit<'_>,
     store: &mut Store,
     steps: &mut Steps<L>,
-) -> Result<(), EditFault>
-    requires name { HasGoodName edit.now }
-    requires creates { MakesInstance edit.now }
+) -> Result<(), AllocError>
+    requires name { HasGoodName accepted.now.edit.now }
+    requires decided { IsDecided graph.old accepted.now }
+    requires creates { MakesInstance accepted.now.edit.now }
     requires kept { IsCacheOf graph.old store.old }
-    ensures made { OnOk result (Applies graph.old edit.now graph.new) }
+    ensures made { OnOk result (Applies graph.old accepted.now.edit.now graph.new) }
     ensures kept { IsCacheOf graph.new store.new }
-    ensures cost { OnOk result (CountsAtMost (IsEditCost (topology_of graph.old) edit.now (topology_of graph.new)) steps.old steps.new) }
-    ensures fault { IfErr result (Prevents graph.old edit.now) }
+    ensures cost { OnOk result (CountsAtMost (IsEditCost (topology_of graph.old) accepted.now.edit.now (topology_of graph.new)) steps.old steps.new) }
     ensures graph { OnErr result (graph.new ≡ graph.old) }
     ensures store { OnErr result (IsButSpare store.old store.new) }
     ensures steps { OnErr result (steps.new ≡ steps.old) }
 {
-    graph.topology().allows(edit)?;
-    let mut further = further_for(alloc, graph.topology(), edit, &mut store.rows)?;
-    create_in(alloc, graph, edit, &mut further, store, steps)
+    let mut further = further_for(alloc, graph.topology(), accepted, &mut store.rows)?;
+    create_in(alloc, graph, accepted, &mut further, store, steps)
 }
 
 // Makes a Create, once all memory for it was taken.
 fn create_in<L: Ledger>(
     alloc: Global,
     graph: &mut Graph,
-    edit: &Edit,
+    accepted: &AcceptedEdit<'_>,
     further: &mut Further,
     store: &mut Store,
     steps: &mut Steps<L>,
-) -> Result<(), EditFault>
-    requires name { HasGoodName edit.now }
-    requires creates { MakesInstance edit.now }
+) -> Result<(), AllocError>
+    requires name { HasGoodName accepted.now.edit.now }
+    requires decided { IsDecided graph.old accepted.now }
+    requires creates { MakesInstance accepted.now.edit.now }
     requires kept { IsCacheOf graph.old store.old }
-    requires further { IsCapacityWith graph.old edit.now store.old.rows further.old }
-    ensures made { OnOk result (Applies graph.old edit.now graph.new) }
+    requires further { IsCapacityWith graph.old accepted.now.edit.now store.old.rows further.old }
+    ensures made { OnOk result (Applies graph.old accepted.now.edit.now graph.new) }
     ensures kept { IsCacheOf graph.new store.new }
-    ensures cost { OnOk result (CountsAtMost (IsEditCost (topology_of graph.old) edit.now (topology_of graph.new)) steps.old steps.new) }
-    ensures fault { IfErr result (Prevents graph.old edit.now) }
+    ensures cost { OnOk result (CountsAtMost (IsEditCost (topology_of graph.old) accepted.now.edit.now (topology_of graph.new)) steps.old steps.new) }
     ensures graph { OnErr result (graph.new ≡ graph.old) }
     ensures store { OnErr result (store.new ≡ store.old) }
     ensures steps { OnErr result (steps.new ≡ steps.old) }
 {
-    edit_graph(alloc, graph, edit)?;
+    edit_graph(alloc, graph, accepted)?;
     move_in(further, store);
-    list_new(graph.topology(), edit, &mut store.agenda.problems);
+    list_new(graph.topology(), accepted.edit, &mut store.agenda.problems);
     add_rows(graph, &store.agenda.problems, &mut store.rows, steps);
     Ok(())
 }
@@ -97,16 +96,16 @@ fn create_in<L: Ledger>(
 fn further_for(
     alloc: Global,
     topology: &Topology,
-    edit: &Edit,
+    accepted: &AcceptedEdit<'_>,
     rows: &mut Rows,
 ) -> Result<Further, AllocError>
-    requires accepted { IsAccepted (topology_of topology.now) edit.now }
+    requires decided { IsDecided topology.now accepted.now }
     requires capacity { HaveCapacity topology.now rows.old }
-    ensures further { IfOk result (IsCapacityWith topology.now edit.now rows.new) }
+    ensures further { IfOk result (IsCapacityWith topology.now accepted.now.edit.now rows.new) }
     ensures rows { AreButSpare rows.old rows.new }
 {
-    let capacity = topology.node_capacity_after(edit);
-    let more = events_within(topology.model(), edit);
+    let capacity = topology.node_capacity_after(accepted);
+    let more = events_within(topology, accepted);
     let pool = pool_for(alloc, &mut rows.pool, capacity.div_ceil(64), more)?;
     Ok(Further {
         slots: slots_for(alloc, &rows.slots, capacity)?,
@@ -174,15 +173,13 @@ fn list_new(topology: &Topology, edit: &Edit, list: &mut Vec<NodeId>)
     ensures capacity { vec_capacity list.new ≡ vec_capacity list.old }
 {
     list.clear();
-    let Edit::Create { name, class } = edit else {
+    let Edit::Create { name, .. } = edit else {
         return;
     };
     let Some(instance) = topology.instance_named(name.bytes()) else {
         return;
     };
-    let Some(class) = topology.model().class_named(class.bytes()) else {
-        return;
-    };
+    let class = topology.class_of(instance);
     let events = topology.model().events_of(class).as_slice();
     list_problems_among(topology, instance, events, list);
 }

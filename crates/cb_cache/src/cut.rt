@@ -1,10 +1,11 @@
 //! Edits that take links away: what is reached from some problems is less then.
-ghost use Rattle.std.specs.Prelude.{◌≡◌, ◌<◌, ◌≤◌, ◌+◌, ◌^◌, ℕ, length, vec_capacity, OnOk, OnErr, IfErr};
+ghost use Rattle.std.specs.Prelude.{◌≡◌, ◌<◌, ◌≤◌, ◌+◌, ◌^◌, ℕ, length, vec_capacity, OnOk, OnErr};
 ghost use Rattle.cb_bits.specs.Bits.{words_for};
 ghost use Rattle.cb_change.specs.Costs.{IsEditCost, CountsAtMost};
 ghost use Rattle.cb_network.specs.declared.edit.Edit.{Edit as EditOf};
 ghost use Rattle.cb_network.specs.Laws.{HasGoodName};
-ghost use Rattle.cb_topo.specs.Applied.{Applies, Prevents};
+ghost use Rattle.cb_topo.specs.Accepted.{IsDecided};
+ghost use Rattle.cb_topo.specs.Applied.{Applies, MayGrow};
 ghost use Rattle.cb_topo.specs.Numbered.{Numbered, topology_of};
 ghost use Rattle.cb_pool.specs.declared.slot.Slot.{Slot as SlotOf};
 ghost use Rattle.cb_pool.specs.Pool.{IsTaken};
@@ -21,32 +22,32 @@ use cb_graph::Graph;
 use cb_lanes::and_any;
 use cb_nodes::NodeId;
 use cb_steps::Steps;
-use cb_topo::{Edit, EditFault, Topology};
-use std::alloc::Global;
+use cb_topo::{AcceptedEdit, Topology};
+use std::alloc::{AllocError, Global};
 use std::sync::ledger::Ledger;
 
 /// Makes an edit that takes links away. Memory never runs out.
 pub(crate) fn cut<L: Ledger>(
     alloc: Global,
     graph: &mut Graph,
-    edit: &Edit,
+    accepted: &AcceptedEdit<'_>,
     store: &mut Store,
     steps: &mut Steps<L>,
-) -> Result<(), EditFault>
-    requires name { HasGoodName edit.now }
-    requires takes { TakesAway edit.now }
+) -> Result<(), AllocError>
+    requires name { HasGoodName accepted.now.edit.now }
+    requires decided { IsDecided graph.old accepted.now }
+    requires takes { TakesAway accepted.now.edit.now }
     requires kept { IsCacheOf graph.old store.old }
-    ensures made { OnOk result (Applies graph.old edit.now graph.new) }
+    ensures made { OnOk result (Applies graph.old accepted.now.edit.now graph.new) }
     ensures kept { IsCacheOf graph.new store.new }
-    ensures cost { OnOk result (CountsAtMost (IsEditCost (topology_of graph.old) edit.now (topology_of graph.new)) steps.old steps.new) }
-    ensures fault { IfErr result (Prevents graph.old edit.now) }
+    ensures cost { OnOk result (CountsAtMost (IsEditCost (topology_of graph.old) accepted.now.edit.now (topology_of graph.new)) steps.old steps.new) }
+    ensures grows { OnErr result (MayGrow accepted.now.edit.now) }
     ensures graph { OnErr result (graph.new ≡ graph.old) }
     ensures rows { OnErr result (store.new.rows ≡ store.old.rows) }
     ensures steps { OnErr result (steps.new ≡ steps.old) }
 {
-    graph.topology().allows(edit)?;
-    graph.touched(edit, &mut store.agenda.touched);
-    edit_graph(alloc, graph, edit)?;
+    graph.touched(accepted, &mut store.agenda.touched);
+    edit_graph(alloc, graph, accepted)?;
     search_again(
         graph,
         &store.agenda.touched,

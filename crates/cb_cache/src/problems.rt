@@ -3,15 +3,14 @@ ghost use Rattle.std.specs.Prelude.{◌≡◌, ◌≤◌, ◌↔◌, [], length,
 ghost use Rattle.cb_model.specs.WellTyped.{WellTyped};
 ghost use Rattle.cb_network.specs.Nodes.{IsProblem, IsCount};
 ghost use Rattle.cb_network.specs.Sound.{problem_limit};
+ghost use Rattle.cb_topo.specs.Accepted.{IsDecided};
 ghost use Rattle.cb_topo.specs.Numbered.{topology_of, IsWhole};
 ghost use Rattle.cb_cache.specs.Numbers.{IsProblemNumber, AreProblemNumbers};
 ghost use Rattle.cb_cache.specs.Most.{HasEventsWithin};
 
 use crate::order::scatter;
-use cb_model::Model;
-use cb_network::Edit;
 use cb_nodes::NodeId;
-use cb_topo::Topology;
+use cb_topo::{AcceptedEdit, NumberedEdit, Topology};
 
 /// How many problems there are. Each number of a node is looked at.
 pub(crate) fn problem_count(topology: &Topology) -> usize
@@ -28,16 +27,15 @@ pub(crate) fn problem_count(topology: &Topology) -> usize
 }
 
 /// How many events the class of a further instance has.
-pub(crate) fn events_within(model: &Model, edit: &Edit) -> usize
-    requires { WellTyped model.now }
-    ensures events { HasEventsWithin model.now edit.now result }
+pub(crate) fn events_within(topology: &Topology, accepted: &AcceptedEdit<'_>) -> usize
+    requires { IsDecided topology.now accepted.now }
+    ensures events { HasEventsWithin (topology_of topology.now).model accepted.now.edit.now result }
     ensures few { result ≤ 256 }
+    ensures typed { WellTyped (topology_of topology.now).model }
 {
-    match edit {
-        Edit::Create { class, .. } => match model.class_named(class.bytes()) {
-            Some(class) => model.events_of(class).len(),
-            None => 0,
-        },
+    let model = topology.model();
+    match accepted.numbered {
+        NumberedEdit::Create { class } => model.events_of(class).len(),
         _ => 0,
     }
 }

@@ -9,8 +9,8 @@ use Rattle.cb_model.specs.declared.node.NodeName.{NodeName}
 use Rattle.cb_model.specs.Classes.{HasRule}
 use Rattle.cb_network.specs.declared.edit.Edit.{Edit}
 use Rattle.cb_network.specs.declared.edit.Edit.TheVariants.{Delete, Link, Unlink}
-use Rattle.cb_network.specs.Topology.{Topology, HasClass, IsLive as IsLiveName}
-use Rattle.cb_network.specs.Edits.{NamesPair, HasRelationAt}
+use Rattle.cb_network.specs.Topology.{Topology, HasClass}
+use Rattle.cb_network.specs.Edits.{NamesPair}
 use Rattle.cb_change.specs.Touched.{IsTouched}
 use Rattle.cb_instances.specs.declared.id.InstanceId.{InstanceId}
 use Rattle.cb_instances.specs.Net.{Net, IsNamed, IsLiveInstance, LinkAt, name_at}
@@ -24,11 +24,6 @@ use Rattle.cb_graph.specs.Walks.{IsEventNumber, RunsAt, instance}
 -- the node of this number is touched by the edit that makes the new topology
 abbrev pub IsTouchedNumber : Numbered → Topology → ℕ → Type 0
 IsTouchedNumber old new k = (name : NodeName) × IsNodeNamed old (number k) name × IsTouched (topology_of old) new name
-
--- the instances are live, and the first one's class has the relation, or at least it can't be otherwise
-pub record AreLinkable (t : Topology) (a rel b : List ℕ) : Type 0 where
-  pub live : ¬ ¬ (IsLiveName t a × IsLiveName t b)
-  pub has : ¬ ¬ HasRelationAt t a rel
 
 -- these are the instances of these names, and the relation of this name with its inverse
 pub record ArePair (n : Net) (a rel b : List ℕ) (from : InstanceId) (r : RelId) (to : InstanceId) (s : RelId) : Type 0 where

@@ -4,7 +4,7 @@ pub mod Creating
 pub mod Deleting
 pub mod Rewiring
 pub mod Asking
-pub mod Stepping
+pub mod Numbering
 pub mod Limits
 pub mod Empty
 pub mod Naming

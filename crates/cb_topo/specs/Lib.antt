@@ -1,6 +1,7 @@
 pub mod Numbered
 pub mod Encoding
 pub mod Applied
+pub mod Accepted
 pub mod Kept
 pub mod Made
 pub mod Ordered

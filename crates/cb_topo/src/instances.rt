@@ -4,8 +4,8 @@ ghost use Rattle.cb_network.specs.declared.edit.Edit.TheVariants.{Create, Delete
 ghost use Rattle.cb_network.specs.Edits.{IsAccepted};
 ghost use Rattle.cb_network.specs.Laws.{HasGoodName};
 ghost use Rattle.cb_instances.specs.Net.{IsLiveInstance, name_at};
-ghost use Rattle.cb_accept.specs.Steps.{IsStepOf};
-ghost use Rattle.cb_accept.specs.declared.step.Step.TheVariants as step;
+ghost use Rattle.cb_accept.specs.NumberedEdits.{IsNumberedEdit};
+ghost use Rattle.cb_accept.specs.declared.numbered.NumberedEdit.TheVariants as numbered;
 ghost use Rattle.cb_topo.specs.Kept.{IsTopologyOf};
 ghost use Rattle.cb_topo.specs.Made.{Makes};
 
@@ -28,7 +28,7 @@ pub(crate) fn create(
     requires kept { IsTopologyOf net.old nodes.old counts }
     requires name { HasGoodName edit.now }
     requires accepted { IsAccepted net.old.topology edit.now }
-    requires step { IsStepOf net.old edit.now (step.Create class) }
+    requires numbered { IsNumberedEdit net.old edit.now (numbered.Create class) }
     ensures ok { IfOk result (Makes net.old nodes.old edit.now net.new nodes.new) }
     ensures net { OnErr result (net.new ≡ net.old) }
     ensures nodes { OnErr result (nodes.new ≡ nodes.old) }

@@ -1,6 +1,7 @@
 //! A topology whose instances and nodes have numbers that stay, changed by edits.
 #![tactic(auto)]
 
+mod accepted;
 mod edits;
 mod fault;
 mod instances;
@@ -11,6 +12,8 @@ mod readers;
 mod settled;
 mod topology;
 
+pub use accepted::AcceptedEdit;
+pub use cb_accept::NumberedEdit;
 pub use cb_edits::{EditText, read_edit};
 pub use cb_instances::InstanceId;
 pub use cb_network::{Edit, EditRefusal};

@@ -12,4 +12,4 @@ create_in-requires-clause-kept g c = kept_spared c.args.graph.now c.args.store.n
 
 pub create_in-requires-clause-further : goal.create_in-requires-clause-further
 create_in-requires-clause-further g c =
-    subst (λ (n : Numbered). IsCapacityWith n c.args.edit.now c.further_for.new.rows c.in_ok-further.further) c.topology-2.ensures c.in_ok-further.ensures.further
+    subst (λ (n : Numbered). IsCapacityWith n c.args.accepted.now.edit.now c.further_for.new.rows c.in_ok-further.further) c.topology.ensures c.in_ok-further.ensures.further

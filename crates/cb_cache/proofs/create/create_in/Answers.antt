@@ -21,13 +21,13 @@ use Rattle.cb_cache.proofs.create.create_in.Goals as goal
 
 pub list_new-requires-clause-made : goal.list_new-requires-clause-made
 list_new-requires-clause-made g c =
-    (c.args.graph.now, subst (λ (m : Numbered). Applies c.args.graph.now c.args.edit.now m) (sym c.topology.ensures) c.in_ok-edit_graph.ensures.made.applies)
+    (c.args.graph.now, subst (λ (m : Numbered). Applies c.args.graph.now c.args.accepted.now.edit.now m) (sym c.topology.ensures) c.in_ok-edit_graph.ensures.made.applies)
 
 pub list_new-requires-clause-capacity : goal.list_new-requires-clause-capacity
 list_new-requires-clause-capacity g c =
     let old = c.args.graph.now in
     let new = c.edit_graph.new.graph in
-    let edit = c.args.edit.now in
+    let edit = c.args.accepted.now.edit.now in
     let edited = c.in_ok-edit_graph.ensures.made in
     let (typed, more, within, capacity) = c.requires.further in
     let rows = c.args.store.now.rows in
@@ -46,7 +46,7 @@ pub add_rows-requires-clause-live : goal.add_rows-requires-clause-live
 add_rows-requires-clause-live g c =
     let old = c.args.graph.now in
     let new = c.edit_graph.new.graph in
-    let edit = c.args.edit.now in
+    let edit = c.args.accepted.now.edit.now in
     let edited = c.in_ok-edit_graph.ensures.made in
     let (typed, more, within, capacity) = c.requires.further in
     let rows = c.args.store.now.rows in
@@ -67,7 +67,7 @@ pub add_rows-requires-clause-none : goal.add_rows-requires-clause-none
 add_rows-requires-clause-none g c =
     let old = c.args.graph.now in
     let new = c.edit_graph.new.graph in
-    let edit = c.args.edit.now in
+    let edit = c.args.accepted.now.edit.now in
     let edited = c.in_ok-edit_graph.ensures.made in
     let (typed, more, within, capacity) = c.requires.further in
     let rows = c.args.store.now.rows in
@@ -88,7 +88,7 @@ pub add_rows-requires-clause-rows : goal.add_rows-requires-clause-rows
 add_rows-requires-clause-rows g c =
     let old = c.args.graph.now in
     let new = c.edit_graph.new.graph in
-    let edit = c.args.edit.now in
+    let edit = c.args.accepted.now.edit.now in
     let edited = c.in_ok-edit_graph.ensures.made in
     let (typed, more, within, capacity) = c.requires.further in
     let rows = c.args.store.now.rows in
@@ -109,7 +109,7 @@ pub add_rows-requires-clause-apart : goal.add_rows-requires-clause-apart
 add_rows-requires-clause-apart g c =
     let old = c.args.graph.now in
     let new = c.edit_graph.new.graph in
-    let edit = c.args.edit.now in
+    let edit = c.args.accepted.now.edit.now in
     let edited = c.in_ok-edit_graph.ensures.made in
     let (typed, more, within, capacity) = c.requires.further in
     let rows = c.args.store.now.rows in
@@ -130,7 +130,7 @@ pub returns-clause-kept : goal.returns-clause-kept
 returns-clause-kept g c =
     let old = c.args.graph.now in
     let new = c.edit_graph.new.graph in
-    let edit = c.args.edit.now in
+    let edit = c.args.accepted.now.edit.now in
     let edited = c.in_ok-edit_graph.ensures.made in
     let (typed, more, within, capacity) = c.requires.further in
     let rows = c.args.store.now.rows in
@@ -161,7 +161,7 @@ pub returns-clause-cost : goal.returns-clause-cost
 returns-clause-cost g c =
     let old = c.args.graph.now in
     let new = c.edit_graph.new.graph in
-    let edit = c.args.edit.now in
+    let edit = c.args.accepted.now.edit.now in
     let edited = c.in_ok-edit_graph.ensures.made in
     let (typed, more, within, capacity) = c.requires.further in
     let rows = c.args.store.now.rows in

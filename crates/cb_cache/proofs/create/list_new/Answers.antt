@@ -1,44 +1,27 @@
 use Rattle.std.proofs.Common.{◌≡◌, ◌<◌, ℕ, List, length, sym, subst, ◌∙◌, arith}
 use Rattle.std.specs.Prelude.{vec_capacity}
-use Rattle.std.proofs.lemmas.Option.{slice_get_within}
 use Rattle.cb_model.specs.declared.id.EventId.{EventId}
 use Rattle.cb_model.specs.declared.tables.Tables.{Tables}
-use Rattle.cb_model.specs.Classes.{NamesClass}
 use Rattle.cb_model.specs.Views.{AreEventsOf}
+use Rattle.cb_model.specs.WellTyped.{IsClass}
 use Rattle.cb_network.specs.declared.edit.Edit.{Edit}
 use Rattle.cb_network.specs.declared.edit.Edit.TheVariants.{Create}
-use Rattle.cb_change.proofs.Steps.{near}
 use Rattle.cb_instances.specs.Net.{IsNamed}
 use Rattle.cb_nodes.proofs.Events.{events_once}
 use Rattle.cb_topo.specs.Applied.{Applies}
 use Rattle.cb_topo.specs.Numbered.{topology_of}
 use Rattle.cb_cache.specs.Created.{IsNewProblem}
 use Rattle.cb_cache.specs.Most.{HasEventsWithin}
-use Rattle.cb_cache.proofs.Creating.{new_listed, no_more_events}
+use Rattle.cb_cache.proofs.Creating.{class_is_named, new_listed, no_more_events}
 use Rattle.cb_cache.proofs.create.list_new.Goals as goal
 
-pub returns-in_default-class_named-clause-problems : goal.returns-in_default-class_named-clause-problems
-returns-in_default-class_named-clause-problems c =
-    let new = c.args.topology.now in
-    let name = c.in-Create.name in
-    let class = c.in-Create.class in
-    let (old, made) = c.requires.made in
-    let applies = subst (λ (e : Edit). Applies old e new) c.in-Create.is made in
-    let (d, own, is) = applies.after.1 in
-    let model : (topology_of old).model ≡ c.model.result.now = (near (topology_of old) (topology_of new) (Create name class) applies.after).model ∙ sym c.model.ensures.value in
-    let names = subst (λ (m : Tables). NamesClass m class d) model own in
-    absurd (c.in_default-class_named.ensures.absent d (subst (λ (x : List ℕ). NamesClass c.model.result.now x d) (sym c.bytes-2.ensures) names))
-
 pub events_of-requires : goal.events_of-requires
-events_of-requires c =
-    let (row, is, _) = c.in-Some-class_named.ensures.found in
-    let low = slice_get_within c.model.result.now.classes c.in-Some-class_named.class.0 row is in
-    subst (λ (m : Tables). c.in-Some-class_named.class.0 < length m.classes) (c.model.ensures.value ∙ sym c.model-2.ensures.value) low
+events_of-requires c = subst (λ (m : Tables). IsClass m c.class_of-class.result) (sym c.model.ensures.value) c.class_of-class.ensures.class
 
 pub list_problems_among-requires-clause-once : goal.list_problems_among-requires-clause-once
 list_problems_among-requires-clause-once c =
-    let m = c.model-2.result.now in
-    let class = c.in-Some-class_named.class in
+    let m = c.model.result.now in
+    let class = c.class_of-class.result in
     let are = subst (λ (xs : List EventId). AreEventsOf m class xs) (sym c.as_slice-events.ensures) c.events_of.ensures in
     events_once m class c.as_slice-events.result.now are
 
@@ -51,12 +34,11 @@ list_problems_among-requires-clause-capacity c =
     let applies = subst (λ (e : Edit). Applies old e new) c.in-Create.is made in
     let instance = c.in-Some.instance in
     let called = subst (λ (x : List ℕ). IsNamed new.net instance x) c.bytes.ensures c.in-Some.ensures.found in
-    let k = c.in-Some-class_named.class in
-    let found = subst (λ (m : Tables). NamesClass m c.bytes-2.result.now k) c.model.ensures.value c.in-Some-class_named.ensures.found in
-    let names = subst (λ (x : List ℕ). NamesClass (topology_of new).model x k) c.bytes-2.ensures found in
+    let k = c.class_of-class.result in
+    let names = class_is_named old new name class applies k (c.class_of-class.ensures.named name called) in
     let events = c.as_slice-events.result.now in
-    let listed = subst (λ (xs : List EventId). AreEventsOf c.model-2.result.now k xs) (sym c.as_slice-events.ensures) c.events_of.ensures in
-    let are = subst (λ (m : Tables). AreEventsOf m k events) c.model-2.ensures.value listed in
+    let listed = subst (λ (xs : List EventId). AreEventsOf c.model.result.now k xs) (sym c.as_slice-events.ensures) c.events_of.ensures in
+    let are = subst (λ (m : Tables). AreEventsOf m k events) c.model.ensures.value listed in
     let within = subst (λ (e : Edit). HasEventsWithin (topology_of new).model e (vec_capacity c.args.list.now)) c.in-Create.is c.requires.capacity in
     let few = no_more_events old new name class applies c.model.ensures.whole c.model.ensures.typed instance called k names events are (vec_capacity c.args.list.now) within in
     let same = c.clear.ensures.capacity in
@@ -71,12 +53,11 @@ returns-clause-problems c = λ id.
     let applies = subst (λ (e : Edit). Applies old e new) c.in-Create.is made in
     let instance = c.in-Some.instance in
     let called = subst (λ (x : List ℕ). IsNamed new.net instance x) c.bytes.ensures c.in-Some.ensures.found in
-    let k = c.in-Some-class_named.class in
-    let found = subst (λ (m : Tables). NamesClass m c.bytes-2.result.now k) c.model.ensures.value c.in-Some-class_named.ensures.found in
-    let names = subst (λ (x : List ℕ). NamesClass (topology_of new).model x k) c.bytes-2.ensures found in
+    let k = c.class_of-class.result in
+    let names = class_is_named old new name class applies k (c.class_of-class.ensures.named name called) in
     let events = c.as_slice-events.result.now in
-    let listed = subst (λ (xs : List EventId). AreEventsOf c.model-2.result.now k xs) (sym c.as_slice-events.ensures) c.events_of.ensures in
-    let are = subst (λ (m : Tables). AreEventsOf m k events) c.model-2.ensures.value listed in
+    let listed = subst (λ (xs : List EventId). AreEventsOf c.model.result.now k xs) (sym c.as_slice-events.ensures) c.events_of.ensures in
+    let are = subst (λ (m : Tables). AreEventsOf m k events) c.model.ensures.value listed in
     let cases = new_listed old new name class applies c.model.ensures.whole c.model.ensures.typed instance called k names events are id in
     let own = c.list_problems_among.ensures.problems id in
     let edit = c.in-Create.is in
@@ -91,12 +72,11 @@ returns-clause-few c = λ most within.
     let applies = subst (λ (e : Edit). Applies old e new) c.in-Create.is made in
     let instance = c.in-Some.instance in
     let called = subst (λ (x : List ℕ). IsNamed new.net instance x) c.bytes.ensures c.in-Some.ensures.found in
-    let k = c.in-Some-class_named.class in
-    let found = subst (λ (m : Tables). NamesClass m c.bytes-2.result.now k) c.model.ensures.value c.in-Some-class_named.ensures.found in
-    let names = subst (λ (x : List ℕ). NamesClass (topology_of new).model x k) c.bytes-2.ensures found in
+    let k = c.class_of-class.result in
+    let names = class_is_named old new name class applies k (c.class_of-class.ensures.named name called) in
     let events = c.as_slice-events.result.now in
-    let listed = subst (λ (xs : List EventId). AreEventsOf c.model-2.result.now k xs) (sym c.as_slice-events.ensures) c.events_of.ensures in
-    let are = subst (λ (m : Tables). AreEventsOf m k events) c.model-2.ensures.value listed in
+    let listed = subst (λ (xs : List EventId). AreEventsOf c.model.result.now k xs) (sym c.as_slice-events.ensures) c.events_of.ensures in
+    let are = subst (λ (m : Tables). AreEventsOf m k events) c.model.ensures.value listed in
     let here = subst (λ (e : Edit). HasEventsWithin (topology_of new).model e most) c.in-Create.is within in
     let few = no_more_events old new name class applies c.model.ensures.whole c.model.ensures.typed instance called k names events are most here in
     let short = c.list_problems_among.ensures.few in

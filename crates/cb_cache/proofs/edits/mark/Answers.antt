@@ -15,10 +15,10 @@ returns-clause-kept c =
     let old = c.args.graph.now in
     let new = c.edit_graph.new.graph in
     let store = c.args.store.now in
-    either_way c.edit_graph.result (IsEdited old c.args.edit.now new) (new ≡ old) (IsCacheOf new store) c.edit_graph.ensures.made c.edit_graph.ensures.kept
-    (λ edited. kept_marked old new c.args.edit.now edited c.requires.marks store c.requires.kept)
+    either_way c.edit_graph.result (IsEdited old c.args.accepted.now.edit.now new) (new ≡ old) (IsCacheOf new store) c.edit_graph.ensures.made c.edit_graph.ensures.kept
+    (λ edited. kept_marked old new c.args.accepted.now.edit.now edited c.requires.marks store c.requires.kept)
     (λ same. subst (λ (n : Numbered). IsCacheOf n store) (sym same) c.requires.kept)
 
 pub returns-clause-cost : goal.returns-clause-cost
 returns-clause-cost c = λ steps.
-    counts_none c.edit_graph.result (topology_of c.args.graph.now) (topology_of c.edit_graph.new.graph) c.args.edit.now c.requires.marks steps
+    counts_none c.edit_graph.result (topology_of c.args.graph.now) (topology_of c.edit_graph.new.graph) c.args.accepted.now.edit.now c.requires.marks steps

@@ -1,39 +1,40 @@
 use Rattle.std.proofs.Common.{◌≡◌, sym, subst, arith}
-use Rattle.std.proofs.lemmas.Option.{slice_get_within}
-use Rattle.cb_model.specs.declared.id.ClassId.{ClassId}
+use Rattle.cb_model.specs.declared.tables.Tables.{Tables}
 use Rattle.cb_model.specs.Views.{AreEventsOf}
-use Rattle.cb_network.specs.declared.edit.Edit.TheVariants.{Create}
-use Rattle.cb_accept.proofs.Members.{one_class}
+use Rattle.cb_model.specs.WellTyped.{IsClass}
 use Rattle.cb_accept.proofs.Own.{few_events}
-use Rattle.cb_cache.specs.Most.{HasEventsWithin}
+use Rattle.cb_accept.specs.NumberedEdits.{IsNumberedEdit}
+use Rattle.cb_accept.specs.declared.numbered.NumberedEdit.TheVariants as numbered
+use Rattle.cb_topo.specs.Numbered.{topology_of}
+use Rattle.cb_topo.proofs.Numbering.{numbered_class}
+use Rattle.cb_cache.proofs.Creating.{events_for, no_events}
 use Rattle.cb_cache.proofs.problems.events_within.Goals as goal
 
 pub events_of-requires : goal.events_of-requires
 events_of-requires c =
-    let found = c.in-Some.ensures.found in
-    slice_get_within c.args.model.now.classes c.in-Some.class.0 found.0 found.1
+    let n = c.args.topology.now.net in
+    let edit = c.args.accepted.now.edit.now in
+    let same : c.args.accepted.now.numbered ≡ numbered.Create c.in-Create.class = cc in
+    let is = subst (IsNumberedEdit n edit) same c.requires.by_numbers in
+    subst (λ (m : Tables). IsClass m c.in-Create.class) (sym c.model-model.ensures.value) (numbered_class n edit c.in-Create.class is)
 
-pub returns-in-Some-clause-events : goal.returns-in-Some-clause-events
-returns-in-Some-clause-events c =
-    let m = c.args.model.now in
-    let name = c.bytes.result.now in
-    let events = c.events_of.result.now in
-    let edit : c.args.edit.now ≡ Create c.in-Create.name name = cc in
-    let here : HasEventsWithin m (Create c.in-Create.name name) c.len.result = λ d named.
-    let same : c.in-Some.class ≡ d = one_class m c.requires name c.in-Some.class d c.in-Some.ensures.found named in
-    (events, subst (λ (k : ClassId). AreEventsOf m k events) same c.events_of.ensures, (let long = c.len.ensures in omega arith)) in
-    subst (λ e. HasEventsWithin m e c.len.result) (sym edit) here
+pub returns-in-Create-clause-events : goal.returns-in-Create-clause-events
+returns-in-Create-clause-events c =
+    let n = c.args.topology.now.net in
+    let edit = c.args.accepted.now.edit.now in
+    let same : c.args.accepted.now.numbered ≡ numbered.Create c.in-Create.class = cc in
+    let is = subst (IsNumberedEdit n edit) same c.requires.by_numbers in
+    let are = subst (λ (m : Tables). AreEventsOf m c.in-Create.class c.events_of.result.now) c.model-model.ensures.value c.events_of.ensures in
+    events_for n edit c.in-Create.class c.model-model.ensures.typed is c.events_of.result.now are c.len.result c.len.ensures
 
-pub returns-in-Some-clause-few : goal.returns-in-Some-clause-few
-returns-in-Some-clause-few c =
-    let few = few_events c.args.model.now c.in-Some.class c.requires c.events_of.result.now c.events_of.ensures in
+pub returns-in-Create-clause-few : goal.returns-in-Create-clause-few
+returns-in-Create-clause-few c =
+    let model = (topology_of c.args.topology.now).model in
+    let are = subst (λ (m : Tables). AreEventsOf m c.in-Create.class c.events_of.result.now) c.model-model.ensures.value c.events_of.ensures in
+    let few = few_events model c.in-Create.class c.model-model.ensures.typed c.events_of.result.now are in
     let long = c.len.ensures in
     omega arith
 
-pub returns-in-None-clause-events : goal.returns-in-None-clause-events
-returns-in-None-clause-events c =
-    let m = c.args.model.now in
-    let name = c.bytes.result.now in
-    let edit : c.args.edit.now ≡ Create c.in-Create.name name = cc in
-    let here : HasEventsWithin m (Create c.in-Create.name name) 0 = λ d named. absurd (c.in-None.ensures.absent d named) in
-    subst (λ e. HasEventsWithin m e 0) (sym edit) here
+pub returns-in_default-clause-events : goal.returns-in_default-clause-events
+returns-in_default-clause-events c =
+    no_events c.args.topology.now.net c.args.accepted.now.edit.now c.args.accepted.now.numbered c.requires.by_numbers (λ class same. c.in_default.not-Create class same)

@@ -12,18 +12,18 @@ use Rattle.cb_accept.specs.Counts.{CountWith}
 use Rattle.cb_topo.specs.Made.{Makes}
 use Rattle.cb_topo.proofs.Creating.{create_makes}
 use Rattle.cb_topo.proofs.Limits.{kept_within, few_numbers}
-use Rattle.cb_topo.proofs.Stepping.{create_step}
+use Rattle.cb_topo.proofs.Numbering.{numbered_create}
 use Rattle.cb_topo.proofs.instances.create.Goals as goal
 
 pub create-requires-clause-class : goal.create-requires-clause-class
 create-requires-clause-class c =
-    let (name, class, same, named) = create_step c.args.net.now c.args.edit.now c.args.class c.requires.step in
+    let (name, class, same, named) = numbered_create c.args.net.now c.args.edit.now c.args.class c.requires.numbered in
     slice_get_within c.args.net.now.topology.model.classes c.args.class.0 named.0 named.1
 
 pub create-requires-clause-absent : goal.create-requires-clause-absent
 create-requires-clause-absent c =
     let n = c.args.net.now in
-    let (name, class, same, named) = create_step n c.args.edit.now c.args.class c.requires.step in
+    let (name, class, same, named) = numbered_create n c.args.edit.now c.args.class c.requires.numbered in
     let fresh = subst (IsAccepted n.topology) same c.requires.accepted Exists in
     subst (λ x. ¬ IsLive n.topology x) (sym (c.new_name.ensures name class same)) fresh
 
@@ -33,7 +33,7 @@ create-requires-clause-few c = few_numbers c.args.net.now.topology.model c.requi
 pub with-requires-clause-class : goal.with-requires-clause-class
 with-requires-clause-class c =
     let n = c.args.net.now in
-    let (name, class, same, named) = create_step n c.args.edit.now c.args.class c.requires.step in
+    let (name, class, same, named) = numbered_create n c.args.edit.now c.args.class c.requires.numbered in
     let model : c.model.result.now ≡ n.topology.model = c.model.ensures.value ∙ ap (λ (t : Topology). t.model) c.in_ok-create.ensures.created.made in
     subst (λ (t : Tables). IsClass t c.args.class) (sym model) (slice_get_within n.topology.model.classes c.args.class.0 named.0 named.1)
 
@@ -45,7 +45,7 @@ returns-clause-ok c =
     let n = c.args.net.now in
     let m = c.create.new.net in
     let id = c.in_ok-create.field-0 in
-    let (name, class, same, named) = create_step n c.args.edit.now c.args.class c.requires.step in
+    let (name, class, same, named) = numbered_create n c.args.edit.now c.args.class c.requires.numbered in
     let called = c.new_name.ensures name class same in
     let created = subst (λ x. Creates n m id x c.args.class) called c.in_ok-create.ensures.created in
     let model : c.model.result.now ≡ n.topology.model = c.model.ensures.value ∙ ap (λ (t : Topology). t.model) c.in_ok-create.ensures.created.made in

@@ -2,17 +2,8 @@ use Rattle.std.proofs.Common.{sym, subst}
 use Rattle.cb_instances.specs.Net.{Net}
 use Rattle.cb_nodes.specs.Table.{Table}
 use Rattle.cb_topo.specs.Numbered.{Numbered, IsWhole}
-use Rattle.cb_topo.proofs.Limits.{kept_within}
 use Rattle.cb_topo.proofs.Naming.{whole}
 use Rattle.cb_topo.proofs.topology.Topology.change.Goals as goal
-
-pub decide-requires-clause-few : goal.decide-requires-clause-few
-decide-requires-clause-few c = kept_within c.self.inside.net c.self.inside.nodes c.self.inside.counts c.self.invariant.topology
-
-pub returns-in_err-step-clause-whole : goal.returns-in_err-step-clause-whole
-returns-in_err-step-clause-whole c =
-    let seen : Numbered = record { net = c.self.inside.net; nodes = c.self.inside.nodes } in
-    subst IsWhole c.self.view_is (whole seen c.self.inside.counts c.self.invariant.topology)
 
 pub returns-in_err-self-inside-clause-whole : goal.returns-in_err-self-inside-clause-whole
 returns-in_err-self-inside-clause-whole c =

@@ -1,46 +1,51 @@
 use Rattle.std.proofs.Common.{◌≡◌, ◌<◌, ap, sym, subst, ◌∙◌, length, arith}
-use Rattle.std.proofs.lemmas.Option.{slice_get_within}
 use Rattle.cb_model.specs.declared.tables.Tables.{Tables}
-use Rattle.cb_model.specs.declared.id.ClassId.{ClassId}
-use Rattle.cb_model.specs.Classes.{NamesClass}
 use Rattle.cb_model.specs.Views.{AreEventsOf}
-use Rattle.cb_network.specs.declared.edit.Edit.TheVariants.{Create}
-use Rattle.cb_network.specs.declared.edit.EditRefusal.TheVariants.{NoClass}
+use Rattle.cb_model.specs.WellTyped.{IsClass}
 use Rattle.cb_nodes.specs.Table.{capacity_with}
-use Rattle.cb_network.specs.Edits.{IsAccepted}
+use Rattle.cb_accept.specs.NumberedEdits.{IsNumberedEdit}
+use Rattle.cb_accept.specs.declared.numbered.NumberedEdit.TheVariants as numbered
+use Rattle.cb_topo.specs.Accepted.{IsDecided}
 use Rattle.cb_topo.specs.Applied.{IsNodeCapacityAfter}
-use Rattle.cb_topo.specs.Numbered.{Numbered, topology_of}
+use Rattle.cb_topo.specs.Numbered.{Numbered}
 use Rattle.cb_topo.proofs.Limits.{few_numbers}
+use Rattle.cb_topo.proofs.Numbering.{numbered_class, created_capacity, other_capacity}
 use Rattle.cb_topo.proofs.topology.Topology.node_capacity_after.Goals as goal
 
-pub events_of-requires : goal.events_of-requires
-events_of-requires c =
-    let found = c.in-Some.ensures.found in
-    slice_get_within c.model-model.result.now.classes c.in-Some.class.0 found.0 found.1
+pub events_of-events-requires : goal.events_of-events-requires
+events_of-events-requires c =
+    let n : Numbered = record { net = c.self.inside.net; nodes = c.self.inside.nodes } in
+    let accepted = c.args.accepted.now in
+    let decided = subst (λ (m : Numbered). IsDecided m accepted) (sym c.self.view_is) c.requires in
+    let same : accepted.numbered ≡ numbered.Create c.in-Create.class = cc in
+    let is = subst (IsNumberedEdit n.net accepted.edit.now) same decided.by_numbers in
+    subst (λ (t : Tables). IsClass t c.in-Create.class) (sym c.model.ensures.value) (numbered_class n.net accepted.edit.now c.in-Create.class is)
 
 pub capacity_with-requires : goal.capacity_with-requires
 capacity_with-requires c =
     let nodes = c.self.inside.nodes in
-    let are = subst (λ (t : Tables). AreEventsOf t c.in-Some.class c.events_of.result.now) c.model-model.ensures.value c.events_of.ensures in
-    let few = few_numbers c.self.inside.net.topology.model c.self.invariant.topology.typed nodes c.self.invariant.topology.table.few c.in-Some.class c.events_of.result.now are in
-    let same = c.len.ensures in
-    subst (λ n. capacity_with nodes n < 18446744073709551616) (sym same) (omega arith)
+    let are = subst (λ (t : Tables). AreEventsOf t c.in-Create.class c.events_of-events.result.now) c.model.ensures.value c.events_of-events.ensures in
+    let few = few_numbers c.self.inside.net.topology.model c.self.invariant.topology.typed nodes c.self.invariant.topology.table.few c.in-Create.class c.events_of-events.result.now are in
+    let long = c.len.ensures in
+    subst (λ n. capacity_with nodes n < 18446744073709551616) (sym long) (omega arith)
 
-pub returns-in-Some : goal.returns-in-Some
-returns-in-Some c =
-    let inside : Numbered = record { net = c.self.inside.net; nodes = c.self.inside.nodes } in
-    let edit : c.args.edit.now ≡ Create c.in-Create.name c.bytes.result.now = cc in
-    let are = subst (λ (t : Tables). AreEventsOf t c.in-Some.class c.events_of.result.now) c.model-model.ensures.value c.events_of.ensures in
-    let named = subst (λ (t : Tables). NamesClass t c.bytes.result.now c.in-Some.class) c.model-model.ensures.value c.in-Some.ensures.found in
-    let capacity : c.capacity_with.result ≡ capacity_with inside.nodes (length c.events_of.result.now) = c.capacity_with.ensures ∙ ap (capacity_with inside.nodes) c.len.ensures in
-    let here : IsNodeCapacityAfter inside (Create c.in-Create.name c.bytes.result.now) c.capacity_with.result = (c.in-Some.class, c.events_of.result.now, named, are, capacity) in
-    subst (λ n. IsNodeCapacityAfter n c.args.edit.now c.capacity_with.result) c.self.view_is
-    (subst (λ e. IsNodeCapacityAfter inside e c.capacity_with.result) (sym edit) here)
+pub returns-in-Create : goal.returns-in-Create
+returns-in-Create c =
+    let n : Numbered = record { net = c.self.inside.net; nodes = c.self.inside.nodes } in
+    let accepted = c.args.accepted.now in
+    let decided = subst (λ (m : Numbered). IsDecided m accepted) (sym c.self.view_is) c.requires in
+    let same : accepted.numbered ≡ numbered.Create c.in-Create.class = cc in
+    let is = subst (IsNumberedEdit n.net accepted.edit.now) same decided.by_numbers in
+    let are = subst (λ (t : Tables). AreEventsOf t c.in-Create.class c.events_of-events.result.now) c.model.ensures.value c.events_of-events.ensures in
+    let capacity : c.capacity_with.result ≡ capacity_with n.nodes (length c.events_of-events.result.now) = c.capacity_with.ensures ∙ ap (capacity_with n.nodes) c.len.ensures in
+    subst (λ (m : Numbered). IsNodeCapacityAfter m accepted.edit.now c.capacity_with.result) c.self.view_is
+    (created_capacity n accepted.edit.now c.in-Create.class is c.events_of-events.result.now are c.capacity_with.result capacity)
 
-pub returns-in-None : goal.returns-in-None
-returns-in-None c =
-    let edit : c.args.edit.now ≡ Create c.in-Create.name c.bytes.result.now = cc in
-    let accepted = subst (IsAccepted (topology_of c.args.self.now)) edit c.requires in
-    let same : c.model-model.result.now ≡ (topology_of c.args.self.now).model = c.model-model.ensures.value ∙ ap (λ (n : Numbered). n.net.topology.model) c.self.view_is in
-    let none = subst (λ (t : Tables). (d : ClassId) → ¬ NamesClass t c.bytes.result.now d) same c.in-None.ensures.absent in
-    absurd (accepted NoClass (λ (d, named). none d named))
+pub returns-in_default : goal.returns-in_default
+returns-in_default c =
+    let n : Numbered = record { net = c.self.inside.net; nodes = c.self.inside.nodes } in
+    let accepted = c.args.accepted.now in
+    let decided = subst (λ (m : Numbered). IsDecided m accepted) (sym c.self.view_is) c.requires in
+    let same = other_capacity n accepted.edit.now accepted.numbered decided.by_numbers (λ class is. c.in_default.not-Create class is) in
+    subst (λ (m : Numbered). IsNodeCapacityAfter m accepted.edit.now c.capacity.result) c.self.view_is
+    (subst (IsNodeCapacityAfter n accepted.edit.now) (sym c.capacity.ensures.value) same)

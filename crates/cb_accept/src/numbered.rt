@@ -4,7 +4,7 @@ use cb_model::{ClassId, EventId, RelId};
 
 /// An edit by the numbers of what it names. What a new instance is called stands in the edit alone.
 #[derive(Clone, Copy)]
-pub enum Step {
+pub enum NumberedEdit {
     Create {
         class: ClassId,
     },
