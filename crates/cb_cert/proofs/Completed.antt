@@ -9,11 +9,13 @@ use Rattle.cb_cert.specs.declared.certificate.Certificate.{Certificate}
 use Rattle.cb_cert.specs.declared.certificate.Certificate.TheVariants as certificate
 use Rattle.cb_cert.specs.declared.line.CertificateLine.{CertificateLine}
 use Rattle.cb_cert.specs.declared.line.CertificateLine.TheVariants as line
-use Rattle.cb_cert.specs.Ahead.{TextPlace, at_kind, at_wanted, at_distance, at_thin_distance, at_nodes, at_node, at_columns, at_column, at_spans, at_span, at_side, at_entry, at_end, MayStand, MayCome, opened, nodes_after, all_places}
-use Rattle.cb_cert.specs.Format.{Fits, HasValidNames, IsEntry, IsWanted, nodes_of, certificate_node_limit, column_limit}
+use Rattle.cb_cert.specs.declared.line.Version.{Version}
+use Rattle.cb_cert.specs.declared.line.Version.TheVariants.{First, Second}
+use Rattle.cb_cert.specs.Ahead.{TextPlace, at_kind, at_wanted, at_distance, at_thin_distance, at_cap, at_nodes, at_node, at_columns, at_column, at_radii, at_radius, at_spans, at_span, at_side, at_entry, at_end, MayStand, MayCome, opened, nodes_after, all_places}
+use Rattle.cb_cert.specs.Format.{Fits, HasValidNames, IsEntry, IsWanted, nodes_of, certificate_node_limit, column_limit, radii_limit, greatest_radius}
 use Rattle.cb_cert.specs.Prefixes.{Begins}
-use Rattle.cb_cert.specs.Lines.{certificate_lines, span_lines, node_lines, column_lines, all_span_lines, side_lines}
-use Rattle.cb_cert.proofs.Uniques.{three_parts}
+use Rattle.cb_cert.specs.Lines.{certificate_lines, span_lines, node_lines, column_lines, radius_lines, all_span_lines, side_lines}
+use Rattle.cb_cert.proofs.Uniques.{three_parts, four_parts}
 use Rattle.cb_cert.proofs.Readings.{prefix_part}
 
 -- what fits after the number of nodes, in a certificate with n nodes
@@ -21,6 +23,8 @@ abbrev Later : ℕ → CertificateLine → Type 0
 Later n (line.Node x) = HasValidNames x
 Later n (line.Columns m) = m ≤ column_limit
 Later n (line.Column i) = (0 < i) × (i ≤ n)
+Later n (line.Radii m) = (0 < m) × (m ≤ radii_limit)
+Later n (line.Radius r) = r ≤ greatest_radius
 Later n (line.Spans m) = m ≤ column_limit
 Later n (line.Span m) = (0 < m) × (m ≤ certificate_node_limit)
 Later n (line.Entry e) = IsEntry n e
@@ -32,6 +36,8 @@ later_fits : (c : Certificate) (n : ℕ) → length (nodes_of c) ≡ n → (l : 
 later_fits c n e (line.Node x) p = p
 later_fits c n e (line.Columns m) p = p
 later_fits c n e (line.Column i) p = subst (λ k. (0 < i) × (i ≤ k)) (sym e) p
+later_fits c n e (line.Radii m) p = p
+later_fits c n e (line.Radius r) p = p
 later_fits c n e (line.Spans m) p = p
 later_fits c n e (line.Span m) p = p
 later_fits c n e (line.Entry x) p = subst (λ k. IsEntry k x) (sym e) p
@@ -77,7 +83,7 @@ Back {X} n place f = (l : CertificateLine) → MayStand n place l → (x : X) ×
 record Made {X : Type 0} (n : ℕ) (place : TextPlace) (f : X → CertificateLine) (places : X → List TextPlace) : Type 0 where
   back : Back n place f
   keeps : (x : X) → nodes_after n (f x) ≡ n
-  opens : (x : X) → opened (f x) ≡ places x
+  opens : (x : X) → opened (f x) place ≡ places x
   fits : (x : X) → MayStand n place (f x) → Later n (f x)
 
 can_one : {X : Type 0} (n : ℕ) (place : TextPlace) (f : X → CertificateLine) (places : X → List TextPlace) (ahead : List TextPlace) (T : X → List CertificateLine → Type 0) (some : X)
@@ -90,8 +96,8 @@ can_one n place f places ahead T some made later (l ∷ ls) p =
     let x = b.0 in
     let e : l ≡ f x = b.1 in
     let here : MayStand n place (f x) = subst (MayStand n place) e p.0 in
-    let moved : MayCome (nodes_after n (f x)) (opened (f x) ++ ahead) ls = subst (λ m. MayCome (nodes_after n m) (opened m ++ ahead) ls) e p.1 in
-    let kept : MayCome n (opened (f x) ++ ahead) ls = subst (λ m. MayCome m (opened (f x) ++ ahead) ls) (made.keeps x) moved in
+    let moved : MayCome (nodes_after n (f x)) (opened (f x) place ++ ahead) ls = subst (λ m. MayCome (nodes_after n m) (opened m place ++ ahead) ls) e p.1 in
+    let kept : MayCome n (opened (f x) place ++ ahead) ls = subst (λ m. MayCome m (opened (f x) place ++ ahead) ls) (made.keeps x) moved in
     let r = later x ls (subst (λ (ps : List TextPlace). MayCome n (ps ++ ahead) ls) (made.opens x) kept) in
     let tail = r.are in
     let whole : f x ∷ r.whole ≡ l ∷ (ls ++ r.more) = cc in
@@ -132,6 +138,14 @@ back_column : (n : ℕ) → Back n at_column line.Column
 back_column n (line.Column x) p = (x, refl)
 back_column n l p = absurd p
 
+back_radii : (n : ℕ) → Back n at_radii line.Radii
+back_radii n (line.Radii x) p = (x, refl)
+back_radii n l p = absurd p
+
+back_radius : (n : ℕ) → Back n at_radius line.Radius
+back_radius n (line.Radius x) p = (x, refl)
+back_radius n l p = absurd p
+
 back_spans : (n : ℕ) → Back n at_spans line.Spans
 back_spans n (line.Spans x) p = (x, refl)
 back_spans n l p = absurd p
@@ -156,6 +170,12 @@ made_columns n = record { back = back_columns n; keeps = λ x. refl; opens = λ 
 
 made_column : (n : ℕ) → Made n at_column line.Column (λ x. [])
 made_column n = record { back = back_column n; keeps = λ x. refl; opens = λ x. refl; fits = λ x p. p }
+
+made_radii : (n : ℕ) → Made n at_radii line.Radii (λ k. replicate k at_radius)
+made_radii n = record { back = back_radii n; keeps = λ x. refl; opens = λ x. refl; fits = λ x p. p }
+
+made_radius : (n : ℕ) → Made n at_radius line.Radius (λ x. [])
+made_radius n = record { back = back_radius n; keeps = λ x. refl; opens = λ x. refl; fits = λ x p. p }
 
 made_spans : (n : ℕ) → Made n at_spans line.Spans (λ k. replicate k at_span)
 made_spans n = record { back = back_spans n; keeps = λ x. refl; opens = λ x. refl; fits = λ x p. p }
@@ -239,6 +259,14 @@ module _ (n : ℕ) (ahead : List TextPlace) (T : List CertificateLine → Type 0
       (can_one n at_columns line.Columns (λ k. replicate k at_column) ahead (λ k. Items line.Column k T) 0 (made_columns n)
       (λ k. can_items n at_column line.Column ahead T 1 k (made_column n) later) ls p)
 
+  can_radii : Can n (at_radii ∷ ahead) (Parts radius_lines T)
+  can_radii ls p =
+      refill n (After line.Radii (λ k. Items line.Radius k T)) (Parts radius_lines T) ls
+      (λ whole b. let i = b.is in let first = b.whole_is in let rest = i.whole_is in let many = i.many in
+      record { of = i.of; rest = i.rest; is = i.is; whole_is = cc })
+      (can_one n at_radii line.Radii (λ k. replicate k at_radius) ahead (λ k. Items line.Radius k T) 1 (made_radii n)
+      (λ k. can_items n at_radius line.Radius ahead T 0 k (made_radius n) later) ls p)
+
 can_many_spans : (n : ℕ) (ahead : List TextPlace) (T : List CertificateLine → Type 0) → Can n ahead T → (k : ℕ) → Can n (replicate k at_span ++ ahead) (Spans k T)
 can_many_spans n ahead T later zero ls p =
     refill n T (Spans zero T) ls (λ whole is. record { of = []; rest = whole; many = refl; is = is; whole_is = refl }) (later ls p)
@@ -265,7 +293,7 @@ fitting : (c : Certificate) (l : CertificateLine) (ls : List CertificateLine) �
 fitting c l ls = All-cons (Fits c) l ls
 
 book_goes_on : (d m : ℕ) → IsWanted d → m ≤ certificate_node_limit → (ls : List CertificateLine) → MayCome m (replicate m at_node ++ at_columns ∷ at_spans ∷ at_end ∷ []) ls
-    → Begins (line.Header ∷ line.Book ∷ line.Distance d ∷ line.Nodes m ∷ ls)
+    → Begins (line.Header First ∷ line.Book ∷ line.Distance d ∷ line.Nodes m ∷ ls)
 book_goes_on d m wanted low ls p =
     let spans = can_all_spans m (at_end ∷ []) Last (can_last m) in
     let columns = can_columns m (at_spans ∷ at_end ∷ []) (Parts all_span_lines Last) spans in
@@ -281,21 +309,54 @@ book_goes_on d m wanted low ls p =
     let tail = r.are in
     let many = x.many in
     let body = three_parts (node_lines x.of) (column_lines y.of) (all_span_lines z.of) (line.End ∷ []) in
-    let is : certificate_lines c ≡ line.Header ∷ line.Book ∷ line.Distance d ∷ line.Nodes m ∷ (ls ++ r.more) = cc in
+    let is : certificate_lines c ≡ line.Header First ∷ line.Book ∷ line.Distance d ∷ line.Nodes m ∷ (ls ++ r.more) = cc in
     record {
       of = c;
       few = omega arith;
       more = r.more;
       are = is;
-      fit = fitting c line.Header (line.Book ∷ line.Distance d ∷ line.Nodes m ∷ ls) tt
+      fit = fitting c (line.Header First) (line.Book ∷ line.Distance d ∷ line.Nodes m ∷ ls) tt
           (fitting c line.Book (line.Distance d ∷ line.Nodes m ∷ ls) tt
           (fitting c (line.Distance d) (line.Nodes m ∷ ls) wanted
           (fitting c (line.Nodes m) ls low (All-weaker (Later m) (Fits c) (later_fits c m many) ls r.fit))));
     }
 
+capped_goes_on : (d m : ℕ) → IsWanted d → m ≤ certificate_node_limit → (ls : List CertificateLine)
+    → MayCome m (replicate m at_node ++ at_columns ∷ at_radii ∷ at_spans ∷ at_end ∷ []) ls
+    → Begins (line.Header Second ∷ line.Book ∷ line.Cap d ∷ line.Nodes m ∷ ls)
+capped_goes_on d m wanted low ls p =
+    let spans = can_all_spans m (at_end ∷ []) Last (can_last m) in
+    let radii = can_radii m (at_spans ∷ at_end ∷ []) (Parts all_span_lines Last) spans in
+    let columns = can_columns m (at_radii ∷ at_spans ∷ at_end ∷ []) (Parts radius_lines (Parts all_span_lines Last)) radii in
+    let r = can_nodes m (at_columns ∷ at_radii ∷ at_spans ∷ at_end ∷ []) (Parts column_lines (Parts radius_lines (Parts all_span_lines Last))) columns m ls p in
+    let x = r.is in
+    let y = x.is in
+    let z = y.is in
+    let w = z.is in
+    let c = certificate.Capped d x.of y.of z.of w.of in
+    let first = x.whole_is in
+    let second = y.whole_is in
+    let third = z.whole_is in
+    let fourth = w.whole_is in
+    let end = w.is in
+    let tail = r.are in
+    let many = x.many in
+    let body = four_parts (node_lines x.of) (column_lines y.of) (radius_lines z.of) (all_span_lines w.of) (line.End ∷ []) in
+    let is : certificate_lines c ≡ line.Header Second ∷ line.Book ∷ line.Cap d ∷ line.Nodes m ∷ (ls ++ r.more) = cc in
+    record {
+      of = c;
+      few = omega arith;
+      more = r.more;
+      are = is;
+      fit = fitting c (line.Header Second) (line.Book ∷ line.Cap d ∷ line.Nodes m ∷ ls) tt
+          (fitting c line.Book (line.Cap d ∷ line.Nodes m ∷ ls) tt
+          (fitting c (line.Cap d) (line.Nodes m ∷ ls) wanted
+          (fitting c (line.Nodes m) ls low (All-weaker (Later m) (Fits c) (later_fits c m many) ls r.fit))));
+    }
+
 thin_goes_on : (w d m : ℕ) → IsWanted w → d ≤ column_limit → m ≤ certificate_node_limit → (ls : List CertificateLine)
     → MayCome m (replicate m at_node ++ at_side ∷ at_span ∷ at_end ∷ []) ls
-    → Begins (line.Header ∷ line.Thin ∷ line.Wanted w ∷ line.Distance d ∷ line.Nodes m ∷ ls)
+    → Begins (line.Header First ∷ line.Thin ∷ line.Wanted w ∷ line.Distance d ∷ line.Nodes m ∷ ls)
 thin_goes_on w d m wanted far low ls p =
     let span = can_span m (at_end ∷ []) Last (can_last m) in
     let first_side = can_side m (at_span ∷ at_end ∷ []) (Parts span_lines Last) span in
@@ -311,13 +372,13 @@ thin_goes_on w d m wanted far low ls p =
     let tail = r.are in
     let many = x.many in
     let body = three_parts (node_lines x.of) (side_lines y.of) (span_lines z.of) (line.End ∷ []) in
-    let is : certificate_lines c ≡ line.Header ∷ line.Thin ∷ line.Wanted w ∷ line.Distance d ∷ line.Nodes m ∷ (ls ++ r.more) = cc in
+    let is : certificate_lines c ≡ line.Header First ∷ line.Thin ∷ line.Wanted w ∷ line.Distance d ∷ line.Nodes m ∷ (ls ++ r.more) = cc in
     record {
       of = c;
       few = omega arith;
       more = r.more;
       are = is;
-      fit = fitting c line.Header (line.Thin ∷ line.Wanted w ∷ line.Distance d ∷ line.Nodes m ∷ ls) tt
+      fit = fitting c (line.Header First) (line.Thin ∷ line.Wanted w ∷ line.Distance d ∷ line.Nodes m ∷ ls) tt
           (fitting c line.Thin (line.Wanted w ∷ line.Distance d ∷ line.Nodes m ∷ ls) tt
           (fitting c (line.Wanted w) (line.Distance d ∷ line.Nodes m ∷ ls) wanted
           (fitting c (line.Distance d) (line.Nodes m ∷ ls) far
@@ -328,45 +389,61 @@ one_wanted : IsWanted 1
 one_wanted = ((omega arith), (omega arith))
 
 book_nodes : (d : ℕ) → IsWanted d → (ls : List CertificateLine) → MayCome 0 (at_nodes ∷ at_columns ∷ at_spans ∷ at_end ∷ []) ls
-    → Begins (line.Header ∷ line.Book ∷ line.Distance d ∷ ls)
+    → Begins (line.Header First ∷ line.Book ∷ line.Distance d ∷ ls)
 book_nodes d wanted [] p =
-    prefix_part (line.Header ∷ line.Book ∷ line.Distance d ∷ []) (line.Nodes 0 ∷ []) (book_goes_on d 0 wanted (omega arith) [] tt)
+    prefix_part (line.Header First ∷ line.Book ∷ line.Distance d ∷ []) (line.Nodes 0 ∷ []) (book_goes_on d 0 wanted (omega arith) [] tt)
 book_nodes d wanted (line.Nodes m ∷ ls) p = book_goes_on d m wanted p.0 ls p.1
 book_nodes d wanted (l ∷ ls) p = absurd p.0
 
-book_distance : (ls : List CertificateLine) → MayCome 0 (at_distance ∷ at_nodes ∷ at_columns ∷ at_spans ∷ at_end ∷ []) ls → Begins (line.Header ∷ line.Book ∷ ls)
-book_distance [] p = prefix_part (line.Header ∷ line.Book ∷ []) (line.Distance 1 ∷ []) (book_nodes 1 one_wanted [] tt)
+book_distance : (ls : List CertificateLine) → MayCome 0 (at_distance ∷ at_nodes ∷ at_columns ∷ at_spans ∷ at_end ∷ []) ls → Begins (line.Header First ∷ line.Book ∷ ls)
+book_distance [] p = prefix_part (line.Header First ∷ line.Book ∷ []) (line.Distance 1 ∷ []) (book_nodes 1 one_wanted [] tt)
 book_distance (line.Distance d ∷ ls) p = book_nodes d p.0 ls p.1
 book_distance (l ∷ ls) p = absurd p.0
 
+capped_nodes : (d : ℕ) → IsWanted d → (ls : List CertificateLine) → MayCome 0 (at_nodes ∷ at_columns ∷ at_radii ∷ at_spans ∷ at_end ∷ []) ls
+    → Begins (line.Header Second ∷ line.Book ∷ line.Cap d ∷ ls)
+capped_nodes d wanted [] p =
+    prefix_part (line.Header Second ∷ line.Book ∷ line.Cap d ∷ []) (line.Nodes 0 ∷ []) (capped_goes_on d 0 wanted (omega arith) [] tt)
+capped_nodes d wanted (line.Nodes m ∷ ls) p = capped_goes_on d m wanted p.0 ls p.1
+capped_nodes d wanted (l ∷ ls) p = absurd p.0
+
+capped_cap : (ls : List CertificateLine) → MayCome 0 (at_cap ∷ at_nodes ∷ at_columns ∷ at_radii ∷ at_spans ∷ at_end ∷ []) ls
+    → Begins (line.Header Second ∷ line.Book ∷ ls)
+capped_cap [] p = prefix_part (line.Header Second ∷ line.Book ∷ []) (line.Cap 1 ∷ []) (capped_nodes 1 one_wanted [] tt)
+capped_cap (line.Cap d ∷ ls) p = capped_nodes d p.0 ls p.1
+capped_cap (l ∷ ls) p = absurd p.0
+
 thin_nodes : (w d : ℕ) → IsWanted w → d ≤ column_limit → (ls : List CertificateLine) → MayCome 0 (at_nodes ∷ at_side ∷ at_span ∷ at_end ∷ []) ls
-    → Begins (line.Header ∷ line.Thin ∷ line.Wanted w ∷ line.Distance d ∷ ls)
+    → Begins (line.Header First ∷ line.Thin ∷ line.Wanted w ∷ line.Distance d ∷ ls)
 thin_nodes w d wanted far [] p =
-    prefix_part (line.Header ∷ line.Thin ∷ line.Wanted w ∷ line.Distance d ∷ []) (line.Nodes 0 ∷ []) (thin_goes_on w d 0 wanted far (omega arith) [] tt)
+    prefix_part (line.Header First ∷ line.Thin ∷ line.Wanted w ∷ line.Distance d ∷ []) (line.Nodes 0 ∷ []) (thin_goes_on w d 0 wanted far (omega arith) [] tt)
 thin_nodes w d wanted far (line.Nodes m ∷ ls) p = thin_goes_on w d m wanted far p.0 ls p.1
 thin_nodes w d wanted far (l ∷ ls) p = absurd p.0
 
 thin_distance : (w : ℕ) → IsWanted w → (ls : List CertificateLine) → MayCome 0 (at_thin_distance ∷ at_nodes ∷ at_side ∷ at_span ∷ at_end ∷ []) ls
-    → Begins (line.Header ∷ line.Thin ∷ line.Wanted w ∷ ls)
+    → Begins (line.Header First ∷ line.Thin ∷ line.Wanted w ∷ ls)
 thin_distance w wanted [] p =
-    prefix_part (line.Header ∷ line.Thin ∷ line.Wanted w ∷ []) (line.Distance 0 ∷ []) (thin_nodes w 0 wanted (omega arith) [] tt)
+    prefix_part (line.Header First ∷ line.Thin ∷ line.Wanted w ∷ []) (line.Distance 0 ∷ []) (thin_nodes w 0 wanted (omega arith) [] tt)
 thin_distance w wanted (line.Distance d ∷ ls) p = thin_nodes w d wanted p.0 ls p.1
 thin_distance w wanted (l ∷ ls) p = absurd p.0
 
 thin_wanted : (ls : List CertificateLine) → MayCome 0 (at_wanted ∷ at_thin_distance ∷ at_nodes ∷ at_side ∷ at_span ∷ at_end ∷ []) ls
-    → Begins (line.Header ∷ line.Thin ∷ ls)
-thin_wanted [] p = prefix_part (line.Header ∷ line.Thin ∷ []) (line.Wanted 1 ∷ []) (thin_distance 1 one_wanted [] tt)
+    → Begins (line.Header First ∷ line.Thin ∷ ls)
+thin_wanted [] p = prefix_part (line.Header First ∷ line.Thin ∷ []) (line.Wanted 1 ∷ []) (thin_distance 1 one_wanted [] tt)
 thin_wanted (line.Wanted w ∷ ls) p = thin_distance w p.0 ls p.1
 thin_wanted (l ∷ ls) p = absurd p.0
 
-kind_goes_on : (ls : List CertificateLine) → MayCome 0 (at_kind ∷ at_end ∷ []) ls → Begins (line.Header ∷ ls)
-kind_goes_on [] p = prefix_part (line.Header ∷ []) (line.Book ∷ []) (book_distance [] tt)
-kind_goes_on (line.Book ∷ ls) p = book_distance ls p.1
-kind_goes_on (line.Thin ∷ ls) p = thin_wanted ls p.1
-kind_goes_on (l ∷ ls) p = absurd p.0
+kind_goes_on : (version : Version) (ls : List CertificateLine) → MayCome 0 (at_kind version ∷ at_end ∷ []) ls → Begins (line.Header version ∷ ls)
+kind_goes_on First [] p = prefix_part (line.Header First ∷ []) (line.Book ∷ []) (book_distance [] tt)
+kind_goes_on First (line.Book ∷ ls) p = book_distance ls p.1
+kind_goes_on First (line.Thin ∷ ls) p = thin_wanted ls p.1
+kind_goes_on First (l ∷ ls) p = absurd p.0
+kind_goes_on Second [] p = prefix_part (line.Header Second ∷ []) (line.Book ∷ []) (capped_cap [] tt)
+kind_goes_on Second (line.Book ∷ ls) p = capped_cap ls p.1
+kind_goes_on Second (l ∷ ls) p = absurd p.0
 
 -- what may come is what some certificate begins with
 pub may_come_begins : (ls : List CertificateLine) → MayCome 0 all_places ls → Begins ls
-may_come_begins [] p = prefix_part [] (line.Header ∷ []) (kind_goes_on [] tt)
-may_come_begins (line.Header ∷ ls) p = kind_goes_on ls p.1
+may_come_begins [] p = prefix_part [] (line.Header First ∷ []) (kind_goes_on First [] tt)
+may_come_begins (line.Header version ∷ ls) p = kind_goes_on version ls p.1
 may_come_begins (l ∷ ls) p = absurd p.0

@@ -10,11 +10,12 @@ use Rattle.cb_cert.specs.declared.fault.CertText.{CertText}
 use Rattle.cb_cert.specs.declared.fault.CertText.TheVariants as fault
 use Rattle.cb_cert.specs.declared.line.CertificateLine.{CertificateLine}
 use Rattle.cb_cert.specs.declared.line.CertificateLine.TheVariants as line
+use Rattle.cb_cert.specs.declared.line.Version.{Version}
 use Rattle.cb_cert.specs.declared.reader.Reader.{Reader}
 use Rattle.cb_cert.specs.Ahead.{at_kind, at_end, MayStand}
 use Rattle.cb_cert.specs.Format.{Fits, IsCertificate, SpellsCertificate, entries_in}
 use Rattle.cb_cert.specs.Prefixes.{IsFault}
-use Rattle.cb_cert.specs.Lines.{certificate_lines, claim_lines, line_text}
+use Rattle.cb_cert.specs.Lines.{version_of, certificate_lines, claim_lines, line_text}
 use Rattle.cb_cert.specs.Steps.{HasRead, Moves}
 use Rattle.cb_cert.proofs.Allowed.{prefixes_may_come}
 use Rattle.cb_cert.proofs.Completed.{may_come_begins}
@@ -27,18 +28,18 @@ pub empty : (text : List ℕ) → lines_of text ≡ [] → IsFault text fault.Tr
 empty text none = record { before = []; lines = none; prefix = nothing_is_prefix; open_ended = no_header [] refl }
 
 -- the header was read
-pub begun : (text : List ℕ) (reader : Reader) → lines_of text ≡ line_text line.Header ∷ reader.lines → reader.number ≡ 1 → reader.entries ≡ 0
-    → length (lines_of text) < 2 ^ 64 → HasRead text reader (line.Header ∷ []) 0 (at_kind ∷ at_end ∷ [])
-begun text reader lines number entries small = record {
+pub begun : (text : List ℕ) (reader : Reader) (version : Version) → lines_of text ≡ line_text (line.Header version) ∷ reader.lines → reader.number ≡ 1
+    → reader.entries ≡ 0 → length (lines_of text) < 2 ^ 64 → HasRead text reader (line.Header version ∷ []) 0 (at_kind version ∷ at_end ∷ [])
+begun text reader version lines number entries small = record {
   lines_are = lines;
   number_is = number;
   small = small;
   entries_are = entries;
   few = omega arith;
   begun = λ none. cc;
-  unended = All-cons (λ l. l ≢ line.End) line.Header [] (λ e. cc) (All-nil (λ l. l ≢ line.End));
-  goes_on = λ ls may. may_come_begins (line.Header ∷ ls) (tt, may);
-  no_other = λ ls begins. (prefixes_may_come (line.Header ∷ ls) begins).1;
+  unended = All-cons (λ l. l ≢ line.End) (line.Header version) [] (λ e. cc) (All-nil (λ l. l ≢ line.End));
+  goes_on = λ ls may. may_come_begins (line.Header version ∷ ls) (tt, may);
+  no_other = λ ls begins. (prefixes_may_come (line.Header version ∷ ls) begins).1;
 }
 
 -- a fault that isn't out of memory
@@ -50,7 +51,7 @@ only_end : (n : ℕ) (l : CertificateLine) → MayStand n at_end l → l ≡ lin
 only_end n line.End p = refl
 only_end n l p = absurd p
 
-module _ (text : List ℕ) (c : Certificate) (n : ℕ) (old : Reader) (read : HasRead text old (line.Header ∷ claim_lines c) n (at_end ∷ [])) where
+module _ (text : List ℕ) (c : Certificate) (n : ℕ) (old : Reader) (read : HasRead text old (line.Header (version_of c) ∷ claim_lines c) n (at_end ∷ [])) where
   -- what was read, with the last line, is a certificate of the format
   whole : IsCertificate c
   whole =
@@ -58,21 +59,21 @@ module _ (text : List ℕ) (c : Certificate) (n : ℕ) (old : Reader) (read : Ha
       let same = goes_on begins.of c begins.more begins.are in
       record {
         fit = subst (λ k. All (Fits k) (certificate_lines c)) same.0 begins.fit;
-        few = omega (arith, read.few, read.entries_are, sum_by-append entries_in (line.Header ∷ claim_lines c) (line.End ∷ []));
+        few = omega (arith, read.few, read.entries_are, sum_by-append entries_in (line.Header (version_of c) ∷ claim_lines c) (line.End ∷ []));
       }
 
   -- the last line is missing
   pub no_end : old.lines ≡ [] → IsFault text fault.Truncated
   no_end none =
       sure text fault.Truncated (λ e. cc)
-      (missed text old (line.Header ∷ claim_lines c) n at_end [] (λ met. met ≢ line_text line.End) read
+      (missed text old (line.Header (version_of c) ∷ claim_lines c) n at_end [] (λ met. met ≢ line_text line.End) read
       (λ l met wrong is stands. wrong (is ∙ ap line_text (only_end n l stands))) fault.Truncated none)
 
   -- another line stands there
   pub other_end : (new : Reader) (met : List ℕ) → Moves old new met → met ≢ line_text line.End → IsFault text (fault.BadLine new.number)
   other_end new met moves other =
       sure text (fault.BadLine new.number) (λ e. cc)
-      (missed text old (line.Header ∷ claim_lines c) n at_end [] (λ met. met ≢ line_text line.End) read
+      (missed text old (line.Header (version_of c) ∷ claim_lines c) n at_end [] (λ met. met ≢ line_text line.End) read
       (λ l met wrong is stands. wrong (is ∙ ap line_text (only_end n l stands))) (fault.BadLine new.number)
       (record { met = met; after = new.lines; lines_are = moves.lines_are; number_is = moves.number_is; wrong = other }))
 
@@ -81,9 +82,9 @@ module _ (text : List ℕ) (c : Certificate) (n : ℕ) (old : Reader) (read : Ha
     lines rest e =
         let first : old.lines ≡ line_text line.End ∷ rest = let l = moves.lines_are in cc in
         read.lines_are
-        ∙ (ap (λ (ts : List (List ℕ)). map line_text (line.Header ∷ claim_lines c) ++ ts) first
-        ∙ sym (ap (λ (ts : List (List ℕ)). ts ++ rest) (map-append line_text (line.Header ∷ claim_lines c) (line.End ∷ []))
-        ∙ append_assoc (map line_text (line.Header ∷ claim_lines c)) (line_text line.End ∷ []) rest))
+        ∙ (ap (λ (ts : List (List ℕ)). map line_text (line.Header (version_of c) ∷ claim_lines c) ++ ts) first
+        ∙ sym (ap (λ (ts : List (List ℕ)). ts ++ rest) (map-append line_text (line.Header (version_of c) ∷ claim_lines c) (line.End ∷ []))
+        ∙ append_assoc (map line_text (line.Header (version_of c) ∷ claim_lines c)) (line_text line.End ∷ []) rest))
 
     -- nothing follows
     pub spelt : new.lines ≡ [] → SpellsCertificate text c
@@ -96,7 +97,7 @@ module _ (text : List ℕ) (c : Certificate) (n : ℕ) (old : Reader) (read : Ha
         let all : length (lines_of text) ≡ length (map line_text (certificate_lines c)) + length (next ∷ after) =
         ap length (lines (next ∷ after) e) ∙ length-append (map line_text (certificate_lines c)) (next ∷ after)
         in
-        let some : length (certificate_lines c) ≡ length (line.Header ∷ claim_lines c) + 1 = length-append (line.Header ∷ claim_lines c) (line.End ∷ []) in
+        let some : length (certificate_lines c) ≡ length (line.Header (version_of c) ∷ claim_lines c) + 1 = length-append (line.Header (version_of c) ∷ claim_lines c) (line.End ∷ []) in
         let many = length-map (certificate_lines c) line_text in
         record {
           before = certificate_lines c;

@@ -13,7 +13,7 @@ use Rattle.cb_cert.specs.declared.reader.Reader.{Reader}
 use Rattle.cb_cert.specs.Ahead.{TextPlace, MayStand, opened, nodes_after}
 use Rattle.cb_cert.specs.Format.{entries_in, entry_limit}
 use Rattle.cb_cert.specs.Prefixes.{Begins, IsCertificatePrefix, AreCertificateLines, IsFault}
-use Rattle.cb_cert.specs.Lines.{claim_lines, line_text}
+use Rattle.cb_cert.specs.Lines.{version_of, claim_lines, line_text}
 use Rattle.cb_cert.specs.Steps.{HasRead, Moves, Misses}
 use Rattle.cb_cert.proofs.Readings.{all_last}
 
@@ -34,7 +34,7 @@ next_number text reader before n ahead met after k read lines number =
 
 pub taken : (text : List ℕ) (old new : Reader) (before : List CertificateLine) (n : ℕ) (place : TextPlace) (ahead : List TextPlace) (l : CertificateLine)
     → HasRead text old before n (place ∷ ahead) → Passes old new l → MayStand n place l → l ≢ line.End
-    → HasRead text new (before ++ l ∷ []) (nodes_after n l) (opened l ++ ahead)
+    → HasRead text new (before ++ l ∷ []) (nodes_after n l) (opened l place ++ ahead)
 taken text old new before n place ahead l read next stands going =
     let number = next_number text old before n (place ∷ ahead) (line_text l) new.lines new.number read next.lines_are next.number_is in
     record {
@@ -64,7 +64,7 @@ pub going : (text : List ℕ) (reader : Reader) (before : List CertificateLine) 
 going text reader before n ahead read whole =
     let c = whole.0 in
     let over = subst (All (λ k. k ≢ line.End)) (whole.2) read.unended in
-    let beyond = All-tail (λ k. k ≢ line.End) line.Header (claim_lines c ++ line.End ∷ []) over in
+    let beyond = All-tail (λ k. k ≢ line.End) (line.Header (version_of c)) (claim_lines c ++ line.End ∷ []) over in
     all_last (λ k. k ≢ line.End) (claim_lines c) line.End beyond refl
 
 -- why the next line isn't read is why the text is no certificate
@@ -106,7 +106,7 @@ pub record Stand {X : Type 0} (n : ℕ) (place : TextPlace) (f : X → Certifica
 -- one line of this form is read
 pub took : {X : Type 0} (n : ℕ) (place : TextPlace) (f : X → CertificateLine) (P : X → Type 0) → Stand n place f P → (text : List ℕ) (old new : Reader) (before : List CertificateLine)
     (ahead : List TextPlace) → HasRead text old before n (place ∷ ahead) → (x : X) → Moves old new (line_text (f x)) × P x
-    → HasRead text new (before ++ f x ∷ []) (nodes_after n (f x)) (opened (f x) ++ ahead)
+    → HasRead text new (before ++ f x ∷ []) (nodes_after n (f x)) (opened (f x) place ++ ahead)
 took n place f P stand text old new before ahead read x takes =
     let moves = takes.0 in
     let light = stand.light x in

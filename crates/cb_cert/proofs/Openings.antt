@@ -7,6 +7,7 @@ use Rattle.cb_cert.specs.declared.fault.CertText.{CertText}
 use Rattle.cb_cert.specs.declared.fault.CertText.TheVariants as fault
 use Rattle.cb_cert.specs.declared.line.CertificateLine.{CertificateLine}
 use Rattle.cb_cert.specs.declared.line.CertificateLine.TheVariants as line
+use Rattle.cb_cert.specs.declared.line.Version.TheVariants.{First, Second}
 use Rattle.cb_cert.specs.declared.reader.Reader.{Reader}
 use Rattle.cb_cert.specs.Ahead.{TextPlace, at_kind, at_span, at_side, at_entry, MayStand, opened, nodes_after}
 use Rattle.cb_cert.specs.Format.{entries_in}
@@ -88,7 +89,7 @@ module _ (text : List ℕ) (old mid new : Reader) (met : List ℕ) (before : Lis
 
   -- a line that is always the same is read
   pub fixed : (l : CertificateLine) → met ≡ line_text l → entries_in l ≡ 0 → l ≢ line.End → MayStand n place l
-      → HasRead text mid (before ++ l ∷ []) (nodes_after n l) (opened l ++ ahead)
+      → HasRead text mid (before ++ l ∷ []) (nodes_after n l) (opened l place ++ ahead)
   fixed l is light inside may =
       let lines = moves.lines_are in
       taken text old mid before n place ahead l read
@@ -100,11 +101,16 @@ module _ (text : List ℕ) (old mid new : Reader) (met : List ℕ) (before : Lis
       })
       may inside
 
--- neither kind of certificate
-pub other_kind : (n : ℕ) (l : CertificateLine) (met : List ℕ) → (met ≢ line_text line.Book) × (met ≢ line_text line.Thin) → met ≡ line_text l → MayStand n at_kind l → ⊥
+-- no kind of certificate that there is in the version
+pub other_kind : (n : ℕ) (l : CertificateLine) (met : List ℕ) → (met ≢ line_text line.Book) × (met ≢ line_text line.Thin) → met ≡ line_text l
+    → MayStand n (at_kind First) l → ⊥
 other_kind n line.Book met other is stands = other.0 is
 other_kind n line.Thin met other is stands = other.1 is
 other_kind n l met other is stands = absurd stands
+
+pub no_book : (n : ℕ) (l : CertificateLine) (met : List ℕ) → met ≢ line_text line.Book → met ≡ line_text l → MayStand n (at_kind Second) l → ⊥
+no_book n line.Book met other is stands = other is
+no_book n l met other is stands = absurd stands
 
 -- lines that were read one after another
 pub regroup_book : (before : List CertificateLine) (a b : CertificateLine) (xs ys zs : List CertificateLine)
@@ -114,6 +120,11 @@ regroup_book before a b xs ys zs =
     let rest = xs ++ (ys ++ zs) in
     append_assoc (two ++ xs) ys zs
     ∙ (append_assoc two xs (ys ++ zs) ∙ (append_assoc (before ++ a ∷ []) (b ∷ []) rest ∙ append_assoc before (a ∷ []) (b ∷ rest)))
+
+pub regroup_capped : (before : List CertificateLine) (a b : CertificateLine) (xs ys zs ws : List CertificateLine)
+    → (((((before ++ a ∷ []) ++ b ∷ []) ++ xs) ++ ys) ++ zs) ++ ws ≡ before ++ a ∷ b ∷ (xs ++ (ys ++ (zs ++ ws)))
+regroup_capped before a b xs ys zs ws =
+    append_assoc ((((before ++ a ∷ []) ++ b ∷ []) ++ xs) ++ ys) zs ws ∙ regroup_book before a b xs ys (zs ++ ws)
 
 pub regroup_thin : (before : List CertificateLine) (a b d : CertificateLine) (xs ys zs : List CertificateLine)
     → (((((before ++ a ∷ []) ++ b ∷ []) ++ d ∷ []) ++ xs) ++ ys) ++ zs ≡ before ++ a ∷ b ∷ d ∷ (xs ++ (ys ++ zs))

@@ -12,7 +12,8 @@ use Rattle.cb_cert.specs.declared.fault.CertText.{CertText}
 use Rattle.cb_cert.specs.declared.fault.CertText.TheVariants as fault
 use Rattle.cb_cert.specs.declared.line.CertificateLine.{CertificateLine}
 use Rattle.cb_cert.specs.declared.line.CertificateLine.TheVariants as line
-use Rattle.cb_cert.specs.Lines.{certificate_lines, line_text, text_of}
+use Rattle.cb_cert.specs.declared.line.Version.{Version}
+use Rattle.cb_cert.specs.Lines.{version_of, certificate_lines, line_text, text_of}
 use Rattle.cb_cert.specs.Format.{Fits, IsCertificate, entries_in, entry_limit}
 use Rattle.cb_cert.specs.Prefixes.{Begins, IsCertificatePrefix, AreCertificateLines, IsReading}
 use Rattle.cb_cert.proofs.LineTexts.{IsSmall, fitting_is_small, line_text_one}
@@ -69,9 +70,9 @@ begins_is_small lines begins = All-weaker (Fits begins.of) IsSmall (fitting_is_s
 prefix_is_small : (lines : List CertificateLine) → IsCertificatePrefix lines → All IsSmall lines
 prefix_is_small lines is = begins_is_small lines is.begins
 
--- a prefix begins with the header
-prefix_head : (l : CertificateLine) (ls : List CertificateLine) → Begins (l ∷ ls) → l ≡ line.Header
-prefix_head l ls begins = let e = begins.are in cc
+-- a prefix begins with a header
+prefix_head : (l : CertificateLine) (ls : List CertificateLine) → Begins (l ∷ ls) → (version : Version) × (l ≡ line.Header version)
+prefix_head l ls begins = let e = begins.are in (version_of begins.of, cc)
 
 -- a reading: the lines that are as they should be, what follows them, and that nothing that should be follows
 record Reads (text : List ℕ) (before : List CertificateLine) (rest : List (List ℕ)) : Type 0 where
@@ -118,7 +119,7 @@ same_lines text xs ys us vs a b =
 abbrev Ended : Result Certificate CertText → List CertificateLine → List (List ℕ) → Type 0
 Ended (Ok c) before rest = (rest ≡ []) × IsCertificate c × (before ≡ certificate_lines c)
 Ended (Err fault.BadHeader) before rest =
-    (met : List ℕ) × (after : List (List ℕ)) × (rest ≡ met ∷ after) × (before ≡ []) × (met ≢ line_text line.Header)
+    (met : List ℕ) × (after : List (List ℕ)) × (rest ≡ met ∷ after) × (before ≡ []) × ((version : Version) → met ≢ line_text (line.Header version))
 Ended (Err (fault.BadLine n)) before rest =
     (met : List ℕ) × (after : List (List ℕ)) × (rest ≡ met ∷ after) × (n ≡ length before + 1) × (before ≢ []) × (AreCertificateLines before → ⊥)
     × ((l : CertificateLine) → met ≡ line_text l → ¬ Begins (before ++ l ∷ []))
@@ -164,7 +165,7 @@ ended_of text (Err fault.BadHeader) p = record {
     stuck = λ l more f e.
         let header = prefix_head l [] f.begins in
         let first : p.first ≡ line_text l = cc in
-        p.other (first ∙ ap line_text header);
+        p.other header.0 (first ∙ ap line_text header.1);
   };
   ended = (p.first, p.after, refl, refl, p.other);
 }
@@ -217,6 +218,7 @@ no_header before none (c, is, e) = cc
 no_span : (before : List CertificateLine) (k : ℕ) → before ≡ [] → Begins (before ++ line.Span k ∷ []) → ⊥
 no_span before k none begins =
     let header = prefix_head (line.Span k) [] (subst (λ ls. Begins (ls ++ line.Span k ∷ [])) none begins) in
+    let is = header.1 in
     cc
 
 ended_one : (a b : Result Certificate CertText) (before : List CertificateLine) (rest : List (List ℕ)) → Ended a before rest → Ended b before rest → a ≡ b

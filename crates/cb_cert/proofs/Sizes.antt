@@ -1,12 +1,12 @@
 -- How long the text of a certificate is.
-use Rattle.std.proofs.Common.{◌≡◌, ℕ, ◌+◌, ◌*◌, ◌^◌, ◌<◌, ◌≤◌, List, [], ◌∷◌, ◌++◌, length, map, codes, refl, sym, ap, subst, ◌∙◌, arith}
+use Rattle.std.proofs.Common.{◌≡◌, ℕ, ◌+◌, ◌*◌, ◌<◌, ◌≤◌, List, [], ◌∷◌, ◌++◌, length, map, codes, refl, sym, subst, arith}
 use Rattle.std.specs.Fmt.{decimal}
 use Rattle.std.specs.List.{All, flat_map, sum_by}
 use Rattle.std.proofs.lemmas.Fmt.{length-decimal-le}
 use Rattle.std.proofs.lemmas.List.{length-append}
 use Rattle.std.proofs.lemmas.List.Sums.{sum_by-append, sum_by-cons}
 use Rattle.std.proofs.lemmas.List.Elements.{All-nil, All-cons, All-head, All-tail}
-use Rattle.cb_text.specs.Lines.{lines_of, line_limit, HasShortLines}
+use Rattle.cb_text.specs.Lines.{line_limit, HasShortLines}
 use Rattle.cb_model.specs.declared.node.NodeName.{NodeName}
 use Rattle.cb_cert.specs.declared.certificate.Certificate.{Certificate}
 use Rattle.cb_cert.specs.declared.certificate.Certificate.TheVariants as certificate
@@ -16,8 +16,10 @@ use Rattle.cb_cert.specs.declared.certificate.Side.TheVariants as side
 use Rattle.cb_cert.specs.declared.certificate.Span.{Span}
 use Rattle.cb_cert.specs.declared.line.CertificateLine.{CertificateLine}
 use Rattle.cb_cert.specs.declared.line.CertificateLine.TheVariants as line
-use Rattle.cb_cert.specs.Lines.{certificate_lines, span_lines, node_lines, column_lines, all_span_lines, side_lines, line_text, ended, text_of}
+use Rattle.cb_cert.specs.declared.line.Version.TheVariants.{First, Second}
+use Rattle.cb_cert.specs.Lines.{certificate_lines, span_lines, node_lines, column_lines, radius_lines, all_span_lines, side_lines, line_text, ended, text_of}
 use Rattle.cb_cert.specs.Format.{Fits, IsCertificate, SpellsCertificate, IsDistance, HasValidNames, nodes_of, certificate_node_limit, entries_in}
+use Rattle.cb_cert.proofs.TextLines.{few_nodes}
 
 -- ---- lines
 
@@ -35,15 +37,18 @@ most l = 22
 
 most_of : (l : CertificateLine) → most l ≤ 132
 unfolding most
-most_of line.Header = omega arith
+most_of (line.Header version) = omega arith
 most_of line.Book = omega arith
 most_of line.Thin = omega arith
 most_of (line.Wanted w) = omega arith
 most_of (line.Distance d) = omega arith
+most_of (line.Cap n) = omega arith
 most_of (line.Nodes n) = omega arith
 most_of (line.Node n) = omega arith
 most_of (line.Columns n) = omega arith
 most_of (line.Column i) = omega arith
+most_of (line.Radii n) = omega arith
+most_of (line.Radius r) = omega arith
 most_of (line.Spans n) = omega arith
 most_of line.Quiet = omega arith
 most_of (line.Span n) = omega arith
@@ -52,6 +57,7 @@ most_of line.End = omega arith
 
 distance_is_small : (c : Certificate) (d : ℕ) → IsDistance c d → d < 100000
 distance_is_small (certificate.Book distance nodes columns spans) d is = let (some, few) = is in omega arith
+distance_is_small (certificate.Capped cap nodes columns radii spans) d is = absurd is
 distance_is_small (certificate.Thin wanted distance nodes first second) d is = omega (arith, is)
 
 -- the length of four parts
@@ -79,15 +85,19 @@ entry_line e low parent =
 module _ (c : Certificate) (few : length (nodes_of c) ≤ certificate_node_limit) where
   short_line : (l : CertificateLine) → Fits c l → length (line_text l) ≤ most l
   unfolding most
-  short_line line.Header fits = omega arith
+  short_line (line.Header First) fits = omega arith
+  short_line (line.Header Second) fits = omega arith
   short_line line.Book fits = omega arith
   short_line line.Thin fits = omega arith
   short_line (line.Wanted w) fits = let (some, low) = fits in let is = numbered (codes "wanted ") w (omega arith) in omega arith
   short_line (line.Distance d) fits = let is = numbered (codes "distance ") d (distance_is_small c d fits) in omega arith
+  short_line (line.Cap n) fits = let (some, low) = fits in let is = numbered (codes "cap ") n (omega arith) in omega arith
   short_line (line.Nodes n) fits = let is = numbered (codes "nodes ") n (omega (arith, fits)) in omega arith
   short_line (line.Node n) fits = node_line n fits
   short_line (line.Columns n) fits = let is = numbered (codes "columns ") n (omega (arith, fits)) in omega arith
   short_line (line.Column i) fits = let (some, low) = fits in let is = numbered (codes "column ") i (omega arith) in omega arith
+  short_line (line.Radii n) fits = let (some, low) = fits in let is = numbered (codes "radii ") n (omega arith) in omega arith
+  short_line (line.Radius r) fits = let is = numbered (codes "radius ") r (omega (arith, fits)) in omega arith
   short_line (line.Spans n) fits = let is = numbered (codes "spans ") n (omega (arith, fits)) in omega arith
   short_line line.Quiet fits = omega arith
   short_line (line.Span n) fits = let (some, low) = fits in let is = numbered (codes "span ") n (omega arith) in omega arith
@@ -215,7 +225,7 @@ book_bytes far nodes numbers spans is =
     let sl = all_span_lines spans in
     let body = nl ++ (cl ++ sl) in
     let claim = line.Book ∷ line.Distance far ∷ body in
-    let claim_fits = all_prefix P claim (line.End ∷ []) (All-tail P line.Header (claim ++ line.End ∷ []) is.fit) in
+    let claim_fits = all_prefix P claim (line.End ∷ []) (All-tail P (line.Header First) (claim ++ line.End ∷ []) is.fit) in
     let beyond = All-tail P line.Book (line.Distance far ∷ body) claim_fits in
     let body_fits = All-tail P (line.Distance far) body beyond in
     let nodes_fit = all_prefix P nl (cl ++ sl) body_fits in
@@ -227,7 +237,7 @@ book_bytes far nodes numbers spans is =
     let few_spans = All-head P (line.Spans (length spans)) (flat_map span_lines spans) spans_fit in
     let few = is.few in
     -- entries
-    let e1 = sum_by-cons entries_in line.Header (claim ++ line.End ∷ []) in
+    let e1 = sum_by-cons entries_in (line.Header First) (claim ++ line.End ∷ []) in
     let e2 = sum_by-append entries_in claim (line.End ∷ []) in
     let e3 = sum_by-cons entries_in line.Book (line.Distance far ∷ body) in
     let e4 = sum_by-cons entries_in (line.Distance far) body in
@@ -235,7 +245,7 @@ book_bytes far nodes numbers spans is =
     let e6 = sum_by-append entries_in cl sl in
     let e7 = sum_by-cons entries_in (line.Spans (length spans)) (flat_map span_lines spans) in
     -- bytes
-    let b1 = bytes_cons line.Header (claim ++ line.End ∷ []) in
+    let b1 = bytes_cons (line.Header First) (claim ++ line.End ∷ []) in
     let b2 = bytes_append claim (line.End ∷ []) in
     let b3 = bytes_cons line.Book (line.Distance far ∷ body) in
     let b4 = bytes_cons (line.Distance far) body in
@@ -247,7 +257,7 @@ book_bytes far nodes numbers spans is =
     let b10 = bytes_cons line.End [] in
     let b11 = bytes_none in
     -- how many at most
-    let m1 = ended_line c few_nodes line.Header tt in
+    let m1 = ended_line c few_nodes (line.Header First) tt in
     let m2 = ended_line c few_nodes line.Book tt in
     let m3 = ended_line c few_nodes (line.Distance far) (All-head P (line.Distance far) body beyond) in
     let m4 = ended_line c few_nodes (line.Nodes (length nodes)) few_nodes in
@@ -257,6 +267,71 @@ book_bytes far nodes numbers spans is =
     let m8 = node_bytes c few_nodes nodes (All-tail P (line.Nodes (length nodes)) (map line.Node nodes) nodes_fit) in
     let m9 = small_lines c few_nodes line.Column (λ i. refl) numbers (All-tail P (line.Columns (length numbers)) (map line.Column numbers) columns_fit) in
     let m10 = spans_bytes c few_nodes spans (All-tail P (line.Spans (length spans)) (flat_map span_lines spans) spans_fit) in
+    omega arith
+
+capped_bytes : (cap : ℕ) (nodes : List NodeName) (numbers radii : List ℕ) (spans : List Span) → IsCertificate (certificate.Capped cap nodes numbers radii spans)
+    → bytes_of (certificate_lines (certificate.Capped cap nodes numbers radii spans)) ≤ 33554432
+unfolding most
+capped_bytes cap nodes numbers radii spans is =
+    let c = certificate.Capped cap nodes numbers radii spans in
+    let P = Fits c in
+    let nl = node_lines nodes in
+    let cl = column_lines numbers in
+    let rl = radius_lines radii in
+    let sl = all_span_lines spans in
+    let body = nl ++ (cl ++ (rl ++ sl)) in
+    let claim = line.Book ∷ line.Cap cap ∷ body in
+    let claim_fits = all_prefix P claim (line.End ∷ []) (All-tail P (line.Header Second) (claim ++ line.End ∷ []) is.fit) in
+    let beyond = All-tail P line.Book (line.Cap cap ∷ body) claim_fits in
+    let body_fits = All-tail P (line.Cap cap) body beyond in
+    let nodes_fit = all_prefix P nl (cl ++ (rl ++ sl)) body_fits in
+    let few_nodes = All-head P (line.Nodes (length nodes)) (map line.Node nodes) nodes_fit in
+    let later = all_back P nl (cl ++ (rl ++ sl)) body_fits in
+    let columns_fit = all_prefix P cl (rl ++ sl) later in
+    let few_columns = All-head P (line.Columns (length numbers)) (map line.Column numbers) columns_fit in
+    let last = all_back P cl (rl ++ sl) later in
+    let radii_fit = all_prefix P rl sl last in
+    let few_radii = All-head P (line.Radii (length radii)) (map line.Radius radii) radii_fit in
+    let (some_radii, most_radii) = few_radii in
+    let spans_fit = all_back P rl sl last in
+    let few_spans = All-head P (line.Spans (length spans)) (flat_map span_lines spans) spans_fit in
+    let few = is.few in
+    -- entries
+    let e1 = sum_by-cons entries_in (line.Header Second) (claim ++ line.End ∷ []) in
+    let e2 = sum_by-append entries_in claim (line.End ∷ []) in
+    let e3 = sum_by-cons entries_in line.Book (line.Cap cap ∷ body) in
+    let e4 = sum_by-cons entries_in (line.Cap cap) body in
+    let e5 = sum_by-append entries_in nl (cl ++ (rl ++ sl)) in
+    let e6 = sum_by-append entries_in cl (rl ++ sl) in
+    let e7 = sum_by-append entries_in rl sl in
+    let e8 = sum_by-cons entries_in (line.Spans (length spans)) (flat_map span_lines spans) in
+    -- bytes
+    let b1 = bytes_cons (line.Header Second) (claim ++ line.End ∷ []) in
+    let b2 = bytes_append claim (line.End ∷ []) in
+    let b3 = bytes_cons line.Book (line.Cap cap ∷ body) in
+    let b4 = bytes_cons (line.Cap cap) body in
+    let b5 = bytes_append nl (cl ++ (rl ++ sl)) in
+    let b6 = bytes_append cl (rl ++ sl) in
+    let b7 = bytes_append rl sl in
+    let b8 = bytes_cons (line.Spans (length spans)) (flat_map span_lines spans) in
+    let b9 = bytes_cons (line.Nodes (length nodes)) (map line.Node nodes) in
+    let b10 = bytes_cons (line.Columns (length numbers)) (map line.Column numbers) in
+    let b11 = bytes_cons (line.Radii (length radii)) (map line.Radius radii) in
+    let b12 = bytes_cons line.End [] in
+    let b13 = bytes_none in
+    -- how many at most
+    let m1 = ended_line c few_nodes (line.Header Second) tt in
+    let m2 = ended_line c few_nodes line.Book tt in
+    let m3 = ended_line c few_nodes (line.Cap cap) (All-head P (line.Cap cap) body beyond) in
+    let m4 = ended_line c few_nodes (line.Nodes (length nodes)) few_nodes in
+    let m5 = ended_line c few_nodes (line.Columns (length numbers)) few_columns in
+    let m6 = ended_line c few_nodes (line.Radii (length radii)) few_radii in
+    let m7 = ended_line c few_nodes (line.Spans (length spans)) few_spans in
+    let m8 = ended_line c few_nodes line.End tt in
+    let m9 = node_bytes c few_nodes nodes (All-tail P (line.Nodes (length nodes)) (map line.Node nodes) nodes_fit) in
+    let m10 = small_lines c few_nodes line.Column (λ i. refl) numbers (All-tail P (line.Columns (length numbers)) (map line.Column numbers) columns_fit) in
+    let m11 = small_lines c few_nodes line.Radius (λ r. refl) radii (All-tail P (line.Radii (length radii)) (map line.Radius radii) radii_fit) in
+    let m12 = spans_bytes c few_nodes spans (All-tail P (line.Spans (length spans)) (flat_map span_lines spans) spans_fit) in
     omega arith
 
 thin_bytes : (wanted far : ℕ) (nodes : List NodeName) (first : Side) (second : Span) → IsCertificate (certificate.Thin wanted far nodes first second)
@@ -270,7 +345,7 @@ thin_bytes wanted far nodes first second is =
     let sl = span_lines second in
     let body = nl ++ (fl ++ sl) in
     let claim = line.Thin ∷ line.Wanted wanted ∷ line.Distance far ∷ body in
-    let claim_fits = all_prefix P claim (line.End ∷ []) (All-tail P line.Header (claim ++ line.End ∷ []) is.fit) in
+    let claim_fits = all_prefix P claim (line.End ∷ []) (All-tail P (line.Header First) (claim ++ line.End ∷ []) is.fit) in
     let beyond = All-tail P line.Thin (line.Wanted wanted ∷ line.Distance far ∷ body) claim_fits in
     let far_fits = All-tail P (line.Wanted wanted) (line.Distance far ∷ body) beyond in
     let body_fits = All-tail P (line.Distance far) body far_fits in
@@ -279,7 +354,7 @@ thin_bytes wanted far nodes first second is =
     let later = all_back P nl (fl ++ sl) body_fits in
     let few = is.few in
     -- entries
-    let e1 = sum_by-cons entries_in line.Header (claim ++ line.End ∷ []) in
+    let e1 = sum_by-cons entries_in (line.Header First) (claim ++ line.End ∷ []) in
     let e2 = sum_by-append entries_in claim (line.End ∷ []) in
     let e3 = sum_by-cons entries_in line.Thin (line.Wanted wanted ∷ line.Distance far ∷ body) in
     let e4 = sum_by-cons entries_in (line.Wanted wanted) (line.Distance far ∷ body) in
@@ -287,7 +362,7 @@ thin_bytes wanted far nodes first second is =
     let e6 = sum_by-append entries_in nl (fl ++ sl) in
     let e7 = sum_by-append entries_in fl sl in
     -- bytes
-    let b1 = bytes_cons line.Header (claim ++ line.End ∷ []) in
+    let b1 = bytes_cons (line.Header First) (claim ++ line.End ∷ []) in
     let b2 = bytes_append claim (line.End ∷ []) in
     let b3 = bytes_cons line.Thin (line.Wanted wanted ∷ line.Distance far ∷ body) in
     let b4 = bytes_cons (line.Wanted wanted) (line.Distance far ∷ body) in
@@ -298,7 +373,7 @@ thin_bytes wanted far nodes first second is =
     let b10 = bytes_cons line.End [] in
     let b11 = bytes_none in
     -- how many at most
-    let m1 = ended_line c few_nodes line.Header tt in
+    let m1 = ended_line c few_nodes (line.Header First) tt in
     let m2 = ended_line c few_nodes line.Thin tt in
     let m3 = ended_line c few_nodes (line.Wanted wanted) (All-head P (line.Wanted wanted) (line.Distance far ∷ body) beyond) in
     let m4 = ended_line c few_nodes (line.Distance far) (All-head P (line.Distance far) body far_fits) in
@@ -309,32 +384,13 @@ thin_bytes wanted far nodes first second is =
     let m10 = span_bytes c few_nodes second (all_back P fl sl later) in
     omega arith
 
--- how many nodes a certificate of the format has
-few_nodes_of : (c : Certificate) → IsCertificate c → length (nodes_of c) ≤ certificate_node_limit
-few_nodes_of (certificate.Book far nodes numbers spans) is =
-    let c = certificate.Book far nodes numbers spans in
-    let rest = column_lines numbers ++ all_span_lines spans in
-    let body = node_lines nodes ++ rest in
-    let claim = line.Book ∷ line.Distance far ∷ body in
-    let claim_fits = all_prefix (Fits c) claim (line.End ∷ []) (All-tail (Fits c) line.Header (claim ++ line.End ∷ []) is.fit) in
-    let body_fits = All-tail (Fits c) (line.Distance far) body (All-tail (Fits c) line.Book (line.Distance far ∷ body) claim_fits) in
-    All-head (Fits c) (line.Nodes (length nodes)) (map line.Node nodes) (all_prefix (Fits c) (node_lines nodes) rest body_fits)
-few_nodes_of (certificate.Thin wanted far nodes first second) is =
-    let c = certificate.Thin wanted far nodes first second in
-    let rest = side_lines first ++ span_lines second in
-    let body = node_lines nodes ++ rest in
-    let claim = line.Thin ∷ line.Wanted wanted ∷ line.Distance far ∷ body in
-    let claim_fits = all_prefix (Fits c) claim (line.End ∷ []) (All-tail (Fits c) line.Header (claim ++ line.End ∷ []) is.fit) in
-    let beyond = All-tail (Fits c) line.Thin (line.Wanted wanted ∷ line.Distance far ∷ body) claim_fits in
-    let body_fits = All-tail (Fits c) (line.Distance far) body (All-tail (Fits c) (line.Wanted wanted) (line.Distance far ∷ body) beyond) in
-    All-head (Fits c) (line.Nodes (length nodes)) (map line.Node nodes) (all_prefix (Fits c) (node_lines nodes) rest body_fits)
-
 pub text_is_short : (c : Certificate) → IsCertificate c → length (text_of c) ≤ 33554432
 unfolding bytes_of
 text_is_short (certificate.Book far nodes numbers spans) is = book_bytes far nodes numbers spans is
+text_is_short (certificate.Capped cap nodes numbers radii spans) is = capped_bytes cap nodes numbers radii spans is
 text_is_short (certificate.Thin wanted far nodes first second) is = thin_bytes wanted far nodes first second is
 
 pub spelled_is_short : (text : List ℕ) (c : Certificate) → SpellsCertificate text c → HasShortLines text
 spelled_is_short text c spells =
     subst (All (λ (line : List ℕ). length line ≤ line_limit)) (sym spells.lines)
-    (short_lines c (few_nodes_of c spells.is) (certificate_lines c) spells.is.fit)
+    (short_lines c (few_nodes c spells.is) (certificate_lines c) spells.is.fit)

@@ -4,8 +4,8 @@ use Rattle.cb_model.specs.declared.node.NodeName.{NodeName}
 use Rattle.cb_cert.specs.declared.certificate.Entry.{Entry}
 use Rattle.cb_cert.specs.declared.line.CertificateLine.{CertificateLine}
 use Rattle.cb_cert.specs.declared.line.CertificateLine.TheVariants as line
-use Rattle.cb_cert.specs.Ahead.{at_wanted, at_distance, at_thin_distance, at_nodes, at_node, at_columns, at_column, at_spans, at_entry, MayStand}
-use Rattle.cb_cert.specs.Format.{IsBetween, HasValidNames, IsEntry, wanted_limit, certificate_node_limit, column_limit}
+use Rattle.cb_cert.specs.Ahead.{at_wanted, at_distance, at_thin_distance, at_cap, at_nodes, at_node, at_columns, at_column, at_radii, at_radius, at_spans, at_entry, MayStand}
+use Rattle.cb_cert.specs.Format.{IsBetween, HasValidNames, IsEntry, wanted_limit, certificate_node_limit, column_limit, radii_limit, greatest_radius}
 use Rattle.cb_cert.proofs.Moved.{Stand}
 
 only_wanted : (n : ℕ) (l : CertificateLine) → MayStand n at_wanted l → (x : ℕ) × (l ≡ line.Wanted x) × IsBetween 1 wanted_limit x
@@ -28,6 +28,13 @@ only_thin n l p = absurd p
 
 pub thin_distance : (n : ℕ) → Stand n at_thin_distance line.Distance (IsBetween 0 column_limit)
 thin_distance n = record { may = λ x p. p.1; only = only_thin n; light = λ x. refl; inside = λ x e. cc }
+
+only_cap : (n : ℕ) (l : CertificateLine) → MayStand n at_cap l → (x : ℕ) × (l ≡ line.Cap x) × IsBetween 1 wanted_limit x
+only_cap n (line.Cap x) p = (x, refl, p)
+only_cap n l p = absurd p
+
+pub cap : (n : ℕ) → Stand n at_cap line.Cap (IsBetween 1 wanted_limit)
+cap n = record { may = λ x p. p; only = only_cap n; light = λ x. refl; inside = λ x e. cc }
 
 only_nodes : (n : ℕ) (l : CertificateLine) → MayStand n at_nodes l → (x : ℕ) × (l ≡ line.Nodes x) × IsBetween 0 certificate_node_limit x
 only_nodes n (line.Nodes x) p = (x, refl, ((omega arith), p))
@@ -56,6 +63,20 @@ only_column n l p = absurd p
 
 pub column : (n : ℕ) → Stand n at_column line.Column (IsBetween 1 n)
 column n = record { may = λ x p. p; only = only_column n; light = λ x. refl; inside = λ x e. cc }
+
+only_radii : (n : ℕ) (l : CertificateLine) → MayStand n at_radii l → (x : ℕ) × (l ≡ line.Radii x) × IsBetween 1 radii_limit x
+only_radii n (line.Radii x) p = (x, refl, p)
+only_radii n l p = absurd p
+
+pub radii : (n : ℕ) → Stand n at_radii line.Radii (IsBetween 1 radii_limit)
+radii n = record { may = λ x p. p; only = only_radii n; light = λ x. refl; inside = λ x e. cc }
+
+only_radius : (n : ℕ) (l : CertificateLine) → MayStand n at_radius l → (x : ℕ) × (l ≡ line.Radius x) × IsBetween 0 greatest_radius x
+only_radius n (line.Radius x) p = (x, refl, ((omega arith), p))
+only_radius n l p = absurd p
+
+pub radius : (n : ℕ) → Stand n at_radius line.Radius (IsBetween 0 greatest_radius)
+radius n = record { may = λ x p. p.1; only = only_radius n; light = λ x. refl; inside = λ x e. cc }
 
 only_spans : (n : ℕ) (l : CertificateLine) → MayStand n at_spans l → (x : ℕ) × (l ≡ line.Spans x) × IsBetween 0 column_limit x
 only_spans n (line.Spans x) p = (x, refl, ((omega arith), p))

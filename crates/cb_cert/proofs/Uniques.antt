@@ -10,7 +10,7 @@ use Rattle.cb_cert.specs.declared.certificate.Certificate.{Certificate}
 use Rattle.cb_cert.specs.declared.certificate.Certificate.TheVariants as certificate
 use Rattle.cb_cert.specs.declared.line.CertificateLine.{CertificateLine}
 use Rattle.cb_cert.specs.declared.line.CertificateLine.TheVariants as line
-use Rattle.cb_cert.specs.Lines.{certificate_lines, span_lines, node_lines, column_lines, all_span_lines, side_lines}
+use Rattle.cb_cert.specs.Lines.{certificate_lines, span_lines, node_lines, column_lines, radius_lines, all_span_lines, side_lines}
 
 heads : {X : Type 0} (x y : X) (xs ys : List X) → x ∷ xs ≡ y ∷ ys → (x ≡ y) × (xs ≡ ys)
 heads x y xs ys e = (cc, cc)
@@ -68,6 +68,22 @@ cut_columns xs ys us vs e =
     let short : length xs ≡ length ys = cc in
     cut line.Column (λ x y same. cc) xs ys us vs short h.1
 
+-- radii and what follows them
+cut_radii : (xs ys : List ℕ) (us vs : List CertificateLine) → radius_lines xs ++ us ≡ radius_lines ys ++ vs → (xs ≡ ys) × (us ≡ vs)
+cut_radii xs ys us vs e =
+    let h = heads (line.Radii (length xs)) (line.Radii (length ys)) (map line.Radius xs ++ us) (map line.Radius ys ++ vs) e in
+    let count = h.0 in
+    let short : length xs ≡ length ys = cc in
+    cut line.Radius (λ x y same. cc) xs ys us vs short h.1
+
+-- all spans and what follows them
+cut_all_spans : (xs ys : List Span) (us vs : List CertificateLine) → all_span_lines xs ++ us ≡ all_span_lines ys ++ vs → (xs ≡ ys) × (us ≡ vs)
+cut_all_spans xs ys us vs e =
+    let h = heads (line.Spans (length xs)) (line.Spans (length ys)) (flat_map span_lines xs ++ us) (flat_map span_lines ys ++ vs) e in
+    let count = h.0 in
+    let short : length xs ≡ length ys = cc in
+    cut_spans xs ys us vs short h.1
+
 -- a side and what follows it
 cut_side : (a b : Side) (us vs : List CertificateLine) → side_lines a ++ us ≡ side_lines b ++ vs → (a ≡ b) × (us ≡ vs)
 cut_side side.Quiet side.Quiet us vs e = (refl, (heads line.Quiet line.Quiet us vs e).1)
@@ -78,6 +94,10 @@ cut_side (side.Root a) (side.Root b) us vs e = let parts = cut_span a b us vs e 
 -- three parts and what follows them
 pub three_parts : (xs ys zs us : List CertificateLine) → (xs ++ (ys ++ zs)) ++ us ≡ xs ++ (ys ++ (zs ++ us))
 three_parts xs ys zs us = append_assoc xs (ys ++ zs) us ∙ ap (λ (ls : List CertificateLine). xs ++ ls) (append_assoc ys zs us)
+
+-- four parts
+pub four_parts : (xs ys zs ws us : List CertificateLine) → (xs ++ (ys ++ (zs ++ ws))) ++ us ≡ xs ++ (ys ++ (zs ++ (ws ++ us)))
+four_parts xs ys zs ws us = append_assoc xs (ys ++ (zs ++ ws)) us ∙ ap (λ (ls : List CertificateLine). xs ++ ls) (three_parts ys zs ws us)
 
 -- the lines of a certificate end where those of the same certificate end
 pub goes_on : (a b : Certificate) (us : List CertificateLine) → certificate_lines a ≡ certificate_lines b ++ us → (a ≡ b) × (us ≡ [])
@@ -95,16 +115,39 @@ goes_on (certificate.Book d ns cs ss) (certificate.Book d' ns' cs' ss') us e =
     in
     let nodes = cut_nodes ns ns' (column_lines cs ++ (all_span_lines ss ++ end)) (column_lines cs' ++ (all_span_lines ss' ++ line.End ∷ us)) parts in
     let columns = cut_columns cs cs' (all_span_lines ss ++ end) (all_span_lines ss' ++ line.End ∷ us) nodes.1 in
-    let count = heads (line.Spans (length ss)) (line.Spans (length ss')) (flat_map span_lines ss ++ end) (flat_map span_lines ss' ++ line.End ∷ us) columns.1 in
-    let number = count.0 in
-    let short : length ss ≡ length ss' = cc in
-    let spans = cut_spans ss ss' end (line.End ∷ us) short count.1 in
+    let spans = cut_all_spans ss ss' end (line.End ∷ us) columns.1 in
     let last = heads line.End line.End [] us spans.1 in
     let n = nodes.0 in
     let c = columns.0 in
     let s = spans.0 in
     (cc, sym last.1)
+goes_on (certificate.Book d ns cs ss) (certificate.Capped d' ns' cs' rs' ss') us e = absurd (cc)
 goes_on (certificate.Book d ns cs ss) (certificate.Thin w d' ns' first second) us e = absurd (cc)
+goes_on (certificate.Capped d ns cs rs ss) (certificate.Book d' ns' cs' ss') us e = absurd (cc)
+goes_on (certificate.Capped d ns cs rs ss) (certificate.Thin w d' ns' first second) us e = absurd (cc)
+goes_on (certificate.Capped d ns cs rs ss) (certificate.Capped d' ns' cs' rs' ss') us e =
+    let end = line.End ∷ [] in
+    let body = (node_lines ns ++ (column_lines cs ++ (radius_lines rs ++ all_span_lines ss))) ++ end in
+    let parts_of = node_lines ns' ++ (column_lines cs' ++ (radius_lines rs' ++ all_span_lines ss')) in
+    let cap : d ≡ d' = cc in
+    let rest : body ≡ (parts_of ++ end) ++ us = cc in
+    let moved : body ≡ parts_of ++ line.End ∷ us = rest ∙ append_assoc parts_of end us in
+    let parts = sym (four_parts (node_lines ns) (column_lines cs) (radius_lines rs) (all_span_lines ss) end)
+    ∙ (moved ∙ four_parts (node_lines ns') (column_lines cs') (radius_lines rs') (all_span_lines ss') (line.End ∷ us))
+    in
+    let nodes = cut_nodes ns ns' (column_lines cs ++ (radius_lines rs ++ (all_span_lines ss ++ end)))
+    (column_lines cs' ++ (radius_lines rs' ++ (all_span_lines ss' ++ line.End ∷ us))) parts
+    in
+    let columns = cut_columns cs cs' (radius_lines rs ++ (all_span_lines ss ++ end)) (radius_lines rs' ++ (all_span_lines ss' ++ line.End ∷ us)) nodes.1 in
+    let radii = cut_radii rs rs' (all_span_lines ss ++ end) (all_span_lines ss' ++ line.End ∷ us) columns.1 in
+    let spans = cut_all_spans ss ss' end (line.End ∷ us) radii.1 in
+    let last = heads line.End line.End [] us spans.1 in
+    let n = nodes.0 in
+    let c = columns.0 in
+    let r = radii.0 in
+    let s = spans.0 in
+    (cc, sym last.1)
+goes_on (certificate.Thin w d ns first second) (certificate.Capped d' ns' cs' rs' ss') us e = absurd (cc)
 goes_on (certificate.Thin w d ns first second) (certificate.Book d' ns' cs' ss') us e = absurd (cc)
 goes_on (certificate.Thin w d ns first second) (certificate.Thin w' d' ns' first' second') us e =
     let end = line.End ∷ [] in

@@ -5,13 +5,13 @@ use Rattle.cb_text.specs.Names.{IsName, IsInstance}
 use Rattle.cb_text.specs.Lines.{lines_of}
 use Rattle.cb_model.specs.declared.node.NodeName.{NodeName}
 use Rattle.cb_cert.specs.declared.certificate.Certificate.{Certificate}
-use Rattle.cb_cert.specs.declared.certificate.Certificate.TheVariants.{Book, Thin}
+use Rattle.cb_cert.specs.declared.certificate.Certificate.TheVariants.{Book, Capped, Thin}
 use Rattle.cb_cert.specs.declared.certificate.Entry.{Entry}
 use Rattle.cb_cert.specs.declared.line.CertificateLine.{CertificateLine}
 use Rattle.cb_cert.specs.declared.line.CertificateLine.TheVariants as line
 use Rattle.cb_cert.specs.Lines.{certificate_lines, line_text}
 
--- a distance that is wanted is at most this
+-- a distance that is wanted is at most this, and so is a cap
 abbrev pub wanted_limit : ℕ
 wanted_limit = 9999
 
@@ -23,6 +23,14 @@ certificate_node_limit = 65536
 abbrev pub column_limit : ℕ
 column_limit = 8192
 
+-- at most this many radii
+abbrev pub radii_limit : ℕ
+radii_limit = 8193
+
+-- a radius is at most this
+abbrev pub greatest_radius : ℕ
+greatest_radius = 4999
+
 -- at most this many entries, in all spans together
 abbrev pub entry_limit : ℕ
 entry_limit = 1048576
@@ -30,6 +38,7 @@ entry_limit = 1048576
 -- the nodes that the numbers of a certificate stand for
 abbrev pub nodes_of : Certificate → List NodeName
 nodes_of (Book distance nodes columns spans) = nodes
+nodes_of (Capped cap nodes columns radii spans) = nodes
 nodes_of (Thin wanted distance nodes first second) = nodes
 
 -- a number is that of a node of the certificate
@@ -40,13 +49,14 @@ IsCertNodeNumber c i = (0 < i) × (i ≤ length (nodes_of c))
 abbrev pub IsBetween : ℕ → ℕ → ℕ → Type 0
 IsBetween least most n = (least ≤ n) × (n ≤ most)
 
--- a distance that may be wanted
+-- a distance that may be wanted, or a cap
 abbrev pub IsWanted : ℕ → Type 0
 IsWanted d = (0 < d) × (d ≤ wanted_limit)
 
--- a book's distance may be wanted; two groups that are too close differ in some number of columns
+-- a book's distance may be wanted; two groups that are too close differ in some number of columns; a cap has no distance beside it
 abbrev pub IsDistance : Certificate → ℕ → Type 0
 IsDistance (Book distance nodes columns spans) d = IsWanted d
+IsDistance (Capped cap nodes columns radii spans) d = ⊥
 IsDistance (Thin wanted distance nodes first second) d = d ≤ column_limit
 
 -- the names of a node are names
@@ -61,10 +71,13 @@ IsEntry nodes e = ((0 < e.node) × (e.node ≤ nodes)) × (e.parent ≤ certific
 abbrev pub Fits : Certificate → CertificateLine → Type 0
 Fits c (line.Wanted w) = IsWanted w
 Fits c (line.Distance d) = IsDistance c d
+Fits c (line.Cap n) = IsWanted n
 Fits c (line.Nodes n) = n ≤ certificate_node_limit
 Fits c (line.Node n) = HasValidNames n
 Fits c (line.Columns n) = n ≤ column_limit
 Fits c (line.Column i) = IsCertNodeNumber c i
+Fits c (line.Radii n) = (0 < n) × (n ≤ radii_limit)
+Fits c (line.Radius r) = r ≤ greatest_radius
 Fits c (line.Spans n) = n ≤ column_limit
 Fits c (line.Span n) = (0 < n) × (n ≤ certificate_node_limit)
 Fits c (line.Entry e) = IsEntry (length (nodes_of c)) e

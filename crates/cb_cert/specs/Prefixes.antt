@@ -7,6 +7,7 @@ use Rattle.cb_cert.specs.declared.fault.CertText.{CertText}
 use Rattle.cb_cert.specs.declared.fault.CertText.TheVariants.{BadHeader, BadLine, Truncated, Extra, TooManyEntries, NoMemory}
 use Rattle.cb_cert.specs.declared.line.CertificateLine.{CertificateLine}
 use Rattle.cb_cert.specs.declared.line.CertificateLine.TheVariants.{Header, Span}
+use Rattle.cb_cert.specs.declared.line.Version.{Version}
 use Rattle.cb_cert.specs.Lines.{certificate_lines, line_text}
 use Rattle.cb_cert.specs.Format.{Fits, IsCertificate, SpellsCertificate, entries_in, entry_limit, certificate_node_limit, nodes_of}
 
@@ -35,12 +36,12 @@ pub record IsLineAfterPrefix (text : List ℕ) (before : List CertificateLine) (
   pub prefix : IsCertificatePrefix before
   pub number_is : number ≡ length before + 1
 
--- the first line isn't the header
+-- the first line is the header of neither version
 pub record IsBadHeader (text : List ℕ) : Type 0 where
   pub first : List ℕ
   pub after : List (List ℕ)
   pub lines : lines_of text ≡ first ∷ after
-  pub other : first ≢ line_text Header
+  pub other : (version : Version) → first ≢ line_text (Header version)
 
 -- a later line is none that a certificate has there
 pub record IsBadLine (text : List ℕ) (number : ℕ) : Type 0 where

@@ -11,7 +11,7 @@ use Rattle.cb_cert.specs.declared.reader.Reader.{Reader}
 use Rattle.cb_cert.specs.Ahead.{TextPlace, at_end, MayCome}
 use Rattle.cb_cert.specs.Format.{IsBetween, SpellsCertificate, entries_in, entry_limit, certificate_node_limit}
 use Rattle.cb_cert.specs.Prefixes.{Begins, IsFault}
-use Rattle.cb_cert.specs.Lines.{claim_lines, line_text}
+use Rattle.cb_cert.specs.Lines.{version_of, claim_lines, line_text}
 
 -- of the text these lines were read, and exactly what may come where these positions are ahead goes on from them
 pub record HasRead (text : List ℕ) (reader : Reader) (before : List CertificateLine) (n : ℕ) (ahead : List TextPlace) : Type 0 where
@@ -93,4 +93,4 @@ SpellsOrFails text c (Err why) = IsFault text why
 -- once all that the certificate claims was read, the text ends as it should, or it has a fault
 abbrev pub Finishes : Reader → Result (Unit {0}) CertText → Type 0
 Finishes old result =
-    (text : List ℕ) (c : Certificate) (n : ℕ) → HasRead text old (line.Header ∷ claim_lines c) n (at_end ∷ []) → SpellsOrFails text c result
+    (text : List ℕ) (c : Certificate) (n : ℕ) → HasRead text old (line.Header (version_of c) ∷ claim_lines c) n (at_end ∷ []) → SpellsOrFails text c result

@@ -8,7 +8,7 @@ use std::alloc::AllocError;
 /// The first fault of a text. Lines count from 1.
 #[derive(Clone, Copy, Debug, PartialEq, Eq)]
 pub enum CertText {
-    /// The first line isn't the header.
+    /// The first line is the header of neither version.
     BadHeader,
     /// The line isn't one that a certificate has after those before it.
     BadLine { line: u64 },

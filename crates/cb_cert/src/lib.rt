@@ -15,6 +15,6 @@ mod writer;
 
 pub use certificate::{Certificate, Entry, Side, Span};
 pub use fault::CertText;
-pub use line::CertificateLine;
+pub use line::{CertificateLine, Version};
 pub use reading::read;
 pub use writer::write;

@@ -1,14 +1,14 @@
 //! The parts of a certificate, read: lists whose length their first line tells.
-ghost use Rattle.std.specs.Prelude.{[], ◌∷◌, ◌≤◌, IfOk, length, replicate};
+ghost use Rattle.std.specs.Prelude.{[], ◌∷◌, ◌≤◌, ℕ, IfOk, length, replicate};
 ghost use Rattle.cb_cert.specs.declared.line.CertificateLine.TheVariants as line;
-ghost use Rattle.cb_cert.specs.Ahead.{at_nodes, at_columns, at_spans, at_span, at_side, at_entry};
+ghost use Rattle.cb_cert.specs.Ahead.{at_nodes, at_columns, at_radii, at_spans, at_span, at_side, at_entry};
 ghost use Rattle.cb_cert.specs.Format.{certificate_node_limit};
-ghost use Rattle.cb_cert.specs.Lines.{node_lines, column_lines, all_span_lines, span_lines, side_lines};
+ghost use Rattle.cb_cert.specs.Lines.{node_lines, column_lines, radius_lines, all_span_lines, span_lines, side_lines};
 ghost use Rattle.cb_cert.specs.Steps.{ReadsLines, ReadsAfter};
 
 use crate::certificate::{Side, Span};
 use crate::fault::CertText;
-use crate::limits::{MOST_COLUMNS, MOST_NODES};
+use crate::limits::{GREATEST_RADIUS, MOST_COLUMNS, MOST_NODES, MOST_RADII};
 use crate::reader::Reader;
 use crate::words::is_text;
 use cb_model::{List, NodeName};
@@ -40,7 +40,19 @@ impl<'a> Reader<'a> {
         Ok(columns)
     }
 
-    /// The spans of a book.
+    /// The radii.
+    pub fn radii(&mut self, alloc: Global) -> Result<List<u32>, CertText>
+        ensures { (nodes : ℕ) → ReadsLines nodes (at_radii ∷ []) radius_lines (λ radii. nodes) self.old self.new result }
+    {
+        let count = self.number(b"radii ", 1, MOST_RADII)?;
+        let mut radii = List::new(alloc);
+        for _ in 0..count {
+            radii.push(self.number(b"radius ", 0, GREATEST_RADIUS)?)?;
+        }
+        Ok(radii)
+    }
+
+    /// The spans of a codebook.
     pub fn spans(&mut self, alloc: Global, nodes: u32) -> Result<List<Span>, CertText>
         ensures { ReadsLines nodes (at_spans ∷ []) all_span_lines (λ spans. nodes) self.old self.new result }
     {

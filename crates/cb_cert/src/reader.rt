@@ -11,7 +11,8 @@ ghost use Rattle.cb_cert.specs.Steps.{HasRead, Moves, TakesForm, CountsSpan, Fin
 use crate::certificate::Entry;
 use crate::fault::CertText;
 use crate::limits::{MOST_ENTRIES, MOST_NODES};
-use crate::words::{entry_of, is_between, is_text, node_of, number_after};
+use crate::line::Version;
+use crate::words::{entry_of, header_version, is_between, is_text, node_of, number_after};
 use cb_model::NodeName;
 use cb_text::{LineIter, lines};
 use std::alloc::Global;
@@ -19,6 +20,8 @@ use std::alloc::Global;
 /// A text of which some lines were read.
 #[derive(Drop)]
 pub struct Reader<'a> {
+    /// The version of the format.
+    pub version: Version,
     /// The lines that are still to be read.
     lines: LineIter<'a>,
     /// How many lines were read.
@@ -30,20 +33,22 @@ pub struct Reader<'a> {
 impl<'a> Reader<'a> {
     /// The text after its header.
     pub fn after_header(text: &'a [u8]) -> Result<Reader<'a>, CertText>
-        ensures reader { IfOk result (λ reader. HasRead text.now reader (line.Header ∷ []) 0 (at_kind ∷ at_end ∷ [])) }
+        ensures reader { IfOk result (λ reader. HasRead text.now reader (line.Header reader.version ∷ []) 0 (at_kind reader.version ∷ at_end ∷ [])) }
         ensures fault { IfErr result (IsFault text.now) }
     {
-        let mut reader = Reader {
-            lines: lines(text),
-            number: 0,
-            entries: 0,
+        let mut lines = lines(text);
+        let Some(header) = lines.next() else {
+            return Err(CertText::Truncated);
         };
-        let header = reader.next()?;
-        if is_text(header, b"codebook certificate 1") {
-            Ok(reader)
-        } else {
-            Err(CertText::BadHeader)
-        }
+        let Some(version) = header_version(header) else {
+            return Err(CertText::BadHeader);
+        };
+        Ok(Reader {
+            version,
+            lines,
+            number: 1,
+            entries: 0,
+        })
     }
 
     /// The next line.

@@ -4,8 +4,10 @@ ghost use Rattle.cb_cert.specs.Lines.{line_text};
 ghost use Rattle.cb_cert.specs.Format.{IsBetween};
 ghost use Rattle.cb_cert.specs.LineForms.{IsNoPair, IsNoEntry, IsNodeLine, numbers_text};
 ghost use Rattle.cb_cert.specs.declared.line.CertificateLine.TheVariants as line;
+ghost use Rattle.cb_cert.specs.declared.line.Version.{Version as CertificateVersion};
 
 use crate::certificate::Entry;
+use crate::line::Version;
 use cb_model::NodeName;
 use cb_text::{decimal_of, node_parts};
 use memchr::memchr;
@@ -64,6 +66,20 @@ pub(crate) fn is_text(bytes: &[u8], text: &[u8]) -> bool
     ensures { IsTrue result ↔ (bytes.now ≡ text.now) }
 {
     bytes == text
+}
+
+/// The version that a header tells.
+pub(crate) fn header_version(bytes: &[u8]) -> Option<Version>
+    ensures some { IfSome result (λ version. bytes.now ≡ line_text (line.Header version)) }
+    ensures none { IfNone result ((version : CertificateVersion) → bytes.now ≢ line_text (line.Header version)) }
+{
+    if is_text(bytes, b"codebook certificate 1") {
+        return Some(Version::First);
+    }
+    if is_text(bytes, b"codebook certificate 2") {
+        return Some(Version::Second);
+    }
+    None
 }
 
 // Two numbers with a space between.

@@ -1,13 +1,17 @@
 -- A whole book: its checks one after another, and its claim.
-use Rattle.std.proofs.Common.{◌≡◌, ℕ, ◌≤◌, List, [], ◌∷◌, ◌++◌, length, map, refl, sym, subst, arith}
+use Rattle.std.proofs.Common.{◌≡◌, ◌↔◌, ◌<◌, ap, ℕ, ◌≤◌, List, [], ◌∷◌, ◌++◌, length, map, refl, sym, subst, arith}
 use Rattle.std.specs.Prelude.{Result, Ok, Err, IfOk}
 use Rattle.std.specs.List.{All, flat_map}
 use Rattle.cb_model.specs.declared.node.NodeName.{NodeName}
+use Rattle.cb_model.specs.declared.node.GroupName.{GroupName}
+use Rattle.cb_model.specs.declared.wish.Wish.{Wish}
+use Rattle.cb_model.specs.declared.wish.Wish.TheVariants.{Plain, Cap}
 use Rattle.cb_coding.specs.declared.group.Problem.{Problem}
 use Rattle.cb_coding.specs.declared.group.Group.{Group}
 use Rattle.cb_coding.specs.Groups.{AreGroups, codes_of}
-use Rattle.cb_coding.specs.Pairs.{Good, IsFirstClose}
-use Rattle.cb_coding.specs.Answers.{radius as radius_of}
+use Rattle.cb_coding.specs.declared.book.Pair.{Pair}
+use Rattle.cb_coding.specs.Needs.{need_of}
+use Rattle.cb_coding.specs.Pairs.{GoodFor, IsFirstShort}
 use Rattle.cb_model.proofs.Rising.{node_cmp_total, node_cmp_exact}
 use Rattle.cb_network.specs.Nodes.{IsColumn, AreColumns, IsCount}
 use Rattle.cb_network.specs.Sound.{Sound, symptom_limit}
@@ -15,17 +19,14 @@ use Rattle.cb_network.proofs.Counts.{count_of_rising}
 use Rattle.cb_network.proofs.Sets.{len_of_part}
 use Rattle.cb_network.specs.Topology.{Topology}
 use Rattle.cb_cert.specs.declared.certificate.Certificate.{Certificate}
-use Rattle.cb_cert.specs.declared.certificate.Certificate.TheVariants.{Book}
 use Rattle.cb_cert.specs.declared.certificate.Span.{Span}
 use Rattle.cb_cert.specs.Format.{nodes_of}
-use Rattle.cb_validity.specs.declared.verdict.Accepted.{Accepted}
 use Rattle.cb_validity.specs.declared.verdict.Rejected.{Rejected}
 use Rattle.cb_validity.specs.declared.verdict.Rejected.TheVariants.{TooClose}
-use Rattle.cb_validity.specs.Checks.{Check, node_check, column_check, no_more_problems, no_more_spans, asked_of, span_checks, book_checks, places, Passes, Judges, claim_check, IsGoodNode, AreTooClose}
+use Rattle.cb_validity.specs.Checks.{Check, node_check, column_check, no_more_problems, no_more_spans, asked_of, span_checks, book_checks, places, Passes, Judges, claim_check, IsGoodNode, AreTooClose, ClaimHolds, TellsClaim, certificate_columns}
 use Rattle.cb_validity.specs.Reading.{MakeGroups, ArePlaces, AreApart}
-use Rattle.cb_validity.specs.Verdicts.{CertificateShows, ShowsBook}
 use Rattle.cb_validity.proofs.Firsts.{made_is_one, places_found_once}
-use Rattle.cb_validity.proofs.Passing.{nodes_from_checks}
+use Rattle.cb_validity.proofs.Passing.{nodes_from_checks, zip_lengths}
 use Rattle.cb_validity.proofs.Stages.{passed_go_on, failed_stop}
 use Rattle.cb_nodes.specs.declared.id.NodeId.{NodeId}
 use Rattle.cb_topo.specs.Numbered.{Numbered, topology_of, IsNodeNamed, IsWhole, AreNamed}
@@ -33,8 +34,8 @@ use Rattle.cb_checker.specs.Firsts.{AreAll}
 use Rattle.cb_checker.specs.Known.{AreLive, IsKnown, verdict_of}
 use Rattle.cb_checker.specs.declared.sides.Sides.{Sides}
 use Rattle.cb_checker.specs.Books.{AreReadTo}
-use Rattle.cb_checker.specs.Verdicts.{AreSidesOf, ShowsBookOver}
-use Rattle.cb_checker.specs.Claims.{ReportsTooClose, JudgesBook}
+use Rattle.cb_checker.specs.Verdicts.{AreSidesOf, IsGrouped}
+use Rattle.cb_checker.specs.Claims.{book_of, ReportsTooClose, JudgesBook}
 use Rattle.cb_checker.specs.Places.{ArePlacesOf}
 use Rattle.cb_checker.proofs.Joined.{fails_here, pass_one}
 use Rattle.cb_checker.proofs.Naming.{zip_right}
@@ -82,23 +83,47 @@ is_known n ids c nodes same whole named good =
     let are = nodes_from_checks (topology_of n) c (subst (λ ns. All (Passes (topology_of n) c) (map node_check (places ns))) (sym same) passed) in
     record { whole = whole; named = subst (AreNamed n ids) (sym same) named; rise = are.rise }
 
+-- the parts of a book, whatever its wish
+
+pub nodes_same : (wish : Wish) (nodes : List NodeName) (numbers radii : List ℕ) (spans : List Span) → nodes_of (book_of wish nodes numbers radii spans) ≡ nodes
+nodes_same (Plain d) nodes numbers radii spans = refl
+nodes_same (Cap cap) nodes numbers radii spans = refl
+
+pub columns_same : (wish : Wish) (nodes : List NodeName) (numbers radii : List ℕ) (spans : List Span)
+    → certificate_columns (book_of wish nodes numbers radii spans) ≡ numbers
+columns_same (Plain d) nodes numbers radii spans = refl
+columns_same (Cap cap) nodes numbers radii spans = refl
+
+book_holds : (t : Topology) (wish : Wish) (nodes : List NodeName) (numbers radii : List ℕ) (spans : List Span)
+    → AreApart t nodes numbers spans wish ↔ ClaimHolds t (book_of wish nodes numbers radii spans)
+book_holds t (Plain d) nodes numbers radii spans = ((λ apart. apart), (λ holds. holds))
+book_holds t (Cap cap) nodes numbers radii spans = ((λ apart. apart), (λ holds. holds))
+
+book_tells : (t : Topology) (wish : Wish) (nodes : List NodeName) (numbers radii : List ℕ) (spans : List Span) (first second : GroupName) (far : ℕ)
+    → AreTooClose t nodes numbers spans wish first second far → TellsClaim t (book_of wish nodes numbers radii spans) (TooClose first second far)
+book_tells t (Plain d) nodes numbers radii spans first second far close = close
+book_tells t (Cap cap) nodes numbers radii spans first second far close = close
+
 -- the claim of a book
-module _ (t : Topology) (d : ℕ) (nodes : List NodeName) (numbers : List ℕ) (spans : List Span) (names : List NodeName) (groups : List Group) (spots : List ℕ)
+module _ (t : Topology) (wish : Wish) (nodes : List NodeName) (numbers radii : List ℕ) (spans : List Span) (names : List NodeName) (groups : List Group) (spots : List ℕ)
     (made : MakeGroups t nodes spans names groups) (spots_are : ArePlaces nodes names numbers spots) where
   abbrev c : Certificate
-  c = Book d nodes numbers spans
+  c = book_of wish nodes numbers radii spans
 
-  pub claim_holds : Good (codes_of groups) spots d → All (Passes t c) (claim_check ∷ [])
+  abbrev need : List NodeName → List Group → ℕ → ℕ → ℕ
+  need cs gs = need_of (length cs) (codes_of gs) wish
+
+  pub claim_holds : GoodFor (codes_of groups) spots (need names groups) → All (Passes t c) (claim_check ∷ [])
   claim_holds good =
-      let apart_are : AreApart t nodes numbers spans d =
+      let apart_are : AreApart t nodes numbers spans wish =
       record { columns = names; groups = groups; places = spots; made = made; places_are = spots_are; good = good }
       in
-      pass_one t c claim_check apart_are
+      pass_one t c claim_check ((book_holds t wish nodes numbers radii spans).0 apart_are)
 
-  pub claim_fails : (pair : _) → IsFirstClose spots (codes_of groups) d pair → (why : Rejected) → ReportsTooClose groups pair why
+  pub claim_fails : (pair : Pair) → IsFirstShort spots (codes_of groups) (need names groups) pair → (why : Rejected) → ReportsTooClose groups pair why
       → Judges t c (claim_check ∷ []) (Err why)
   claim_fails pair close why reported =
-      let close_are : AreTooClose t nodes numbers spans d reported.first reported.second pair.distance = record {
+      let close_are : AreTooClose t nodes numbers spans wish reported.first reported.second pair.distance = record {
         columns = names;
         groups = groups;
         places = spots;
@@ -111,15 +136,17 @@ module _ (t : Topology) (d : ℕ) (nodes : List NodeName) (numbers : List ℕ) (
         far_is = refl;
       } in
       subst (λ w. Judges t c (claim_check ∷ []) (Err w)) (sym reported.is)
-      (fails_here t c claim_check [] (TooClose reported.first reported.second pair.distance) (λ holds. far_apart holds) close_are)
+      (fails_here t c claim_check [] (TooClose reported.first reported.second pair.distance) (λ holds. far_apart ((book_holds t wish nodes numbers radii spans).1 holds))
+      (book_tells t wish nodes numbers radii spans reported.first reported.second pair.distance close_are))
     where
-      far_apart : AreApart t nodes numbers spans d → ⊥
+      far_apart : AreApart t nodes numbers spans wish → ⊥
       far_apart holds =
           let same = made_is_one t nodes spans names holds.columns groups holds.groups made holds.made in
           let over = subst (λ cs. ArePlaces nodes cs numbers holds.places) (sym same.0) holds.places_are in
           let places = places_found_once nodes names made.columns_are.rise numbers spots holds.places spots_are over in
-          let good = subst (λ gs. Good (codes_of gs) holds.places d) (sym same.1) holds.good in
-          let here = subst (λ ps. Good (codes_of groups) ps d) (sym places) good in
+          let columns_good = subst (λ cs. GoodFor (codes_of holds.groups) holds.places (need cs holds.groups)) (sym same.0) holds.good in
+          let good = subst (λ gs. GoodFor (codes_of gs) holds.places (need names gs)) (sym same.1) columns_good in
+          let here = subst (λ ps. GoodFor (codes_of groups) ps (need names groups)) (sym places) good in
           let least = here pair.first pair.second close.is_pair in
           let is = close.distance in
           let less = close.close in
@@ -138,7 +165,7 @@ few_columns t sound names are =
     omega arith
 
 -- the stages of a book
-module _ (t : Topology) (d : ℕ) (nodes : List NodeName) (numbers : List ℕ) (spans : List Span) (names : List NodeName) where
+module _ (t : Topology) (wish : Wish) (nodes : List NodeName) (numbers radii : List ℕ) (spans : List Span) (names : List NodeName) where
   abbrev pub of_nodes : List Check
   of_nodes = map node_check (places nodes)
 
@@ -152,64 +179,70 @@ module _ (t : Topology) (d : ℕ) (nodes : List NodeName) (numbers : List ℕ) (
   of_count = no_more_problems names spans ∷ no_more_spans names spans ∷ []
 
   abbrev pub IsJudged : Result (Unit {0}) Rejected → Type 0
-  IsJudged result = Judges t (Book d nodes numbers spans) (book_checks names nodes numbers spans) result
+  IsJudged result = Judges t (book_of wish nodes numbers radii spans) (book_checks names nodes numbers spans) result
 
   abbrev pub Pass : List Check → Type 0
-  Pass checks = All (Passes t (Book d nodes numbers spans)) checks
+  Pass checks = All (Passes t (book_of wish nodes numbers radii spans)) checks
 
   abbrev pub Fail : List Check → Rejected → Type 0
-  Fail checks reported = Judges t (Book d nodes numbers spans) checks (Err reported)
+  Fail checks reported = Judges t (book_of wish nodes numbers radii spans) checks (Err reported)
 
   pub in_nodes : (reported : Rejected) → Fail of_nodes reported → IsJudged (Err reported)
-  in_nodes reported failed = stop_first t (Book d nodes numbers spans) of_nodes of_columns of_spans of_count (claim_check ∷ []) reported failed
+  in_nodes reported failed = stop_first t (book_of wish nodes numbers radii spans) of_nodes of_columns of_spans of_count (claim_check ∷ []) reported failed
 
   pub in_columns : (reported : Rejected) → Pass of_nodes → Fail of_columns reported → IsJudged (Err reported)
-  in_columns reported a failed = stop_second t (Book d nodes numbers spans) of_nodes of_columns of_spans of_count (claim_check ∷ []) reported a failed
+  in_columns reported a failed = stop_second t (book_of wish nodes numbers radii spans) of_nodes of_columns of_spans of_count (claim_check ∷ []) reported a failed
 
   pub in_spans : (reported : Rejected) → Pass of_nodes → Pass of_columns → Fail of_spans reported → IsJudged (Err reported)
-  in_spans reported a b failed = stop_third t (Book d nodes numbers spans) of_nodes of_columns of_spans of_count (claim_check ∷ []) reported a b failed
+  in_spans reported a b failed = stop_third t (book_of wish nodes numbers radii spans) of_nodes of_columns of_spans of_count (claim_check ∷ []) reported a b failed
 
   pub in_count : (reported : Rejected) → Pass of_nodes → Pass of_columns → Pass of_spans → Fail of_count reported → IsJudged (Err reported)
-  in_count reported a b e failed = stop_fourth t (Book d nodes numbers spans) of_nodes of_columns of_spans of_count (claim_check ∷ []) reported a b e failed
+  in_count reported a b e failed = stop_fourth t (book_of wish nodes numbers radii spans) of_nodes of_columns of_spans of_count (claim_check ∷ []) reported a b e failed
 
   pub in_claim : (result : Result (Unit {0}) Rejected) → Pass of_nodes → Pass of_columns → Pass of_spans → Pass of_count
-      → Judges t (Book d nodes numbers spans) (claim_check ∷ []) result → IsJudged result
-  in_claim result a b e f last = all_stages t (Book d nodes numbers spans) of_nodes of_columns of_spans of_count (claim_check ∷ []) result a b e f last
+      → Judges t (book_of wish nodes numbers radii spans) (claim_check ∷ []) result → IsJudged result
+  in_claim result a b e f last = all_stages t (book_of wish nodes numbers radii spans) of_nodes of_columns of_spans of_count (claim_check ∷ []) result a b e f last
 
 -- what the claim comes to
-module _ (n : Numbered) (ids : List NodeId) (d : ℕ) (nodes : List NodeName) (numbers : List ℕ) (spans : List Span)
-    (known : IsKnown n ids (Book d nodes numbers spans)) (sides : Sides) (are : AreSidesOf n sides) (coded : List Problem)
+module _ (n : Numbered) (ids : List NodeId) (wish : Wish) (nodes : List NodeName) (numbers radii : List ℕ) (spans : List Span)
+    (known : IsKnown n ids (book_of wish nodes numbers radii spans)) (sides : Sides) (are : AreSidesOf n sides) (coded : List Problem)
     (read : AreReadTo n ids sides.problems sides.columns spans (length sides.problems) coded) (same : length sides.problems ≡ length spans) where
   abbrev book : Certificate
-  book = Book d nodes numbers spans
+  book = book_of wish nodes numbers radii spans
 
   made_of : (groups : List Group) → AreGroups (length sides.columns) coded groups → MakeGroups (topology_of n) nodes spans are.column_names groups
   made_of groups groups_are =
-      groups_made n ids book known sides.columns are.column_names are.columns_are are.columns_named sides.problems are.problem_names are.problems_are
-      are.problems_named spans coded read same groups groups_are
+      subst (λ ns. MakeGroups (topology_of n) ns spans are.column_names groups) (nodes_same wish nodes numbers radii spans)
+      (groups_made n ids book known sides.columns are.column_names are.columns_are are.columns_named sides.problems are.problem_names are.problems_are
+      are.problems_named spans coded read same groups groups_are)
 
   spots_of : (spots : List ℕ) → ArePlacesOf sides.columns ids numbers spots → ArePlaces nodes are.column_names numbers spots
-  spots_of spots spots_are = places_read n ids book known sides.columns are.column_names are.columns_are are.columns_named numbers spots spots_are
+  spots_of spots spots_are =
+      subst (λ ns. ArePlaces ns are.column_names numbers spots) (nodes_same wish nodes numbers radii spans)
+      (places_read n ids book known sides.columns are.column_names are.columns_are are.columns_named numbers spots spots_are)
 
-  pub claim_judged : (judged : Result Accepted Rejected) → JudgesBook sides.columns ids numbers coded d judged
+  same_width : length are.column_names ≡ length sides.columns
+  same_width = sym (zip_lengths (IsNodeNamed n) sides.columns are.column_names are.columns_named)
+
+  pub claim_judged : (judged : Result (List Group) Rejected) → JudgesBook sides.columns ids numbers coded wish judged
       → Judges (topology_of n) book (claim_check ∷ []) (verdict_of judged)
-  claim_judged (Ok shown) good =
-      claim_holds (topology_of n) d nodes numbers spans are.column_names good.groups good.places (made_of good.groups good.groups_are)
-      (spots_of good.places good.places_are) good.good
+  claim_judged (Ok groups) good =
+      claim_holds (topology_of n) wish nodes numbers radii spans are.column_names groups good.places (made_of groups good.groups_are)
+      (spots_of good.places good.places_are) (subst (λ w. GoodFor (codes_of groups) good.places (need_of w (codes_of groups) wish)) (sym same_width) good.good)
   claim_judged (Err why) bad =
-      claim_fails (topology_of n) d nodes numbers spans are.column_names bad.groups bad.places (made_of bad.groups bad.groups_are)
-      (spots_of bad.places bad.places_are) bad.pair bad.close why bad.reported
+      claim_fails (topology_of n) wish nodes numbers radii spans are.column_names bad.groups bad.places (made_of bad.groups bad.groups_are)
+      (spots_of bad.places bad.places_are) bad.pair
+      (subst (λ w. IsFirstShort bad.places (codes_of bad.groups) (need_of w (codes_of bad.groups) wish) bad.pair) (sym same_width) bad.close) why bad.reported
 
-  pub claim_shown : (judged : Result Accepted Rejected) → JudgesBook sides.columns ids numbers coded d judged
-      → IfOk judged (ShowsBookOver n nodes numbers spans d)
-  claim_shown (Ok shown) good =
-      let shows : ShowsBook (topology_of n) nodes numbers spans d (radius_of d) (length good.groups) (length numbers) = record {
-        all = are.column_names;
-        made = good.groups;
-        made_are = made_of good.groups good.groups_are;
-        radius_is = refl;
-        groups_are = refl;
-        columns_are = refl;
-      } in
-      subst (CertificateShows (topology_of n) book) (sym good.is) (refl, shows)
-  claim_shown (Err why) bad = tt
+  pub claim_grouped : (judged : Result (List Group) Rejected) → JudgesBook sides.columns ids numbers coded wish judged
+      → IfOk judged (IsGrouped n sides nodes spans)
+  claim_grouped (Ok groups) good =
+      let quiet = ap length good.groups_are.quiet in
+      record {
+        columns = are.column_names;
+        made = made_of groups good.groups_are;
+        width = same_width;
+        some = omega arith;
+        few = good.few;
+      }
+  claim_grouped (Err why) bad = tt

@@ -15,3 +15,5 @@ pub mod Siding
 pub mod Thinning
 pub mod Tabled
 pub mod Coding
+pub mod Tolerated
+pub mod Capping

@@ -143,4 +143,5 @@ far_small v w =
 pub shows_thin : (t : Topology) (nodes : List NodeName) (first : Side) (second : Span) (claim : Closeness) (shown : Accepted) → IsThinShown nodes first second claim shown
     → CertificateShows t (Thin claim.wanted claim.distance nodes first second) shown
 shows_thin t nodes first second claim (accepted.Book d r g k) is = is
+shows_thin t nodes first second claim (accepted.Capped n a b g k) is = is
 shows_thin t nodes first second claim (accepted.Thin w f s x) is = is

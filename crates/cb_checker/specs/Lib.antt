@@ -12,3 +12,4 @@ pub mod Claims
 pub mod Verdicts
 pub mod Pairs
 pub mod Thin
+pub mod Radii

@@ -31,6 +31,7 @@ ShowsThinOver n nodes first second wanted distance shown = CertificateShows (top
 -- this is what is shown of the two sides
 abbrev pub IsThinShown : List NodeName → Side → Span → Closeness → Accepted → Type 0
 IsThinShown nodes first second claim (accepted.Book d r g k) = ⊥
+IsThinShown nodes first second claim (accepted.Capped n a b g k) = ⊥
 IsThinShown nodes first second claim (accepted.Thin w f s x) =
     (w ≡ claim.wanted) × IsSideName nodes first f × IsSideName nodes (Root second) s × (x ≡ claim.distance)
 

@@ -5,17 +5,19 @@ ghost use Rattle.cb_validity.specs.Verdicts.{entries_of};
 ghost use Rattle.cb_topo.specs.Numbered.{topology_of, AreNamed};
 ghost use Rattle.cb_checker.specs.Firsts.{AreAll, JudgesNodes};
 ghost use Rattle.cb_checker.specs.Known.{verdict_of};
-ghost use Rattle.cb_checker.specs.Verdicts.{AreSidesOf, JudgesBookOver, ShowsBookOver};
+ghost use Rattle.cb_checker.specs.Verdicts.{AreSidesOf, IsGrouped, JudgesGroupsOver, JudgesBookOver, ShowsBookOver, JudgesCappedOver, ShowsCappedOver};
 
-use crate::claim::judge_book;
+use crate::claim::judge_groups;
 use crate::columns::check_columns;
 use crate::known::ids_of;
 use crate::nodes::check_nodes;
 use crate::sides::Sides;
 use crate::spans::{check_count, check_spans};
+use crate::stated::judge_radii;
 use cb_cert::Span;
+use cb_coding::Group;
 use cb_graph::Graph;
-use cb_model::{List, NodeName};
+use cb_model::{List, NodeName, Wish};
 use cb_nodes::NodeId;
 use cb_steps::Steps;
 use cb_topo::Topology;
@@ -41,6 +43,58 @@ pub(crate) fn check_book<L: Ledger>(
     ensures judges { JudgesBookOver graph.old sides.now.problems nodes.now numbers.now spans.now distance (verdict_of result) }
     ensures shows { IfOk result (ShowsBookOver graph.old nodes.now numbers.now spans.now distance) }
 {
+    let wish = Wish::Plain(distance);
+    let groups = check_groups(alloc, graph, sides, nodes, numbers, spans, wish, steps)?;
+    Ok(Accepted::Book {
+        distance,
+        radius: (distance - 1) / 2,
+        groups: groups.len() as u32,
+        columns: numbers.len() as u32,
+    })
+}
+
+/// Checks a book for a cap, its radii last.
+pub(crate) fn check_capped<L: Ledger>(
+    alloc: Global,
+    graph: &mut Graph,
+    sides: &Sides,
+    nodes: &[NodeName],
+    numbers: &[u32],
+    radii: &[u32],
+    spans: &List<Span>,
+    cap: u32,
+    steps: &mut Steps<L>,
+) -> Result<Accepted, Rejected>
+    requires sides { AreSidesOf graph.old sides.now }
+    requires radii { length radii.now + 1 < 4294967296 }
+    requires few { length nodes.now + length numbers.now + length spans.now + entries_of spans.now + 1 < 4294967296 }
+    ensures same { graph.new ≡ graph.old }
+    ensures judges { JudgesCappedOver graph.old sides.now.problems nodes.now numbers.now radii.now spans.now cap (verdict_of result) }
+    ensures shows { IfOk result (ShowsCappedOver graph.old nodes.now numbers.now radii.now spans.now cap) }
+{
+    let wish = Wish::Cap(cap);
+    let groups = check_groups(alloc, graph, sides, nodes, numbers, spans, wish, steps)?;
+    let columns = numbers.len() as u32;
+    judge_radii(alloc, &groups, sides.columns.len(), cap, radii, columns)
+}
+
+// Checks what a book has for any wish, and makes its groups.
+fn check_groups<L: Ledger>(
+    alloc: Global,
+    graph: &mut Graph,
+    sides: &Sides,
+    nodes: &[NodeName],
+    numbers: &[u32],
+    spans: &List<Span>,
+    wish: Wish,
+    steps: &mut Steps<L>,
+) -> Result<List<Group>, Rejected>
+    requires sides { AreSidesOf graph.old sides.now }
+    requires few { length nodes.now + length numbers.now + length spans.now + entries_of spans.now + 1 < 4294967296 }
+    ensures same { graph.new ≡ graph.old }
+    ensures judges { JudgesGroupsOver graph.old sides.now.problems nodes.now numbers.now spans.now wish (verdict_of result) }
+    ensures grouped { IfOk result (IsGrouped graph.old sides.now nodes.now spans.now) }
+{
     let ids = known(alloc, graph.topology(), nodes)?;
     check_columns(graph.topology(), &ids, numbers)?;
     let coded = check_spans(
@@ -53,7 +107,7 @@ pub(crate) fn check_book<L: Ledger>(
         steps,
     )?;
     check_count(alloc, graph.topology(), &sides.problems, spans)?;
-    match judge_book(alloc, &sides.columns, &ids, numbers, &coded, distance) {
+    match judge_groups(alloc, &sides.columns, &ids, numbers, &coded, wish) {
         Ok(judged) => judged,
         Err(_) => Err(Rejected::NoMemory),
     }

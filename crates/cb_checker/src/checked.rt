@@ -5,7 +5,7 @@ ghost use Rattle.cb_validity.specs.Valid.{IsValid};
 ghost use Rattle.cb_validity.specs.Verdicts.{IsCheckable, CertificateShows, TellsWhy};
 ghost use Rattle.cb_checker.specs.Verdicts.{AreSidesOf};
 
-use crate::book::check_book;
+use crate::book::{check_book, check_capped};
 use crate::sides::{Sides, sides_of};
 use crate::thin::{Closeness, check_thin};
 use cb_cert::Certificate;
@@ -63,6 +63,23 @@ fn check_over<L: Ledger>(
             columns.as_slice(),
             spans,
             *distance,
+            steps,
+        ),
+        Certificate::Capped {
+            cap,
+            nodes,
+            columns,
+            radii,
+            spans,
+        } => check_capped(
+            alloc,
+            graph,
+            sides,
+            nodes.as_slice(),
+            columns.as_slice(),
+            radii.as_slice(),
+            spans,
+            *cap,
             steps,
         ),
         Certificate::Thin {

@@ -8,41 +8,35 @@ ghost use Rattle.cb_checker.specs.Claims.{HaveMembers, ReportsTooClose, JudgesBo
 use crate::all_columns::AllColumns;
 use crate::places::places_of;
 use cb_coding::{Group, Pair, Problem};
-use cb_group::{first_close, groups};
-use cb_model::{GroupName, List};
+use cb_group::{first_short, groups};
+use cb_model::{GroupName, List, Wish};
 use cb_nodes::NodeId;
-use cb_validity::{Accepted, Rejected};
+use cb_validity::Rejected;
 use std::alloc::{AllocError, Global};
 
-/// Whether over the columns of these numbers the groups of the problems are so far apart; else the first two that are closer.
-pub(crate) fn judge_book(
+/// The groups of the problems, if over the columns of these numbers they are as far apart as the wish asks; else the first two that are closer.
+pub(crate) fn judge_groups(
     alloc: Global,
     columns: &AllColumns,
     ids: &[NodeId],
     numbers: &[u32],
     problems: &List<Problem>,
-    distance: u32,
-) -> Result<Result<Accepted, Rejected>, AllocError>
-    requires some { 0 < distance }
+    wish: Wish,
+) -> Result<Result<List<Group>, Rejected>, AllocError>
     requires columns { length columns.now < 2 ^ 32 }
     requires there { AreThere columns.now ids.now numbers.now }
     requires numbers { length numbers.now < 2 ^ 32 }
     requires problems { AreCodedProblems (length columns.now) problems.now }
     requires few { length problems.now + 1 < 2 ^ 32 }
-    ensures { IfOk result (JudgesBook columns.now ids.now numbers.now problems.now distance) }
+    ensures { IfOk result (JudgesBook columns.now ids.now numbers.now problems.now wish) }
 {
     let places = places_of(alloc, columns, ids, numbers)?;
     let groups = groups(alloc, problems, columns.len())?;
-    let close = first_close(alloc, &groups, &places, distance)?;
+    let close = first_short(alloc, &groups, &places, columns.len(), wish)?;
     if let Some(pair) = close {
         return Ok(Err(too_close(alloc, &groups, pair)?));
     }
-    Ok(Ok(Accepted::Book {
-        distance,
-        radius: (distance - 1) / 2,
-        groups: groups.len() as u32,
-        columns: numbers.len() as u32,
-    }))
+    Ok(Ok(groups))
 }
 
 // That these two groups are too close.

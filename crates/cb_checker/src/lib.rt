@@ -20,6 +20,7 @@ mod root;
 mod sides;
 mod span;
 mod spans;
+mod stated;
 mod thin;
 
 pub use cb_validity::{Accepted, Rejected};

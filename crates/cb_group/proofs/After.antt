@@ -48,12 +48,12 @@ module _ (rows : List (List Bool)) (column : ℕ) (places : List ℕ) (are : pla
   holders_have j lt has = subst (λ ps. Contains ps j) (sym are)
       (kept_by_filter (λ k. bit (code_at rows k) column) (all_columns (length rows)) j (in_all_columns (length rows) j lt) has)
 
-module _ (codes : Coded) (first d : ℕ) where
+module _ (codes : Coded) (first : ℕ) (need : ℕ → ℕ → ℕ) where
   -- each code after the first, before the end, is far, or differs from it in that number of the columns below one
   abbrev pub AreFarOrDiffer : ℕ → ℕ → ℕ → Type 0
-  AreFarOrDiffer below count end = (j : ℕ) → first < j → j < end → (d ≤ far codes first j) ⊎ (count ≤ apart (all_columns below) codes.rows first j)
+  AreFarOrDiffer below count end = (j : ℕ) → first < j → j < end → (need first j ≤ far codes first j) ⊎ (count ≤ apart (all_columns below) codes.rows first j)
 
-  pub within_all : (end : ℕ) → IsCloseOrEnd codes first d end → end ≤ length codes.rows
+  pub within_all : (end : ℕ) → IsCloseOrEnd codes first need end → end ≤ length codes.rows
   within_all end is = elim is [ inl close ↦ let lt = close.within in omega arith | inr all ↦ omega arith ]
 
   module _ (from column looked end : ℕ) (on : from ≤ column) (old : AreFarOrDiffer from looked end) where
@@ -66,7 +66,7 @@ module _ (codes : Coded) (first d : ℕ) where
 
     -- a column of the first code, all others with which were looked at
     pub column_looked : (places : List ℕ) (new : ℕ) → bit (code_at codes.rows first) column ≡ true → places ≡ holders_of codes.rows column
-        → new ≤ end → new ≤ length codes.rows → ((j : ℕ) → Contains places j → first < j → j < new → d ≤ far codes first j)
+        → new ≤ end → new ≤ length codes.rows → ((j : ℕ) → Contains places j → first < j → j < new → need first j ≤ far codes first j)
         → AreFarOrDiffer (column + 1) (looked + 1) new
     column_looked places new has are low within looks = λ j after before. elim (old j after (omega arith)) [
       | inl is ↦ inl is
@@ -81,22 +81,23 @@ module _ (codes : Coded) (first d : ℕ) where
     ]
 
   -- enough were looked at
-  pub enough_looked : (from looked end : ℕ) → from ≤ codes.width → d ≤ looked → AreFarOrDiffer from looked end → AreAllFar codes first d end
-  enough_looked from looked end within enough old = λ j after before. elim (old j after before) [
+  pub enough_looked : (from looked end most : ℕ) → ((j : ℕ) → need first j ≤ most) → from ≤ codes.width → most ≤ looked → AreFarOrDiffer from looked end
+      → AreAllFar codes first need end
+  enough_looked from looked end most bound within enough old = λ j after before. elim (old j after before) [
     | inl is ↦ is
-    | inr many ↦ let more = further (code_at codes.rows first) (code_at codes.rows j) from codes.width within in omega arith
+    | inr many ↦ let more = further (code_at codes.rows first) (code_at codes.rows j) from codes.width within in let low = bound j in omega arith
   ]
 
   -- what isn't close is far
-  pub is_far : (near : Bool) (second : ℕ) → IsTrue near ↔ (far codes first second < d) → near ≡ false → d ≤ far codes first second
-  is_far near second close isnt = elim (cases_lt (far codes first second) d) [
+  pub is_far : (near : Bool) (second : ℕ) → IsTrue near ↔ (far codes first second < need first second) → near ≡ false → need first second ≤ far codes first second
+  is_far near second close isnt = elim (cases_lt (far codes first second) (need first second)) [
     | inl lt ↦ absurd (both_ways _ isnt (close.1 lt))
     | inr le ↦ le
   ]
 
   -- one code more that is far
-  pub far_more : (second : ℕ) → AreAllFar codes first d second → d ≤ far codes first second → AreAllFar codes first d (second + 1)
+  pub far_more : (second : ℕ) → AreAllFar codes first need second → need first second ≤ far codes first second → AreAllFar codes first need (second + 1)
   far_more second are here = λ j after below. elim (cases_eq second j) [
-    | inl same ↦ subst (λ k. d ≤ far codes first k) same here
+    | inl same ↦ subst (λ k. need first k ≤ far codes first k) same here
     | inr other ↦ are j after (omega arith)
   ]

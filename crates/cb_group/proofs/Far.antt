@@ -1,15 +1,21 @@
 -- Codes over some columns alone are as far apart as the codes are over these columns.
-use Rattle.std.proofs.Common.{◌≡◌, ℕ, zero, suc, ◌+◌, ◌<◌, ◌≤◌, List, [], ◌∷◌, Bool, cond, length, get_or, refl, sym, ap, subst, ◌∙◌, inl, inr, arith, Option, None, Some, IfSome, IfNone}
+use Rattle.std.proofs.Common.{◌≡◌, min, ℕ, zero, suc, ◌+◌, ◌<◌, ◌≤◌, List, [], ◌∷◌, Bool, cond, length, get_or, refl, sym, ap, subst, ◌∙◌, inl, inr, arith, Option, None, Some, IfSome, IfNone}
 use Rattle.std.specs.Prelude.{slice_index_or}
 use Rattle.std.specs.List.{AllZip, count_by, range_with_len}
 use Rattle.std.proofs.lemmas.Bool.{cases_lt}
 use Rattle.std.proofs.lemmas.List.Sums.{sum_by-cons}
 use Rattle.cb_coding.specs.declared.book.Pair.{Pair}
 use Rattle.cb_coding.specs.Distance.{differ, bit, distance, all_columns, code_at, apart, HaveWidth}
-use Rattle.cb_coding.specs.Pairs.{IsPair, Good, IsFirstClose}
+use Rattle.cb_coding.specs.Needs.{need_of}
+use Rattle.cb_coding.specs.Pairs.{IsPair, GoodFor, IsFirstShort}
 use Rattle.cb_codes.specs.Codes.{Coded}
 use Rattle.cb_group.specs.Chosen.{IsOver, AreOver, AreChosen}
-use Rattle.cb_group.specs.Close.{far, AreAllFar, IsFirstCloseFrom, IsFirstCloseIfAny}
+use Rattle.cb_model.specs.declared.wish.Wish.{Wish}
+use Rattle.cb_model.specs.declared.wish.Wish.TheVariants as wish
+use Rattle.cb_group.specs.declared.needs.Needs.{Needs}
+use Rattle.cb_group.specs.declared.needs.Needs.TheVariants as needs
+use Rattle.cb_group.specs.Close.{far, AreAllFar, IsFirstCloseFrom, IsFirstShortIfAny}
+use Rattle.cb_group.specs.Asked.{asked_of_pair, most_asked, AreNeedsFor, AreNeedsOf}
 
 abbrev once : Bool → ℕ
 once b = cond b 1 0
@@ -76,62 +82,102 @@ module _ (columns : List ℕ) (codes rows : List (List Bool)) (over : AreOver co
   pair_back : (i j : ℕ) → IsPair rows i j → IsPair codes i j
   pair_back i j pair = (pair.0, let b = pair.1 in let same = same_count in omega arith)
 
-  pub good_moved : (d : ℕ) → Good rows (all_columns (length columns)) d → Good codes columns d
-  good_moved d good = λ i j pair. subst (λ m. d ≤ m) (pair_apart i j pair) (good i j (pair_moved i j pair))
+  -- what is asked of the rows is what is asked of the codes
+  abbrev pub AreSameNeeds : (ℕ → ℕ → ℕ) → (ℕ → ℕ → ℕ) → Type 0
+  AreSameNeeds ours theirs = (i j : ℕ) → IsPair codes i j → ours i j ≡ theirs i j
 
-  pub first_moved : (d : ℕ) (p : Pair) → IsFirstClose (all_columns (length columns)) rows d p → IsFirstClose columns codes d p
-  first_moved d p is =
-      let pair = pair_back p.first p.second is.is_pair in
-      record {
-        is_pair = pair;
-        distance = is.distance ∙ pair_apart p.first p.second pair;
-        close = is.close;
-        first = λ i j other before. subst (λ m. d ≤ m) (pair_apart i j other) (is.first i j (pair_moved i j other) before);
-      }
+  module _ (ours theirs : ℕ → ℕ → ℕ) (same : AreSameNeeds ours theirs) where
+    far_enough : (i j : ℕ) → IsPair codes i j → ours i j ≤ apart (all_columns (length columns)) rows i j → theirs i j ≤ apart columns codes i j
+    far_enough i j pair enough = subst (λ m. theirs i j ≤ m) (pair_apart i j pair)
+        (subst (λ n. n ≤ apart (all_columns (length columns)) rows i j) (same i j pair) enough)
 
-  pub any_moved : (d : ℕ) (found : Option Pair) → IfSome found (IsFirstClose (all_columns (length columns)) rows d)
-      → IfNone found (Good rows (all_columns (length columns)) d) → IsFirstCloseIfAny columns codes d found
-  any_moved d None some none = good_moved d none
-  any_moved d (Some pair) some none = first_moved d pair some
+    pub good_moved : GoodFor rows (all_columns (length columns)) ours → GoodFor codes columns theirs
+    good_moved good = λ i j pair. far_enough i j pair (good i j (pair_moved i j pair))
+
+    pub first_moved : (p : Pair) → IsFirstShort (all_columns (length columns)) rows ours p → IsFirstShort columns codes theirs p
+    first_moved p is =
+        let pair = pair_back p.first p.second is.is_pair in
+        record {
+          is_pair = pair;
+          distance = is.distance ∙ pair_apart p.first p.second pair;
+          close = subst (λ n. p.distance < n) (same p.first p.second pair) is.close;
+          first = λ i j other before. far_enough i j other (is.first i j (pair_moved i j other) before);
+        }
+
+    pub any_moved : (found : Option Pair) → IfSome found (IsFirstShort (all_columns (length columns)) rows ours)
+        → IfNone found (GoodFor rows (all_columns (length columns)) ours) → IsFirstShortIfAny columns codes theirs found
+    any_moved None some none = good_moved none
+    any_moved (Some pair) some none = first_moved pair some
+
+-- how far two codes are over all columns, by the codes that are kept
+pub kept_apart : (width : ℕ) (codes : List (List Bool)) (whole : Coded) → AreChosen (all_columns width) codes whole → (i j : ℕ) → i < length codes
+    → j < length codes → far whole i j ≡ apart (all_columns width) codes i j
+kept_apart width codes whole are i j low high =
+    subst (λ n. apart (all_columns n) whole.rows i j ≡ apart (all_columns width) codes i j) (sym are.width)
+    (same_apart (all_columns width) codes whole.rows are.over i j low high)
+
+pub same_needs : (width : ℕ) (codes : List (List Bool)) (wanted : Wish) (given : Needs) → AreNeedsOf width codes wanted given → (i j : ℕ) → IsPair codes i j
+    → asked_of_pair given i j ≡ need_of width codes wanted i j
+same_needs width codes (wish.Plain d) (needs.Plain e) is i j pair = is
+same_needs width codes (wish.Plain d) (needs.Capped most whole) is i j pair = absurd is
+same_needs width codes (wish.Cap cap) (needs.Plain e) is i j pair = absurd is
+same_needs width codes (wish.Cap cap) (needs.Capped most whole) is i j pair =
+    let first : i < length codes = (let a = pair.0 in let b = pair.1 in omega arith) in
+    ap (λ m. min m (far whole i j)) is.0 ∙ ap (λ m. min cap m) (kept_apart width codes whole is.1 i j first pair.1)
+
+-- they are asked of as many codes as are chosen
+pub needs_for_chosen : (width : ℕ) (columns : List ℕ) (codes : List (List Bool)) (chosen : Coded) (wanted : Wish) (given : Needs)
+    → AreChosen columns codes chosen → AreNeedsOf width codes wanted given → AreNeedsFor chosen given
+needs_for_chosen width columns codes chosen wanted (needs.Plain d) are is = tt
+needs_for_chosen width columns codes chosen (wish.Plain d) (needs.Capped most whole) are is = absurd is
+needs_for_chosen width columns codes chosen (wish.Cap cap) (needs.Capped most whole) are is =
+    let a = same_count columns codes chosen.rows are.over in
+    let b = same_count (all_columns width) codes whole.rows (is.1).over in
+    omega arith
+
+pub asked_most : (given : Needs) (i j : ℕ) → asked_of_pair given i j ≤ most_asked given
+asked_most (needs.Plain d) i j = omega arith
+asked_most (needs.Capped cap whole) i j = omega arith
 
 -- what is found among the chosen codes
-pub any_of_chosen : (columns : List ℕ) (codes : List (List Bool)) (chosen : Coded) → AreChosen columns codes chosen → (d : ℕ) (found : Option Pair)
-    → IfSome found (IsFirstClose (all_columns chosen.width) chosen.rows d) → IfNone found (Good chosen.rows (all_columns chosen.width) d)
-    → IsFirstCloseIfAny columns codes d found
-any_of_chosen columns codes chosen are d found some none =
-    any_moved columns codes chosen.rows are.over d found
-    (subst (λ n. IfSome found (IsFirstClose (all_columns n) chosen.rows d)) are.width some)
-    (subst (λ n. IfNone found (Good chosen.rows (all_columns n) d)) are.width none)
+pub any_of_chosen : (width : ℕ) (columns : List ℕ) (codes : List (List Bool)) (chosen : Coded) (wanted : Wish) (given : Needs)
+    → AreChosen columns codes chosen → AreNeedsOf width codes wanted given → (found : Option Pair)
+    → IfSome found (IsFirstShort (all_columns chosen.width) chosen.rows (asked_of_pair given)) → IfNone found (GoodFor chosen.rows (all_columns chosen.width) (asked_of_pair given))
+    → IsFirstShortIfAny columns codes (need_of width codes wanted) found
+any_of_chosen width columns codes chosen wanted given are of_wish found some none =
+    any_moved columns codes chosen.rows are.over (asked_of_pair given) (need_of width codes wanted) (same_needs width codes wanted given of_wish) found
+    (subst (λ n. IfSome found (IsFirstShort (all_columns n) chosen.rows (asked_of_pair given))) are.width some)
+    (subst (λ n. IfNone found (GoodFor chosen.rows (all_columns n) (asked_of_pair given))) are.width none)
 
 -- no code before this one has a close one after it
-abbrev pub AreFarTo : Coded → ℕ → ℕ → Type 0
-AreFarTo codes d to = (i : ℕ) → i < to → AreAllFar codes i d (length codes.rows)
+abbrev pub AreFarTo : Coded → (ℕ → ℕ → ℕ) → ℕ → Type 0
+AreFarTo codes need to = (i : ℕ) → i < to → AreAllFar codes i need (length codes.rows)
 
-module _ (codes : Coded) (d : ℕ) where
-  pub far_good : (to : ℕ) → AreFarTo codes d to → length codes.rows ≤ to → Good codes.rows (all_columns codes.width) d
+module _ (codes : Coded) (need : ℕ → ℕ → ℕ) where
+  pub far_good : (to : ℕ) → AreFarTo codes need to → length codes.rows ≤ to → GoodFor codes.rows (all_columns codes.width) need
   far_good to are end = λ i j pair. are i (let a = pair.0 in let b = pair.1 in omega arith) j pair.0 pair.1
 
-  pub first_is : (first : ℕ) (pair : Pair) → AreFarTo codes d first → IsFirstCloseFrom codes first d pair
-      → IsFirstClose (all_columns codes.width) codes.rows d pair
+  pub first_is : (first : ℕ) (pair : Pair) → AreFarTo codes need first → IsFirstCloseFrom codes first need pair
+      → IsFirstShort (all_columns codes.width) codes.rows need pair
   first_is first pair are is =
       let same = is.first_is in
       record {
         is_pair = (let b = is.close.after in omega arith, is.close.within);
         distance = subst (λ i. pair.distance ≡ far codes i pair.second) (sym same) is.distance_is;
-        close = let c = is.close.close in let e = is.distance_is in omega arith;
+        close = subst (λ i. pair.distance < need i pair.second) (sym same) (let c = is.close.close in let e = is.distance_is in omega arith);
         first = λ i j other before. elim before [
           | inl less ↦ are i (omega arith) j other.0 other.1
           | inr both ↦
               let here : i ≡ first = both.0 ∙ same in
               let less = other.0 in
-              subst (λ k. d ≤ far codes k j) (sym here) (is.before j (omega arith) both.1)
+              subst (λ k. need k j ≤ far codes k j) (sym here) (is.before j (omega arith) both.1)
         ];
       }
 
-  pub far_row_more : (to : ℕ) → AreFarTo codes d to → AreAllFar codes to d (length codes.rows) → AreFarTo codes d (to + 1)
+  pub far_row_more : (to : ℕ) → AreFarTo codes need to → AreAllFar codes to need (length codes.rows) → AreFarTo codes need (to + 1)
   far_row_more to are row = λ i low. elim (cases_lt i to) [
     | inl before ↦ are i before
     | inr le ↦
         let same : to ≡ i = omega arith in
-        subst (λ k. AreAllFar codes k d (length codes.rows)) same row
+        subst (λ k. AreAllFar codes k need (length codes.rows)) same row
   ]

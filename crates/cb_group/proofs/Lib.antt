@@ -4,3 +4,4 @@ pub mod Grouped
 pub mod Far
 pub mod Setting
 pub mod After
+pub mod NearestNeed

@@ -1,3 +1,5 @@
 pub mod Adding
 pub mod Chosen
 pub mod Close
+pub mod Asked
+pub mod Nearest

@@ -4,6 +4,9 @@
 mod chosen;
 mod close;
 mod grouping;
+mod needs;
+mod tolerance;
 
-pub use close::first_close;
+pub use close::first_short;
 pub use grouping::groups;
+pub use tolerance::radii;

@@ -11,6 +11,7 @@ use Rattle.cb_network.specs.Topology.{Topology}
 use Rattle.cb_network.specs.Sound.{Sound}
 use Rattle.cb_cert.specs.declared.certificate.Certificate.{Certificate}
 use Rattle.cb_cert.specs.declared.certificate.Certificate.TheVariants.{Thin}
+use Rattle.cb_cert.specs.declared.line.Version.TheVariants.{First}
 use Rattle.cb_cert.specs.declared.certificate.Entry.{Entry}
 use Rattle.cb_cert.specs.declared.certificate.Side.TheVariants.{Quiet}
 use Rattle.cb_cert.specs.declared.certificate.Span.{Span}
@@ -131,7 +132,7 @@ module _ (t : Topology) (root : NodeName) (levels : Levels) (are : AreLevelsOf t
         let sl = span_lines span in
         let body = nl ++ cert.Quiet ∷ sl in
         let claim = cert.Thin ∷ cert.Wanted 1 ∷ cert.Distance 0 ∷ body in
-        let claim_fits = all_left P claim (cert.End ∷ []) (All-tail P cert.Header (claim ++ cert.End ∷ []) (is_certificate.fit)) in
+        let claim_fits = all_left P claim (cert.End ∷ []) (All-tail P (cert.Header First) (claim ++ cert.End ∷ []) (is_certificate.fit)) in
         let later = All-tail P (cert.Wanted 1) (cert.Distance 0 ∷ body) (All-tail P cert.Thin (cert.Wanted 1 ∷ cert.Distance 0 ∷ body) claim_fits) in
         let body_fits = All-tail P (cert.Distance 0) body later in
         let names = all_unmapped P cert.Node levels.nodes (All-tail P (cert.Nodes (length levels.nodes)) (map cert.Node levels.nodes) (all_left P nl (cert.Quiet ∷ sl) body_fits)) in

@@ -1,5 +1,5 @@
 -- Canonical books are valid where their columns are good.
-use Rattle.std.proofs.Common.{◌≡◌, ◌↔◌, ℕ, ◌<◌, List, [], ◌∷◌, get_or, refl, sym, subst, Some, inl, inr}
+use Rattle.std.proofs.Common.{◌≡◌, ◌↔◌, ℕ, ◌<◌, List, [], ◌∷◌, length, get_or, refl, sym, subst, Some, inl, inr}
 use Rattle.std.specs.Prelude.{slice_get}
 use Rattle.std.specs.List.{AllZip, Contains}
 use Rattle.std.specs.declared.cmp.Ordering.TheVariants.{Less}
@@ -7,12 +7,16 @@ use Rattle.std.proofs.lemmas.Bool.{cases_order}
 use Rattle.std.proofs.lemmas.List.Elements.{Contains-get_or}
 use Rattle.std.proofs.lemmas.Option.{slice_get_within, get_or_from_slice_get}
 use Rattle.cb_model.specs.declared.node.NodeName.{NodeName}
+use Rattle.cb_model.specs.declared.wish.Wish.{Wish}
+use Rattle.cb_model.specs.declared.wish.Wish.TheVariants.{Plain, Cap}
 use Rattle.cb_model.specs.Order.{Rises}
 use Rattle.cb_model.specs.NodeOrder.{node_cmp}
 use Rattle.cb_model.proofs.Rising.{node_strict, contains_cases, contains_head, contains_tail, nothing_in_empty}
 use Rattle.cb_coding.specs.declared.group.Group.{Group}
 use Rattle.cb_coding.specs.Groups.{codes_of}
-use Rattle.cb_coding.specs.Pairs.{Good}
+use Rattle.cb_coding.specs.Needs.{capped_need, need_of}
+use Rattle.cb_coding.specs.Pairs.{Good, GoodFor}
+use Rattle.cb_coding.specs.Radii.{AreRadii}
 use Rattle.cb_network.specs.Topology.{Topology}
 use Rattle.cb_network.specs.Nodes.{IsNodeOf, IsProblem, IsColumn, AreProblems}
 use Rattle.cb_network.specs.Causes.{Edge, Chain}
@@ -20,10 +24,11 @@ use Rattle.cb_finding.specs.Matrix.{IsMatrix}
 use Rattle.cb_finding.proofs.One.{matrix_is_one}
 use Rattle.cb_cert.specs.declared.certificate.Span.{Span}
 use Rattle.cb_cert.specs.declared.certificate.Certificate.{Certificate}
+use Rattle.cb_cert.specs.declared.certificate.Certificate.TheVariants.{Capped}
 use Rattle.cb_validity.specs.Spans.{AreNodes, StandsFor, IsSpanOf}
-use Rattle.cb_validity.specs.Reading.{ArePlaces, AreApart}
-use Rattle.cb_validity.specs.Valid.{AreColumnNumbers, AreSpans, IsValidBook, IsValid}
-use Rattle.cb_validity.specs.Canonical.{IsCanonicalSpan, AreUsed, IsCanonicalBook}
+use Rattle.cb_validity.specs.Reading.{ArePlaces, AreApart, MakeRadii}
+use Rattle.cb_validity.specs.Valid.{AreColumnNumbers, AreSpans, IsValidBook, IsValidCapped, IsValid}
+use Rattle.cb_validity.specs.Canonical.{IsCanonicalSpan, AreUsed, IsCanonicalBook, IsCanonicalCapped}
 use Rattle.cb_validity.specs.Laws.{HavePlaces}
 use Rattle.cb_validity.proofs.SpanLaws.{stands_for_one, span_lists_caused}
 use Rattle.cb_validity.proofs.Matrices.{spans_make_matrix}
@@ -128,7 +133,7 @@ spans_of_canonical t nodes (p ∷ problems) (s ∷ spans) are =
     let first : IsCanonicalSpan t nodes p s = are.0 in
     (first.is, spans_of_canonical t nodes problems spans are.1)
 
-module _ (t : Topology) (all : List NodeName) (groups : List Group) (columns : List NodeName) (places : List ℕ) (distance : ℕ)
+module _ (t : Topology) (all : List NodeName) (groups : List Group) (columns : List NodeName) (places : List ℕ) (wish : Wish)
     (matrix : IsMatrix t all groups) (have : HavePlaces all columns places) (rise : Rises node_cmp columns)
     (nodes : List NodeName) (numbers : List ℕ) (spans : List Span) (problems : List NodeName) (problems_are : AreProblems t problems)
     (spans_are : AllZip (IsCanonicalSpan t nodes) problems spans) (names : AllZip (StandsFor nodes) numbers columns)
@@ -148,17 +153,21 @@ module _ (t : Topology) (all : List NodeName) (groups : List Group) (columns : L
         chain_ends_at_node t one.0 causes.0 n (problem_is_node t one.0 (problems_are.each one.0 one.1)) causes.1
   ]
 
-  pub good_of_valid : IsValidBook t distance nodes numbers spans → Good (codes_of groups) places distance
+  abbrev good_for_wish : List NodeName → List Group → List ℕ → Type 0
+  good_for_wish cs gs ps = GoodFor (codes_of gs) ps (need_of (length cs) (codes_of gs) wish)
+
+  pub good_of_valid : IsValidBook t wish nodes numbers spans → good_for_wish all groups places
   good_of_valid valid =
       let apart = valid.apart in
       let made = (spans_make_matrix t nodes spans apart.columns apart.groups are_spans).0 apart.made in
       let same = matrix_is_one t apart.columns all apart.groups groups made matrix in
       let over : ArePlaces nodes all numbers apart.places = subst (λ cs. ArePlaces nodes cs numbers apart.places) same.0 apart.places_are in
       let there = places_are_one nodes all matrix.columns_are.rise numbers columns places apart.places names have over in
-      let good : Good (codes_of groups) apart.places distance = subst (λ (gs : List Group). Good (codes_of gs) apart.places distance) same.1 apart.good in
-      subst (λ ps. Good (codes_of groups) ps distance) there good
+      let over_all : good_for_wish all apart.groups apart.places = subst (λ cs. good_for_wish cs apart.groups apart.places) same.0 apart.good in
+      let good : good_for_wish all groups apart.places = subst (λ gs. good_for_wish all gs apart.places) same.1 over_all in
+      subst (good_for_wish all groups) there good
 
-  pub valid_of_good : Good (codes_of groups) places distance → IsValidBook t distance nodes numbers spans
+  pub valid_of_good : good_for_wish all groups places → IsValidBook t wish nodes numbers spans
   valid_of_good good =
       let are_nodes : AreNodes t nodes = record {
         rise = used.rise;
@@ -170,7 +179,7 @@ module _ (t : Topology) (all : List NodeName) (groups : List Group) (columns : L
         each = λ k d low. are_columns (get_or columns k d) (Contains-get_or columns k d low);
         rise = rise;
       } in
-      let apart : AreApart t nodes numbers spans distance = record {
+      let apart : AreApart t nodes numbers spans wish = record {
         columns = all;
         groups = groups;
         places = places;
@@ -184,8 +193,40 @@ pub canonical_book_is_valid : (t : Topology) (all : List NodeName) (groups : Lis
     (c : Certificate) → IsMatrix t all groups → HavePlaces all columns places → Rises node_cmp columns → IsCanonicalBook t columns distance c
     → IsValid t c ↔ Good (codes_of groups) places distance
 canonical_book_is_valid t all groups columns places distance c matrix have rise is =
-    let good = good_of_valid t all groups columns places distance matrix have rise is.nodes is.numbers is.spans is.problems is.problems_are is.spans_are is.names is.used in
-    let valid = valid_of_good t all groups columns places distance matrix have rise is.nodes is.numbers is.spans is.problems is.problems_are is.spans_are is.names is.used in
+    let good = good_of_valid t all groups columns places (Plain distance) matrix have rise is.nodes is.numbers is.spans is.problems is.problems_are is.spans_are is.names is.used in
+    let valid = valid_of_good t all groups columns places (Plain distance) matrix have rise is.nodes is.numbers is.spans is.problems is.problems_are is.spans_are is.names is.used in
     ((λ v. good (subst (IsValid t) is.is v)), (λ g. subst (IsValid t) (sym is.is) (valid g)))
 
--- over a valid book a word within the radius leads to its group alone
+-- and for a cap, where the radii are those of the groups, too
+pub canonical_capped_is_valid : (t : Topology) (all : List NodeName) (groups : List Group) (columns : List NodeName) (places : List ℕ) (cap : ℕ)
+    (radii : List ℕ) (c : Certificate) → IsMatrix t all groups → HavePlaces all columns places → Rises node_cmp columns
+    → IsCanonicalCapped t columns cap radii c
+    → IsValid t c ↔ (GoodFor (codes_of groups) places (capped_need (length all) (codes_of groups) cap) × AreRadii (length all) (codes_of groups) cap radii)
+canonical_capped_is_valid t all groups columns places cap radii c matrix have rise canonical =
+    let is = canonical.book in
+    let same_book = is.is in
+    let nodes = is.nodes in
+    let spans = is.spans in
+    let same : c ≡ Capped cap nodes is.numbers radii spans = let same_capped = canonical.is in cc in
+    let good = good_of_valid t all groups columns places (Cap cap) matrix have rise nodes is.numbers spans is.problems is.problems_are is.spans_are is.names is.used in
+    let valid = valid_of_good t all groups columns places (Cap cap) matrix have rise nodes is.numbers spans is.problems is.problems_are is.spans_are is.names is.used in
+    let are = are_spans t all groups columns places (Cap cap) matrix have rise nodes is.numbers spans is.problems is.problems_are is.spans_are is.names is.used in
+    let radii_of : MakeRadii t nodes spans cap radii → AreRadii (length all) (codes_of groups) cap radii = λ make.
+    let made = (spans_make_matrix t nodes spans make.columns make.groups are).0 make.made in
+    let one = matrix_is_one t make.columns all make.groups groups made matrix in
+    subst (λ (gs : List Group). AreRadii (length all) (codes_of gs) cap radii) one.1
+    (subst (λ (cs : List NodeName). AreRadii (length cs) (codes_of make.groups) cap radii) one.0 make.are)
+    in
+    let make_radii : AreRadii (length all) (codes_of groups) cap radii → MakeRadii t nodes spans cap radii = λ radii_are. record {
+      columns = all;
+      groups = groups;
+      made = (spans_make_matrix t nodes spans all groups are).1 matrix;
+      are = radii_are;
+    } in
+    let to : IsValidCapped t cap nodes is.numbers radii spans
+    → GoodFor (codes_of groups) places (capped_need (length all) (codes_of groups) cap) × AreRadii (length all) (codes_of groups) cap radii = λ v.
+    (good v.book, radii_of v.radii_are)
+    in (
+      (λ v. to (subst (IsValid t) same v)),
+      (λ holds. subst (IsValid t) (sym same) (record { book = valid holds.0; radii_are = make_radii holds.1 })),
+    )

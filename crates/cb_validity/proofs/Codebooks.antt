@@ -8,6 +8,8 @@ use Rattle.std.proofs.lemmas.List.Kept.{AllPairs-from_increasing}
 use Rattle.cb_model.specs.declared.node.NodeName.{NodeName}
 use Rattle.cb_model.specs.declared.node.GroupName.{GroupName}
 use Rattle.cb_model.specs.declared.node.GroupName.TheVariants.{Quiet, Least}
+use Rattle.cb_model.specs.declared.wish.Wish.{Wish}
+use Rattle.cb_model.specs.declared.wish.Wish.TheVariants.{Plain, Cap}
 use Rattle.cb_model.specs.Order.{Rises}
 use Rattle.cb_model.specs.NodeOrder.{node_cmp}
 use Rattle.cb_model.proofs.Rising.{contains_cases, contains_head, contains_tail, nothing_in_empty}
@@ -15,8 +17,8 @@ use Rattle.cb_coding.specs.declared.group.Group.{Group}
 use Rattle.cb_coding.specs.declared.group.Problem.{Problem}
 use Rattle.cb_coding.specs.Distance.{code_at}
 use Rattle.cb_coding.specs.Groups.{IsGroup, codes_of, zeros, group_of}
-use Rattle.cb_coding.specs.Pairs.{Good}
-use Rattle.cb_coding.proofs.BookLaws.{book_is_good}
+use Rattle.cb_coding.specs.Needs.{need_of}
+use Rattle.cb_coding.proofs.BookLaws.{choice_is_good}
 use Rattle.cb_coding.proofs.GroupLaws.{one_is_good}
 use Rattle.cb_coding.proofs.One.{problem_of_member}
 use Rattle.cb_network.specs.Topology.{Topology}
@@ -27,8 +29,8 @@ use Rattle.cb_finding.proofs.Nearest.{coded_are_wide}
 use Rattle.cb_cert.specs.declared.certificate.Certificate.{Certificate}
 use Rattle.cb_validity.specs.Valid.{IsValid}
 use Rattle.cb_validity.specs.Laws.{HavePlaces, IsSideProblem, IsCodeOfSide}
-use Rattle.cb_validity.specs.Codebooks.{IsCodebook, IsShortfall, least_of}
-use Rattle.cb_validity.proofs.Canonicals.{canonical_book_is_valid, contains_from_get}
+use Rattle.cb_validity.specs.Codebooks.{AreBookColumns, IsCodebook, IsShortfall, least_of}
+use Rattle.cb_validity.proofs.Canonicals.{canonical_book_is_valid, canonical_capped_is_valid, contains_from_get}
 use Rattle.cb_validity.proofs.Passing.{zip_lengths, zip_at}
 use Rattle.cb_validity.proofs.Wholes.{canonical_thin_is_valid}
 
@@ -44,12 +46,21 @@ places_rise all columns places rise have up i j d below within =
     rw (get_or_from_slice_get all (get_or places i 0) (get_or columns i d) d here, get_or_from_slice_get all (get_or places j 0) (get_or columns j d) d there)
     at (rise (get_or places i 0) (get_or places j 0) d less inside)
 
-pub codebook_is_valid : (t : Topology) (distance : ℕ) (c : Certificate) → IsCodebook t distance c → IsValid t c
-codebook_is_valid t distance c is =
+-- the columns of a codebook, in order
+pub book_columns_rise : (t : Topology) (wish : Wish) (columns : List NodeName) → AreBookColumns t wish columns → Rises node_cmp columns
+book_columns_rise t wish columns a = places_rise a.all columns a.kept a.matrix.columns_are.rise a.named a.choice.rise
+
+pub codebook_is_valid : (t : Topology) (wish : Wish) (c : Certificate) → IsCodebook t wish c → IsValid t c
+codebook_is_valid t (Plain d) c is =
     let a = is.are_columns in
-    let rise = places_rise a.all is.columns a.book.columns a.matrix.columns_are.rise a.named a.is_book.rise in
-    let good = subst (λ (d : ℕ). Good (codes_of a.groups) a.book.columns d) a.distance_is (book_is_good (length a.all) (codes_of a.groups) a.book a.is_book) in
-    (canonical_book_is_valid t a.all a.groups is.columns a.book.columns distance c a.matrix a.named rise is.canonical).1 good
+    let good = choice_is_good (length a.all) (codes_of a.groups) (need_of (length a.all) (codes_of a.groups) (Plain d)) a.kept a.choice in
+    (canonical_book_is_valid t a.all a.groups is.columns a.kept d c a.matrix a.named (book_columns_rise t (Plain d) is.columns a) is.canonical).1 good
+codebook_is_valid t (Cap cap) c is =
+    let a = is.are_columns in
+    let (radii, radii_are, canonical) = is.canonical in
+    let good = choice_is_good (length a.all) (codes_of a.groups) (need_of (length a.all) (codes_of a.groups) (Cap cap)) a.kept a.choice in
+    (canonical_capped_is_valid t a.all a.groups is.columns a.kept cap radii c a.matrix a.named (book_columns_rise t (Cap cap) is.columns a) canonical).1
+    (good, radii_are)
 
 -- ---- two groups that are too close
 

@@ -1,12 +1,15 @@
 -- A certificate is rejected for one reason.
-use Rattle.std.proofs.Common.{◌≡◌, ◌≢◌, ℕ, ◌+◌, List, [], ◌∷◌, ◌++◌, length, map, refl, sym, ap, subst, ◌∙◌, Bool, Some}
+use Rattle.std.proofs.Common.{◌≡◌, ◌≢◌, ℕ, ◌+◌, List, [], ◌∷◌, ◌++◌, length, map, refl, sym, ap, subst, ◌∙◌, Bool, Some, inl, inr}
 use Rattle.std.specs.Prelude.{slice_get}
 use Rattle.std.specs.List.{All, AllZip}
 use Rattle.std.specs.Ordering.{ordering_reverse}
 use Rattle.std.specs.declared.cmp.Ordering.TheVariants.{Less, Equal, Greater}
+use Rattle.std.proofs.lemmas.Bool.{cases_order}
 use Rattle.std.proofs.lemmas.List.Elements.{All-head, All-tail}
 use Rattle.std.proofs.lemmas.Option.{same_Some}
 use Rattle.cb_model.specs.declared.node.NodeName.{NodeName}
+use Rattle.cb_model.specs.declared.wish.Wish.{Wish}
+use Rattle.cb_model.specs.declared.wish.Wish.TheVariants.{Plain, Cap}
 use Rattle.cb_model.specs.declared.node.GroupName.{GroupName}
 use Rattle.cb_model.specs.NodeOrder.{node_cmp}
 use Rattle.cb_model.specs.Order.{Rises}
@@ -15,8 +18,9 @@ use Rattle.cb_coding.specs.declared.book.Pair.{Pair}
 use Rattle.cb_coding.specs.declared.group.Group.{Group}
 use Rattle.cb_coding.specs.declared.group.Problem.{Problem}
 use Rattle.cb_coding.specs.Groups.{AreGroups, codes_of}
-use Rattle.cb_coding.specs.Pairs.{IsFirstClose}
-use Rattle.cb_coding.proofs.One.{groups_are_one, first_close_is_one}
+use Rattle.cb_coding.specs.Needs.{need_of}
+use Rattle.cb_coding.specs.Pairs.{IsFirstShort}
+use Rattle.cb_coding.proofs.One.{groups_are_one, first_short_is_one}
 use Rattle.cb_finding.specs.Finding.{IsCalled}
 use Rattle.cb_finding.proofs.One.{group_name_is_one}
 use Rattle.cb_network.specs.Topology.{Topology}
@@ -32,7 +36,7 @@ use Rattle.cb_validity.specs.declared.verdict.Rejected.TheVariants as why
 use Rattle.cb_validity.specs.Spans.{ListsNode}
 use Rattle.cb_validity.specs.Reading.{IsSpanCode, IsSideCode, MakeGroups, ArePlaces, AreSidesApart}
 use Rattle.cb_cert.specs.Format.{nodes_of}
-use Rattle.cb_validity.specs.Checks.{Check, node_check, column_check, root_check, parent_check, edge_check, new_check, closed_check, no_more_problems, no_more_spans, claim_check, AreChecks, book_checks, Passes, IsLeastOutside, AreTooClose, TellsClaim, ReportsCheck, IsFirstFail}
+use Rattle.cb_validity.specs.Checks.{Check, node_check, column_check, root_check, parent_check, edge_check, new_check, closed_check, no_more_problems, no_more_spans, claim_check, radius_check, AreChecks, book_checks, capped_checks, Passes, IsLeastOutside, AreTooClose, IsOwnRadius, IsFirstBadRadius, TellsClaim, TellsRadii, ReportsCheck, IsFirstFail}
 use Rattle.cb_validity.proofs.SpanLaws.{stands_for_one, listed_at_one}
 use Rattle.cb_validity.proofs.Canonicals.{one_place}
 
@@ -128,15 +132,17 @@ far_is_one t nodes first second m n a b =
     cc
 
 -- the first two groups that are too close are one pair
-too_close_is_one : (t : Topology) (nodes : List NodeName) (numbers : List ℕ) (spans : List Span) (wanted : ℕ) (f g s u : GroupName) (m n : ℕ)
-    → AreTooClose t nodes numbers spans wanted f s m → AreTooClose t nodes numbers spans wanted g u n → (f ≡ g) × (s ≡ u) × (m ≡ n)
-too_close_is_one t nodes numbers spans wanted f g s u m n a b =
+too_close_is_one : (t : Topology) (nodes : List NodeName) (numbers : List ℕ) (spans : List Span) (wish : Wish) (f g s u : GroupName) (m n : ℕ)
+    → AreTooClose t nodes numbers spans wish f s m → AreTooClose t nodes numbers spans wish g u n → (f ≡ g) × (s ≡ u) × (m ≡ n)
+too_close_is_one t nodes numbers spans wish f g s u m n a b =
     let same = made_is_one t nodes spans a.columns b.columns a.groups b.groups a.made b.made in
     let over : ArePlaces nodes a.columns numbers b.places = subst (λ cs. ArePlaces nodes cs numbers b.places) (sym same.0) b.places_are in
     let places = places_found_once nodes a.columns (a.made).columns_are.rise numbers a.places b.places a.places_are over in
-    let moved = subst (λ gs. IsFirstClose b.places (codes_of gs) wanted b.pair) (sym same.1) b.is_first in
-    let here = subst (λ ps. IsFirstClose ps (codes_of a.groups) wanted b.pair) (sym places) moved in
-    let pair : a.pair ≡ b.pair = first_close_is_one a.places (codes_of a.groups) wanted a.pair b.pair a.is_first here in
+    let is_first : List NodeName → List Group → List ℕ → Type 0 = λ cs gs ps. IsFirstShort ps (codes_of gs) (need_of (length cs) (codes_of gs) wish) b.pair in
+    let over_columns = subst (λ cs. is_first cs b.groups b.places) (sym same.0) b.is_first in
+    let moved = subst (λ gs. is_first a.columns gs b.places) (sym same.1) over_columns in
+    let here = subst (is_first a.columns a.groups) (sym places) moved in
+    let pair : a.pair ≡ b.pair = first_short_is_one a.places (codes_of a.groups) (need_of (length a.columns) (codes_of a.groups) wish) a.pair b.pair a.is_first here in
     let first : IsCalled a.groups (a.pair).first g = subst (λ (p : Pair). IsCalled a.groups p.first g) (sym pair)
     (subst (λ gs. IsCalled gs (b.pair).first g) (sym same.1) b.first_is)
     in
@@ -147,6 +153,24 @@ too_close_is_one t nodes numbers spans wanted f g s u m n a b =
       group_name_is_one a.groups (a.pair).second s u a.second_is second,
       a.far_is ∙ (ap (λ (p : Pair). p.distance) pair ∙ sym b.far_is),
     )
+
+-- a position has one radius of its own, and so there is one first position that has none
+bad_radius_is_one : (t : Topology) (nodes : List NodeName) (spans : List Span) (cap : ℕ) (radii : List ℕ) (m n : ℕ)
+    → IsFirstBadRadius t nodes spans cap radii m → IsFirstBadRadius t nodes spans cap radii n → m ≡ n
+bad_radius_is_one t nodes spans cap radii m n a b =
+    let same = made_is_one t nodes spans a.columns b.columns a.groups b.groups a.made b.made in
+    let own : List NodeName → List Group → ℕ → Type 0 = λ cs gs k. IsOwnRadius (length cs) (codes_of gs) cap radii k in
+    let there : (k : ℕ) → own a.columns a.groups k → own b.columns b.groups k = λ k is.
+    subst (λ gs. own b.columns gs k) same.1 (subst (λ cs. own cs a.groups k) same.0 is)
+    in
+    let back : (k : ℕ) → own b.columns b.groups k → own a.columns a.groups k = λ k is.
+    subst (λ gs. own a.columns gs k) (sym same.1) (subst (λ cs. own cs b.groups k) (sym same.0) is)
+    in
+    elim (cases_order m n) [
+      | inl is ↦ is
+      | inr (inl below) ↦ absurd (a.bad (back m (b.before m below)))
+      | inr (inr above) ↦ absurd (b.bad (there n (a.before n above)))
+    ]
 
 -- nodes of which neither stands before the other are one
 not_apart : (m n : NodeName) → node_cmp m n ≢ Less → node_cmp n m ≢ Less → m ≡ n
@@ -165,12 +189,32 @@ outside_is_one t nodes span place m n a b =
     let to_m : Edge t b.node m = subst (λ p. Edge t p m) same a.edge in
     not_apart m n (b.least m to_m a.outside) (a.least n to_n b.outside)
 
+-- two groups are reported that are closer than the wish asks
+abbrev ReportsClose : Topology → List NodeName → List ℕ → List Span → Wish → Rejected → Type 0
+ReportsClose t nodes columns spans wish reported =
+    (f s : GroupName) × (far : ℕ) × (reported ≡ why.TooClose f s far) × AreTooClose t nodes columns spans wish f s far
+
+close_reported_once : (t : Topology) (nodes : List NodeName) (columns : List ℕ) (spans : List Span) (wish : Wish) (a b : Rejected)
+    → ReportsClose t nodes columns spans wish a → ReportsClose t nodes columns spans wish b → a ≡ b
+close_reported_once t nodes columns spans wish a b x y =
+    let same = too_close_is_one t nodes columns spans wish x.0 y.0 x.1 y.1 x.2 y.2 x.4 y.4 in
+    let ours = x.3 in
+    let theirs = y.3 in
+    let f = same.0 in
+    let s = same.1 in
+    let far = same.2 in
+    cc
+
 -- what is reported of the claim of a book
 reported_of_book : (t : Topology) (d : ℕ) (nodes : List NodeName) (columns : List ℕ) (spans : List Span) (reported : Rejected)
-    → TellsClaim t (certificate.Book d nodes columns spans) reported
-    → (f s : GroupName) × (far : ℕ) × (reported ≡ why.TooClose f s far) × AreTooClose t nodes columns spans d f s far
+    → TellsClaim t (certificate.Book d nodes columns spans) reported → ReportsClose t nodes columns spans (Plain d) reported
 reported_of_book t d nodes columns spans (why.TooClose f s far) p = (f, s, far, refl, p)
 reported_of_book t d nodes columns spans _ p = absurd p
+
+reported_of_capped : (t : Topology) (cap : ℕ) (nodes : List NodeName) (columns radii : List ℕ) (spans : List Span) (reported : Rejected)
+    → TellsClaim t (certificate.Capped cap nodes columns radii spans) reported → ReportsClose t nodes columns spans (Cap cap) reported
+reported_of_capped t cap nodes columns radii spans (why.TooClose f s far) p = (f, s, far, refl, p)
+reported_of_capped t cap nodes columns radii spans _ p = absurd p
 
 -- what is reported of the claim of a thin certificate
 reported_of_thin : (t : Topology) (w d : ℕ) (nodes : List NodeName) (first : Side) (second : Span) (reported : Rejected)
@@ -180,20 +224,22 @@ reported_of_thin t w d nodes first second _ p = absurd p
 
 claim_reported_once : (t : Topology) (c : Certificate) (a b : Rejected) → TellsClaim t c a → TellsClaim t c b → a ≡ b
 claim_reported_once t (certificate.Book d nodes columns spans) a b p q =
-    let x = reported_of_book t d nodes columns spans a p in
-    let y = reported_of_book t d nodes columns spans b q in
-    let same = too_close_is_one t nodes columns spans d x.0 y.0 x.1 y.1 x.2 y.2 x.4 y.4 in
-    let ours = x.3 in
-    let theirs = y.3 in
-    let f = same.0 in
-    let s = same.1 in
-    let far = same.2 in
-    cc
+    close_reported_once t nodes columns spans (Plain d) a b (reported_of_book t d nodes columns spans a p) (reported_of_book t d nodes columns spans b q)
+claim_reported_once t (certificate.Capped cap nodes columns radii spans) a b p q =
+    close_reported_once t nodes columns spans (Cap cap) a b (reported_of_capped t cap nodes columns radii spans a p)
+    (reported_of_capped t cap nodes columns radii spans b q)
 claim_reported_once t (certificate.Thin w d nodes first second) a b p q =
     let x = reported_of_thin t w d nodes first second a p in
     let y = reported_of_thin t w d nodes first second b q in
     let far = far_is_one t nodes first second x.0 y.0 x.2 y.2 in
     x.1 ∙ (ap why.NotThin far ∙ sym y.1)
+
+radii_reported_once : (t : Topology) (c : Certificate) (a b : Rejected) → TellsRadii t c a → TellsRadii t c b → a ≡ b
+radii_reported_once t (certificate.Book d nodes columns spans) a b p q = absurd p
+radii_reported_once t (certificate.Capped cap nodes columns radii spans) a b p q =
+    let same = bad_radius_is_one t nodes spans cap radii p.0 q.0 p.1 q.1 in
+    p.2 ∙ (ap (λ k. why.BadRadius (k + 1)) same ∙ sym q.2)
+radii_reported_once t (certificate.Thin w d nodes first second) a b p q = absurd p
 
 tells_one : (t : Topology) (c : Certificate) (check : Check) (a b : Rejected) → ReportsCheck t c check a → ReportsCheck t c check b → a ≡ b
 tells_one t c (node_check k) a b p q = p ∙ sym q
@@ -210,11 +256,15 @@ tells_one t c (no_more_problems problems spans) a b p q =
     p.2 ∙ (ap why.NoSpan same ∙ sym q.2)
 tells_one t c (no_more_spans problems spans) a b p q = p ∙ sym q
 tells_one t c claim_check a b p q = claim_reported_once t c a b p q
+tells_one t c radius_check a b p q = radii_reported_once t c a b p q
 
 checks_are_one : (t : Topology) (c : Certificate) (xs ys : List Check) → AreChecks t c xs → AreChecks t c ys → xs ≡ ys
 checks_are_one t (certificate.Book d nodes columns spans) xs ys a b =
     let same = problems_are_one t a.0 b.0 a.1 b.1 in
     a.2 ∙ (ap (λ ps. book_checks ps nodes columns spans) same ∙ sym b.2)
+checks_are_one t (certificate.Capped cap nodes columns radii spans) xs ys a b =
+    let same = problems_are_one t a.0 b.0 a.1 b.1 in
+    a.2 ∙ (ap (λ ps. capped_checks ps nodes columns spans) same ∙ sym b.2)
 checks_are_one t (certificate.Thin w d nodes first second) xs ys a b = a ∙ sym b
 
 pub first_fail_is_one : (t : Topology) (c : Certificate) (a b : Rejected) → IsFirstFail t c a → IsFirstFail t c b → a ≡ b

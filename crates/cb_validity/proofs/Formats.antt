@@ -28,9 +28,10 @@ use Rattle.cb_cert.specs.declared.certificate.Span.{Span}
 use Rattle.cb_cert.specs.declared.certificate.Side.{Side}
 use Rattle.cb_cert.specs.declared.certificate.Side.TheVariants as side
 use Rattle.cb_cert.specs.declared.certificate.Certificate.{Certificate}
-use Rattle.cb_cert.specs.declared.certificate.Certificate.TheVariants.{Book, Thin}
+use Rattle.cb_cert.specs.declared.certificate.Certificate.TheVariants.{Book, Capped, Thin}
 use Rattle.cb_cert.specs.declared.line.CertificateLine.TheVariants as line
-use Rattle.cb_cert.specs.Lines.{certificate_lines, node_lines, column_lines, all_span_lines, span_lines, side_lines}
+use Rattle.cb_cert.specs.declared.line.Version.TheVariants.{First, Second}
+use Rattle.cb_cert.specs.Lines.{certificate_lines, node_lines, column_lines, radius_lines, all_span_lines, span_lines, side_lines}
 use Rattle.cb_cert.specs.Format.{Fits, IsWanted, IsCertificate, entries_in, entry_limit, certificate_node_limit, column_limit, nodes_of}
 use Rattle.cb_cert.proofs.Sizes.{no_entries, one_span_entries}
 use Rattle.cb_validity.specs.Spans.{AreNodes, StandsFor, IsListedAt, IsSpanOf}
@@ -220,10 +221,10 @@ book_is_of_format t far nodes numbers spans sound named are_nodes are_columns ar
     let claim = line.Book ∷ line.Distance far ∷ body in
     let body_fits : All P body = All-append P nl (cl ++ sl) nodes_fit (All-append P cl sl columns_fit spans_are) in
     let claim_fits : All P claim = All-cons P line.Book (line.Distance far ∷ body) tt (All-cons P (line.Distance far) body wanted body_fits) in
-    let whole : All P (certificate_lines c) = All-cons P line.Header (claim ++ line.End ∷ []) tt
+    let whole : All P (certificate_lines c) = All-cons P (line.Header First) (claim ++ line.End ∷ []) tt
     (All-append P claim (line.End ∷ []) claim_fits (All-cons P line.End [] tt (All-nil P)))
     in
-    let e1 = sum_by-cons entries_in line.Header (claim ++ line.End ∷ []) in
+    let e1 = sum_by-cons entries_in (line.Header First) (claim ++ line.End ∷ []) in
     let e2 = sum_by-append entries_in claim (line.End ∷ []) in
     let e3 = sum_by-cons entries_in line.Book (line.Distance far ∷ body) in
     let e4 = sum_by-cons entries_in (line.Distance far) body in
@@ -269,10 +270,10 @@ thin_is_of_format t wanted far nodes first second sound named are_nodes side_is 
     let claim_fits : All P claim = All-cons P line.Thin (line.Wanted wanted ∷ line.Distance far ∷ body) tt
     (All-cons P (line.Wanted wanted) (line.Distance far ∷ body) may (All-cons P (line.Distance far) body low body_fits))
     in
-    let whole : All P (certificate_lines c) = All-cons P line.Header (claim ++ line.End ∷ []) tt
+    let whole : All P (certificate_lines c) = All-cons P (line.Header First) (claim ++ line.End ∷ []) tt
     (All-append P claim (line.End ∷ []) claim_fits (All-cons P line.End [] tt (All-nil P)))
     in
-    let e1 = sum_by-cons entries_in line.Header (claim ++ line.End ∷ []) in
+    let e1 = sum_by-cons entries_in (line.Header First) (claim ++ line.End ∷ []) in
     let e2 = sum_by-append entries_in claim (line.End ∷ []) in
     let e3 = sum_by-cons entries_in line.Thin (line.Wanted wanted ∷ line.Distance far ∷ body) in
     let e4 = sum_by-cons entries_in (line.Wanted wanted) (line.Distance far ∷ body) in
@@ -305,7 +306,7 @@ format_is_checkable (Book far nodes numbers spans) is =
     let sl = all_span_lines spans in
     let body = nl ++ (cl ++ sl) in
     let claim = line.Book ∷ line.Distance far ∷ body in
-    let claim_fits = all_left P claim (line.End ∷ []) (All-tail P line.Header (claim ++ line.End ∷ []) is.fit) in
+    let claim_fits = all_left P claim (line.End ∷ []) (All-tail P (line.Header First) (claim ++ line.End ∷ []) is.fit) in
     let beyond = All-tail P line.Book (line.Distance far ∷ body) claim_fits in
     let wanted = All-head P (line.Distance far) body beyond in
     let body_fits = All-tail P (line.Distance far) body beyond in
@@ -314,7 +315,7 @@ format_is_checkable (Book far nodes numbers spans) is =
     let few_columns = All-head P (line.Columns (length numbers)) (map line.Column numbers) (all_left P cl sl later) in
     let few_spans = All-head P (line.Spans (length spans)) (flat_map span_lines spans) (all_right P cl sl later) in
     let few = is.few in
-    let e1 = sum_by-cons entries_in line.Header (claim ++ line.End ∷ []) in
+    let e1 = sum_by-cons entries_in (line.Header First) (claim ++ line.End ∷ []) in
     let e2 = sum_by-append entries_in claim (line.End ∷ []) in
     let e3 = sum_by-cons entries_in line.Book (line.Distance far ∷ body) in
     let e4 = sum_by-cons entries_in (line.Distance far) body in
@@ -323,6 +324,37 @@ format_is_checkable (Book far nodes numbers spans) is =
     let e9 = sum_by-cons entries_in (line.Spans (length spans)) (flat_map span_lines spans) in
     let s0 = span_entries spans in
     (wanted.0, omega arith)
+format_is_checkable (Capped cap nodes numbers radii spans) is =
+    let c = Capped cap nodes numbers radii spans in
+    let P = Fits c in
+    let nl = node_lines nodes in
+    let cl = column_lines numbers in
+    let rl = radius_lines radii in
+    let sl = all_span_lines spans in
+    let body = nl ++ (cl ++ (rl ++ sl)) in
+    let claim = line.Book ∷ line.Cap cap ∷ body in
+    let claim_fits = all_left P claim (line.End ∷ []) (All-tail P (line.Header Second) (claim ++ line.End ∷ []) is.fit) in
+    let beyond = All-tail P line.Book (line.Cap cap ∷ body) claim_fits in
+    let wanted = All-head P (line.Cap cap) body beyond in
+    let body_fits = All-tail P (line.Cap cap) body beyond in
+    let few_nodes = All-head P (line.Nodes (length nodes)) (map line.Node nodes) (all_left P nl (cl ++ (rl ++ sl)) body_fits) in
+    let later = all_right P nl (cl ++ (rl ++ sl)) body_fits in
+    let few_columns = All-head P (line.Columns (length numbers)) (map line.Column numbers) (all_left P cl (rl ++ sl) later) in
+    let last = all_right P cl (rl ++ sl) later in
+    let few_radii = All-head P (line.Radii (length radii)) (map line.Radius radii) (all_left P rl sl last) in
+    let most_radii = few_radii.1 in
+    let few_spans = All-head P (line.Spans (length spans)) (flat_map span_lines spans) (all_right P rl sl last) in
+    let few = is.few in
+    let e1 = sum_by-cons entries_in (line.Header Second) (claim ++ line.End ∷ []) in
+    let e2 = sum_by-append entries_in claim (line.End ∷ []) in
+    let e3 = sum_by-cons entries_in line.Book (line.Cap cap ∷ body) in
+    let e4 = sum_by-cons entries_in (line.Cap cap) body in
+    let e5 = sum_by-append entries_in nl (cl ++ (rl ++ sl)) in
+    let e6 = sum_by-append entries_in cl (rl ++ sl) in
+    let e7 = sum_by-append entries_in rl sl in
+    let e9 = sum_by-cons entries_in (line.Spans (length spans)) (flat_map span_lines spans) in
+    let s0 = span_entries spans in
+    (wanted.0, omega arith, omega arith)
 format_is_checkable (Thin wanted far nodes first second) is =
     let c = Thin wanted far nodes first second in
     let P = Fits c in
@@ -331,12 +363,12 @@ format_is_checkable (Thin wanted far nodes first second) is =
     let sl = span_lines second in
     let body = nl ++ (fl ++ sl) in
     let claim = line.Thin ∷ line.Wanted wanted ∷ line.Distance far ∷ body in
-    let claim_fits = all_left P claim (line.End ∷ []) (All-tail P line.Header (claim ++ line.End ∷ []) is.fit) in
+    let claim_fits = all_left P claim (line.End ∷ []) (All-tail P (line.Header First) (claim ++ line.End ∷ []) is.fit) in
     let beyond = All-tail P line.Thin (line.Wanted wanted ∷ line.Distance far ∷ body) claim_fits in
     let body_fits = All-tail P (line.Distance far) body (All-tail P (line.Wanted wanted) (line.Distance far ∷ body) beyond) in
     let few_nodes = All-head P (line.Nodes (length nodes)) (map line.Node nodes) (all_left P nl (fl ++ sl) body_fits) in
     let few = is.few in
-    let e1 = sum_by-cons entries_in line.Header (claim ++ line.End ∷ []) in
+    let e1 = sum_by-cons entries_in (line.Header First) (claim ++ line.End ∷ []) in
     let e2 = sum_by-append entries_in claim (line.End ∷ []) in
     let e3 = sum_by-cons entries_in line.Thin (line.Wanted wanted ∷ line.Distance far ∷ body) in
     let e4 = sum_by-cons entries_in (line.Wanted wanted) (line.Distance far ∷ body) in

@@ -10,6 +10,8 @@ use Rattle.std.proofs.lemmas.List.FromFn.{length-range_with_len, get_or-range_wi
 use Rattle.std.proofs.lemmas.List.Elements.{All-nil, All-cons, All-head, All-tail, All-append, All-map, All-weaker}
 use Rattle.std.proofs.lemmas.Option.{same_Some, slice_get_within, slice_get-map, slice_get-get_or, get_or_from_slice_get}
 use Rattle.cb_model.specs.declared.node.NodeName.{NodeName}
+use Rattle.cb_model.specs.declared.wish.Wish.{Wish}
+use Rattle.cb_model.specs.declared.wish.Wish.TheVariants.{Plain, Cap}
 use Rattle.cb_model.specs.Order.{Rises}
 use Rattle.cb_model.specs.NodeOrder.{node_cmp}
 use Rattle.cb_model.proofs.Rising.{node_cmp_total}
@@ -23,10 +25,11 @@ use Rattle.cb_cert.specs.declared.certificate.Side.TheVariants as side
 use Rattle.cb_cert.specs.declared.certificate.Certificate.{Certificate}
 use Rattle.cb_cert.specs.declared.certificate.Certificate.TheVariants as certificate
 use Rattle.cb_validity.specs.declared.verdict.Rejected.{Rejected}
+use Rattle.cb_validity.specs.Reading.{AreApart}
 use Rattle.cb_validity.specs.Spans.{AreNodes, StandsFor, IsListedAt, IsEarlier, HasEdge, IsSpanOf}
 use Rattle.cb_validity.specs.Valid.{AreColumnNumbers, IsSpanOfProblem, IsSide, IsValidBook, IsValidThin, IsValid}
 use Rattle.cb_cert.specs.Format.{nodes_of}
-use Rattle.cb_validity.specs.Checks.{Asked, Check, node_check, column_check, root_check, parent_check, edge_check, new_check, closed_check, no_more_problems, no_more_spans, claim_check, places, entry_checks, span_checks, asked_of, asked_sides, book_checks, thin_checks, AreChecks, IsGoodNode, IsGoodColumn, IsAskedFor, IsGoodRoot, EntryIs, IsNewInSpan, IsClosedAt, Passes, IsFirstFail}
+use Rattle.cb_validity.specs.Checks.{Asked, Check, node_check, column_check, root_check, parent_check, edge_check, new_check, closed_check, no_more_problems, no_more_spans, claim_check, radius_check, places, entry_checks, span_checks, asked_of, asked_sides, book_checks, thin_checks, AreChecks, IsGoodNode, IsGoodColumn, IsAskedFor, IsGoodRoot, EntryIs, IsNewInSpan, IsClosedAt, ClaimHolds, certificate_columns, Passes, IsFirstFail}
 use Rattle.cb_validity.proofs.SpanLaws.{stands_for_one}
 
 -- lists that go together
@@ -319,13 +322,23 @@ module _ (t : Topology) (nodes : List NodeName) where
       All-cons (IsAskedSpan t nodes) a (asked_of (before + length s.entries) problems spans) (p, refl, are.0)
       (asked_from_spans (before + length s.entries) problems spans are.1)
 
--- a book
+-- a certificate with the parts of a book, which claims that its groups are as far apart as a wish asks
 
-module _ (t : Topology) (d : ℕ) (nodes : List NodeName) (columns : List ℕ) (spans : List Span) (problems : List NodeName)
-    (problems_are : AreProblems t problems) where
-  book_passes : IsValidBook t d nodes columns spans → All (Passes t (certificate.Book d nodes columns spans)) (book_checks problems nodes columns spans)
-  book_passes valid =
-      let c = certificate.Book d nodes columns spans in
+module _ (t : Topology) (c : Certificate) (wish : Wish) (spans : List Span) (problems : List NodeName) (problems_are : AreProblems t problems) where
+  abbrev their_nodes : List NodeName
+  their_nodes = nodes_of c
+
+  abbrev their_columns : List ℕ
+  their_columns = certificate_columns c
+
+  abbrev far_apart : Type 0
+  far_apart = AreApart t their_nodes their_columns spans wish
+
+  book_passes : (far_apart → ClaimHolds t c) → IsValidBook t wish their_nodes their_columns spans
+      → All (Passes t c) (book_checks problems their_nodes their_columns spans)
+  book_passes claims valid =
+      let nodes = their_nodes in
+      let columns = their_columns in
       let P = Passes t c in
       let first = map node_check (places nodes) in
       let second = map column_check (places columns) in
@@ -341,15 +354,17 @@ module _ (t : Topology) (d : ℕ) (nodes : List NodeName) (columns : List ℕ) (
       let no_problem : length problems ≤ length spans = omega arith in
       let no_span : length spans ≤ length problems = omega arith in
       let tail : All P last = All-cons P (no_more_problems problems spans) (no_more_spans problems spans ∷ claim_check ∷ []) no_problem
-      (All-cons P (no_more_spans problems spans) (claim_check ∷ []) no_span (All-cons P claim_check [] valid.apart (All-nil P)))
+      (All-cons P (no_more_spans problems spans) (claim_check ∷ []) no_span (All-cons P claim_check [] (claims valid.apart) (All-nil P)))
       in
       All-append P first (second ++ (third ++ last)) (checks_from_nodes t c valid.nodes_are)
       (All-append P second (third ++ last) (places_of_checks P column_check columns (good_from_columns t nodes columns valid.columns_are))
       (All-append P third last checked tail))
 
-  book_valid : All (Passes t (certificate.Book d nodes columns spans)) (book_checks problems nodes columns spans) → IsValidBook t d nodes columns spans
-  book_valid all =
-      let c = certificate.Book d nodes columns spans in
+  book_valid : (ClaimHolds t c → far_apart) → All (Passes t c) (book_checks problems their_nodes their_columns spans)
+      → IsValidBook t wish their_nodes their_columns spans
+  book_valid claims all =
+      let nodes = their_nodes in
+      let columns = their_columns in
       let P = Passes t c in
       let first = map node_check (places nodes) in
       let second = map column_check (places columns) in
@@ -369,7 +384,7 @@ module _ (t : Topology) (d : ℕ) (nodes : List NodeName) (columns : List ℕ) (
         nodes_are = nodes_from_checks t c (all_left P first (second ++ (third ++ last)) all);
         columns_are = columns_from_good t nodes columns (checks_of_places P column_check columns (all_left P second (third ++ last) beyond));
         spans_are = record { problems = problems; problems_are = problems_are; each = spans_from_asked t nodes 0 problems spans (omega arith) asked };
-        apart = claim;
+        apart = claims claim;
       }
 
 -- a thin certificate
@@ -435,10 +450,22 @@ valid_is_not_rejected_by t c pass reported first =
     f.fails (All-head (Passes t c) f.check f.after (all_right (Passes t c) f.before (f.check ∷ f.after) all))
 
 pub valid_passes_all : (t : Topology) (c : Certificate) (checks : List Check) → AreChecks t c checks → IsValid t c ↔ All (Passes t c) checks
-valid_passes_all t (certificate.Book d nodes columns spans) checks (problems, problems_are, is) = (
-  (λ valid. subst (All (Passes t (certificate.Book d nodes columns spans))) (sym is) (book_passes t d nodes columns spans problems problems_are valid)),
-  (λ all. book_valid t d nodes columns spans problems problems_are (subst (All (Passes t (certificate.Book d nodes columns spans))) is all)),
-)
+valid_passes_all t (certificate.Book d nodes columns spans) checks (problems, problems_are, is) =
+    let c = certificate.Book d nodes columns spans in (
+      (λ valid. subst (All (Passes t c)) (sym is) (book_passes t c (Plain d) spans problems problems_are (λ claim. claim) valid)),
+      (λ all. book_valid t c (Plain d) spans problems problems_are (λ claim. claim) (subst (All (Passes t c)) is all)),
+    )
+valid_passes_all t (certificate.Capped cap nodes columns radii spans) checks (problems, problems_are, is) =
+    let c = certificate.Capped cap nodes columns radii spans in
+    let first = book_checks problems nodes columns spans in (
+      (λ valid. subst (All (Passes t c)) (sym is) (All-append (Passes t c) first (radius_check ∷ [])
+          (book_passes t c (Cap cap) spans problems problems_are (λ claim. claim) valid.book)
+          (All-cons (Passes t c) radius_check [] valid.radii_are (All-nil (Passes t c))))),
+      (λ all. let passed = subst (All (Passes t c)) is all in record {
+        book = book_valid t c (Cap cap) spans problems problems_are (λ claim. claim) (all_left (Passes t c) first (radius_check ∷ []) passed);
+        radii_are = All-head (Passes t c) radius_check [] (all_right (Passes t c) first (radius_check ∷ []) passed);
+      }),
+    )
 valid_passes_all t (certificate.Thin w d nodes first second) checks is = (
   (λ valid. subst (All (Passes t (certificate.Thin w d nodes first second))) (sym is) (thin_passes t w d nodes second first valid)),
   (λ all. thin_valid t w d nodes second first (subst (All (Passes t (certificate.Thin w d nodes first second))) is all)),

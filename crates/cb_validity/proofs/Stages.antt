@@ -49,6 +49,7 @@ passed_go_on t c xs ys (Err (why.Repeated a)) passed rest = fails_later t c xs y
 passed_go_on t c xs ys (Err (why.NotClosed a b)) passed rest = fails_later t c xs ys (why.NotClosed a b) passed rest
 passed_go_on t c xs ys (Err (why.TooClose a b d)) passed rest = fails_later t c xs ys (why.TooClose a b d) passed rest
 passed_go_on t c xs ys (Err (why.NotThin a)) passed rest = fails_later t c xs ys (why.NotThin a) passed rest
+passed_go_on t c xs ys (Err (why.BadRadius a)) passed rest = fails_later t c xs ys (why.BadRadius a) passed rest
 
 pub failed_stop : (t : Topology) (c : Certificate) (xs ys : List Check) (reported : Rejected) → Judges t c xs (Err reported) → Judges t c (xs ++ ys) (Err reported)
 failed_stop t c xs ys why.NoMemory failed = tt
@@ -63,6 +64,7 @@ failed_stop t c xs ys (why.Repeated a) failed = fails_already t c xs ys (why.Rep
 failed_stop t c xs ys (why.NotClosed a b) failed = fails_already t c xs ys (why.NotClosed a b) failed
 failed_stop t c xs ys (why.TooClose a b d) failed = fails_already t c xs ys (why.TooClose a b d) failed
 failed_stop t c xs ys (why.NotThin a) failed = fails_already t c xs ys (why.NotThin a) failed
+failed_stop t c xs ys (why.BadRadius a) failed = fails_already t c xs ys (why.BadRadius a) failed
 
 pub judged_is_first_fail : (t : Topology) (c : Certificate) (checks : List Check) → AreChecks t c checks → (reported : Rejected)
     → Judges t c checks (Err reported) → TellsWhy t c reported
@@ -78,3 +80,4 @@ judged_is_first_fail t c checks are (why.Repeated a) failed = (checks, are, fail
 judged_is_first_fail t c checks are (why.NotClosed a b) failed = (checks, are, failed)
 judged_is_first_fail t c checks are (why.TooClose a b d) failed = (checks, are, failed)
 judged_is_first_fail t c checks are (why.NotThin a) failed = (checks, are, failed)
+judged_is_first_fail t c checks are (why.BadRadius a) failed = (checks, are, failed)

@@ -4,6 +4,8 @@ use Rattle.std.specs.List.{AllZip, Contains}
 use Rattle.std.proofs.lemmas.List.{length-map}
 use Rattle.std.proofs.lemmas.List.Elements.{Contains-get_or}
 use Rattle.cb_model.specs.declared.node.NodeName.{NodeName}
+use Rattle.cb_model.specs.declared.wish.Wish.{Wish}
+use Rattle.cb_model.specs.declared.wish.Wish.TheVariants.{Plain, Cap}
 use Rattle.cb_model.specs.Order.{Rises}
 use Rattle.cb_model.specs.NodeOrder.{node_cmp}
 use Rattle.cb_model.proofs.Rising.{node_strict, same_rising, contains_cases, nothing_in_empty}
@@ -12,22 +14,28 @@ use Rattle.cb_coding.specs.declared.book.Answer.{Answer}
 use Rattle.cb_coding.specs.Answers.{IsAnswer, from_word, radius}
 use Rattle.cb_coding.specs.Distance.{distance, all_columns}
 use Rattle.cb_coding.specs.Groups.{codes_of}
-use Rattle.cb_coding.specs.Pairs.{Good}
+use Rattle.cb_coding.specs.Needs.{need_of}
+use Rattle.cb_coding.specs.Pairs.{GoodFor}
+use Rattle.cb_coding.specs.Radii.{AreRadii, radius_at}
+use Rattle.cb_coding.specs.Used.{IsAnswerFor}
 use Rattle.cb_coding.proofs.Distances.{coding_theorem}
+use Rattle.cb_coding.proofs.GroupLaws.{one_is_good}
+use Rattle.cb_coding.proofs.UsedLaws.{alone_in_use}
 use Rattle.cb_network.specs.Topology.{Topology}
 use Rattle.cb_network.specs.Nodes.{IsNodeOf, IsProblem, AreColumns}
 use Rattle.cb_finding.specs.Matrix.{IsCode, IsMatrix}
+use Rattle.cb_finding.proofs.Nearest.{coded_are_wide}
 use Rattle.cb_finding.proofs.One.{code_is_one, matrix_is_one}
 use Rattle.cb_network.proofs.One.{problems_are_one, columns_are_one}
 use Rattle.cb_cert.specs.declared.certificate.Span.{Span}
 use Rattle.cb_cert.specs.declared.certificate.Side.{Side}
 use Rattle.cb_cert.specs.declared.certificate.Side.TheVariants as side
 use Rattle.cb_cert.specs.declared.certificate.Certificate.{Certificate}
-use Rattle.cb_cert.specs.declared.certificate.Certificate.TheVariants.{Book}
+use Rattle.cb_cert.specs.declared.certificate.Certificate.TheVariants.{Book, Capped}
 use Rattle.cb_validity.specs.Spans.{StandsFor, ListsNode, IsSpanOf}
 use Rattle.cb_validity.specs.Reading.{IsSpanCode, IsSideCode, ArePlaces}
-use Rattle.cb_validity.specs.Valid.{IsSide, IsClose, IsValidThin, IsValid}
-use Rattle.cb_validity.specs.Canonical.{IsCanonicalSpan, AreUsed, IsCanonicalBook, IsCanonicalSide, side_spans, IsCanonicalThin}
+use Rattle.cb_validity.specs.Valid.{IsSide, IsClose, IsValidBook, IsValidThin, IsValid}
+use Rattle.cb_validity.specs.Canonical.{IsCanonicalSpan, AreUsed, IsCanonicalBook, IsCanonicalCapped, IsCanonicalSide, side_spans, IsCanonicalThin}
 use Rattle.cb_validity.specs.Laws.{IsSideProblem, IsCodeOfSide}
 use Rattle.cb_validity.proofs.SpanLaws.{span_lists_caused}
 use Rattle.cb_validity.proofs.Matrices.{spans_make_matrix, code_of_root, code_of_span}
@@ -125,20 +133,56 @@ canonical_book_is_one t columns d a b p q =
     let b_is = q.is in
     cc
 
+-- and for a cap
+pub canonical_capped_is_one : (t : Topology) (columns : List NodeName) (cap : ℕ) (radii : List ℕ) (a b : Certificate)
+    → IsCanonicalCapped t columns cap radii a → IsCanonicalCapped t columns cap radii b → a ≡ b
+canonical_capped_is_one t columns cap radii a b p q =
+    let same = canonical_book_is_one t columns 1 (Book 1 p.nodes p.numbers p.spans) (Book 1 q.nodes q.numbers q.spans) p.book q.book in
+    let a_is = p.is in
+    let b_is = q.is in
+    cc
+
+-- over the columns of a valid book the topology's groups are as far apart as the wish asks
+good_of_book : (t : Topology) (wish : Wish) (nodes : List NodeName) (numbers : List ℕ) (spans : List Span) → IsValidBook t wish nodes numbers spans
+    → (columns : List NodeName) (groups : List Group) (places : List ℕ) → IsMatrix t columns groups → ArePlaces nodes columns numbers places
+    → GoodFor (codes_of groups) places (need_of (length columns) (codes_of groups) wish)
+good_of_book t wish nodes numbers spans valid columns groups places matrix are =
+    let apart = valid.apart in
+    let made = (spans_make_matrix t nodes spans apart.columns apart.groups valid.spans_are).0 apart.made in
+    let same = matrix_is_one t apart.columns columns apart.groups groups made matrix in
+    let over : ArePlaces nodes columns numbers apart.places = subst (λ cs. ArePlaces nodes cs numbers apart.places) same.0 apart.places_are in
+    let there = places_found_once nodes columns matrix.columns_are.rise numbers apart.places places over are in
+    let good : List NodeName → List Group → List ℕ → Type 0 = λ cs gs ps. GoodFor (codes_of gs) ps (need_of (length cs) (codes_of gs) wish) in
+    subst (good columns groups) there (subst (λ gs. good columns gs apart.places) same.1 (subst (λ cs. good cs apart.groups apart.places) same.0 apart.good))
+
 pub valid_book_decodes : (t : Topology) (distance : ℕ) (nodes : List NodeName) (numbers : List ℕ) (spans : List Span)
     → IsValid t (Book distance nodes numbers spans) → 0 < distance → (columns : List NodeName) (groups : List Group) (places : List ℕ)
     → IsMatrix t columns groups → ArePlaces nodes columns numbers places → (word : List Bool) (i : ℕ) (answer : Answer)
     → i < length groups → from_word places (codes_of groups) word i ≤ radius distance
     → IsAnswer places (codes_of groups) distance word answer → (answer.groups ≡ i ∷ []) × IsTrue answer.sure
 valid_book_decodes t d nodes numbers spans valid some columns groups places matrix are word i answer low near is =
-    let apart = valid.apart in
-    let made = (spans_make_matrix t nodes spans apart.columns apart.groups valid.spans_are).0 apart.made in
-    let same = matrix_is_one t apart.columns columns apart.groups groups made matrix in
-    let over : ArePlaces nodes columns numbers apart.places = subst (λ cs. ArePlaces nodes cs numbers apart.places) same.0 apart.places_are in
-    let there = places_found_once nodes columns matrix.columns_are.rise numbers apart.places places over are in
-    let good : Good (codes_of groups) apart.places d = subst (λ (gs : List Group). Good (codes_of gs) apart.places d) same.1 apart.good in
-    let good' : Good (codes_of groups) places d = subst (λ ps. Good (codes_of groups) ps d) there good in
-    coding_theorem places (codes_of groups) d word good' some i answer (omega (arith, length-map groups (λ (g : Group). g.code))) near is
+    let good = good_of_book t (Plain d) nodes numbers spans valid columns groups places matrix are in
+    coding_theorem places (codes_of groups) d word good some i answer (omega (arith, length-map groups (λ (g : Group). g.code))) near is
+
+pub valid_capped_decodes : (t : Topology) (cap : ℕ) (nodes : List NodeName) (numbers radii : List ℕ) (spans : List Span)
+    → IsValid t (Capped cap nodes numbers radii spans) → 0 < cap → (columns : List NodeName) (groups : List Group) (places : List ℕ)
+    → IsMatrix t columns groups → ArePlaces nodes columns numbers places → (word : List Bool) (i : ℕ) (answer : Answer)
+    → i < length groups → from_word places (codes_of groups) word i ≤ radius_at radii i
+    → IsAnswerFor (length columns) (codes_of groups) places (Cap cap) word answer → (answer.groups ≡ i ∷ []) × IsTrue answer.sure
+valid_capped_decodes t cap nodes numbers radii spans valid some columns groups places matrix are word i answer low near is =
+    let width = length columns in
+    let book = valid.book in
+    let good = good_of_book t (Cap cap) nodes numbers spans book columns groups places matrix are in
+    let make = valid.radii_are in
+    let made = (spans_make_matrix t nodes spans make.columns make.groups book.spans_are).0 make.made in
+    let same = matrix_is_one t make.columns columns make.groups groups made matrix in
+    let radii_are : AreRadii width (codes_of groups) cap radii = subst (λ (gs : List Group). AreRadii width (codes_of gs) cap radii) same.1
+    (subst (λ (cs : List NodeName). AreRadii (length cs) (codes_of make.groups) cap radii) same.0 make.are)
+    in
+    let wide = coded_are_wide t columns matrix.problems matrix.problems_are in
+    let differ = one_is_good width matrix.problems groups wide matrix.groups_are in
+    let within : i < length (codes_of groups) = omega (arith, length-map groups (λ (g : Group). g.code)) in
+    alone_in_use width (codes_of groups) places (Cap cap) word good differ some i (radius_at radii i) answer within (radii_are.each i within) near is
 
 -- thin certificates
 

@@ -12,7 +12,7 @@ use Rattle.cb_cert.specs.declared.certificate.Span.{Span}
 use Rattle.cb_cert.specs.declared.certificate.Side.{Side}
 use Rattle.cb_cert.specs.declared.certificate.Side.TheVariants.{Quiet, Root}
 use Rattle.cb_cert.specs.declared.certificate.Certificate.{Certificate}
-use Rattle.cb_cert.specs.declared.certificate.Certificate.TheVariants.{Book, Thin}
+use Rattle.cb_cert.specs.declared.certificate.Certificate.TheVariants.{Book, Capped, Thin}
 use Rattle.cb_validity.specs.Spans.{StandsFor, IsListedAt, ListsNode, IsSpanOf}
 
 -- a span in which parents never fall, nodes with one parent rise, and each parent is the first with an edge to the node
@@ -41,6 +41,14 @@ pub record IsCanonicalBook (t : Topology) (columns : List NodeName) (distance : 
   pub spans_are : AllZip (IsCanonicalSpan t nodes) problems spans
   pub names : AllZip (StandsFor nodes) numbers columns
   pub used : AreUsed nodes columns spans
+
+-- the canonical certificate for these columns and a cap: that of a book, at whichever distance, with the cap and the radii
+pub record IsCanonicalCapped (t : Topology) (columns : List NodeName) (cap : ℕ) (radii : List ℕ) (c : Certificate) : Type 0 where
+  pub nodes : List NodeName
+  pub numbers : List ℕ
+  pub spans : List Span
+  pub is : c ≡ Capped cap nodes numbers radii spans
+  pub book : IsCanonicalBook t columns 1 (Book 1 nodes numbers spans)
 
 -- the quiet group, or the canonical span of a group's problem
 abbrev pub IsCanonicalSide : Topology → List NodeName → Option NodeName → Side → Type 0

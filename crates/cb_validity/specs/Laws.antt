@@ -2,6 +2,7 @@
 use Rattle.std.specs.Prelude.{◌≡◌, ◌↔◌, Result, Err, ℕ, ◌<◌, ◌≤◌, List, [], ◌∷◌, ◌++◌, length, Bool, IsTrue, ⊤, Option, None, Some, slice_get}
 use Rattle.std.specs.List.{All, AllZip}
 use Rattle.cb_model.specs.declared.node.NodeName.{NodeName}
+use Rattle.cb_model.specs.declared.wish.Wish.TheVariants.{Cap}
 use Rattle.cb_model.specs.Order.{Rises}
 use Rattle.cb_model.specs.NodeOrder.{node_cmp}
 use Rattle.cb_coding.specs.declared.group.Group.{Group}
@@ -9,7 +10,10 @@ use Rattle.cb_coding.specs.declared.book.Answer.{Answer}
 use Rattle.cb_coding.specs.Answers.{IsAnswer, from_word, radius}
 use Rattle.cb_coding.specs.Distance.{distance, all_columns}
 use Rattle.cb_coding.specs.Groups.{codes_of, zeros}
-use Rattle.cb_coding.specs.Pairs.{Good}
+use Rattle.cb_coding.specs.Needs.{capped_need}
+use Rattle.cb_coding.specs.Pairs.{Good, GoodFor}
+use Rattle.cb_coding.specs.Radii.{AreRadii, radius_at}
+use Rattle.cb_coding.specs.Used.{IsAnswerFor}
 use Rattle.cb_network.specs.Topology.{Topology}
 use Rattle.cb_network.specs.Nodes.{IsProblem, AreColumns}
 use Rattle.cb_network.specs.Sound.{Sound}
@@ -20,12 +24,12 @@ use Rattle.cb_finding.specs.Matrix.{IsCode, IsMatrix}
 use Rattle.cb_cert.specs.declared.certificate.Span.{Span}
 use Rattle.cb_cert.specs.declared.certificate.Side.{Side}
 use Rattle.cb_cert.specs.declared.certificate.Certificate.{Certificate}
-use Rattle.cb_cert.specs.declared.certificate.Certificate.TheVariants.{Book, Thin}
+use Rattle.cb_cert.specs.declared.certificate.Certificate.TheVariants.{Book, Capped, Thin}
 use Rattle.cb_validity.specs.declared.verdict.Rejected.{Rejected}
 use Rattle.cb_validity.specs.Spans.{AreNodes, IsSpanOf, ListsNode}
 use Rattle.cb_validity.specs.Reading.{MakeGroups, ArePlaces}
 use Rattle.cb_validity.specs.Valid.{AreColumnNumbers, AreSpans, IsSide, IsSpanOfProblem, IsClose, IsValid}
-use Rattle.cb_validity.specs.Canonical.{IsCanonicalSpan, IsCanonicalBook, IsCanonicalThin}
+use Rattle.cb_validity.specs.Canonical.{IsCanonicalSpan, IsCanonicalBook, IsCanonicalCapped, IsCanonicalThin}
 use Rattle.cb_validity.specs.Checks.{Check, AreChecks, Passes, IsFirstFail, Judges}
 use Rattle.cb_change.specs.Costs.{IsOpenCost}
 use Rattle.cb_validity.specs.Totals.{IsTotalReach, HasFewEntries, HasManyEntries}
@@ -64,6 +68,11 @@ abbrev pub CanonicalBookIsOne : Type 0
 CanonicalBookIsOne = (t : Topology) (columns : List NodeName) (distance : ℕ) (a b : Certificate)
     → IsCanonicalBook t columns distance a → IsCanonicalBook t columns distance b → a ≡ b
 
+-- and so have they for a cap with radii
+abbrev pub CanonicalCappedIsOne : Type 0
+CanonicalCappedIsOne = (t : Topology) (columns : List NodeName) (cap : ℕ) (radii : List ℕ) (a b : Certificate)
+    → IsCanonicalCapped t columns cap radii a → IsCanonicalCapped t columns cap radii b → a ≡ b
+
 -- these columns have these positions among all
 abbrev pub HavePlaces : List NodeName → List NodeName → List ℕ → Type 0
 HavePlaces all columns places = AllZip (λ column place. slice_get all place ≡ Some column) columns places
@@ -75,6 +84,14 @@ CanonicalBookIsValid = (t : Topology) (all : List NodeName) (groups : List Group
     → Rises node_cmp columns → IsCanonicalBook t columns distance c
     → IsValid t c ↔ Good (codes_of groups) places distance
 
+-- and one for a cap where they are good for the cap, and the radii are those of the groups
+abbrev pub CanonicalCappedIsValid : Type 0
+CanonicalCappedIsValid = (t : Topology) (all : List NodeName) (groups : List Group) (columns : List NodeName) (places : List ℕ) (cap : ℕ)
+    (radii : List ℕ) (c : Certificate) → IsMatrix t all groups → HavePlaces all columns places
+    → Rises node_cmp columns → IsCanonicalCapped t columns cap radii c
+    → IsValid t c ↔ (GoodFor (codes_of groups) places (capped_need (length all) (codes_of groups) cap)
+    × AreRadii (length all) (codes_of groups) cap radii)
+
 -- Where a book is valid, and a word over its columns is within the radius of one of the topology's groups, that group alone is nearest,
 -- and the answer is sure.
 abbrev pub ValidBookDecodes : Type 0
@@ -83,6 +100,15 @@ ValidBookDecodes = (t : Topology) (distance : ℕ) (nodes : List NodeName) (numb
     → IsMatrix t columns groups → ArePlaces nodes columns numbers places → (word : List Bool) (i : ℕ) (answer : Answer)
     → i < length groups → from_word places (codes_of groups) word i ≤ radius distance
     → IsAnswer places (codes_of groups) distance word answer → (answer.groups ≡ i ∷ []) × IsTrue answer.sure
+
+-- In a valid one for a cap each group has a radius of its own: where a word is within it, that group alone is nearest, and the answer is
+-- sure.
+abbrev pub ValidCappedDecodes : Type 0
+ValidCappedDecodes = (t : Topology) (cap : ℕ) (nodes : List NodeName) (numbers radii : List ℕ) (spans : List Span)
+    → IsValid t (Capped cap nodes numbers radii spans) → 0 < cap → (columns : List NodeName) (groups : List Group) (places : List ℕ)
+    → IsMatrix t columns groups → ArePlaces nodes columns numbers places → (word : List Bool) (i : ℕ) (answer : Answer)
+    → i < length groups → from_word places (codes_of groups) word i ≤ radius_at radii i
+    → IsAnswerFor (length columns) (codes_of groups) places (Cap cap) word answer → (answer.groups ≡ i ∷ []) × IsTrue answer.sure
 
 -- the root of a side is a problem
 abbrev pub IsSideProblem : Topology → Option NodeName → Type 0

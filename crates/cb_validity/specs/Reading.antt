@@ -2,11 +2,14 @@
 use Rattle.std.specs.Prelude.{◌≡◌, ◌↔◌, ℕ, List, length, map, Bool, IsTrue, Some, slice_get}
 use Rattle.std.specs.List.{AllZip}
 use Rattle.cb_model.specs.declared.node.NodeName.{NodeName}
+use Rattle.cb_model.specs.declared.wish.Wish.{Wish}
 use Rattle.cb_coding.specs.declared.group.Group.{Group}
 use Rattle.cb_coding.specs.declared.group.Problem.{Problem}
 use Rattle.cb_coding.specs.Distance.{distance, all_columns}
 use Rattle.cb_coding.specs.Groups.{AreGroups, codes_of, zeros}
-use Rattle.cb_coding.specs.Pairs.{Good}
+use Rattle.cb_coding.specs.Needs.{need_of}
+use Rattle.cb_coding.specs.Pairs.{GoodFor}
+use Rattle.cb_coding.specs.Radii.{AreRadii}
 use Rattle.cb_network.specs.Topology.{Topology}
 use Rattle.cb_network.specs.Nodes.{AreColumns, AreProblems}
 use Rattle.cb_cert.specs.declared.certificate.Span.{Span}
@@ -42,14 +45,21 @@ pub record IsColumnPlace (nodes columns : List NodeName) (number place : ℕ) : 
 abbrev pub ArePlaces : List NodeName → List NodeName → List ℕ → List ℕ → Type 0
 ArePlaces nodes columns numbers places = AllZip (IsColumnPlace nodes columns) numbers places
 
--- over the columns with these numbers, the groups that the spans make are at least the distance apart
-pub record AreApart (t : Topology) (nodes : List NodeName) (numbers : List ℕ) (spans : List Span) (wanted : ℕ) : Type 0 where
+-- over the columns with these numbers, the groups that the spans make are as far apart as the wish asks
+pub record AreApart (t : Topology) (nodes : List NodeName) (numbers : List ℕ) (spans : List Span) (wish : Wish) : Type 0 where
   pub columns : List NodeName
   pub groups : List Group
   pub places : List ℕ
   pub made : MakeGroups t nodes spans columns groups
   pub places_are : ArePlaces nodes columns numbers places
-  pub good : Good (codes_of groups) places wanted
+  pub good : GoodFor (codes_of groups) places (need_of (length columns) (codes_of groups) wish)
+
+-- the groups that the spans make have these radii for the cap, in order
+pub record MakeRadii (t : Topology) (nodes : List NodeName) (spans : List Span) (cap : ℕ) (radii : List ℕ) : Type 0 where
+  pub columns : List NodeName
+  pub groups : List Group
+  pub made : MakeGroups t nodes spans columns groups
+  pub are : AreRadii (length columns) (codes_of groups) cap radii
 
 -- over all columns, the codes that are read off the two sides are so far apart
 pub record AreSidesApart (t : Topology) (nodes : List NodeName) (first : Side) (second : Span) (far : ℕ) : Type 0 where

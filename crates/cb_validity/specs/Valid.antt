@@ -2,6 +2,8 @@
 use Rattle.std.specs.Prelude.{⊤, ℕ, ◌<◌, List}
 use Rattle.std.specs.List.{All, AllZip}
 use Rattle.cb_model.specs.declared.node.NodeName.{NodeName}
+use Rattle.cb_model.specs.declared.wish.Wish.{Wish}
+use Rattle.cb_model.specs.declared.wish.Wish.TheVariants.{Plain, Cap}
 use Rattle.cb_model.specs.Order.{Rises}
 use Rattle.cb_model.specs.NodeOrder.{node_cmp}
 use Rattle.cb_network.specs.Topology.{Topology}
@@ -10,9 +12,9 @@ use Rattle.cb_cert.specs.declared.certificate.Span.{Span}
 use Rattle.cb_cert.specs.declared.certificate.Side.{Side}
 use Rattle.cb_cert.specs.declared.certificate.Side.TheVariants.{Quiet, Root}
 use Rattle.cb_cert.specs.declared.certificate.Certificate.{Certificate}
-use Rattle.cb_cert.specs.declared.certificate.Certificate.TheVariants.{Book, Thin}
+use Rattle.cb_cert.specs.declared.certificate.Certificate.TheVariants.{Book, Capped, Thin}
 use Rattle.cb_validity.specs.Spans.{AreNodes, StandsFor, IsSpanOf}
-use Rattle.cb_validity.specs.Reading.{AreApart, AreSidesApart}
+use Rattle.cb_validity.specs.Reading.{AreApart, MakeRadii, AreSidesApart}
 
 -- the numbers are those of columns, in order and each once
 pub record AreColumnNumbers (t : Topology) (nodes : List NodeName) (numbers : List ℕ) : Type 0 where
@@ -38,12 +40,17 @@ abbrev pub IsSide : Topology → List NodeName → Side → Type 0
 IsSide t nodes Quiet = ⊤
 IsSide t nodes (Root span) = IsSpanOfProblem t nodes span
 
--- a book: over its columns the groups are at least its distance apart
-pub record IsValidBook (t : Topology) (distance : ℕ) (nodes : List NodeName) (columns : List ℕ) (spans : List Span) : Type 0 where
+-- a book: over its columns the groups are as far apart as the wish asks
+pub record IsValidBook (t : Topology) (wish : Wish) (nodes : List NodeName) (columns : List ℕ) (spans : List Span) : Type 0 where
   pub nodes_are : AreNodes t nodes
   pub columns_are : AreColumnNumbers t nodes columns
   pub spans_are : AreSpans t nodes spans
-  pub apart : AreApart t nodes columns spans distance
+  pub apart : AreApart t nodes columns spans wish
+
+-- a book for a cap, with the radii of its groups
+pub record IsValidCapped (t : Topology) (cap : ℕ) (nodes : List NodeName) (columns radii : List ℕ) (spans : List Span) : Type 0 where
+  pub book : IsValidBook t (Cap cap) nodes columns spans
+  pub radii_are : MakeRadii t nodes spans cap radii
 
 -- two groups differ, at fewer columns than is wanted
 pub record IsClose (wanted distance : ℕ) : Type 0 where
@@ -60,5 +67,6 @@ pub record IsValidThin (t : Topology) (wanted distance : ℕ) (nodes : List Node
 
 -- what the certificate claims holds of the topology
 abbrev pub IsValid : Topology → Certificate → Type 0
-IsValid t (Book distance nodes columns spans) = IsValidBook t distance nodes columns spans
+IsValid t (Book distance nodes columns spans) = IsValidBook t (Plain distance) nodes columns spans
+IsValid t (Capped cap nodes columns radii spans) = IsValidCapped t cap nodes columns radii spans
 IsValid t (Thin wanted distance nodes first second) = IsValidThin t wanted distance nodes first second

@@ -1,6 +1,7 @@
 //! What holds of certificates, whatever the program does. Each law is the contract of a function that does nothing.
 ghost use Rattle.cb_validity.specs.Laws.{SpanListsCaused, SpansMakeMatrix, ValidPassesAll, FirstFailIsOne, ValidIsNotRejected};
 ghost use Rattle.cb_validity.specs.Laws.{BookIsOfFormat, ThinIsOfFormat, CanonicalThinIsOne, PassedGoOn, FailedStop, JudgedIsFirstFail};
+ghost use Rattle.cb_validity.specs.Laws.{CanonicalCappedIsOne, CanonicalCappedIsValid, ValidCappedDecodes};
 ghost use Rattle.cb_validity.specs.CodebookLaws.{CodebookIsValid, ShortfallIsValid, FormatIsCheckable};
 ghost use Rattle.cb_validity.specs.Laws.{CanonicalSpanIsOne, CanonicalBookIsOne, CanonicalBookIsValid, CanonicalThinIsValid, ValidBookDecodes};
 ghost use Rattle.cb_validity.specs.Laws.{TotalReachIsOne, TotalReachIsOpenCost, FewAreNotMany, EntriesAreFewOrMany};
@@ -48,6 +49,21 @@ pub fn canonical_book_is_one()
 /// Over the columns of a valid book a word within the radius of a group's code leads to that group alone.
 pub fn valid_book_decodes()
     ensures { ValidBookDecodes }
+{}
+
+/// Columns, a cap and radii have one canonical book.
+pub fn canonical_capped_is_one()
+    ensures { CanonicalCappedIsOne }
+{}
+
+/// A canonical book for a cap is valid exactly where its columns are good for the cap and its radii are those of the groups.
+pub fn canonical_capped_is_valid()
+    ensures { CanonicalCappedIsValid }
+{}
+
+/// Over the columns of a valid book for a cap a word within the radius of a group leads to that group alone.
+pub fn valid_capped_decodes()
+    ensures { ValidCappedDecodes }
 {}
 
 /// A canonical thin certificate is valid exactly where the codes are its distance apart, which is less than is wanted.

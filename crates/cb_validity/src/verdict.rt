@@ -13,6 +13,15 @@ pub enum Accepted {
         groups: u32,
         columns: u32,
     },
+    /// Over the columns any two groups are as far apart as over all columns, or at least as the cap, so that as many lost or
+    /// spurious symptoms as a group's radius tells lead from it to no wrong group. The radii are from the least to the greatest.
+    Capped {
+        cap: u32,
+        least: u32,
+        greatest: u32,
+        groups: u32,
+        columns: u32,
+    },
     /// Over all columns the two groups are only the distance apart, which is less than is wanted.
     Thin {
         wanted: u32,
@@ -62,7 +71,7 @@ pub enum Rejected {
         entry: u32,
         successor: NodeName,
     },
-    /// Over the columns these two groups are less than the distance apart.
+    /// Over the columns these two groups are only this distance apart, and more is claimed.
     TooClose {
         first: GroupName,
         second: GroupName,
@@ -71,6 +80,11 @@ pub enum Rejected {
     /// Over all columns the two groups are this far apart, which isn't what is claimed.
     NotThin {
         distance: u32,
+    },
+    /// At this position, which counts from 1, there is a radius without a group, a group without a radius, or a radius that isn't
+    /// the group's.
+    BadRadius {
+        place: u32,
     },
     /// There is not memory enough for the check.
     NoMemory,

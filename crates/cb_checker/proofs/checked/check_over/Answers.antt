@@ -2,14 +2,14 @@ use Rattle.std.proofs.Common.{◌≡◌, length, refl, sym, ap, subst, arith}
 use Rattle.std.specs.Prelude.{OnOk, IfOk, IfErr, List, ℕ}
 use Rattle.cb_model.specs.declared.node.NodeName.{NodeName}
 use Rattle.cb_cert.specs.declared.certificate.Certificate.{Certificate}
-use Rattle.cb_cert.specs.declared.certificate.Certificate.TheVariants.{Book, Thin}
-use Rattle.cb_validity.specs.Checks.{book_checks, thin_checks}
+use Rattle.cb_cert.specs.declared.certificate.Certificate.TheVariants.{Book, Capped, Thin}
+use Rattle.cb_validity.specs.Checks.{book_checks, capped_checks, thin_checks}
 use Rattle.cb_validity.specs.Valid.{IsValid}
 use Rattle.cb_validity.specs.Verdicts.{IsCheckable, CertificateShows, TellsWhy}
 use Rattle.cb_topo.specs.Numbered.{topology_of}
 use Rattle.cb_checker.specs.Known.{verdict_of}
 use Rattle.cb_checker.specs.Thin.{JudgesThinOver, ShowsThinOver}
-use Rattle.cb_checker.specs.Verdicts.{JudgesBookOver, ShowsBookOver}
+use Rattle.cb_checker.specs.Verdicts.{JudgesBookOver, ShowsBookOver, JudgesCappedOver, ShowsCappedOver}
 use Rattle.cb_checker.proofs.Thinning.{valid_of, why_of}
 use Rattle.cb_checker.proofs.checked.check_over.Goals as goal
 
@@ -120,4 +120,76 @@ check_thin-requires-clause-few g c =
     let same : thin ≡ c.args.certificate.now = cc in
     let few = subst IsCheckable (sym same) c.requires.checkable in
     let a = ap length c.as_slice-in-Thin.ensures in
+    omega arith
+
+pub returns-in-Capped-clause-valid : goal.returns-in-Capped-clause-valid
+returns-in-Capped-clause-valid g c =
+    let n = c.args.graph.now in
+    let w = c.in-Capped in
+    let is = c.in-Capped.is in
+    let book = Capped w.cap w.nodes w.columns w.radii w.spans in
+    let same : book ≡ c.args.certificate.now = cc in
+    let names = c.requires.sides.problem_names in
+    let checks = capped_checks names w.nodes w.columns w.spans in
+    let problems = c.args.sides.now.problems in
+    let result = verdict_of c.check_capped.result in
+    let judged = subst (λ (ns : List NodeName). JudgesCappedOver n problems ns w.columns w.radii w.spans w.cap result) c.as_slice-in-Capped.ensures
+    (subst (λ (cs : List ℕ). JudgesCappedOver n problems c.as_slice-in-Capped.result.now cs w.radii w.spans w.cap result) c.as_slice-in-Capped-2.ensures
+    (subst (λ (rs : List ℕ). JudgesCappedOver n problems c.as_slice-in-Capped.result.now c.as_slice-in-Capped-2.result.now rs w.spans w.cap result) c.as_slice-in-Capped-3.ensures c.check_capped.ensures.judges))
+    in
+    let all = judged names c.requires.sides.problems_are c.requires.sides.problems_named in
+    subst (λ (x : Certificate). OnOk c.check_capped.result (IsValid (topology_of n) x)) same
+    (valid_of (topology_of n) book checks (names, c.requires.sides.problems_are, refl) c.check_capped.result all)
+
+pub returns-in-Capped-clause-why : goal.returns-in-Capped-clause-why
+returns-in-Capped-clause-why g c =
+    let n = c.args.graph.now in
+    let w = c.in-Capped in
+    let is = c.in-Capped.is in
+    let book = Capped w.cap w.nodes w.columns w.radii w.spans in
+    let same : book ≡ c.args.certificate.now = cc in
+    let names = c.requires.sides.problem_names in
+    let checks = capped_checks names w.nodes w.columns w.spans in
+    let problems = c.args.sides.now.problems in
+    let result = verdict_of c.check_capped.result in
+    let judged = subst (λ (ns : List NodeName). JudgesCappedOver n problems ns w.columns w.radii w.spans w.cap result) c.as_slice-in-Capped.ensures
+    (subst (λ (cs : List ℕ). JudgesCappedOver n problems c.as_slice-in-Capped.result.now cs w.radii w.spans w.cap result) c.as_slice-in-Capped-2.ensures
+    (subst (λ (rs : List ℕ). JudgesCappedOver n problems c.as_slice-in-Capped.result.now c.as_slice-in-Capped-2.result.now rs w.spans w.cap result) c.as_slice-in-Capped-3.ensures c.check_capped.ensures.judges))
+    in
+    let all = judged names c.requires.sides.problems_are c.requires.sides.problems_named in
+    subst (λ (x : Certificate). IfErr c.check_capped.result (TellsWhy (topology_of n) x)) same
+    (why_of (topology_of n) book checks (names, c.requires.sides.problems_are, refl) c.check_capped.result all)
+
+pub returns-in-Capped-clause-shows : goal.returns-in-Capped-clause-shows
+returns-in-Capped-clause-shows g c =
+    let n = c.args.graph.now in
+    let w = c.in-Capped in
+    let is = c.in-Capped.is in
+    let book = Capped w.cap w.nodes w.columns w.radii w.spans in
+    let same : book ≡ c.args.certificate.now = cc in
+    subst (λ (x : Certificate). IfOk c.check_capped.result (CertificateShows (topology_of n) x)) same
+    (subst (λ (ns : List NodeName). IfOk c.check_capped.result (ShowsCappedOver n ns w.columns w.radii w.spans w.cap)) c.as_slice-in-Capped.ensures
+    (subst (λ (cs : List ℕ). IfOk c.check_capped.result (ShowsCappedOver n c.as_slice-in-Capped.result.now cs w.radii w.spans w.cap)) c.as_slice-in-Capped-2.ensures
+    (subst (λ (rs : List ℕ). IfOk c.check_capped.result (ShowsCappedOver n c.as_slice-in-Capped.result.now c.as_slice-in-Capped-2.result.now rs w.spans w.cap)) c.as_slice-in-Capped-3.ensures c.check_capped.ensures.shows)))
+
+pub check_capped-requires-clause-few : goal.check_capped-requires-clause-few
+check_capped-requires-clause-few g c =
+    let n = c.args.graph.now in
+    let w = c.in-Capped in
+    let is = c.in-Capped.is in
+    let book = Capped w.cap w.nodes w.columns w.radii w.spans in
+    let same : book ≡ c.args.certificate.now = cc in
+    let few = (subst IsCheckable (sym same) c.requires.checkable).2 in
+    let a = ap length c.as_slice-in-Capped.ensures in
+    let b = ap length c.as_slice-in-Capped-2.ensures in
+    omega arith
+
+pub check_capped-requires-clause-radii : goal.check_capped-requires-clause-radii
+check_capped-requires-clause-radii g c =
+    let w = c.in-Capped in
+    let is = c.in-Capped.is in
+    let book = Capped w.cap w.nodes w.columns w.radii w.spans in
+    let same : book ≡ c.args.certificate.now = cc in
+    let few = (subst IsCheckable (sym same) c.requires.checkable).1 in
+    let a = ap length c.as_slice-in-Capped-3.ensures in
     omega arith

@@ -1,13 +1,14 @@
 use Rattle.std.proofs.Common.{inr, arith}
 use Rattle.cb_group.proofs.After.{is_far, far_more}
+use Rattle.cb_group.specs.Asked.{asked_of_pair}
 use Rattle.cb_group.proofs.close.close_after.Goals as goal
 
 pub loop-second-preserved : goal.loop-second-preserved
 loop-second-preserved c =
     let codes = c.args.codes.now in
     let second = c.loop-second.second in
-    let here = is_far codes c.args.first c.args.distance c.are_close.result second c.are_close.ensures c.if-are_close.false in
-    far_more codes c.args.first c.args.distance second c.loop-second.invariant here
+    let here = is_far codes c.args.first (asked_of_pair c.args.needs.now) c.are_close.result second c.are_close.ensures c.if-are_close.false in
+    far_more codes c.args.first (asked_of_pair c.args.needs.now) second c.loop-second.invariant here
 
 pub returns : goal.returns
 returns c = record {

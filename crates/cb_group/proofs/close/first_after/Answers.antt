@@ -4,6 +4,8 @@ use Rattle.cb_coding.specs.Distance.{bit, code_at}
 use Rattle.cb_codes.proofs.ByColumn.{had_within}
 use Rattle.std.proofs.lemmas.Option.{get_or_from_slice_get}
 use Rattle.cb_group.proofs.After.{holders_within, within_all, column_passed, column_looked, enough_looked}
+use Rattle.cb_group.specs.Asked.{asked_of_pair, most_asked}
+use Rattle.cb_group.proofs.Far.{asked_most}
 use Rattle.cb_group.proofs.close.first_after.Goals as goal
 use Rattle.cb_group.proofs.close.first_after.Goals.{in-Some-few_holders, in_default-few_holders}
 
@@ -28,15 +30,15 @@ loop-looked-preserved c =
           rw (w.end-is, w.looked-is) (record {
             within = omega arith;
             end = among.end;
-            rest = column_looked codes first c.args.distance c.loop-looked.from column c.loop-looked.looked c.loop-looked.end next.on old.rest
+            rest = column_looked codes first (asked_of_pair c.args.needs.now) c.loop-looked.from column c.loop-looked.looked c.loop-looked.end next.on old.rest
                 places w.close_among-end.result has w.in-Some-few_holders.ensures among.before
-                (within_all codes first c.args.distance _ among.end) among.far;
+                (within_all codes first (asked_of_pair c.args.needs.now) _ among.end) among.far;
           })
       | in_default-few_holders w ↦
           rw (w.end-is, w.looked-is) (record {
             within = omega arith;
             end = old.end;
-            rest = column_passed codes first c.args.distance c.loop-looked.from column c.loop-looked.looked c.loop-looked.end next.on old.rest;
+            rest = column_passed codes first (asked_of_pair c.args.needs.now) c.loop-looked.from column c.loop-looked.looked c.loop-looked.end next.on old.rest;
           })
     ]
 
@@ -49,6 +51,7 @@ returns c =
     let kept = c.loop-looked.invariant in
     record {
       is = kept.end;
-      before = enough_looked codes c.args.first c.args.distance c.loop-looked.from c.loop-looked.looked c.loop-looked.end
-          (let e = kept.within in omega arith) c.loop-looked-test.false kept.rest;
+      before = enough_looked codes c.args.first (asked_of_pair c.args.needs.now) c.loop-looked.from c.loop-looked.looked c.loop-looked.end
+          (most_asked c.args.needs.now) (λ j. asked_most c.args.needs.now c.args.first j) (let e = kept.within in omega arith)
+          (let most = c.most-most.ensures in let enough = c.loop-looked-test.false in omega arith) kept.rest;
     }

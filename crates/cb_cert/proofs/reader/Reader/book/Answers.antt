@@ -10,14 +10,14 @@ use Rattle.cb_cert.proofs.Openings.{regroup_book}
 use Rattle.cb_cert.proofs.Stands as stand
 use Rattle.cb_cert.proofs.reader.Reader.book.Goals as goal
 
-pub returns-in_err-distance : goal.returns-in_err-distance
-returns-in_err-distance c text before ahead read =
+pub returns-in_err-distance-clause-lines : goal.returns-in_err-distance-clause-lines
+returns-in_err-distance-clause-lines c text before ahead read =
     let begun = before ++ line.Book ∷ [] in
     exit (ReadsOrFails text c.number.new.self before ahead claim_lines (λ x. length (nodes_of x))) c.from_residual.result _ c.from_residual.ensures.1
     (took_not 0 at_distance line.Distance (IsBetween 1 wanted_limit) (stand.distance 0) text c.args.self.now begun (at_nodes ∷ at_columns ∷ at_spans ∷ ahead) read _ c.in_err-distance.ensures)
 
-pub returns-in_err-nodes : goal.returns-in_err-nodes
-returns-in_err-nodes c text before ahead read =
+pub returns-in_err-nodes-clause-lines : goal.returns-in_err-nodes-clause-lines
+returns-in_err-nodes-clause-lines c text before ahead read =
     let begun = before ++ line.Book ∷ [] in
     let one = took 0 at_distance line.Distance (IsBetween 1 wanted_limit) (stand.distance 0) text c.args.self.now c.number.new.self begun
     (at_nodes ∷ at_columns ∷ at_spans ∷ ahead) read c.in_ok-distance.distance c.in_ok-distance.ensures
@@ -25,8 +25,8 @@ returns-in_err-nodes c text before ahead read =
     exit (ReadsOrFails text c.nodes.new.self before ahead claim_lines (λ x. length (nodes_of x))) c.from_residual-in_err-nodes.result _ c.from_residual-in_err-nodes.ensures.1
     (c.in_err-nodes.ensures.lines text (begun ++ line.Distance c.in_ok-distance.distance ∷ []) (at_columns ∷ at_spans ∷ ahead) one)
 
-pub returns-in_err-columns : goal.returns-in_err-columns
-returns-in_err-columns c text before ahead read =
+pub returns-in_err-columns-clause-lines : goal.returns-in_err-columns-clause-lines
+returns-in_err-columns-clause-lines c text before ahead read =
     let begun = before ++ line.Book ∷ [] in
     let one = took 0 at_distance line.Distance (IsBetween 1 wanted_limit) (stand.distance 0) text c.args.self.now c.number.new.self begun
     (at_nodes ∷ at_columns ∷ at_spans ∷ ahead) read c.in_ok-distance.distance c.in_ok-distance.ensures
@@ -38,8 +38,8 @@ returns-in_err-columns c text before ahead read =
     exit (ReadsOrFails text c.columns.new.self before ahead claim_lines (λ x. length (nodes_of x))) c.from_residual-in_err-columns.result _ c.from_residual-in_err-columns.ensures.1
     (c.in_err-columns.ensures text with_nodes (at_spans ∷ ahead) two)
 
-pub returns-in_err-spans : goal.returns-in_err-spans
-returns-in_err-spans c text before ahead read =
+pub returns-in_err-spans-clause-lines : goal.returns-in_err-spans-clause-lines
+returns-in_err-spans-clause-lines c text before ahead read =
     let begun = before ++ line.Book ∷ [] in
     let one = took 0 at_distance line.Distance (IsBetween 1 wanted_limit) (stand.distance 0) text c.args.self.now c.number.new.self begun
     (at_nodes ∷ at_columns ∷ at_spans ∷ ahead) read c.in_ok-distance.distance c.in_ok-distance.ensures
@@ -53,8 +53,8 @@ returns-in_err-spans c text before ahead read =
     exit (ReadsOrFails text c.spans.new.self before ahead claim_lines (λ x. length (nodes_of x))) c.from_residual-in_err-spans.result _ c.from_residual-in_err-spans.ensures.1
     (c.in_err-spans.ensures text with_columns ahead three)
 
-pub returns : goal.returns
-returns c text before ahead read =
+pub returns-clause-lines : goal.returns-clause-lines
+returns-clause-lines c text before ahead read =
     let begun = before ++ line.Book ∷ [] in
     let one = took 0 at_distance line.Distance (IsBetween 1 wanted_limit) (stand.distance 0) text c.args.self.now c.number.new.self begun
     (at_nodes ∷ at_columns ∷ at_spans ∷ ahead) read c.in_ok-distance.distance c.in_ok-distance.ensures

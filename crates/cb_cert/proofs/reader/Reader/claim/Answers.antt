@@ -1,35 +1,12 @@
-use Rattle.std.proofs.Common.{◌≢◌, length, refl}
-use Rattle.cb_cert.specs.declared.line.CertificateLine.TheVariants as line
+use Rattle.std.proofs.Common.{◌∷◌, subst}
 use Rattle.cb_cert.specs.Ahead.{at_kind}
-use Rattle.cb_cert.specs.Format.{nodes_of}
-use Rattle.cb_cert.specs.Lines.{claim_lines, line_text}
-use Rattle.cb_cert.specs.Steps.{ReadsOrFails}
-use Rattle.cb_cert.proofs.Loops.{exit}
-use Rattle.cb_cert.proofs.Moved.{is_bad, missed}
-use Rattle.cb_cert.proofs.Openings.{no_line, fixed, other_kind}
+use Rattle.cb_cert.specs.Steps.{HasRead}
 use Rattle.cb_cert.proofs.reader.Reader.claim.Goals as goal
 
-pub returns-in_err-kind : goal.returns-in_err-kind
-returns-in_err-kind c text before ahead read =
-    exit (ReadsOrFails text c.next.new.self before ahead claim_lines (λ x. length (nodes_of x))) c.from_residual.result _ c.from_residual.ensures.1
-    (no_line text c.args.self.now before 0 at_kind ahead read _ c.in_err-kind.ensures.none)
+pub returns-in-First-clause-lines : goal.returns-in-First-clause-lines
+returns-in-First-clause-lines c text before ahead read =
+    c.first_claim.ensures.lines text before ahead (subst (λ version. HasRead text c.args.self.now before 0 (at_kind version ∷ ahead)) c.in-First.is read)
 
-pub returns-then-is_text : goal.returns-then-is_text
-returns-then-is_text c text before ahead read =
-    c.book.ensures text before ahead
-    (fixed text c.args.self.now c.next.new.self c.next.new.self c.in_ok-kind.kind.now before 0 at_kind ahead read c.in_ok-kind.ensures.line
-    line.Book (c.is_text.ensures.0 c.if-is_text.true) refl (λ e. cc) tt)
-
-pub returns-then-is_text-2 : goal.returns-then-is_text-2
-returns-then-is_text-2 c text before ahead read =
-    c.thin.ensures text before ahead
-    (fixed text c.args.self.now c.next.new.self c.next.new.self c.in_ok-kind.kind.now before 0 at_kind ahead read c.in_ok-kind.ensures.line
-    line.Thin (c.is_text-2.ensures.0 c.if-is_text-2.true) refl (λ e. cc) tt)
-
-pub returns : goal.returns
-returns c text before ahead read =
-    let no_book : c.in_ok-kind.kind.now ≢ line_text line.Book = λ is. let yes = c.is_text.ensures.1 is in let not = c.if-is_text.false in cc in
-    let no_thin : c.in_ok-kind.kind.now ≢ line_text line.Thin = λ is. let yes = c.is_text-2.ensures.1 is in let not = c.if-is_text-2.false in cc in
-    missed text c.args.self.now before 0 at_kind ahead (λ met. (met ≢ line_text line.Book) × (met ≢ line_text line.Thin)) read
-    (λ l met wrong is stands. other_kind 0 l met wrong is stands) c.bad.result
-    (is_bad c.args.self.now c.next.new.self c.in_ok-kind.kind.now _ c.in_ok-kind.ensures.line (no_book, no_thin) c.bad.result c.bad.ensures)
+pub returns-in-Second-clause-lines : goal.returns-in-Second-clause-lines
+returns-in-Second-clause-lines c text before ahead read =
+    c.second_claim.ensures.lines text before ahead (subst (λ version. HasRead text c.args.self.now before 0 (at_kind version ∷ ahead)) c.in-Second.is read)

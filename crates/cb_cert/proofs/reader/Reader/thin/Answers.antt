@@ -10,14 +10,14 @@ use Rattle.cb_cert.proofs.Openings.{regroup_thin}
 use Rattle.cb_cert.proofs.Stands as stand
 use Rattle.cb_cert.proofs.reader.Reader.thin.Goals as goal
 
-pub returns-in_err-wanted : goal.returns-in_err-wanted
-returns-in_err-wanted c text before ahead read =
+pub returns-in_err-wanted-clause-lines : goal.returns-in_err-wanted-clause-lines
+returns-in_err-wanted-clause-lines c text before ahead read =
     let begun = before ++ line.Thin ∷ [] in
     exit (ReadsOrFails text c.number.new.self before ahead claim_lines (λ x. length (nodes_of x))) c.from_residual.result _ c.from_residual.ensures.1
     (took_not 0 at_wanted line.Wanted (IsBetween 1 wanted_limit) (stand.wanted 0) text c.args.self.now begun (at_thin_distance ∷ at_nodes ∷ at_side ∷ at_span ∷ ahead) read _ c.in_err-wanted.ensures)
 
-pub returns-in_err-distance : goal.returns-in_err-distance
-returns-in_err-distance c text before ahead read =
+pub returns-in_err-distance-clause-lines : goal.returns-in_err-distance-clause-lines
+returns-in_err-distance-clause-lines c text before ahead read =
     let begun = before ++ line.Thin ∷ [] in
     let one = took 0 at_wanted line.Wanted (IsBetween 1 wanted_limit) (stand.wanted 0) text c.args.self.now c.number.new.self begun
     (at_thin_distance ∷ at_nodes ∷ at_side ∷ at_span ∷ ahead) read c.in_ok-wanted.wanted c.in_ok-wanted.ensures
@@ -26,8 +26,8 @@ returns-in_err-distance c text before ahead read =
     exit (ReadsOrFails text c.number-2.new.self before ahead claim_lines (λ x. length (nodes_of x))) c.from_residual-in_err-distance.result _ c.from_residual-in_err-distance.ensures.1
     (took_not 0 at_thin_distance line.Distance (IsBetween 0 column_limit) (stand.thin_distance 0) text c.number.new.self with_wanted (at_nodes ∷ at_side ∷ at_span ∷ ahead) one _ c.in_err-distance.ensures)
 
-pub returns-in_err-nodes : goal.returns-in_err-nodes
-returns-in_err-nodes c text before ahead read =
+pub returns-in_err-nodes-clause-lines : goal.returns-in_err-nodes-clause-lines
+returns-in_err-nodes-clause-lines c text before ahead read =
     let begun = before ++ line.Thin ∷ [] in
     let one = took 0 at_wanted line.Wanted (IsBetween 1 wanted_limit) (stand.wanted 0) text c.args.self.now c.number.new.self begun
     (at_thin_distance ∷ at_nodes ∷ at_side ∷ at_span ∷ ahead) read c.in_ok-wanted.wanted c.in_ok-wanted.ensures
@@ -40,8 +40,8 @@ returns-in_err-nodes c text before ahead read =
     exit (ReadsOrFails text c.nodes.new.self before ahead claim_lines (λ x. length (nodes_of x))) c.from_residual-in_err-nodes.result _ c.from_residual-in_err-nodes.ensures.1
     (c.in_err-nodes.ensures.lines text with_distance (at_side ∷ at_span ∷ ahead) two)
 
-pub returns-in_err-first : goal.returns-in_err-first
-returns-in_err-first c text before ahead read =
+pub returns-in_err-first-clause-lines : goal.returns-in_err-first-clause-lines
+returns-in_err-first-clause-lines c text before ahead read =
     let begun = before ++ line.Thin ∷ [] in
     let one = took 0 at_wanted line.Wanted (IsBetween 1 wanted_limit) (stand.wanted 0) text c.args.self.now c.number.new.self begun
     (at_thin_distance ∷ at_nodes ∷ at_side ∷ at_span ∷ ahead) read c.in_ok-wanted.wanted c.in_ok-wanted.ensures
@@ -57,8 +57,8 @@ returns-in_err-first c text before ahead read =
     exit (ReadsOrFails text c.side.new.self before ahead claim_lines (λ x. length (nodes_of x))) c.from_residual-in_err-first.result _ c.from_residual-in_err-first.ensures.1
     (c.in_err-first.ensures text with_nodes (at_span ∷ ahead) three)
 
-pub returns-in_err-second : goal.returns-in_err-second
-returns-in_err-second c text before ahead read =
+pub returns-in_err-second-clause-lines : goal.returns-in_err-second-clause-lines
+returns-in_err-second-clause-lines c text before ahead read =
     let begun = before ++ line.Thin ∷ [] in
     let one = took 0 at_wanted line.Wanted (IsBetween 1 wanted_limit) (stand.wanted 0) text c.args.self.now c.number.new.self begun
     (at_thin_distance ∷ at_nodes ∷ at_side ∷ at_span ∷ ahead) read c.in_ok-wanted.wanted c.in_ok-wanted.ensures
@@ -76,8 +76,8 @@ returns-in_err-second c text before ahead read =
     exit (ReadsOrFails text c.span.new.self before ahead claim_lines (λ x. length (nodes_of x))) c.from_residual-in_err-second.result _ c.from_residual-in_err-second.ensures.1
     (c.in_err-second.ensures text with_side ahead four)
 
-pub returns : goal.returns
-returns c text before ahead read =
+pub returns-clause-lines : goal.returns-clause-lines
+returns-clause-lines c text before ahead read =
     let begun = before ++ line.Thin ∷ [] in
     let one = took 0 at_wanted line.Wanted (IsBetween 1 wanted_limit) (stand.wanted 0) text c.args.self.now c.number.new.self begun
     (at_thin_distance ∷ at_nodes ∷ at_side ∷ at_span ∷ ahead) read c.in_ok-wanted.wanted c.in_ok-wanted.ensures
