@@ -49,7 +49,7 @@ pub fn nearest_by(
     requires decoder { IsDecoder book.now.columns codes.now.rows decoder.now }
     ensures { IfOk result (IsAnswer book.now.columns codes.now.rows book.now.distance word.now) }
 {
-    let lightest = &decoder.lightest.groups;
+    let lightest = &decoder.lightest.places;
     let marked = may_be_nearest(alloc, codes, lightest, word)?;
     let first = *lightest.at(0) as usize;
     nearest_of(alloc, codes, book, &decoder.mask, word, first, &marked)
@@ -115,7 +115,7 @@ pub fn nearest_cap_by(
     requires decoder { IsDecoder book.now.columns codes.now.rows decoder.now }
     ensures { IfOk result (IsAnswerBy book.now.columns codes.now.rows (radius_at book.now.radii) word.now) }
 {
-    let lightest = &decoder.lightest.groups;
+    let lightest = &decoder.lightest.places;
     let marked = may_be_nearest(alloc, codes, lightest, word)?;
     let first = *lightest.at(0) as usize;
     nearest_cap_of(alloc, codes, book, &decoder.mask, word, first, &marked)

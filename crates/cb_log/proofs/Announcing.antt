@@ -1,5 +1,5 @@
 -- Whether groups are far enough apart can be decided, and what is reported of a codebook exists.
-use Rattle.std.proofs.Common.{◌≡◌, ◌≢◌, ◌⊎◌, ◌<◌, ◌≤◌, ℕ, zero, suc, List, [], ◌∷◌, length, refl, sym, ap, subst, ◌∙◌, inl, inr, arith, Bool, Some}
+use Rattle.std.proofs.Common.{◌≡◌, ◌≢◌, ◌⊎◌, ◌<◌, ◌≤◌, ◌++◌, ℕ, zero, suc, List, [], ◌∷◌, length, refl, sym, ap, subst, ◌∙◌, inl, inr, arith, Bool, Some}
 use Rattle.std.proofs.lemmas.Bool.{cases_lt, cases_order}
 use Rattle.std.proofs.lemmas.List.{length-map}
 use Rattle.std.proofs.lemmas.Option.{slice_get-get_or}
@@ -8,17 +8,21 @@ use Rattle.cb_model.specs.declared.node.GroupName.{GroupName}
 use Rattle.cb_model.specs.declared.node.GroupName.TheVariants.{Quiet, Least}
 use Rattle.cb_model.specs.declared.node.NodeName.{NodeName}
 use Rattle.cb_model.proofs.Rising.{contains_head, contains_tail}
+use Rattle.cb_model.specs.declared.wish.Wish.{Wish}
+use Rattle.cb_model.specs.declared.wish.Wish.TheVariants.{Plain, Cap}
 use Rattle.cb_coding.specs.declared.book.Pair.{Pair}
 use Rattle.cb_coding.specs.declared.group.Group.{Group}
 use Rattle.cb_coding.specs.declared.group.Problem.{Problem}
+use Rattle.cb_coding.specs.Answers.{radius}
 use Rattle.cb_coding.specs.Distance.{apart, all_columns}
 use Rattle.cb_coding.specs.Groups.{AreGroups, codes_of, group_of, zeros}
 use Rattle.cb_coding.specs.Pairs.{IsPair, IsFirstClose, Good}
 use Rattle.cb_finding.specs.Finding.{IsCalled}
 use Rattle.cb_network.specs.Topology.{Topology}
 use Rattle.cb_log.specs.declared.event.Event.{Event}
-use Rattle.cb_log.specs.declared.event.Event.TheVariants.{Thin}
-use Rattle.cb_log.specs.Basis.{Mode, Basis, IsThin, book_made, IsAnnounced}
+use Rattle.cb_log.specs.declared.event.Event.TheVariants.{Thin, BookMade, CapMade}
+use Rattle.cb_log.specs.Basis.{Mode, Basis, IsThin, IsMadeFor, AreWarnings, IsAnnounced}
+use Rattle.cb_log.proofs.RadiiExist.{least_and_greatest_exist}
 
 -- the first number below a limit such that P, or there is none
 abbrev FirstBelow : (ℕ → Type 0) → ℕ → Type 0
@@ -116,30 +120,51 @@ called width problems groups are (suc k) lt =
     contains_got (h ∷ gs) zero g e = subst (Contains (h ∷ gs)) (let f : h ≡ g = cc in f) (contains_head h gs)
     contains_got (h ∷ gs) (suc k) g e = contains_tail h gs g (contains_got gs k g e)
 
--- what is reported of a codebook exists
-pub announced : (network : Topology) (mode : Mode) (basis : Basis network mode) (d : ℕ) → (events : List Event) × IsAnnounced basis d events
-announced network mode basis d =
-    let codes = codes_of basis.groups in
-    let columns = all_columns (length basis.columns) in
-    let groups = basis.matrix.groups_are in
-    let problems = basis.matrix.problems in
-    elim (good_or_close columns codes d) [
-      | inl good ↦ (book_made basis ∷ [], inl (good, refl))
-      | inr (pair, close) ↦
-          let long : length codes ≡ length basis.groups = length-map basis.groups (λ (g : Group). g.code) in
-          let ordered = close.is_pair.0 in
-          let within = close.is_pair.1 in
-          let first = called (length basis.columns) problems basis.groups groups pair.first (omega arith) in
-          let second = called (length basis.columns) problems basis.groups groups pair.second (omega arith) in
-          let thin : Event = Thin d first.0 second.0 pair.distance in
-          let is_thin : IsThin basis d thin = record {
-            pair = pair;
-            is_first = close;
-            first = first.0;
-            first_is = first.1;
-            second = second.0;
-            second_is = second.1;
-            is = refl;
-          } in
-          (thin ∷ book_made basis ∷ [], inr (thin, is_thin, refl))
-    ]
+module _ (network : Topology) (mode : Mode) (basis : Basis network mode) where
+  -- what is reported before a codebook exists
+  warned : (wish : Wish) → (events : List Event) × AreWarnings basis wish events
+  warned (Cap cap) = ([], refl)
+  warned (Plain d) =
+      let codes = codes_of basis.groups in
+      let groups = basis.matrix.groups_are in
+      let problems = basis.matrix.problems in
+      elim (good_or_close (all_columns (length basis.columns)) codes d) [
+        | inl good ↦ ([], inl (good, refl))
+        | inr (pair, close) ↦
+            let long : length codes ≡ length basis.groups = length-map basis.groups (λ (g : Group). g.code) in
+            let ordered = close.is_pair.0 in
+            let within = close.is_pair.1 in
+            let first = called (length basis.columns) problems basis.groups groups pair.first (omega arith) in
+            let second = called (length basis.columns) problems basis.groups groups pair.second (omega arith) in
+            let thin : Event = Thin d first.0 second.0 pair.distance in
+            let is_thin : IsThin basis d thin = record {
+              pair = pair;
+              is_first = close;
+              first = first.0;
+              first_is = first.1;
+              second = second.0;
+              second_is = second.1;
+              is = refl;
+            } in
+            (thin ∷ [], inr (thin, is_thin, refl))
+      ]
+
+  -- and so do the numbers of a codebook that meets a wish
+  made_for : (wish : Wish) → (event : Event) × IsMadeFor basis wish event
+  made_for (Plain d) = (BookMade (length basis.kept) (length basis.columns) d (radius d) (length basis.groups), refl)
+  made_for (Cap cap) =
+      let quiet : length basis.groups ≡ suc (length basis.matrix.groups_are.others) = ap length basis.matrix.groups_are.quiet in
+      let long = length-map basis.groups (λ (g : Group). g.code) in
+      let (least, greatest, are) = least_and_greatest_exist (length basis.columns) (codes_of basis.groups) cap (omega arith) in (
+        CapMade (length basis.kept) (length basis.columns) cap least greatest (length basis.groups),
+        record { least = least; greatest = greatest; radii = are; is = refl },
+      )
+
+  -- what is reported of a codebook exists
+  pub announced : (wish : Wish) → (events : List Event) × IsAnnounced basis wish events
+  announced wish =
+      let warnings = warned wish in
+      let made = made_for basis.used in (
+        warnings.0 ++ made.0 ∷ [],
+        record { warnings = warnings.0; are_warnings = warnings.1; made = made.0; is_made = made.1; events_are = refl },
+      )

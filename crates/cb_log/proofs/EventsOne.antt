@@ -2,31 +2,35 @@
 use Rattle.std.proofs.Common.{◌≡◌, ◌++◌, ℕ, List, [], ◌∷◌, length, refl, sym, ap, subst, ◌∙◌, inl, inr, arith, Bool, Result, Ok, Err}
 use Rattle.std.specs.List.{AllZip}
 use Rattle.cb_model.specs.declared.node.NodeName.{NodeName}
-use Rattle.cb_coding.specs.declared.book.Book.{Book}
+use Rattle.cb_model.specs.declared.wish.Wish.{Wish}
+use Rattle.cb_model.specs.declared.wish.Wish.TheVariants.{Plain, Cap}
 use Rattle.cb_coding.specs.declared.book.Pair.{Pair}
 use Rattle.cb_coding.specs.declared.group.Group.{Group}
 use Rattle.cb_coding.specs.Answers.{radius}
 use Rattle.cb_coding.specs.Distance.{all_columns}
 use Rattle.cb_coding.specs.Groups.{codes_of}
 use Rattle.cb_coding.specs.Pairs.{IsFirstClose, Good}
+use Rattle.cb_coding.specs.Used.{AreLeastAndGreatest}
 use Rattle.cb_coding.proofs.One.{first_close_is_one}
-use Rattle.cb_coding.proofs.BookLaws.{book_in_use_is_one}
+use Rattle.cb_coding.proofs.BookLaws.{choice_in_use_is_one}
+use Rattle.cb_coding.proofs.UsedLaws.{least_and_greatest_are_one}
 use Rattle.cb_network.specs.declared.edit.Edit.{Edit}
 use Rattle.cb_network.specs.declared.edit.EditRefusal.{EditRefusal}
 use Rattle.cb_finding.specs.declared.finding.Finding.{Finding}
 use Rattle.cb_network.specs.Edits.{IsAfter, IsAfterAll, result_or}
-use Rattle.cb_finding.specs.Finding.{IsCalled, IsFinding}
+use Rattle.cb_finding.specs.Finding.{IsCalled, IsFindingFor}
 use Rattle.cb_network.specs.Regular.{IsRegular}
 use Rattle.cb_network.specs.Topology.{Topology}
 use Rattle.cb_network.proofs.Accepted.{after_is_one, after_all_is_one, regular_stays}
-use Rattle.cb_finding.proofs.One.{matrix_is_one, finding_is_one, group_name_is_one}
+use Rattle.cb_finding.proofs.One.{matrix_is_one, group_name_is_one}
+use Rattle.cb_finding.proofs.InUse.{finding_for_is_one}
 use Rattle.cb_log.specs.declared.closed.Closed.{Closed}
 use Rattle.cb_log.specs.declared.event.Event.{Event}
-use Rattle.cb_log.specs.declared.event.Event.TheVariants.{Diagnosis, Thin, BookMade}
+use Rattle.cb_log.specs.declared.event.Event.TheVariants.{Diagnosis, Thin, BookMade, CapMade}
 use Rattle.cb_log.specs.declared.record.Body.{Body}
 use Rattle.cb_log.specs.declared.record.Body.TheVariants.{Raise, Clear, Change, Tick}
 use Rattle.cb_log.specs.declared.record.Record.{Record}
-use Rattle.cb_log.specs.Basis.{Mode, wanted, fixed, Basis, IsUsed, IsDiagnosis, IsThin, book_made, IsAnnounced}
+use Rattle.cb_log.specs.Basis.{Mode, wanted, fixed, Basis, IsUsed, IsDiagnosis, IsThin, IsCapMade, IsMadeFor, IsMadeEvent, AreWarnings, IsAnnounced}
 use Rattle.cb_log.specs.Entries.{LogEntry, said, skipped, blank, records_of}
 use Rattle.cb_log.specs.Events.{IsNetwork, IsOpening, AreDiagnosed, Diagnoses, ClosingGives, IsRefusal, BodyGives, RecordGives, EntryGives, EntriesGive}
 use Rattle.cb_log.specs.Network.{edits_of}
@@ -39,29 +43,37 @@ module _ (network : Topology) (mode : Mode) (a b : Basis network mode) where
   pub groups_one : a.groups ≡ b.groups
   groups_one = (matrix_is_one network a.columns b.columns a.groups b.groups a.matrix b.matrix).1
 
-used_is_one : (mode : Mode) (width : ℕ) (codes : List (List Bool)) (x y : Book) → IsUsed mode width codes x → IsUsed mode width codes y → x ≡ y
-used_is_one (wanted d) width codes x y p q = book_in_use_is_one width codes d x y p q
-used_is_one (fixed given) width codes x y p q = p ∙ sym q
+used_is_one : (mode : Mode) (width : ℕ) (codes : List (List Bool)) (ks ls : List ℕ) (u v : Wish) → IsUsed mode width codes ks u → IsUsed mode width codes ls v
+    → (u ≡ v) × (ks ≡ ls)
+used_is_one (wanted wish) width codes ks ls u v p q = choice_in_use_is_one width codes wish u v ks ls p q
+used_is_one (fixed given met) width codes ks ls u v p q = (p.1 ∙ sym q.1, p.0 ∙ sym q.0)
 
 module _ (network : Topology) (mode : Mode) (a b : Basis network mode) where
-  pub book_one : a.book ≡ b.book
-  book_one =
-      let used : IsUsed mode (length a.columns) (codes_of a.groups) b.book =
-      subst (λ (cs : List NodeName). IsUsed mode (length cs) (codes_of a.groups) b.book) (sym (columns_one network mode a b))
-      (subst (λ (gs : List Group). IsUsed mode (length b.columns) (codes_of gs) b.book) (sym (groups_one network mode a b)) b.used) in
-      used_is_one mode (length a.columns) (codes_of a.groups) a.book b.book a.used used
+  in_use_is_one : (a.used ≡ b.used) × (a.kept ≡ b.kept)
+  in_use_is_one =
+      let in_use : IsUsed mode (length a.columns) (codes_of a.groups) b.kept b.used =
+      subst (λ (cs : List NodeName). IsUsed mode (length cs) (codes_of a.groups) b.kept b.used) (sym (columns_one network mode a b))
+      (subst (λ (gs : List Group). IsUsed mode (length b.columns) (codes_of gs) b.kept b.used) (sym (groups_one network mode a b)) b.in_use) in
+      used_is_one mode (length a.columns) (codes_of a.groups) a.kept b.kept a.used b.used a.in_use in_use
 
-  found_here : (nodes : List NodeName) (finding : Finding) → IsFinding b.columns b.groups b.book.columns b.book.distance nodes finding
-      → IsFinding a.columns a.groups a.book.columns a.book.distance nodes finding
+  pub used_one : a.used ≡ b.used
+  used_one = in_use_is_one.0
+
+  pub kept_one : a.kept ≡ b.kept
+  kept_one = in_use_is_one.1
+
+  found_here : (nodes : List NodeName) (finding : Finding) → IsFindingFor b.columns b.groups b.kept b.used nodes finding
+      → IsFindingFor a.columns a.groups a.kept a.used nodes finding
   found_here nodes finding found =
-      subst (λ (cs : List NodeName). IsFinding cs a.groups a.book.columns a.book.distance nodes finding) (sym (columns_one network mode a b))
-      (subst (λ (gs : List Group). IsFinding b.columns gs a.book.columns a.book.distance nodes finding) (sym (groups_one network mode a b))
-      (subst (λ (k : Book). IsFinding b.columns b.groups k.columns k.distance nodes finding) (sym book_one) found))
+      subst (λ (cs : List NodeName). IsFindingFor cs a.groups a.kept a.used nodes finding) (sym (columns_one network mode a b))
+      (subst (λ (gs : List Group). IsFindingFor b.columns gs a.kept a.used nodes finding) (sym (groups_one network mode a b))
+      (subst (λ (ks : List ℕ). IsFindingFor b.columns b.groups ks a.used nodes finding) (sym kept_one)
+      (subst (λ (w : Wish). IsFindingFor b.columns b.groups b.kept w nodes finding) (sym used_one) found)))
 
   pub diagnosis_is_one : (c : Closed) (x y : Event) → IsDiagnosis a c x → IsDiagnosis b c y → x ≡ y
   diagnosis_is_one c x y p q =
       let same : p.finding ≡ q.finding =
-      finding_is_one a.columns a.groups a.book.columns a.book.distance c.nodes p.finding q.finding p.found (found_here c.nodes q.finding q.found) in
+      finding_for_is_one a.columns a.groups a.kept a.used c.nodes p.finding q.finding p.found (found_here c.nodes q.finding q.found) in
       p.is ∙ (ap (λ (f : Finding). Diagnosis c.from c.opened c.closed f) same ∙ sym q.is)
 
   pub each_is_one : (closing : List Closed) (xs ys : List Event) → AllZip (IsDiagnosis a) closing xs → AllZip (IsDiagnosis b) closing ys → xs ≡ ys
@@ -75,12 +87,34 @@ module _ (network : Topology) (mode : Mode) (a b : Basis network mode) where
       let rest : xs ≡ ys = each_is_one closing xs ys p.1 q.1 in
       cc
 
-  made_one : book_made a ≡ book_made b
-  made_one =
+  capped_one : (cap : ℕ) (x y : Event) → IsCapMade a cap x → IsCapMade b cap y → x ≡ y
+  capped_one cap x y p q =
+      let here : AreLeastAndGreatest (length a.columns) (codes_of a.groups) (Cap cap) q.least q.greatest =
+      subst (λ (cs : List NodeName). AreLeastAndGreatest (length cs) (codes_of a.groups) (Cap cap) q.least q.greatest) (sym (columns_one network mode a b))
+      (subst (λ (gs : List Group). AreLeastAndGreatest (length b.columns) (codes_of gs) (Cap cap) q.least q.greatest) (sym (groups_one network mode a b)) q.radii) in
+      let both = least_and_greatest_are_one (length a.columns) (codes_of a.groups) (Cap cap) p.least p.greatest q.least q.greatest p.radii here in
       let cs = columns_one network mode a b in
       let gs = groups_one network mode a b in
-      let k = book_one in
-      λ i. BookMade (length (k i).columns) (length (cs i)) (k i).distance (radius (k i).distance) (length (gs i))
+      let ks = kept_one in
+      let low : p.least ≡ q.least = both.0 in
+      let high : p.greatest ≡ q.greatest = both.1 in
+      let event : CapMade (length a.kept) (length a.columns) cap p.least p.greatest (length a.groups)
+      ≡ CapMade (length b.kept) (length b.columns) cap q.least q.greatest (length b.groups)
+      = λ i. CapMade (length (ks i)) (length (cs i)) cap (low i) (high i) (length (gs i)) in
+      p.is ∙ (event ∙ sym q.is)
+
+  made_for_one : (wish : Wish) (x y : Event) → IsMadeFor a wish x → IsMadeFor b wish y → x ≡ y
+  made_for_one (Plain d) x y p q =
+      let cs = columns_one network mode a b in
+      let gs = groups_one network mode a b in
+      let ks = kept_one in
+      let event : BookMade (length a.kept) (length a.columns) d (radius d) (length a.groups) ≡ BookMade (length b.kept) (length b.columns) d (radius d) (length b.groups)
+      = λ i. BookMade (length (ks i)) (length (cs i)) d (radius d) (length (gs i)) in
+      p ∙ (event ∙ sym q)
+  made_for_one (Cap cap) x y p q = capped_one cap x y p q
+
+  made_one : (x y : Event) → IsMadeEvent a x → IsMadeEvent b y → x ≡ y
+  made_one x y p q = made_for_one a.used x y p (subst (λ (w : Wish). IsMadeFor b w y) (sym used_one) q)
 
   thin_one : (d : ℕ) (x y : Event) → IsThin a d x → IsThin b d y → x ≡ y
   thin_one d x y p q =
@@ -123,28 +157,34 @@ module _ (network : Topology) (mode : Mode) (a b : Basis network mode) where
       subst (λ (cs : List NodeName). Good (codes_of a.groups) (all_columns (length cs)) d) (sym (columns_one network mode a b))
       (subst (λ (gs : List Group). Good (codes_of gs) (all_columns (length b.columns)) d) (sym (groups_one network mode a b)) good)
 
-  pub announced_is_one : (d : ℕ) (xs ys : List Event) → IsAnnounced a d xs → IsAnnounced b d ys → xs ≡ ys
-  announced_is_one d xs ys (inl p) (inl q) = p.1 ∙ (ap (λ (e : Event). e ∷ []) made_one ∙ sym q.1)
-  announced_is_one d xs ys (inl p) (inr q) = absurd (not_both d q.0 p.0 (thin_here d q.0 q.1))
-  announced_is_one d xs ys (inr p) (inl q) = absurd (not_both d p.0 (good_here d q.0) p.1)
-  announced_is_one d xs ys (inr p) (inr q) =
+  warnings_are_one : (wish : Wish) (xs ys : List Event) → AreWarnings a wish xs → AreWarnings b wish ys → xs ≡ ys
+  warnings_are_one (Plain d) xs ys (inl p) (inl q) = p.1 ∙ sym q.1
+  warnings_are_one (Plain d) xs ys (inl p) (inr q) = absurd (not_both d q.0 p.0 (thin_here d q.0 q.1))
+  warnings_are_one (Plain d) xs ys (inr p) (inl q) = absurd (not_both d p.0 (good_here d q.0) p.1)
+  warnings_are_one (Plain d) xs ys (inr p) (inr q) =
       let thin : p.0 ≡ q.0 = thin_one d p.0 q.0 p.1 q.1 in
-      let made = made_one in
-      let lists : p.0 ∷ book_made a ∷ [] ≡ q.0 ∷ book_made b ∷ [] = λ i. thin i ∷ made i ∷ [] in
-      p.2 ∙ (lists ∙ sym q.2)
+      p.2 ∙ (ap (λ (e : Event). e ∷ []) thin ∙ sym q.2)
+  warnings_are_one (Cap cap) xs ys p q = p ∙ sym q
+
+  pub announced_is_one : (wish : Wish) (xs ys : List Event) → IsAnnounced a wish xs → IsAnnounced b wish ys → xs ≡ ys
+  announced_is_one wish xs ys p q =
+      let warnings : p.warnings ≡ q.warnings = warnings_are_one wish p.warnings q.warnings p.are_warnings q.are_warnings in
+      let made : p.made ≡ q.made = made_one p.made q.made p.is_made q.is_made in
+      let both : p.warnings ++ p.made ∷ [] ≡ q.warnings ++ q.made ∷ [] = λ i. warnings i ++ made i ∷ [] in
+      p.events_are ∙ (both ∙ sym q.events_are)
 
 module _ (t : Topology) (regular : IsRegular t.model) where
   pub network_is_one : (mode : Mode) (records : List Record) (x y : Topology) → IsNetwork t mode records x → IsNetwork t mode records y → x ≡ y
-  network_is_one (wanted d) records x y p q = after_all_is_one t (edits_of records) x y regular p q
-  network_is_one (fixed book) records x y p q = p ∙ sym q
+  network_is_one (wanted wish) records x y p q = after_all_is_one t (edits_of records) x y regular p q
+  network_is_one (fixed given met) records x y p q = p ∙ sym q
 
   opening_is_one : (mode : Mode) (w : ℕ) (records : List Record) (network : Topology) (a b : Basis network mode) (xs ys : List Event)
       → IsOpening t mode w records a xs → IsOpening t mode w records b ys → xs ≡ ys
-  opening_is_one (wanted d) w records network a b xs ys (inl p) (inl q) = p.1 ∙ sym q.1
-  opening_is_one (wanted d) w records network a b xs ys (inl p) (inr q) = absurd (q.0 p.0)
-  opening_is_one (wanted d) w records network a b xs ys (inr p) (inl q) = absurd (p.0 q.0)
-  opening_is_one (wanted d) w records network a b xs ys (inr p) (inr q) = announced_is_one network (wanted d) a b d xs ys p.1 q.1
-  opening_is_one (fixed book) w records network a b xs ys p q = p ∙ sym q
+  opening_is_one (wanted wish) w records network a b xs ys (inl p) (inl q) = p.1 ∙ sym q.1
+  opening_is_one (wanted wish) w records network a b xs ys (inl p) (inr q) = absurd (q.0 p.0)
+  opening_is_one (wanted wish) w records network a b xs ys (inr p) (inl q) = absurd (p.0 q.0)
+  opening_is_one (wanted wish) w records network a b xs ys (inr p) (inr q) = announced_is_one network (wanted wish) a b wish xs ys p.1 q.1
+  opening_is_one (fixed given met) w records network a b xs ys p q = p ∙ sym q
 
   -- diagnoses over one topology
   record Over (mode : Mode) (w : ℕ) (records : List Record) (closing : List Closed) (events : List Event) (network : Topology) : Type 0 where
@@ -206,7 +246,7 @@ module _ (t : Topology) (regular : IsRegular t.model) where
   regular_later s (edit ∷ edits) u reg (result, is, rest) = regular_later (result_or s result) edits u (regular_stays s edit result reg is) rest
 
   edited_is_one : (records : List Record) (line : ℕ) (edit : Edit) (xs ys : List Event)
-      → (p : BodyGives t (wanted 0) records line (Change edit) xs) (q : BodyGives t (wanted 0) records line (Change edit) ys) → xs ≡ ys
+      → (p : BodyGives t (wanted (Plain 0)) records line (Change edit) xs) (q : BodyGives t (wanted (Plain 0)) records line (Change edit) ys) → xs ≡ ys
   edited_is_one records line edit xs ys (u, now, result, after, refusal) (v, now', result', after', refusal') =
       let network : u ≡ v = after_all_is_one t (edits_of records) u v regular now now' in
       let here : IsAfter u edit result' = subst (λ (n : Topology). IsAfter n edit result') (sym network) after' in
@@ -215,14 +255,14 @@ module _ (t : Topology) (regular : IsRegular t.model) where
 
   body_is_one : (mode : Mode) (records : List Record) (line : ℕ) (body : Body) (xs ys : List Event)
       → BodyGives t mode records line body xs → BodyGives t mode records line body ys → xs ≡ ys
-  body_is_one (wanted d) records line (Raise source node) xs ys p q = p ∙ sym q
-  body_is_one (wanted d) records line (Clear source node) xs ys p q = p ∙ sym q
-  body_is_one (wanted d) records line Tick xs ys p q = p ∙ sym q
-  body_is_one (wanted d) records line (Change edit) xs ys p q = edited_is_one records line edit xs ys p q
-  body_is_one (fixed book) records line (Raise source node) xs ys p q = p ∙ sym q
-  body_is_one (fixed book) records line (Clear source node) xs ys p q = p ∙ sym q
-  body_is_one (fixed book) records line Tick xs ys p q = p ∙ sym q
-  body_is_one (fixed book) records line (Change edit) xs ys p q = p ∙ sym q
+  body_is_one (wanted wish) records line (Raise source node) xs ys p q = p ∙ sym q
+  body_is_one (wanted wish) records line (Clear source node) xs ys p q = p ∙ sym q
+  body_is_one (wanted wish) records line Tick xs ys p q = p ∙ sym q
+  body_is_one (wanted wish) records line (Change edit) xs ys p q = edited_is_one records line edit xs ys p q
+  body_is_one (fixed given met) records line (Raise source node) xs ys p q = p ∙ sym q
+  body_is_one (fixed given met) records line (Clear source node) xs ys p q = p ∙ sym q
+  body_is_one (fixed given met) records line Tick xs ys p q = p ∙ sym q
+  body_is_one (fixed given met) records line (Change edit) xs ys p q = p ∙ sym q
 
   record_is_one : (mode : Mode) (w : ℕ) (records : List Record) (line : ℕ) (r : Record) (xs ys : List Event)
       → RecordGives t mode w records line r xs → RecordGives t mode w records line r ys → xs ≡ ys

@@ -6,6 +6,8 @@ use Rattle.std.specs.List.{AllZip, Contains}
 use Rattle.std.specs.Prelude.{Bool, IsTrue}
 use Rattle.cb_model.specs.declared.node.NodeName.{NodeName}
 use Rattle.cb_model.proofs.Rising.{contains_head, contains_cases, nothing_in_empty}
+use Rattle.cb_model.specs.declared.wish.Wish.{Wish}
+use Rattle.cb_model.specs.declared.wish.Wish.TheVariants.{Plain, Cap}
 use Rattle.cb_coding.specs.declared.book.Pair.{Pair}
 use Rattle.cb_coding.specs.declared.group.Group.{Group}
 use Rattle.cb_coding.specs.Distance.{all_columns}
@@ -21,7 +23,7 @@ use Rattle.cb_log.specs.declared.event.Event.{Event}
 use Rattle.cb_log.specs.declared.record.Body.{Body}
 use Rattle.cb_log.specs.declared.record.Body.TheVariants.{Raise, Clear, Change, Tick}
 use Rattle.cb_log.specs.declared.record.Record.{Record}
-use Rattle.cb_log.specs.Basis.{Mode, wanted, fixed, Basis, IsDiagnosis, IsThin, book_made}
+use Rattle.cb_log.specs.Basis.{Mode, wanted, fixed, Basis, IsDiagnosis, IsThin, IsMadeFor, AreWarnings, IsAnnounced}
 use Rattle.cb_log.specs.Closing.{ClosesAt, AreClosing}
 use Rattle.cb_log.specs.Entries.{LogEntry, said, skipped, blank, records_of}
 use Rattle.cb_log.specs.Events.{IsNetwork, IsOpening, Diagnoses, IsRefusal, BodyGives, EntryGives, EntriesGive, EndGives}
@@ -82,44 +84,62 @@ refusal_has_none line (Err why) events e p has thin = one_event events _ e p ref
 
 body_has_none : (t : Topology) (mode : Mode) (records : List Record) (line : ℕ) (body : Body) (events : List Event) (e : Event)
     → BodyGives t mode records line body events → Contains events e → ¬ IsTrue (is_thin e)
-body_has_none t (wanted d) records line (Raise source node) events e p has thin = no_event events e p has
-body_has_none t (wanted d) records line (Clear source node) events e p has thin = no_event events e p has
-body_has_none t (wanted d) records line Tick events e p has thin = no_event events e p has
-body_has_none t (wanted d) records line (Change edit) events e (network, now, result, after, refusal) has thin =
+body_has_none t (wanted wish) records line (Raise source node) events e p has thin = no_event events e p has
+body_has_none t (wanted wish) records line (Clear source node) events e p has thin = no_event events e p has
+body_has_none t (wanted wish) records line Tick events e p has thin = no_event events e p has
+body_has_none t (wanted wish) records line (Change edit) events e (network, now, result, after, refusal) has thin =
     refusal_has_none line result events e refusal has thin
-body_has_none t (fixed book) records line (Raise source node) events e p has thin = no_event events e p has
-body_has_none t (fixed book) records line (Clear source node) events e p has thin = no_event events e p has
-body_has_none t (fixed book) records line Tick events e p has thin = no_event events e p has
-body_has_none t (fixed book) records line (Change edit) events e p has thin = one_event events _ e p refl has thin
+body_has_none t (fixed given met) records line (Raise source node) events e p has thin = no_event events e p has
+body_has_none t (fixed given met) records line (Clear source node) events e p has thin = no_event events e p has
+body_has_none t (fixed given met) records line Tick events e p has thin = no_event events e p has
+body_has_none t (fixed given met) records line (Change edit) events e p has thin = one_event events _ e p refl has thin
 
 -- ---- what is reported before the first diagnosis
+
+-- the event that tells of the codebook itself isn't thin
+made_is_none : (network : Topology) (mode : Mode) (basis : Basis network mode) (wish : Wish) (made : Event) → IsMadeFor basis wish made → is_thin made ≡ false
+made_is_none network mode basis (Plain d) made is = ap is_thin is
+made_is_none network mode basis (Cap cap) made is = ap is_thin is.is
+
+-- a thin event is a warning
+warning_tells : (network : Topology) (mode : Mode) (basis : Basis network mode) (wish : Wish) (warnings : List Event) → AreWarnings basis wish warnings
+    → (e : Event) → Contains warnings e → (d : ℕ) × (wish ≡ Plain d) × IsThin basis d e
+warning_tells network mode basis (Plain d) warnings (inl p) e has = absurd (no_event warnings e p.1 has)
+warning_tells network mode basis (Plain d) warnings (inr p) e has =
+    elim (contains_cases p.0 [] e (subst (λ (es : List Event). Contains es e) p.2 has)) [
+      | inl same ↦ (d, refl, subst (IsThin basis d) same p.1)
+      | inr later ↦ absurd (nothing_in_empty e later)
+    ]
+warning_tells network mode basis (Cap cap) warnings p e has = absurd (no_event warnings e p has)
+
+announced_tells : (network : Topology) (mode : Mode) (basis : Basis network mode) (wish : Wish) (events : List Event) → IsAnnounced basis wish events
+    → (e : Event) → Contains events e → IsTrue (is_thin e) → (d : ℕ) × (wish ≡ Plain d) × IsThin basis d e
+announced_tells network mode basis wish events is e has thin =
+    elim (Contains-append_cases is.warnings (is.made ∷ []) e (subst (λ (es : List Event). Contains es e) is.events_are has)) [
+      | inl early ↦ warning_tells network mode basis wish is.warnings is.are_warnings e early
+      | inr late ↦ absurd (one_is_none is.made e late (made_is_none network mode basis basis.used is.made is.is_made) thin)
+    ]
 
 opening_tells : (t : Topology) (mode : Mode) (w : ℕ) (all records : List Record) (place : ℕ) (c : Closed) → ClosesAt all w place c
     → (network : Topology) → IsNetwork t mode (take place all) network → (basis : Basis network mode) (events : List Event)
     → IsOpening t mode w records basis events → (e : Event) → Contains events e → IsTrue (is_thin e) → TellsThin t mode w all e
-opening_tells t (wanted d) w all records place c closes network is_network basis events (inl p) e has thin = absurd (no_event events e p.1 has)
-opening_tells t (wanted d) w all records place c closes network is_network basis events (inr (no_book, inl p)) e has thin =
-    absurd (one_event events (book_made basis) e p.1 refl has thin)
-opening_tells t (wanted d) w all records place c closes network is_network basis events (inr (no_book, inr p)) e has thin =
-    elim (contains_cases p.0 (book_made basis ∷ []) e (subst (λ (es : List Event). Contains es e) p.2 has)) [
-      | inl same ↦
-          let is : IsThin basis d e = subst (IsThin basis d) same p.1 in
-          record {
-            place = place;
-            closed = c;
-            closes = closes;
-            network = network;
-            is_network = is_network;
-            basis = basis;
-            d = d;
-            mode_is = refl;
-            is = is;
-            not_good = close_is_not_good (all_columns (length basis.columns)) (codes_of basis.groups) d is.pair is.is_first;
-            more_than_one = close_wants_more network basis.columns basis.groups d is.pair basis.matrix is.is_first;
-          }
-      | inr later ↦ absurd (one_is_none (book_made basis) e later refl thin)
-    ]
-opening_tells t (fixed book) w all records place c closes network is_network basis events p e has thin = absurd (no_event events e p has)
+opening_tells t (wanted wish) w all records place c closes network is_network basis events (inl p) e has thin = absurd (no_event events e p.1 has)
+opening_tells t (wanted wish) w all records place c closes network is_network basis events (inr (no_book, p)) e has thin =
+    let (d, wish_is, is) = announced_tells network (wanted wish) basis wish events p e has thin in
+    record {
+      place = place;
+      closed = c;
+      closes = closes;
+      network = network;
+      is_network = is_network;
+      basis = basis;
+      d = d;
+      mode_is = ap wanted wish_is;
+      is = is;
+      not_good = close_is_not_good (all_columns (length basis.columns)) (codes_of basis.groups) d is.pair is.is_first;
+      more_than_one = close_wants_more network basis.columns basis.groups d is.pair basis.matrix is.is_first;
+    }
+opening_tells t (fixed given met) w all records place c closes network is_network basis events p e has thin = absurd (no_event events e p has)
 
 -- ---- a whole log
 

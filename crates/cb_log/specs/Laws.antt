@@ -2,8 +2,10 @@
 use Rattle.std.specs.Prelude.{◌≡◌, ◌↔◌, ◌⊎◌, ◌<◌, ◌≤◌, ℕ, IsTrue, Result, max, ◌++◌, List, [], ◌∷◌, length}
 use Rattle.std.specs.List.{Contains}
 use Rattle.cb_model.specs.declared.node.NodeName.{NodeName}
+use Rattle.cb_model.specs.declared.wish.Wish.{Wish}
 use Rattle.cb_coding.specs.Answers.{from_word}
 use Rattle.cb_coding.specs.Groups.{codes_of}
+use Rattle.cb_coding.specs.Used.{IsRadius, AsksSomething}
 use Rattle.cb_network.specs.declared.edit.Edit.{Edit}
 use Rattle.cb_network.specs.declared.edit.EditRefusal.{EditRefusal}
 use Rattle.cb_network.specs.Edits.{IsAfter, result_or}
@@ -87,7 +89,7 @@ EachWindowIsDiagnosed = (t : Topology) (mode : Mode) (w : ℕ) (entries : List L
     → OneForEach t mode w (records_of entries) (events ++ ends)
 
 -- each event of a log that says that two groups are too close names two that are, with their distance, by the topology of that moment; none
--- comes where all groups are as far apart as wanted, nor where 1 is wanted
+-- comes where all groups are as far apart as wanted, nor where 1 is wanted, nor for a cap
 abbrev pub ThinsAreClose : Type 0
 ThinsAreClose = (t : Topology) (mode : Mode) (w : ℕ) (entries : List LogEntry) (events ends : List Event)
     → EntriesGive t mode w [] entries events → EndGives t mode w (records_of entries) ends
@@ -98,15 +100,15 @@ abbrev pub ThinsSoFarAreClose : Type 0
 ThinsSoFarAreClose = (t : Topology) (mode : Mode) (w : ℕ) (entries : List LogEntry) (events : List Event) → EntriesGive t mode w [] entries events
     → (event : Event) → Contains events event → IsTrue (is_thin event) → TellsThin t mode w (records_of entries) event
 
--- over the codebook for a wanted distance the groups are as far apart as it says
+-- over the codebook for a wish each two groups are as far apart as they need by the wish that is met
 abbrev pub WantedKeepsApart : Type 0
-WantedKeepsApart = (network : Topology) (d : ℕ) (basis : Basis network (wanted d)) → 0 < d → KeepsApart basis
+WantedKeepsApart = (network : Topology) (wish : Wish) (basis : Basis network (wanted wish)) → AsksSomething wish → KeepsApart basis
 
--- where no more symptoms of a group are lost or spurious than the radius says, the diagnosis lists that group alone, and is sure
+-- where no more symptoms of a group are lost or spurious than its own radius says, the diagnosis lists that group alone, and is sure
 abbrev pub CauseIsNamedAlone : Type 0
-CauseIsNamedAlone = (network : Topology) (mode : Mode) (basis : Basis network mode) (c : Closed) (event : Event) (d : IsDiagnosis basis c event) (i : ℕ)
-    → KeepsApart basis → i < length basis.groups
-    → from_word basis.book.columns (codes_of basis.groups) (word_of basis.columns c.nodes) i ≤ d.finding.radius
+CauseIsNamedAlone = (network : Topology) (mode : Mode) (basis : Basis network mode) (c : Closed) (event : Event) (d : IsDiagnosis basis c event) (i r : ℕ)
+    → KeepsApart basis → i < length basis.groups → IsRadius (length basis.columns) (codes_of basis.groups) basis.used i r
+    → from_word basis.kept (codes_of basis.groups) (word_of basis.columns c.nodes) i ≤ r
     → (d.finding.groups ≡ named_groups basis.groups (i ∷ [])) × IsTrue d.finding.sure
 
 -- the diagnoses of a source are those of the log in which the other sources say nothing, line by line and at the end

@@ -60,12 +60,22 @@ pub enum Event {
         second: GroupName,
         distance: u32,
     },
-    /// From now on a codebook is in use, with `kept` of all columns, over which the groups are at least `distance` apart.
+    /// From now on a codebook is in use, with `columns` of all, over which the groups are at least `distance` apart.
     BookMade {
         columns: u32,
         of: u32,
         distance: u32,
         radius: u32,
+        groups: u32,
+    },
+    /// From now on a codebook for a cap is in use, with `columns` of all. Each group has a radius of its own, from `least` to
+    /// `greatest`.
+    CapMade {
+        columns: u32,
+        of: u32,
+        cap: u32,
+        least: u32,
+        greatest: u32,
         groups: u32,
     },
     /// What explains the nodes of a window that closes.

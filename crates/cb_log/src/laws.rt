@@ -65,8 +65,8 @@ pub fn each_window_is_diagnosed()
     ensures { EachWindowIsDiagnosed }
 {}
 
-/// Each thin event of a log names two groups that are closer than wanted, with their distance; at a wanted distance of 1
-/// none comes.
+/// Each thin event of a log names two groups that are closer than wanted, with their distance; none comes at a wanted
+/// distance of 1, nor for a cap.
 pub fn thins_are_close()
     ensures { ThinsAreClose }
 {}
@@ -76,12 +76,12 @@ pub fn thins_so_far_are_close()
     ensures { ThinsSoFarAreClose }
 {}
 
-/// The codebook for a wanted distance keeps the groups as far apart as it says.
+/// The codebook for a wish keeps each two groups as far apart as they need by the wish that is met.
 pub fn wanted_keeps_apart()
     ensures { WantedKeepsApart }
 {}
 
-/// Within the radius the one group alone is listed, and the diagnosis is sure.
+/// Within its own radius the one group alone is listed, and the diagnosis is sure.
 pub fn cause_is_named_alone()
     ensures { CauseIsNamedAlone }
 {}
@@ -91,7 +91,7 @@ pub fn sources_are_independent()
     ensures { SourcesAreIndependent }
 {}
 
-/// For a wanted distance: a codebook is in use after a record exactly where the record is no accepted edit, and a codebook
+/// For a wish: a codebook is in use after a record exactly where the record is no accepted edit, and a codebook
 /// was in use before it or the record closes a window.
 pub fn book_in_use_steps()
     ensures { BookInUseSteps }

@@ -1,6 +1,8 @@
 -- What stands for entries, with one more after them.
 use Rattle.std.proofs.Common.{◌≡◌, ◌≢◌, ◌++◌, ℕ, List, [], ◌∷◌, length, Bool, true, false, Result, Ok, Err, refl, sym, ap, subst, ◌∙◌, append-nil}
 use Rattle.std.proofs.Math.Seq.{take-append_seam}
+use Rattle.cb_model.specs.declared.wish.Wish.{Wish}
+use Rattle.cb_model.specs.declared.wish.Wish.TheVariants.{Plain}
 use Rattle.cb_network.specs.declared.edit.Edit.{Edit}
 use Rattle.cb_network.specs.declared.edit.EditRefusal.{EditRefusal}
 use Rattle.cb_network.specs.Edits.{IsAfter, IsAccepted, Refuses}
@@ -40,7 +42,7 @@ module _ (t : Topology) (regular : IsRegular t.model) (records : List Record) (n
   accepted_here : IsAcceptedAt t (records ++ r ∷ []) (length records) → (edit : Edit) × (r.body ≡ Change edit) × IsAccepted network edit
   accepted_here a =
       let before : IsNow t records a.network = subst (λ (rs : List Record). IsNow t rs a.network) (take-append_seam records (r ∷ [])) a.is_now in
-      let same : a.network ≡ network = network_is_one t regular (wanted 0) records a.network network before now in (
+      let same : a.network ≡ network = network_is_one t regular (wanted (Plain 0)) records a.network network before now in (
         a.edit,
         is_last records r (λ s. s.body ≡ Change a.edit) a.says,
         subst (λ (u : Topology). IsAccepted u a.edit) same a.accepted,
@@ -94,9 +96,9 @@ module _ (t : Topology) (regular : IsRegular t.model) (records : List Record) (n
   changed_by Tick is line new changed events acts = aside Tick is refl (λ edit e. absurd (cc)) new changed acts.0 acts.1
 
   -- and what results from it is reported
-  pub body_gives : (d : ℕ) (body : Body) (line : ℕ) (new : Topology) (changed : Bool) (events : List Event)
-      → Acts network line body new changed events → BodyGives t (wanted d) records line body events
-  body_gives d (Raise source node) line new changed events acts = acts.2
-  body_gives d (Clear source node) line new changed events acts = acts.2
-  body_gives d (Change edit) line new changed events acts = (network, now, acts.0, acts.1, acts.2)
-  body_gives d Tick line new changed events acts = acts.2
+  pub body_gives : (wish : Wish) (body : Body) (line : ℕ) (new : Topology) (changed : Bool) (events : List Event)
+      → Acts network line body new changed events → BodyGives t (wanted wish) records line body events
+  body_gives wish (Raise source node) line new changed events acts = acts.2
+  body_gives wish (Clear source node) line new changed events acts = acts.2
+  body_gives wish (Change edit) line new changed events acts = (network, now, acts.0, acts.1, acts.2)
+  body_gives wish Tick line new changed events acts = acts.2

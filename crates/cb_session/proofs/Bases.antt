@@ -1,60 +1,90 @@
 -- What a session holds gives the basis of its topology, and names for its groups.
-use Rattle.std.proofs.Common.{◌≡◌, ◌≢◌, ℕ, zero, suc, ◌+◌, ◌<◌, ◌≤◌, List, [], ◌∷◌, ◌++◌, length, get_or, take, refl, sym, ap, subst, ◌∙◌, inl, inr, arith, Bool, Some}
+use Rattle.std.proofs.Common.{◌≡◌, ℕ, ◌+◌, ◌<◌, ◌≤◌, List, [], ◌∷◌, ◌++◌, length, take, refl, sym, ap, subst, ◌∙◌, inl, inr, arith, Bool, Some}
 use Rattle.std.specs.Prelude.{slice_get}
-use Rattle.std.specs.List.{AllZip, Contains}
+use Rattle.std.specs.List.{AllZip}
 use Rattle.std.proofs.lemmas.List.{append_assoc, length-map}
-use Rattle.std.proofs.lemmas.List.Elements.{Contains-get_or}
 use Rattle.std.proofs.lemmas.Map.Keys.{sorted_from_strictly_increasing}
 use Rattle.std.proofs.lemmas.Map.Views.{length-le_from_below}
-use Rattle.std.proofs.lemmas.Option.{slice_get-get_or}
-use Rattle.cb_model.specs.declared.node.GroupName.TheVariants.{Quiet, Least}
 use Rattle.cb_model.proofs.Numbers.{take_more, zip_push}
+use Rattle.cb_model.specs.declared.node.NodeName.{NodeName}
+use Rattle.cb_model.specs.declared.wish.Wish.{Wish}
+use Rattle.cb_model.specs.declared.wish.Wish.TheVariants.{Plain, Cap}
 use Rattle.cb_coding.specs.declared.book.Book.{Book}
+use Rattle.cb_coding.specs.declared.book.CapBook.{CapBook}
 use Rattle.cb_coding.specs.declared.book.Pair.{Pair}
 use Rattle.cb_coding.specs.declared.group.Group.{Group}
-use Rattle.cb_coding.specs.declared.group.Problem.{Problem}
-use Rattle.cb_coding.specs.Books.{IsBook, IsInUse}
+use Rattle.cb_coding.specs.Answers.{radius}
+use Rattle.cb_coding.specs.Books.{IsChoice}
 use Rattle.cb_coding.specs.Distance.{all_columns}
-use Rattle.cb_coding.specs.Groups.{IsGroup, codes_of, group_of, zeros}
+use Rattle.cb_coding.specs.Groups.{codes_of}
+use Rattle.cb_coding.specs.Needs.{need_of}
 use Rattle.cb_coding.specs.Pairs.{Good, IsFirstClose}
+use Rattle.cb_coding.specs.Radii.{AreRadii}
 use Rattle.cb_decode.specs.Decoder.{IsDecoder}
 use Rattle.cb_decode.specs.Names.{HasName}
 use Rattle.cb_decode.proofs.Names.{has_name as named_in}
+use Rattle.cb_finding.specs.declared.finding.Finding.{Finding}
+use Rattle.cb_finding.specs.Finding.{IsFindingFor}
 use Rattle.cb_finding.specs.Matrix.{IsMatrix}
 use Rattle.cb_log.specs.declared.closed.Closed.{Closed}
 use Rattle.cb_log.specs.declared.event.Event.{Event}
-use Rattle.cb_log.specs.Basis.{Mode, wanted, Basis, IsDiagnosis, IsAnnounced, book_made}
+use Rattle.cb_log.specs.declared.event.Event.TheVariants.{BookMade}
+use Rattle.cb_log.specs.Basis.{Mode, wanted, Basis, IsDiagnosis, IsCapMade, IsMadeFor, IsMadeEvent, AreWarnings}
 use Rattle.cb_network.specs.Sound.{problem_limit, symptom_limit}
 use Rattle.cb_network.specs.Topology.{Topology}
 use Rattle.cb_session.specs.declared.basis.Ready.{Ready}
+use Rattle.cb_session.specs.declared.book.BookInUse.{BookInUse}
+use Rattle.cb_session.specs.declared.book.BookInUse.TheVariants as books
+use Rattle.cb_session.specs.InUse.{IsInUseFor, KeepsDistance, ReportsCapped, in_use_of}
 use Rattle.cb_session.specs.Ready.{IsReady, HasBasis, NamesGroupPair}
+use Rattle.cb_session.proofs.Radii.{extremes_are}
 
 -- what is ready has its basis
 pub ready_has_basis : (network : Topology) (mode : Mode) (ready : Ready) → IsReady network mode ready
     → (basis : Basis network mode) × HasBasis basis ready
 ready_has_basis network mode ready is = (
-  record { columns = ready.matrix.columns; groups = ready.matrix.groups; matrix = is.matrix; book = ready.book; used = is.used },
-  record { columns = refl; groups = refl; book = refl },
+  record {
+    columns = ready.matrix.columns;
+    groups = ready.matrix.groups;
+    matrix = is.matrix;
+    kept = (in_use_of ready.book).kept;
+    used = (in_use_of ready.book).used;
+    in_use = is.in_use;
+  },
+  record { columns = refl; groups = refl; kept = refl; used = refl },
 )
 
--- a book has no more columns than there are
-pub book_is_narrow : (width : ℕ) (codes : List (List Bool)) (book : Book) → IsBook width codes book → length book.columns ≤ width
-book_is_narrow width codes book is = length-le_from_below width book.columns (sorted_from_strictly_increasing book.columns is.rise) is.within
+-- a choice has no more columns than there are
+pub choice_is_narrow : (width : ℕ) (codes : List (List Bool)) (need : ℕ → ℕ → ℕ) (columns : List ℕ) → IsChoice width codes need columns → length columns ≤ width
+choice_is_narrow width codes need columns is = length-le_from_below width columns (sorted_from_strictly_increasing columns is.rise) is.within
 
--- the matrix of a topology with the codebook in use for a wanted distance is ready
-pub is_ready : (network : Topology) (d : ℕ) (ready : Ready) → IsMatrix network ready.matrix.columns ready.matrix.groups
+-- the matrix of a topology with the codebook in use for a wish is ready
+pub is_ready : (network : Topology) (wish : Wish) (ready : Ready) → IsMatrix network ready.matrix.columns ready.matrix.groups
     → length ready.matrix.columns ≤ symptom_limit → length ready.matrix.groups ≤ problem_limit + 1
-    → IsInUse (length ready.matrix.columns) (codes_of ready.matrix.groups) d ready.book
-    → IsDecoder ready.book.columns (codes_of ready.matrix.groups) ready.decoder → IsReady network (wanted d) ready
-is_ready network d ready matrix few_columns few_groups used decoder =
-    let narrow = book_is_narrow (length ready.matrix.columns) (codes_of ready.matrix.groups) ready.book used.is_book in record {
+    → IsInUseFor (length ready.matrix.columns) (codes_of ready.matrix.groups) wish ready.book
+    → IsDecoder (in_use_of ready.book).kept (codes_of ready.matrix.groups) ready.decoder → IsReady network (wanted wish) ready
+is_ready network wish ready matrix few_columns few_groups in_use decoder =
+    let narrow = choice_is_narrow (length ready.matrix.columns) (codes_of ready.matrix.groups) _ (in_use_of ready.book).kept in_use.choice.choice in record {
       matrix = matrix;
-      used = used;
+      in_use = in_use.choice;
+      radii = in_use.radii;
       decoder = decoder;
       few_columns = few_columns;
       few_groups = few_groups;
       few_kept = omega (arith, narrow, few_columns);
     }
+
+-- a codebook in use for a distance keeps the groups of its matrix as far apart as it says, over all columns too
+pub kept_is_good : (network : Topology) (ready : Ready) (d : ℕ) → IsReady network (wanted (Plain d)) ready → KeepsDistance ready.book d
+    → Good (codes_of ready.matrix.groups) (all_columns (length ready.matrix.columns)) d
+kept_is_good network ready d is keeps = by_book ready.book is.in_use.choice keeps
+  where
+    by_book : (book : BookInUse)
+        → IsChoice (length ready.matrix.columns) (codes_of ready.matrix.groups)
+        (need_of (length ready.matrix.columns) (codes_of ready.matrix.groups) (in_use_of book).used) (in_use_of book).kept
+        → KeepsDistance book d → Good (codes_of ready.matrix.groups) (all_columns (length ready.matrix.columns)) d
+    by_book (books.Plain book) choice far = λ i j pair. let apart = choice.good i j pair in omega arith
+    by_book (books.Capped book) choice far = absurd far
 
 -- each group of a topology is called by something
 pub has_name : (network : Topology) (ready : Ready) (mode : Mode) → IsReady network mode ready → (i : ℕ) → i < length (codes_of ready.matrix.groups)
@@ -82,14 +112,13 @@ one_more ready closing before events k c event at is so_far network mode basis h
 
 module _ {network : Topology} {mode : Mode} (basis : Basis network mode) (ready : Ready) (has : HasBasis basis ready) where
   -- the groups are far enough apart
-  pub announced_good : (d : ℕ) → Good (codes_of ready.matrix.groups) (all_columns (length ready.matrix.columns)) d
-      → IsAnnounced basis d (book_made basis ∷ [])
-  announced_good d good = inl (rw (has.groups, has.columns) good, refl)
+  pub warned_good : (d : ℕ) → Good (codes_of ready.matrix.groups) (all_columns (length ready.matrix.columns)) d → AreWarnings basis (Plain d) []
+  warned_good d good = inl (rw (has.groups, has.columns) good, refl)
 
   -- two groups are too close
-  pub announced_thin : (d : ℕ) (pair : Pair) (event : Event) → IsFirstClose (all_columns (length ready.matrix.columns)) (codes_of ready.matrix.groups) d pair
-      → NamesGroupPair ready.matrix.groups d pair event → IsAnnounced basis d (event ∷ book_made basis ∷ [])
-  announced_thin d pair event close names = inr (
+  pub warned_thin : (d : ℕ) (pair : Pair) (event : Event) → IsFirstClose (all_columns (length ready.matrix.columns)) (codes_of ready.matrix.groups) d pair
+      → NamesGroupPair ready.matrix.groups d pair event → AreWarnings basis (Plain d) (event ∷ [])
+  warned_thin d pair event close names = inr (
     event,
     record {
       pair = pair;
@@ -102,3 +131,33 @@ module _ {network : Topology} {mode : Mode} (basis : Basis network mode) (ready 
     },
     refl,
   )
+
+  -- the numbers of a codebook for a distance
+  pub plain_is_reported : (book : Book) (event : Event) → ready.book ≡ books.Plain book
+      → event ≡ BookMade (length book.columns) (length ready.matrix.columns) book.distance (radius book.distance) (length ready.matrix.groups)
+      → IsMadeEvent basis event
+  plain_is_reported book event is event_is =
+      let kept : basis.kept ≡ book.columns = has.kept ∙ ap (λ (b : BookInUse). (in_use_of b).kept) is in
+      let used : basis.used ≡ Plain book.distance = has.used ∙ ap (λ (b : BookInUse). (in_use_of b).used) is in
+      subst (λ (w : Wish). IsMadeFor basis w event) (sym used) (rw (kept, has.columns, has.groups) event_is)
+
+  -- and of one for a cap, whose radii are those of the groups
+  pub capped_is_reported : (book : CapBook) (event : Event) → ready.book ≡ books.Capped book
+      → AreRadii (length ready.matrix.columns) (codes_of ready.matrix.groups) book.cap book.radii
+      → ReportsCapped book (length ready.matrix.columns) (length ready.matrix.groups) event → IsMadeEvent basis event
+  capped_is_reported book event is radii reports =
+      let kept : basis.kept ≡ book.columns = has.kept ∙ ap (λ (b : BookInUse). (in_use_of b).kept) is in
+      let used : basis.used ≡ Cap book.cap = has.used ∙ ap (λ (b : BookInUse). (in_use_of b).used) is in
+      let made : IsCapMade basis book.cap event = record {
+        least = reports.least;
+        greatest = reports.greatest;
+        radii = rw (has.columns, has.groups) (extremes_are (length ready.matrix.columns) (codes_of ready.matrix.groups) book.cap book.radii reports.least reports.greatest radii reports.extremes);
+        is = rw (kept, has.columns, has.groups) reports.is;
+      } in
+      subst (λ (w : Wish). IsMadeFor basis w event) (sym used) made
+
+  -- what is found by what is ready is found by its basis
+  pub finding_has_basis : (raised : List NodeName) (finding : Finding)
+      → IsFindingFor ready.matrix.columns ready.matrix.groups (in_use_of ready.book).kept (in_use_of ready.book).used raised finding
+      → IsFindingFor basis.columns basis.groups basis.kept basis.used raised finding
+  finding_has_basis raised finding found = rw (has.columns, has.groups, has.kept, has.used) found

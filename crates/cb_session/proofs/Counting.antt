@@ -4,7 +4,7 @@ use Rattle.cb_change.specs.Costs.{CountsAtMost}
 use Rattle.cb_change.specs.InTurn.{IsCostInTurn}
 use Rattle.cb_change.proofs.InTurn.{cost_in_turn_is_one}
 use Rattle.cb_change.proofs.Totals.{every_cost}
-use Rattle.cb_coding.specs.declared.book.Book.{Book}
+use Rattle.cb_model.specs.declared.wish.Wish.{Wish}
 use Rattle.cb_network.specs.declared.edit.Edit.{Edit}
 use Rattle.cb_network.specs.Regular.{IsRegular}
 use Rattle.cb_network.specs.Topology.{Topology}
@@ -24,15 +24,15 @@ none_costs network edits steps none =
     subst (λ (es : List Edit). CountsAtMost (IsCostInTurn network es) steps steps) (sym none) (record { cost = 0; is_cost = refl; few = omega arith })
 
 pub none_counted : (mode : Mode) (network : Topology) (entry : LogEntry) (steps : ℕ) → edits_of (records_of (entry ∷ [])) ≡ [] → CountsEntry mode network entry steps steps
-none_counted (wanted d) network entry steps none = none_costs network (edits_of (records_of (entry ∷ []))) steps none
-none_counted (fixed book) network entry steps none = refl
+none_counted (wanted wish) network entry steps none = none_costs network (edits_of (records_of (entry ∷ []))) steps none
+none_counted (fixed given met) network entry steps none = refl
 
 pub aside_counted : (network : Topology) (number : ℕ) (r : Record) (steps : ℕ) → then_edits r.body [] ≡ [] → CountsAtMost (IsEntryCost network (said number r)) steps steps
 aside_counted network number r steps none = none_costs network (then_edits r.body []) steps none
 
-pub none_by_fixed : {V E : Type 0} (result : Result V E) (book : Book) (network : Topology) (entry : LogEntry) (steps : ℕ) → OnOk result (CountsEntry (fixed book) network entry steps steps)
-none_by_fixed (Ok v) book network entry steps = refl
-none_by_fixed (Err e) book network entry steps = tt
+pub none_by_fixed : {V E : Type 0} (result : Result V E) (given : List ℕ) (met : Wish) (network : Topology) (entry : LogEntry) (steps : ℕ) → OnOk result (CountsEntry (fixed given met) network entry steps steps)
+none_by_fixed (Ok v) given met network entry steps = refl
+none_by_fixed (Err e) given met network entry steps = tt
 
 -- the steps of its edit are those of the record
 pub edit_counted : (network : Topology) (number : ℕ) (r : Record) (edit : Edit) (old new : ℕ) → r.body ≡ Change edit
@@ -54,6 +54,6 @@ if_line_counted (Err e) line entry comes mode network old new counts = tt
 -- then no more steps are counted than any number that is the cost
 pub every_entry_cost : (mode : Mode) (network : Topology) (entry : LogEntry) (old new : ℕ) → IsRegular network.model → CountsEntry mode network entry old new
     → (cost : ℕ) → IsEntryCost network entry cost → new ≤ old + cost
-every_entry_cost (wanted d) network entry old new regular counts =
+every_entry_cost (wanted wish) network entry old new regular counts =
     every_cost (IsEntryCost network entry) (λ m n. cost_in_turn_is_one network (edits_of (records_of (entry ∷ []))) m n regular) old new counts
-every_entry_cost (fixed book) network entry old new regular same = λ cost is. omega (arith, same)
+every_entry_cost (fixed given met) network entry old new regular same = λ cost is. omega (arith, same)

@@ -1,4 +1,6 @@
 pub mod Alone
+pub mod Radii
+pub mod InUse
 pub mod Bases
 pub mod Following
 pub mod After

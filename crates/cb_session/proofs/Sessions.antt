@@ -1,25 +1,25 @@
 -- What a session shows of its parts.
-use Rattle.std.proofs.Common.{◌≡◌, ℕ, List, Option, Result, Ok, Err, sym, subst}
+use Rattle.std.proofs.Common.{◌≡◌, List, Option, Result, Ok, Err, sym, subst}
 use Rattle.std.specs.Prelude.{IfOk, OnOk}
 use Rattle.std.specs.List.{All}
+use Rattle.cb_model.specs.declared.wish.Wish.{Wish}
 use Rattle.cb_cache.specs.Cached.{Cached}
 use Rattle.cb_network.specs.Topology.{Topology}
 use Rattle.cb_network.specs.Regular.{IsRegular}
 use Rattle.cb_log.specs.declared.closed.Closed.{Closed}
 use Rattle.cb_log.specs.declared.event.Event.{Event}
-use Rattle.cb_log.specs.Basis.{fixed}
-use Rattle.cb_log.specs.Entries.{LogEntry, records_of}
-use Rattle.cb_log.specs.Events.{EndGives}
+use Rattle.cb_log.specs.Entries.{LogEntry}
 use Rattle.cb_log.specs.Kept.{Kept}
 use Rattle.cb_topo.specs.Numbered.{topology_of}
 use Rattle.cb_session.specs.declared.basis.Ready.{Ready}
 use Rattle.cb_session.specs.declared.course.Course.{Course}
 use Rattle.cb_session.specs.declared.course.Course.TheVariants.{Wanted, Fixed}
 use Rattle.cb_session.specs.declared.reported.Reported.{Reported}
-use Rattle.cb_session.specs.Course.{wanted_state, fixed_state, state_of}
-use Rattle.cb_session.specs.Settled.{IsOverSome, IsSessionSettled, IsFixed, FitsCourse}
+use Rattle.cb_session.specs.Course.{wanted_state, fixed_state, mode_by, state_of}
+use Rattle.cb_session.specs.Settled.{IsSessionSettled, IsFixed, FitsCourse}
 use Rattle.cb_session.specs.Sources.{EndsAlone}
-use Rattle.cb_session.specs.State.{State, StandsForEntries}
+use Rattle.cb_alarm.specs.Lines.{NumberedLine}
+use Rattle.cb_session.specs.State.{State, StandsForLines}
 use Rattle.cb_session.specs.Steps.{ClosesAtEnd, TellsAtEnd}
 use Rattle.cb_session.specs.Reported.{TellsInUse, ReportsWindows}
 use Rattle.cb_session.proofs.Alone.{ends_alone}
@@ -35,11 +35,11 @@ module _ (cache : Cached) (windows : Kept) (course : Course) (s : State) (view :
   abbrev network : Topology
   network = topology_of cache.graph
 
-  module _ (d : ℕ) (ready : Option Ready) (is : course ≡ Wanted d ready) where
-    pub wanted_view : wanted_state cache d windows ready ≡ s
+  module _ (wish : Wish) (ready : Option Ready) (is : course ≡ Wanted wish ready) where
+    pub wanted_view : wanted_state cache wish windows ready ≡ s
     wanted_view = subst (λ (c : Course). state_of cache windows c ≡ s) is view
 
-    pub wanted_fits : IsSessionSettled network d windows ready
+    pub wanted_fits : IsSessionSettled network wish windows ready
     wanted_fits = subst (FitsCourse network windows) is fits
 
     closes_wanted : (closing : List Closed) → ClosesAtEnd s.windows closing → ClosesAtEnd windows closing
@@ -48,10 +48,10 @@ module _ (cache : Cached) (windows : Kept) (course : Course) (s : State) (view :
     pub wanted_rise : (closing : List Closed) → ClosesAtEnd s.windows closing → All HasRisingNodes closing
     wanted_rise closing closes = end_rise windows closing wanted_fits.over (closes_wanted closing closes)
 
-    pub wanted_tells : (closing : List Closed) → ClosesAtEnd s.windows closing → (reported : Reported) → ReportsWindows network d ready closing reported → TellsAtEnd s reported.events
+    pub wanted_tells : (closing : List Closed) → ClosesAtEnd s.windows closing → (reported : Reported) → ReportsWindows network wish ready closing reported → TellsAtEnd s reported.events
     wanted_tells closing closes reported tells =
         subst (λ (x : State). TellsAtEnd x reported.events) wanted_view
-        (λ opening before stands. end_tells cache d windows ready closing reported (closes_wanted closing closes) tells opening before stands)
+        (λ opening before stands. end_tells cache wish windows ready closing reported (closes_wanted closing closes) tells opening before stands)
 
   module _ (ready : Ready) (is : course ≡ Fixed ready) where
     pub fixed_view : fixed_state cache windows ready ≡ s
@@ -67,14 +67,14 @@ module _ (cache : Cached) (windows : Kept) (course : Course) (s : State) (view :
     fixed_rise closing closes = end_rise windows closing fixed_fits.over (closes_fixed closing closes)
 
     pub fixed_tells_end : (closing : List Closed) → ClosesAtEnd s.windows closing → (events : List Event)
-        → TellsInUse network (fixed ready.book) ready closing events → TellsAtEnd s events
+        → TellsInUse network (mode_by ready) ready closing events → TellsAtEnd s events
     fixed_tells_end closing closes events tells =
         subst (λ (x : State). TellsAtEnd x events) fixed_view (fixed_ends cache ready windows closing (closes_fixed closing closes) events tells)
 
 -- what is reported at the end stands alone
 pub if_ends_alone : {E : Type 0} (s : State) (result : Result (List Event) E) → IfOk result (TellsAtEnd s)
-    → IfOk result (λ events. (opening : Topology) (before : List LogEntry) → IsRegular opening.model → StandsForEntries s opening before
-    → EndsAlone opening s.mode s.windows.length before events)
-if_ends_alone s (Ok events) tells = λ opening before regular stands.
-    ends_alone opening s.mode s.windows.length before regular events (tells opening before stands)
+    → IfOk result (λ events. (opening : Topology) (lines : List NumberedLine) → IsRegular opening.model → StandsForLines s opening lines
+    → EndsAlone opening s.mode s.windows.length lines events)
+if_ends_alone s (Ok events) tells = λ opening lines regular stands.
+    ends_alone opening s.mode s.windows.length lines stands.entries stands.come regular events (tells opening stands.entries stands.stands)
 if_ends_alone s (Err e) tells = tt

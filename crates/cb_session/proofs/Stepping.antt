@@ -5,8 +5,7 @@ use Rattle.std.specs.List.{All}
 use Rattle.std.proofs.lemmas.List.Elements.{Contains-get_or}
 use Rattle.cb_model.specs.NodeOrder.{node_cmp}
 use Rattle.cb_model.specs.Order.{Rises}
-use Rattle.cb_cert.specs.Format.{IsWanted}
-use Rattle.cb_coding.specs.declared.book.Book.{Book}
+use Rattle.cb_model.specs.declared.wish.Wish.{Wish}
 use Rattle.cb_edits.specs.Spelled.{EditHasNames}
 use Rattle.cb_cache.specs.Cached.{Cached}
 use Rattle.cb_network.specs.declared.edit.Edit.{Edit}
@@ -32,15 +31,17 @@ use Rattle.cb_topo.specs.Numbered.{topology_of}
 use Rattle.cb_session.specs.declared.basis.Ready.{Ready}
 use Rattle.cb_session.specs.declared.reported.Reported.{Reported}
 use Rattle.cb_session.specs.Acts.{Acts, GoesOn, IsWellNamed}
+use Rattle.cb_session.specs.InUse.{InUse}
 use Rattle.cb_session.specs.Ready.{IsReady}
 use Rattle.cb_session.specs.Course.{wanted_state}
 use Rattle.cb_session.specs.Settled.{IsOverSome, IsSessionSettled}
-use Rattle.cb_session.specs.State.{State, network_of, IsBookInUse, KeepsBook, StandsForEntries}
+use Rattle.cb_session.specs.State.{State, network_of, IsBookInUse, KeepsBook, StandsForEntries, StandsForLines}
 use Rattle.cb_session.specs.Steps.{EntryTells, EntryStands, ClosesAtEnd}
 use Rattle.cb_session.specs.Reported.{ReportsWindows, kept_ready}
 use Rattle.cb_session.proofs.Bases.{ready_has_basis}
 use Rattle.cb_session.proofs.After.{records_said, records_stay, IsChangedBy, changed_by, body_gives}
 use Rattle.cb_session.specs.Sources.{StandsAlone}
+use Rattle.cb_model.proofs.Numbers.{zip_push}
 use Rattle.cb_session.proofs.Alone.{stands_alone}
 use Rattle.cb_session.proofs.Telling.{book_of, reported_comes, keeps_after, ready_stays}
 
@@ -71,8 +72,8 @@ well_named (text k bytes) number r (inr (some, inr (kind, is_skipped, e))) = abs
 -- an entry without a record leaves what is stood for
 keeps_same : (opening : Topology) (mode : Mode) (w : ℕ) (s : State) (xs ys : List LogEntry) → records_of xs ≡ records_of ys
     → KeepsBook opening mode w s xs → KeepsBook opening mode w s ys
-keeps_same opening (wanted d) w s xs ys same keeps = (subst (λ (rs : List Record). IsSome s.book ↔ HasBook opening w rs) same keeps.0, keeps.1)
-keeps_same opening (fixed book) w s xs ys same keeps = keeps
+keeps_same opening (wanted wish) w s xs ys same keeps = (subst (λ (rs : List Record). IsSome s.book ↔ HasBook opening w rs) same keeps.0, keeps.1)
+keeps_same opening (fixed given met) w s xs ys same keeps = keeps
 
 pub aside_stands : (s : State) (entry : LogEntry) → records_of (entry ∷ []) ≡ [] → EntryStands s s entry
 aside_stands s entry none = λ opening before regular stands.
@@ -93,16 +94,16 @@ pub all_stand : (line : NumberedLine) (entry : LogEntry) → ComesTo line entry 
 all_stand line entry comes old new stands other too = subst (EntryStands old new) (comes_to_one line entry other comes too) stands
 
 -- what is ready has a basis, so its codebook is one of the topology
-book_is : (network : Topology) (d : ℕ) (ready : Option Ready) → IfSome ready (IsReady network (wanted d)) → IfSome (book_of ready) (IsBookInUse network (wanted d))
-book_is network d None is = tt
-book_is network d (Some ready) is = let has = ready_has_basis network (wanted d) ready is in (has.0, has.1.book)
+book_is : (network : Topology) (wish : Wish) (ready : Option Ready) → IfSome ready (IsReady network (wanted wish)) → IfSome (book_of ready) (IsBookInUse network (wanted wish))
+book_is network wish None is = tt
+book_is network wish (Some ready) is = let has = ready_has_basis network (wanted wish) ready is in (has.0, has.1.kept, has.1.used)
 
 -- the windows close at the next record
 abbrev pub Closes : Kept → ℕ → List Closed → Type 0
 Closes windows at closing = (records : List Record) (r : Record) → r.at ≡ at → StandsForRecords windows records
     → AreClosing (records ++ r ∷ []) windows.length (length records) closing
 
-module _ (d number : ℕ) (r : Record) (cache fresh : Cached) (windows later : Kept) (ready : Option Ready) where
+module _ (wish : Wish) (number : ℕ) (r : Record) (cache fresh : Cached) (windows later : Kept) (ready : Option Ready) where
   abbrev network : Topology
   network = topology_of cache.graph
 
@@ -112,20 +113,20 @@ module _ (d number : ℕ) (r : Record) (cache fresh : Cached) (windows later : K
   -- a record closes windows, is reported, and acts
   pub record Goes (closing : List Closed) (reported : Reported) (changed : Bool) (acted : List Event) : Type 0 where
     pub closes : Closes windows r.at closing
-    pub tells : ReportsWindows network d ready closing reported
+    pub tells : ReportsWindows network wish ready closing reported
     pub acts : Acts network number r.body new changed acted
     pub on : GoesOn windows later r
     pub same_length : later.length ≡ windows.length
-    pub settled : IsSessionSettled network d windows ready
+    pub settled : IsSessionSettled network wish windows ready
 
   module _ (closing : List Closed) (reported : Reported) (changed : Bool) (acted : List Event) (goes : Goes closing reported changed acted) where
-    pub record_tells : EntryTells (wanted_state cache d windows ready) (said number r) (reported.events ++ acted)
+    pub record_tells : EntryTells (wanted_state cache wish windows ready) (said number r) (reported.events ++ acted)
     record_tells = λ opening before regular stands. record {
       closings = reported.events;
-      closing = reported_comes opening d windows.length (records_of before) (r ∷ []) network stands.network ready stands.book.0 closing
+      closing = reported_comes opening wish windows.length (records_of before) (r ∷ []) network stands.network ready stands.book.0 closing
           (goes.closes (records_of before) r refl stands.windows) reported goes.tells;
       refusals = acted;
-      body = body_gives opening regular (records_of before) network stands.network r d r.body number new changed acted goes.acts;
+      body = body_gives opening regular (records_of before) network stands.network r wish r.body number new changed acted goes.acts;
       events_are = refl;
     }
 
@@ -143,23 +144,22 @@ module _ (d number : ℕ) (r : Record) (cache fresh : Cached) (windows later : K
         acts_same (Change edit) (Err why, after, refusal, leaves) e = leaves.0
         acts_same Tick acts e = acts.0
 
-    ready_kept : IfSome kept (IsReady new (wanted d))
-    ready_kept = ready_stays network new d ready goes.settled.ready_is closing reported goes.tells changed same_network
+    ready_kept : IfSome kept (IsReady new (wanted wish))
+    ready_kept = ready_stays network new wish ready goes.settled.ready_is closing reported goes.tells changed same_network
 
-    pub settled_still : IsSessionSettled new d later kept
+    pub settled_still : IsSessionSettled new wish later kept
     settled_still = record {
-      distance = goes.settled.distance;
       over = (goes.settled.over.0 ++ r ∷ [], goes.on goes.settled.over.0 goes.settled.over.1);
       ready_is = ready_kept;
     }
 
-    pub record_stands : EntryStands (wanted_state cache d windows ready) (wanted_state fresh d later kept) (said number r)
+    pub record_stands : EntryStands (wanted_state cache wish windows ready) (wanted_state fresh wish later kept) (said number r)
     record_stands = λ opening before regular stands.
         let same : records_of before ++ r ∷ [] ≡ records_of (before ++ said number r ∷ []) = sym (records_said before number r) in
         let by : IsChangedBy opening regular (records_of before) network stands.network r new changed =
         changed_by opening regular (records_of before) network stands.network r r.body refl number new changed acted goes.acts in
         let keeps : IsSome (book_of kept) ↔ HasBook opening windows.length (records_of before ++ r ∷ []) =
-        keeps_after opening d windows.length (records_of before) r network ready stands.book.0 closing
+        keeps_after opening wish windows.length (records_of before) r network ready stands.book.0 closing
         (goes.closes (records_of before) r refl stands.windows) reported goes.tells changed by.accepted by.refused in
         record {
           network = subst (λ (rs : List Record). IsNow opening rs new) same by.is_now;
@@ -167,7 +167,7 @@ module _ (d number : ℕ) (r : Record) (cache fresh : Cached) (windows later : K
           book = (
             subst (λ (rs : List Record). IsSome (book_of kept) ↔ HasBook opening later.length rs) same
                 (subst (λ (w : ℕ). IsSome (book_of kept) ↔ HasBook opening w (records_of before ++ r ∷ [])) (sym goes.same_length) keeps),
-            book_is new d kept ready_kept,
+            book_is new wish kept ready_kept,
           );
         }
 
@@ -189,23 +189,23 @@ pub end_rise : (windows : Kept) (closing : List Closed) → IsOverSome windows �
 end_rise windows closing over closes = all_rise over.0 windows.length (length over.0) closing (closes over.0 over.1)
 
 -- what is reported of them is what results from the end
-pub end_tells : (cache : Cached) (d : ℕ) (windows : Kept) (ready : Option Ready) (closing : List Closed) (reported : Reported) → ClosesAtEnd windows closing
-    → ReportsWindows (topology_of cache.graph) d ready closing reported → (opening : Topology) (before : List LogEntry) → StandsForEntries (wanted_state cache d windows ready) opening before
-    → EndGives opening (wanted d) windows.length (records_of before) reported.events
-end_tells cache d windows ready closing reported closes tells opening before stands =
-    reported_comes opening d windows.length (records_of before) [] (topology_of cache.graph) stands.network ready stands.book.0 closing
+pub end_tells : (cache : Cached) (wish : Wish) (windows : Kept) (ready : Option Ready) (closing : List Closed) (reported : Reported) → ClosesAtEnd windows closing
+    → ReportsWindows (topology_of cache.graph) wish ready closing reported → (opening : Topology) (before : List LogEntry) → StandsForEntries (wanted_state cache wish windows ready) opening before
+    → EndGives opening (wanted wish) windows.length (records_of before) reported.events
+end_tells cache wish windows ready closing reported closes tells opening before stands =
+    reported_comes opening wish windows.length (records_of before) [] (topology_of cache.graph) stands.network ready stands.book.0 closing
     (subst (λ (rs : List Record). AreClosing rs windows.length (length (records_of before)) closing) (sym (append-nil (records_of before)))
     (closes (records_of before) stands.windows)) reported tells
 
 -- at the beginning no codebook is in use
-no_book : (opening : Topology) (w : ℕ) → IsSome {T = Book} None ↔ HasBook opening w []
+no_book : (opening : Topology) (w : ℕ) → IsSome {T = InUse} None ↔ HasBook opening w []
 no_book opening w = (λ e. absurd (cc), λ has. let within = has.within in absurd (omega arith))
 
-pub opened_stands : (cache : Cached) (d : ℕ) (windows : Kept) → StandsForRecords windows [] → StandsForEntries (wanted_state cache d windows None) (topology_of cache.graph) []
-opened_stands cache d windows stands = record { network = refl; windows = stands; book = (no_book (topology_of cache.graph) windows.length, tt) }
+pub opened_stands : (cache : Cached) (wish : Wish) (windows : Kept) → StandsForRecords windows [] → StandsForEntries (wanted_state cache wish windows None) (topology_of cache.graph) []
+opened_stands cache wish windows stands = record { network = refl; windows = stands; book = (no_book (topology_of cache.graph) windows.length, tt) }
 
-pub opened_settled : (network : Topology) (d : ℕ) (windows : Kept) → IsWanted d → StandsForRecords windows [] → IsSessionSettled network d windows None
-opened_settled network d windows distance stands = record { distance = distance; over = ([], stands); ready_is = tt }
+pub opened_settled : (network : Topology) (wish : Wish) (windows : Kept) → StandsForRecords windows [] → IsSessionSettled network wish windows None
+opened_settled network wish windows stands = record { over = ([], stands); ready_is = tt }
 
 -- what results from a line, whatever it comes to
 abbrev pub LineTells : NumberedLine → State → List Event → Type 0
@@ -235,13 +235,32 @@ if_line_stands line entry comes old new (Err e) stands = tt
 
 -- and of each source, what other sources say leaves it
 abbrev pub LineAlone : NumberedLine → State → List Event → Type 0
-LineAlone line s events = (opening : Topology) (before : List LogEntry) (entry : LogEntry) → IsRegular opening.model → ComesTo line entry
-    → StandsForEntries s opening before → StandsAlone opening s.mode s.windows.length before entry events
+LineAlone line s events = (opening : Topology) (before : List NumberedLine) → IsRegular opening.model → StandsForLines s opening before
+    → StandsAlone opening s.mode s.windows.length before line events
 
-pub line_alone : (line : NumberedLine) (s : State) (events : List Event) → LineTells line s events → LineAlone line s events
-line_alone line s events tells = λ opening before entry regular comes stands.
-    stands_alone opening s.mode s.windows.length before regular entry events (tells opening before entry regular comes stands)
+pub line_alone : (line : NumberedLine) (entry : LogEntry) → ComesTo line entry → (s : State) (events : List Event) → LineTells line s events → LineAlone line s events
+line_alone line entry comes s events tells = λ opening before regular stands.
+    stands_alone opening s.mode s.windows.length before stands.entries stands.come regular line entry comes events
+    (tells opening stands.entries entry regular comes stands.stands)
 
-pub if_line_alone : {E : Type 0} (line : NumberedLine) (s : State) (result : Result (List Event) E) → IfOk result (LineTells line s) → IfOk result (LineAlone line s)
-if_line_alone line s (Ok events) tells = line_alone line s events tells
-if_line_alone line s (Err e) tells = tt
+pub if_line_alone : {E : Type 0} (line : NumberedLine) (entry : LogEntry) → ComesTo line entry → (s : State) (result : Result (List Event) E)
+    → IfOk result (LineTells line s) → IfOk result (LineAlone line s)
+if_line_alone line entry comes s (Ok events) tells = line_alone line entry comes s events tells
+if_line_alone line entry comes s (Err e) tells = tt
+
+-- the lines that are stood for, with that one
+abbrev pub LinesStand : NumberedLine → State → State → Type 0
+LinesStand line old new = (opening : Topology) (before : List NumberedLine) → IsRegular opening.model → StandsForLines old opening before
+    → StandsForLines new opening (before ++ line ∷ [])
+
+pub lines_stand : (line : NumberedLine) (entry : LogEntry) → ComesTo line entry → (old new : State) → EntryStands old new entry → LinesStand line old new
+lines_stand line entry comes old new goes = λ opening before regular has. record {
+  entries = has.entries ++ entry ∷ [];
+  come = zip_push ComesTo before has.entries line entry has.come comes;
+  stands = goes opening has.entries regular has.stands;
+}
+
+pub if_lines_stand : {E : Type 0} (line : NumberedLine) (entry : LogEntry) → ComesTo line entry → (old new : State) (result : Result (List Event) E)
+    → OnOk result (EntryStands old new entry) → OnOk result (LinesStand line old new)
+if_lines_stand line entry comes old new (Ok events) stands = lines_stand line entry comes old new stands
+if_lines_stand line entry comes old new (Err e) stands = tt

@@ -2,7 +2,7 @@
 use Rattle.std.proofs.Common.{◌≡◌, ◌≢◌, ◌↔◌, ◌⊎◌, ◌++◌, ℕ, List, [], ◌∷◌, length, Bool, true, false, Option, Some, None, IsSome, refl, sym, subst, inl, inr}
 use Rattle.std.specs.Prelude.{option_map, IfSome}
 use Rattle.cb_model.proofs.Rising.{nothing_in_empty, contains_head}
-use Rattle.cb_coding.specs.declared.book.Book.{Book}
+use Rattle.cb_model.specs.declared.wish.Wish.{Wish}
 use Rattle.cb_network.specs.Topology.{Topology}
 use Rattle.cb_log.specs.declared.closed.Closed.{Closed}
 use Rattle.cb_log.specs.declared.event.Event.{Event}
@@ -14,23 +14,24 @@ use Rattle.cb_log.specs.Network.{IsNow, IsAcceptedAt}
 use Rattle.cb_log.proofs.BookSteps.{book_steps}
 use Rattle.cb_session.specs.declared.basis.Ready.{Ready}
 use Rattle.cb_session.specs.declared.reported.Reported.{Reported}
+use Rattle.cb_session.specs.InUse.{InUse, in_use_of}
 use Rattle.cb_session.specs.Ready.{IsReady}
 use Rattle.cb_session.specs.Reported.{TellsMade, ReportsWindows, kept_ready}
 
--- the codebook of what is ready
-abbrev pub book_of : Option Ready → Option Book
-book_of ready = option_map (λ (r : Ready). r.book) ready
+-- what is in use by what is ready
+abbrev pub book_of : Option Ready → Option InUse
+book_of ready = option_map (λ (r : Ready). in_use_of r.book) ready
 
-none_is_no_some : IsSome {T = Book} None → ⊥
+none_is_no_some : IsSome {T = InUse} None → ⊥
 none_is_no_some e = cc
 
-module _ (t : Topology) (d w : ℕ) (records : List Record) where
+module _ (t : Topology) (wish : Wish) (w : ℕ) (records : List Record) where
   -- something is ready exactly where a codebook is in use
   abbrev pub KeepsReady : Option Ready → List Record → Type 0
   KeepsReady ready rs = IsSome (book_of ready) ↔ HasBook t w rs
 
   diagnosed : (network : Topology) → IsNow t records network → (ready : Option Ready) → KeepsReady ready records
-      → (closing : List Closed) (reported : Reported) → ReportsWindows network d ready closing reported → Diagnoses t (wanted d) w records closing reported.events
+      → (closing : List Closed) (reported : Reported) → ReportsWindows network wish ready closing reported → Diagnoses t (wanted wish) w records closing reported.events
   diagnosed network now ready keeps [] reported tells = tells.0
   diagnosed network now (Some ready) keeps (c ∷ closing) reported tells = record {
     network = network;
@@ -55,8 +56,8 @@ module _ (t : Topology) (d w : ℕ) (records : List Record) where
 
   -- what is reported is what results from the windows
   pub reported_comes : (next : List Record) (network : Topology) → IsNow t records network → (ready : Option Ready) → KeepsReady ready records
-      → (closing : List Closed) → AreClosing (records ++ next) w (length records) closing → (reported : Reported) → ReportsWindows network d ready closing reported
-      → ClosingGives t (wanted d) w records next reported.events
+      → (closing : List Closed) → AreClosing (records ++ next) w (length records) closing → (reported : Reported) → ReportsWindows network wish ready closing reported
+      → ClosingGives t (wanted wish) w records next reported.events
   reported_comes next network now ready keeps closing closes reported tells = record {
     closing = closing;
     closes = closes;
@@ -70,7 +71,7 @@ module _ (t : Topology) (d w : ℕ) (records : List Record) where
 
     -- after what is reported a codebook is ready exactly where one was in use, or the record closes a window
     ready_after : (network : Topology) (ready : Option Ready) → KeepsReady ready records → (closing : List Closed)
-        → AreClosing (records ++ r ∷ []) w (length records) closing → (reported : Reported) → ReportsWindows network d ready closing reported
+        → AreClosing (records ++ r ∷ []) w (length records) closing → (reported : Reported) → ReportsWindows network wish ready closing reported
         → IsSome (book_of (kept_ready false ready reported.made)) ↔ (HasBook t w records ⊎ ClosesSome)
     ready_after network (Some ready) keeps [] closes reported tells = (
       λ e. inl (keeps.0 refl),
@@ -94,7 +95,7 @@ module _ (t : Topology) (d w : ℕ) (records : List Record) where
 
     -- what stays ready is so exactly where a codebook is in use after the record
     pub keeps_after : (network : Topology) (ready : Option Ready) → KeepsReady ready records → (closing : List Closed)
-        → AreClosing (records ++ r ∷ []) w (length records) closing → (reported : Reported) → ReportsWindows network d ready closing reported → (changed : Bool)
+        → AreClosing (records ++ r ∷ []) w (length records) closing → (reported : Reported) → ReportsWindows network wish ready closing reported → (changed : Bool)
         → (changed ≡ true → IsAcceptedAt t (records ++ r ∷ []) (length records))
         → (changed ≡ false → ¬ IsAcceptedAt t (records ++ r ∷ []) (length records))
         → KeepsReady (kept_ready changed ready reported.made) (records ++ r ∷ [])
@@ -110,24 +111,24 @@ module _ (t : Topology) (d w : ℕ) (records : List Record) where
         )
 
 -- what stays ready is ready for the topology
-pub ready_stays : (network new : Topology) (d : ℕ) (ready : Option Ready) → IfSome ready (IsReady network (wanted d)) → (closing : List Closed) (reported : Reported)
-    → ReportsWindows network d ready closing reported → (changed : Bool) → (changed ≡ false → new ≡ network)
-    → IfSome (kept_ready changed ready reported.made) (IsReady new (wanted d))
-ready_stays network new d ready is closing reported tells true same = tt
-ready_stays network new d ready is closing reported tells false same =
-    subst (λ (u : Topology). IfSome (kept_ready false ready reported.made) (IsReady u (wanted d))) (sym (same refl)) (here ready is closing tells)
+pub ready_stays : (network new : Topology) (wish : Wish) (ready : Option Ready) → IfSome ready (IsReady network (wanted wish)) → (closing : List Closed) (reported : Reported)
+    → ReportsWindows network wish ready closing reported → (changed : Bool) → (changed ≡ false → new ≡ network)
+    → IfSome (kept_ready changed ready reported.made) (IsReady new (wanted wish))
+ready_stays network new wish ready is closing reported tells true same = tt
+ready_stays network new wish ready is closing reported tells false same =
+    subst (λ (u : Topology). IfSome (kept_ready false ready reported.made) (IsReady u (wanted wish))) (sym (same refl)) (here ready is closing tells)
   where
-    here : (ready : Option Ready) → IfSome ready (IsReady network (wanted d)) → (closing : List Closed) → ReportsWindows network d ready closing reported
-        → IfSome (kept_ready false ready reported.made) (IsReady network (wanted d))
+    here : (ready : Option Ready) → IfSome ready (IsReady network (wanted wish)) → (closing : List Closed) → ReportsWindows network wish ready closing reported
+        → IfSome (kept_ready false ready reported.made) (IsReady network (wanted wish))
     here (Some ready) is [] tells = rw tells.1 is
     here (Some ready) is (c ∷ closing) tells = rw tells.1 is
     here None is [] tells = rw tells.1 tt
     here None is (c ∷ closing) tells = rw tells.1 tells.2
 
 -- by a codebook that is made
-pub tells_made : (network : Topology) (d : ℕ) (ready : Option Ready) → ready ≡ None → (closing : List Closed) → length closing ≢ 0 → (made : Ready)
-    → IsReady network (wanted d) made → (events : List Event) → TellsMade network d made closing events
-    → ReportsWindows network d ready closing (record { events = events; made = Some made })
-tells_made network d ready none [] some made is events tells = absurd (some refl)
-tells_made network d None none (c ∷ closing) some made is events tells = (made, refl, is, tells)
-tells_made network d (Some ready) none (c ∷ closing) some made is events tells = absurd (cc)
+pub tells_made : (network : Topology) (wish : Wish) (ready : Option Ready) → ready ≡ None → (closing : List Closed) → length closing ≢ 0 → (made : Ready)
+    → IsReady network (wanted wish) made → (events : List Event) → TellsMade network wish made closing events
+    → ReportsWindows network wish ready closing (record { events = events; made = Some made })
+tells_made network wish ready none [] some made is events tells = absurd (some refl)
+tells_made network wish None none (c ∷ closing) some made is events tells = (made, refl, is, tells)
+tells_made network wish (Some ready) none (c ∷ closing) some made is events tells = absurd (cc)

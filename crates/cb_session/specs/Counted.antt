@@ -11,7 +11,7 @@ use Rattle.cb_log.specs.Network.{edits_of}
 abbrev pub IsEntryCost : Topology → LogEntry → ℕ → Type 0
 IsEntryCost network entry cost = IsCostInTurn network (edits_of (records_of (entry ∷ []))) cost
 
--- for a wanted distance, no more steps are counted than the entry costs; by a fixed codebook no edit is made, and none is counted
+-- for a wish, no more steps are counted than the entry costs; by a fixed codebook no edit is made, and none is counted
 abbrev pub CountsEntry : Mode → Topology → LogEntry → ℕ → ℕ → Type 0
-CountsEntry (wanted d) network entry old new = CountsAtMost (IsEntryCost network entry) old new
-CountsEntry (fixed book) network entry old new = new ≡ old
+CountsEntry (wanted wish) network entry old new = CountsAtMost (IsEntryCost network entry) old new
+CountsEntry (fixed given met) network entry old new = new ≡ old

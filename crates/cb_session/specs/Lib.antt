@@ -1,3 +1,5 @@
+pub mod Extremes
+pub mod InUse
 pub mod State
 pub mod Encoding
 pub mod Taken

@@ -1,7 +1,7 @@
 -- What windows are diagnosed by, as a session holds it.
 use Rattle.std.specs.Prelude.{◌≡◌, ◌<◌, ◌≤◌, ◌+◌, ◌^◌, ℕ, List, length}
 use Rattle.cb_model.specs.declared.node.GroupName.{GroupName}
-use Rattle.cb_coding.specs.declared.book.Book.{Book}
+use Rattle.cb_model.specs.declared.wish.Wish.{Wish}
 use Rattle.cb_coding.specs.declared.book.Pair.{Pair}
 use Rattle.cb_coding.specs.declared.group.Group.{Group}
 use Rattle.cb_coding.specs.Groups.{codes_of}
@@ -14,29 +14,32 @@ use Rattle.cb_log.specs.Basis.{Mode, wanted, IsUsed, Basis}
 use Rattle.cb_network.specs.Sound.{problem_limit, symptom_limit}
 use Rattle.cb_network.specs.Topology.{Topology}
 use Rattle.cb_session.specs.declared.basis.Ready.{Ready}
+use Rattle.cb_session.specs.InUse.{in_use_of, HasRadiiOf}
 
 -- the matrix of the topology, and the codebook in use for it with its decoder, within their limits
 pub record IsReady (network : Topology) (mode : Mode) (ready : Ready) : Type 0 where
   pub matrix : IsMatrix network ready.matrix.columns ready.matrix.groups
-  pub used : IsUsed mode (length ready.matrix.columns) (codes_of ready.matrix.groups) ready.book
-  pub decoder : IsDecoder ready.book.columns (codes_of ready.matrix.groups) ready.decoder
+  pub in_use : IsUsed mode (length ready.matrix.columns) (codes_of ready.matrix.groups) (in_use_of ready.book).kept (in_use_of ready.book).used
+  pub radii : HasRadiiOf (length ready.matrix.columns) (codes_of ready.matrix.groups) ready.book
+  pub decoder : IsDecoder (in_use_of ready.book).kept (codes_of ready.matrix.groups) ready.decoder
   pub few_columns : length ready.matrix.columns ≤ symptom_limit
   pub few_groups : length ready.matrix.groups ≤ problem_limit + 1
-  pub few_kept : length ready.book.columns < 2 ^ 32
+  pub few_kept : length (in_use_of ready.book).kept < 2 ^ 32
 
--- it is ready for some topology, by the codebook in use for a wanted distance
-abbrev pub IsReadyFor : ℕ → Ready → Type 0
-IsReadyFor d ready = (network : Topology) × IsReady network (wanted d) ready
+-- it is ready for some topology, by the codebook in use for a wish
+abbrev pub IsReadyFor : Wish → Ready → Type 0
+IsReadyFor wish ready = (network : Topology) × IsReady network (wanted wish) ready
 
 -- it is ready for some topology
 abbrev pub IsSomewhereReady : Ready → Type 0
 IsSomewhereReady ready = (network : Topology) × (mode : Mode) × IsReady network mode ready
 
--- the columns and groups of the topology are those of its matrix, and the codebook in use is its book
+-- the columns and groups of the topology are those of its matrix, and its codebook is in use
 pub record HasBasis {network : Topology} {mode : Mode} (basis : Basis network mode) (ready : Ready) : Type 0 where
   pub columns : basis.columns ≡ ready.matrix.columns
   pub groups : basis.groups ≡ ready.matrix.groups
-  pub book : basis.book ≡ ready.book
+  pub kept : basis.kept ≡ (in_use_of ready.book).kept
+  pub used : basis.used ≡ (in_use_of ready.book).used
 
 -- it tells these two groups by their names, with their distance
 pub record NamesGroupPair (groups : List Group) (wanted : ℕ) (pair : Pair) (event : Event) : Type 0 where

@@ -1,6 +1,7 @@
 -- What is reported of windows that close, and by which codebook.
-use Rattle.std.specs.Prelude.{◌≡◌, ◌++◌, ℕ, List, [], ◌∷◌, Bool, true, false, Option, None, Some}
+use Rattle.std.specs.Prelude.{◌≡◌, ◌++◌, List, [], ◌∷◌, Bool, true, false, Option, None, Some}
 use Rattle.std.specs.List.{AllZip}
+use Rattle.cb_model.specs.declared.wish.Wish.{Wish}
 use Rattle.cb_network.specs.Topology.{Topology}
 use Rattle.cb_log.specs.declared.closed.Closed.{Closed}
 use Rattle.cb_log.specs.declared.event.Event.{Event}
@@ -16,21 +17,21 @@ pub record TellsInUse (network : Topology) (mode : Mode) (ready : Ready) (closin
   pub each : AllZip (IsDiagnosis basis) closing events
 
 -- by a codebook that is made for them, what is reported of it, and then the diagnoses
-pub record TellsMade (network : Topology) (d : ℕ) (ready : Ready) (closing : List Closed) (events : List Event) : Type 0 where
-  pub basis : Basis network (wanted d)
+pub record TellsMade (network : Topology) (wish : Wish) (ready : Ready) (closing : List Closed) (events : List Event) : Type 0 where
+  pub basis : Basis network (wanted wish)
   pub has : HasBasis basis ready
   pub announced : List Event
-  pub is_announced : IsAnnounced basis d announced
+  pub is_announced : IsAnnounced basis wish announced
   pub diagnoses : List Event
   pub each : AllZip (IsDiagnosis basis) closing diagnoses
   pub events_are : events ≡ announced ++ diagnoses
 
 -- what is reported of windows that close, by what is ready; where nothing is, by what is made ready for the topology
-abbrev pub ReportsWindows : Topology → ℕ → Option Ready → List Closed → Reported → Type 0
-ReportsWindows network d ready [] reported = (reported.events ≡ []) × (reported.made ≡ None)
-ReportsWindows network d (Some ready) (c ∷ closing) reported = TellsInUse network (wanted d) ready (c ∷ closing) reported.events × (reported.made ≡ None)
-ReportsWindows network d None (c ∷ closing) reported =
-    (made : Ready) × (reported.made ≡ Some made) × IsReady network (wanted d) made × TellsMade network d made (c ∷ closing) reported.events
+abbrev pub ReportsWindows : Topology → Wish → Option Ready → List Closed → Reported → Type 0
+ReportsWindows network wish ready [] reported = (reported.events ≡ []) × (reported.made ≡ None)
+ReportsWindows network wish (Some ready) (c ∷ closing) reported = TellsInUse network (wanted wish) ready (c ∷ closing) reported.events × (reported.made ≡ None)
+ReportsWindows network wish None (c ∷ closing) reported =
+    (made : Ready) × (reported.made ≡ Some made) × IsReady network (wanted wish) made × TellsMade network wish made (c ∷ closing) reported.events
 
 -- what stays ready: nothing once the topology has changed, else what was made, and else what was there
 abbrev pub kept_ready : Bool → Option Ready → Option Ready → Option Ready

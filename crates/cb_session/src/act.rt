@@ -14,7 +14,7 @@ use cb_cache::Cache;
 use cb_log::{Body, Event, Record, RefusedWhy};
 use cb_model::List;
 use cb_steps::Steps;
-use cb_topo::{Edit, EditFault};
+use cb_topo::Edit;
 use cb_window::Windows;
 use std::alloc::{AllocError, Global};
 use std::sync::ledger::Ledger;
@@ -77,16 +77,17 @@ fn change<L: Ledger>(
     ensures steps { OnErr result (steps.new ≡ steps.old) }
     ensures cost { OnOk result (CountsAtMost (IsCostInTurn (topology_of cache.old.graph) (edit.now ∷ [])) steps.old steps.new) }
 {
-    if let Err(why) = cache.graph().topology().allows(edit) {
-        events.push(Event::Refused {
-            line: number,
-            why: RefusedWhy::Edit(why),
-        })?;
-        return Ok(false);
-    }
-    match cache.apply(alloc, edit, steps) {
-        Ok(()) => Ok(true),
-        Err(EditFault::NoMemory) => Err(AllocError),
-        Err(EditFault::Refused(_)) => unreachable!(),
+    match cache.graph().topology().decide(edit) {
+        Ok(accepted) => {
+            cache.apply_accepted(alloc, &accepted, steps)?;
+            Ok(true)
+        }
+        Err(why) => {
+            events.push(Event::Refused {
+                line: number,
+                why: RefusedWhy::Edit(why),
+            })?;
+            Ok(false)
+        }
     }
 }

@@ -1,49 +1,53 @@
 //! What windows are diagnosed by, and their diagnoses.
-ghost use Rattle.std.specs.Prelude.{◌≡◌, ◌≤◌, ◌<◌, ◌^◌, ◌++◌, List as Items, length, IfOk, OnOk, IfSome, IfNone};
+ghost use Rattle.std.specs.Prelude.{◌≡◌, ◌≤◌, ◌<◌, ◌^◌, ◌++◌, List as Items, [], length, IfOk, OnOk, IfSome, IfNone};
 ghost use Rattle.std.specs.List.{All, AllZip};
-ghost use Rattle.cb_cert.specs.Format.{IsWanted};
-ghost use Rattle.cb_coding.specs.Answers.{radius as radius_of};
-ghost use Rattle.cb_coding.specs.Books.{IsInUse};
 ghost use Rattle.cb_coding.specs.Distance.{all_columns};
 ghost use Rattle.cb_coding.specs.Groups.{codes_of};
 ghost use Rattle.cb_coding.specs.Pairs.{Good, IsFirstClose};
+ghost use Rattle.cb_coding.specs.declared.group.Group.{Group};
 ghost use Rattle.cb_decode.specs.Decoder.{IsDecoder};
 ghost use Rattle.cb_decode.specs.Names.{HasName};
-ghost use Rattle.cb_log.specs.Basis.{Mode, wanted as for_wanted, fixed as by_fixed, Basis, IsDiagnosis, IsAnnounced, book_made as book_made_by};
+ghost use Rattle.cb_finding.specs.Finding.{IsFindingFor};
+ghost use Rattle.cb_finding.specs.Matrix.{IsMatrix};
+ghost use Rattle.cb_log.specs.Basis.{Mode, wanted as for_wanted, fixed as by_fixed, Basis, IsDiagnosis, IsAnnounced, IsMadeEvent, AreWarnings};
 ghost use Rattle.cb_log.specs.declared.event.Event.{Event as EventOf};
+ghost use Rattle.cb_model.specs.declared.wish.Wish.TheVariants.{Plain as plain};
+ghost use Rattle.cb_model.specs.declared.node.NodeName.{NodeName as NodeOf};
 ghost use Rattle.cb_model.specs.NodeOrder.{node_cmp};
 ghost use Rattle.cb_model.specs.Order.{Rises};
 ghost use Rattle.cb_network.specs.Topology.{Topology};
+ghost use Rattle.cb_session.specs.InUse.{IsInUseFor, HasRadiiOf, in_use_of};
 ghost use Rattle.cb_session.specs.Ready.{IsReady, IsReadyFor, IsSomewhereReady, HasBasis, NamesGroupPair};
 ghost use Rattle.cb_topo.specs.Numbered.{topology_of};
 
+use crate::book::{BookInUse, capped_event, plain_event};
 use cb_cache::Cache;
 use cb_codes::{Codes, Groups};
-use cb_coding::{Book, Pair};
-use cb_decode::{Decoder, find_by, group_name};
+use cb_coding::Pair;
+use cb_decode::{Decoder, find_by, find_cap_by, group_name};
+use cb_finding::Finding;
 use cb_log::{Closed, Event};
 use cb_matrix::Matrix;
-use cb_model::{List, Name};
-use cb_reduce::{book_in_use, first_close};
+use cb_model::{List, Name, NodeName, Wish};
+use cb_reduce::first_close;
 use std::alloc::{AllocError, Global};
 
 /// What windows are diagnosed by: the matrix of a topology, the codebook in use for it, and its decoder.
 #[derive(Drop)]
 pub(crate) struct Ready {
     matrix: Matrix,
-    book: Book,
+    book: BookInUse,
     decoder: Decoder,
 }
 
 impl Ready {
-    /// Of the topology of a cache, for a wanted distance: at that distance where all groups are so far apart, and else at the least
-    /// distance of two groups.
-    pub fn of(alloc: Global, cache: &Cache, wanted: u32) -> Result<Ready, AllocError>
-        requires { IsWanted wanted }
-        ensures { IfOk result (IsReady (topology_of cache.now.graph) (for_wanted wanted)) }
+    /// Of the topology of a cache, for a wish: for a cap the codebook for it; for a distance the one at it where all groups are so far
+    /// apart, and else at the least distance of two groups.
+    pub fn of(alloc: Global, cache: &Cache, wish: Wish) -> Result<Ready, AllocError>
+        ensures { IfOk result (IsReady (topology_of cache.now.graph) (for_wanted wish)) }
     {
         let matrix = Matrix::of(alloc, cache)?;
-        match book_and_decoder(alloc, matrix.codes(), wanted) {
+        match book_and_decoder(alloc, matrix.codes(), wish) {
             Ok((book, decoder)) => Ok(Ready {
                 matrix,
                 book,
@@ -57,13 +61,15 @@ impl Ready {
     }
 
     /// Of the topology of a cache, by a codebook that is given.
-    pub fn by(alloc: Global, cache: &Cache, book: Book) -> Result<Ready, AllocError>
-        requires { length book.columns < 2 ^ 32 }
-        ensures ready { IfOk result (IsReady (topology_of cache.now.graph) (by_fixed book)) }
+    pub fn by(alloc: Global, cache: &Cache, book: BookInUse) -> Result<Ready, AllocError>
+        requires few { length (in_use_of book).kept < 2 ^ 32 }
+        requires radii { (columns : Items NodeOf) (groups : Items Group) → IsMatrix (topology_of cache.now.graph) columns groups
+            → HasRadiiOf (length columns) (codes_of groups) book }
+        ensures ready { IfOk result (IsReady (topology_of cache.now.graph) (by_fixed (in_use_of book).kept (in_use_of book).used)) }
         ensures book { IfOk result (λ ready. ready.book ≡ book) }
     {
         let matrix = Matrix::of(alloc, cache)?;
-        let decoder = Decoder::of(alloc, matrix.codes(), &book)?;
+        let decoder = Decoder::of(alloc, matrix.codes(), book.columns())?;
         Ok(Ready {
             matrix,
             book,
@@ -71,43 +77,64 @@ impl Ready {
         })
     }
 
-    /// The events that tell of the codebook, before the first diagnosis by it.
-    pub fn announce(&self, alloc: Global, wanted: u32) -> Result<List<Event>, AllocError>
-        requires { IsReadyFor wanted self.now }
+    /// The events that report the codebook, before the first diagnosis by it.
+    pub fn announce(&self, alloc: Global, wish: Wish) -> Result<List<Event>, AllocError>
+        requires { IsReadyFor wish self.now }
         ensures { IfOk result (λ events. (network : Topology) (mode : Mode) (basis : Basis network mode) → HasBasis basis self.now
-            → IsAnnounced basis wanted events) }
+            → IsAnnounced basis wish events) }
+    {
+        let mut events = self.warnings(alloc, wish)?;
+        events.push(self.book_event())?;
+        Ok(events)
+    }
+
+    // What is reported before the codebook: where a distance is wanted, that two groups are closer.
+    fn warnings(&self, alloc: Global, wish: Wish) -> Result<List<Event>, AllocError>
+        requires { IsReadyFor wish self.now }
+        ensures { IfOk result (λ events. (network : Topology) (mode : Mode) (basis : Basis network mode) → HasBasis basis self.now
+            → AreWarnings basis wish events) }
+    {
+        match wish {
+            Wish::Plain(wanted) => self.thin_warning(alloc, wanted),
+            Wish::Cap(_) => Ok(List::new(alloc)),
+        }
+    }
+
+    // That the first two groups are closer than wanted, if any are.
+    fn thin_warning(&self, alloc: Global, wanted: u32) -> Result<List<Event>, AllocError>
+        requires { IsReadyFor (plain wanted) self.now }
+        ensures { IfOk result (λ events. (network : Topology) (mode : Mode) (basis : Basis network mode) → HasBasis basis self.now
+            → AreWarnings basis (plain wanted) events) }
     {
         let mut events = List::new(alloc);
         if let Some(pair) = self.first_thin(wanted) {
             events.push(thin(alloc, self.matrix.coded_groups(), pair, wanted)?)?;
         }
-        events.push(self.book_made())?;
         Ok(events)
     }
 
     // The first two groups that are closer than wanted. None are where the codebook keeps that distance.
     fn first_thin(&self, wanted: u32) -> Option<Pair>
-        requires { IsReadyFor wanted self.now }
+        requires { IsReadyFor (plain wanted) self.now }
         ensures pair { IfSome result (IsFirstClose (all_columns (length self.now.matrix.columns)) (codes_of self.now.matrix.groups) wanted) }
         ensures none { IfNone result (Good (codes_of self.now.matrix.groups) (all_columns (length self.now.matrix.columns)) wanted) }
     {
-        if wanted <= self.book.distance {
+        if self.book.keeps(wanted) {
             return None;
         }
         first_close(self.matrix.codes(), wanted)
     }
 
     // The numbers of the codebook.
-    fn book_made(&self) -> Event
+    fn book_event(&self) -> Event
         requires { IsSomewhereReady self.now }
-        ensures { (network : Topology) (mode : Mode) (basis : Basis network mode) → HasBasis basis self.now → result ≡ book_made_by basis }
+        ensures { (network : Topology) (mode : Mode) (basis : Basis network mode) → HasBasis basis self.now → IsMadeEvent basis result }
     {
-        Event::BookMade {
-            columns: self.book.columns.len() as u32,
-            of: self.matrix.columns().len() as u32,
-            distance: self.book.distance,
-            radius: radius(self.book.distance),
-            groups: self.matrix.groups().len() as u32,
+        let of = self.matrix.columns().len() as u32;
+        let groups = self.matrix.groups().len() as u32;
+        match &self.book {
+            BookInUse::Plain(book) => plain_event(book, of, groups),
+            BookInUse::Capped(book) => capped_event(book, of, groups),
         }
     }
 
@@ -118,20 +145,29 @@ impl Ready {
         ensures { IfOk result (λ event. (network : Topology) (mode : Mode) (basis : Basis network mode) → HasBasis basis self.now
             → IsDiagnosis basis closed.now event) }
     {
-        let finding = find_by(
-            alloc,
-            self.matrix.columns(),
-            self.matrix.coded_groups(),
-            &self.book,
-            &self.decoder,
-            &closed.nodes,
-        )?;
+        let finding = self.finding(alloc, &closed.nodes)?;
         Ok(Event::Diagnosis {
             from: Name::of(alloc, closed.from.bytes())?,
             opened: closed.opened,
             closed: closed.closed,
             finding,
         })
+    }
+
+    // The groups nearest to what is raised, over the columns of the codebook.
+    fn finding(&self, alloc: Global, raised: &List<NodeName>) -> Result<Finding, AllocError>
+        requires ready { IsSomewhereReady self.now }
+        requires rise { Rises node_cmp raised.now }
+        ensures { IfOk result (IsFindingFor self.now.matrix.columns self.now.matrix.groups (in_use_of self.now.book).kept (in_use_of self.now.book).used raised.now) }
+    {
+        let columns = self.matrix.columns();
+        let groups = self.matrix.coded_groups();
+        match &self.book {
+            BookInUse::Plain(book) => find_by(alloc, columns, groups, book, &self.decoder, raised),
+            BookInUse::Capped(book) => {
+                find_cap_by(alloc, columns, groups, book, &self.decoder, raised)
+            }
+        }
     }
 }
 
@@ -154,20 +190,20 @@ pub(crate) fn diagnose(
     Ok(())
 }
 
-// The codebook in use for a wanted distance, and its decoder.
+// The codebook in use for a wish, and its decoder.
 fn book_and_decoder(
     alloc: Global,
     codes: &Codes,
-    wanted: u32,
-) -> Result<(Book, Decoder), AllocError>
+    wish: Wish,
+) -> Result<(BookInUse, Decoder), AllocError>
     requires some { 0 < length codes.now.rows }
     requires places_fit { length codes.now.rows ≤ 2 ^ 16 }
     requires columns_fit { codes.now.width ≤ 2 ^ 16 }
-    ensures book { IfOk result (λ made. IsInUse codes.now.width codes.now.rows wanted made.0) }
-    ensures decoder { IfOk result (λ made. IsDecoder made.0.columns codes.now.rows made.1) }
+    ensures book { IfOk result (λ made. IsInUseFor codes.now.width codes.now.rows wish made.0) }
+    ensures decoder { IfOk result (λ made. IsDecoder (in_use_of made.0).kept codes.now.rows made.1) }
 {
-    let book = book_in_use(alloc, codes, wanted)?;
-    match Decoder::of(alloc, codes, &book) {
+    let book = BookInUse::of(alloc, codes, wish)?;
+    match Decoder::of(alloc, codes, book.columns()) {
         Ok(decoder) => Ok((book, decoder)),
         Err(none) => {
             drop(book);
@@ -190,11 +226,4 @@ fn thin(alloc: Global, groups: &Groups, pair: Pair, wanted: u32) -> Result<Event
         second,
         distance: pair.distance,
     })
-}
-
-// How many lost or spurious symptoms codes that are so far apart put up with.
-fn radius(distance: u32) -> u32
-    ensures { result ≡ radius_of distance }
-{
-    distance.saturating_sub(1) / 2
 }

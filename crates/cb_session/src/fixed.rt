@@ -1,12 +1,11 @@
 //! A record in a log that is correlated by one codebook.
 ghost use Rattle.std.specs.Prelude.{◌≡◌, ◌++◌, List as Items, IfOk, OnOk, OnErr};
-ghost use Rattle.cb_log.specs.Basis.{fixed as by_fixed};
 ghost use Rattle.cb_log.specs.Entries.{said};
 ghost use Rattle.cb_log.specs.declared.event.Event.{Event as EventOf};
 ghost use Rattle.cb_cache.specs.Cached.{Cached};
 ghost use Rattle.cb_topo.specs.Numbered.{topology_of};
 ghost use Rattle.cb_session.specs.Acts.{GoesOn, RefusesEdit};
-ghost use Rattle.cb_session.specs.Course.{fixed_state};
+ghost use Rattle.cb_session.specs.Course.{fixed_state, mode_by};
 ghost use Rattle.cb_session.specs.Ready.{IsReady, IsSomewhereReady};
 ghost use Rattle.cb_session.specs.Settled.{IsOverSome};
 ghost use Rattle.cb_session.specs.Steps.{EntryTells, EntryStands};
@@ -29,7 +28,7 @@ pub(crate) fn go_on_fixed(
 ) -> Result<List<Event>, AllocError>
     requires ready { IsSomewhereReady ready.now }
     requires over { IsOverSome windows.old }
-    ensures gives { IfOk result (λ events. (cache : Cached) → IsReady (topology_of cache.graph) (by_fixed ready.now.book) ready.now
+    ensures gives { IfOk result (λ events. (cache : Cached) → IsReady (topology_of cache.graph) (mode_by ready.now) ready.now
         → EntryTells (fixed_state cache windows.old ready.now) (said number next.now) events) }
     ensures stands { OnOk result ((cache : Cached)
         → EntryStands (fixed_state cache windows.old ready.now) (fixed_state cache windows.new ready.now) (said number next.now)) }

@@ -3,8 +3,10 @@
 
 mod act;
 mod basis;
+mod book;
 mod course;
 mod entry;
+mod extremes;
 mod fixed;
 mod line;
 mod reported;

@@ -1,7 +1,6 @@
 //! What is reported of windows that close.
 ghost use Rattle.std.specs.Prelude.{◌≡◌, IfOk, IfSome};
 ghost use Rattle.std.specs.List.{All};
-ghost use Rattle.cb_cert.specs.Format.{IsWanted};
 ghost use Rattle.cb_log.specs.Basis.{Mode, wanted as for_wanted};
 ghost use Rattle.cb_model.specs.NodeOrder.{node_cmp};
 ghost use Rattle.cb_model.specs.Order.{Rises};
@@ -13,7 +12,7 @@ ghost use Rattle.cb_session.specs.Reported.{TellsInUse, TellsMade, ReportsWindow
 use crate::basis::{Ready, diagnose};
 use cb_cache::Cache;
 use cb_log::{Closed, Event};
-use cb_model::List;
+use cb_model::{List, Wish};
 use std::alloc::{AllocError, Global};
 
 /// The events that windows bring as they close, and what was made ready for them, if nothing was ready.
@@ -28,13 +27,12 @@ pub(crate) fn closing_report(
     alloc: Global,
     cache: &Cache,
     ready: &Option<Ready>,
-    wanted: u32,
+    wish: Wish,
     closing: &List<Closed>,
 ) -> Result<Reported, AllocError>
-    requires wanted { IsWanted wanted }
-    requires ready { IfSome ready.now (IsReady (topology_of cache.now.graph) (for_wanted wanted)) }
+    requires ready { IfSome ready.now (IsReady (topology_of cache.now.graph) (for_wanted wish)) }
     requires rise { All (λ c. Rises node_cmp c.nodes) closing.now }
-    ensures { IfOk result (ReportsWindows (topology_of cache.now.graph) wanted ready.now closing.now) }
+    ensures { IfOk result (ReportsWindows (topology_of cache.now.graph) wish ready.now closing.now) }
 {
     if closing.len() == 0 {
         return Ok(Reported {
@@ -48,8 +46,8 @@ pub(crate) fn closing_report(
             made: None,
         }),
         None => {
-            let made = Ready::of(alloc, cache, wanted)?;
-            let events = reported_made(alloc, &made, wanted, closing)?;
+            let made = Ready::of(alloc, cache, wish)?;
+            let events = reported_made(alloc, &made, wish, closing)?;
             Ok(Reported {
                 events,
                 made: Some(made),
@@ -78,15 +76,15 @@ pub(crate) fn reported_in_use(
 fn reported_made(
     alloc: Global,
     ready: &Ready,
-    wanted: u32,
+    wish: Wish,
     closing: &List<Closed>,
 ) -> Result<List<Event>, AllocError>
-    requires ready { IsReadyFor wanted ready.now }
+    requires ready { IsReadyFor wish ready.now }
     requires rise { All (λ c. Rises node_cmp c.nodes) closing.now }
-    ensures { IfOk result (λ events. (network : Topology) → IsReady network (for_wanted wanted) ready.now
-        → TellsMade network wanted ready.now closing.now events) }
+    ensures { IfOk result (λ events. (network : Topology) → IsReady network (for_wanted wish) ready.now
+        → TellsMade network wish ready.now closing.now events) }
 {
-    let mut events = ready.announce(alloc, wanted)?;
+    let mut events = ready.announce(alloc, wish)?;
     diagnose(alloc, ready, closing, &mut events)?;
     Ok(events)
 }

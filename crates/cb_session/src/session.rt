@@ -1,9 +1,15 @@
 //! A session.
-ghost use Rattle.std.specs.Prelude.{◌≡◌, ◌<◌, ◌≤◌, ◌++◌, ◌^◌, List as Items, [], ◌∷◌, length as length_of, IfOk, IsOk, OnOk, OnErr};
+ghost use Rattle.std.specs.Prelude.{◌≡◌, ◌<◌, ◌≤◌, ◌++◌, ◌^◌, ℕ, List as Items, [], ◌∷◌, length as length_of, IfOk, IsOk, OnOk, OnErr};
 ghost use Rattle.std.specs.List.{All};
-ghost use Rattle.cb_alarm.specs.Lines.{ComesTo};
+ghost use Rattle.cb_alarm.specs.Lines.{NumberedLine, ComesTo};
 ghost use Rattle.cb_cert.specs.Format.{IsWanted};
-ghost use Rattle.cb_coding.specs.declared.book.Book.{Book as BookOf};
+ghost use Rattle.cb_coding.specs.Groups.{codes_of};
+ghost use Rattle.cb_coding.specs.Radii.{AreRadii};
+ghost use Rattle.cb_coding.specs.declared.group.Group.{Group};
+ghost use Rattle.cb_finding.specs.Matrix.{IsMatrix};
+ghost use Rattle.cb_model.specs.declared.node.NodeName.{NodeName};
+ghost use Rattle.cb_model.specs.declared.wish.Wish.{Wish as WishOf};
+ghost use Rattle.cb_model.specs.declared.wish.Wish.TheVariants.{Plain, Cap};
 ghost use Rattle.cb_log.specs.declared.closed.Closed.{Closed as ClosedOf};
 ghost use Rattle.cb_log.specs.Basis.{wanted as for_wanted, fixed as by_fixed};
 ghost use Rattle.cb_log.specs.Entries.{LogEntry, said, records_of};
@@ -14,12 +20,14 @@ ghost use Rattle.cb_topo.specs.Numbered.{topology_of};
 ghost use Rattle.cb_session.specs.Acts.{IsWellNamed};
 ghost use Rattle.cb_session.specs.Counted.{CountsEntry};
 ghost use Rattle.cb_session.specs.Sources.{StandsAlone, EndsAlone};
+ghost use Rattle.cb_session.specs.InUse.{HasRadiiOf, in_use_of};
 ghost use Rattle.cb_session.specs.Numbers.{KeepsNumbers};
-ghost use Rattle.cb_session.specs.State.{State, StandsForEntries, log_line_of, network_of, IsFitting};
+ghost use Rattle.cb_session.specs.State.{State, StandsForEntries, StandsForLines, log_line_of, network_of, IsFitting};
 ghost use Rattle.cb_session.specs.Steps.{EntryTells, EntryStands, ClosesAtEnd, TellsAtEnd};
 ghost use Rattle.cb_session.specs.Taken.{entry_of_taken};
 
 use crate::basis::Ready;
+use crate::book::BookInUse;
 use crate::course::Course;
 use crate::entry::{Taken, entry_of};
 use crate::fixed::go_on_fixed;
@@ -28,9 +36,9 @@ use crate::reported::{closing_report, reported_in_use};
 use crate::wanted::go_on_wanted;
 use cb_alarm::Scratch;
 use cb_cache::Cache;
-use cb_coding::Book;
+use cb_coding::{Book, CapBook};
 use cb_log::{Closed, Event, Record};
-use cb_model::List;
+use cb_model::{List, Wish};
 use cb_steps::Steps;
 use cb_window::Windows;
 use std::alloc::{AllocError, Global};
@@ -74,26 +82,52 @@ impl Session {
     ) -> Result<Session, AllocError>
         requires wanted { IsWanted wanted }
         requires length { 1 ≤ length }
-        ensures mode { IfOk result (λ s. s.mode ≡ for_wanted wanted) }
+        ensures mode { IfOk result (λ s. s.mode ≡ for_wanted (Plain wanted)) }
         ensures length { IfOk result (λ s. s.windows.length ≡ length) }
         ensures cache { IfOk result (λ s. s.cache ≡ cache) }
         ensures stands { IfOk result (λ s. StandsForEntries s (topology_of cache.graph) []) }
         ensures never_fails { IsOk result }
     {
-        Ok(Session {
+        Ok(Session::for_wish(alloc, cache, Wish::Plain(wanted), length))
+    }
+
+    /// As `open`, with a cap in place of a distance.
+    pub fn open_cap(
+        alloc: Global,
+        cache: Cache,
+        cap: u32,
+        length: u64,
+    ) -> Result<Session, AllocError>
+        requires cap { IsWanted cap }
+        requires length { 1 ≤ length }
+        ensures mode { IfOk result (λ s. s.mode ≡ for_wanted (Cap cap)) }
+        ensures length { IfOk result (λ s. s.windows.length ≡ length) }
+        ensures cache { IfOk result (λ s. s.cache ≡ cache) }
+        ensures stands { IfOk result (λ s. StandsForEntries s (topology_of cache.graph) []) }
+        ensures never_fails { IsOk result }
+    {
+        Ok(Session::for_wish(alloc, cache, Wish::Cap(cap), length))
+    }
+
+    // A session at the beginning of a log, by codebooks for a wish.
+    fn for_wish(alloc: Global, cache: Cache, wish: Wish, length: u64) -> Session
+        requires { 1 ≤ length }
+        ensures mode { result.mode ≡ for_wanted wish }
+        ensures length { result.windows.length ≡ length }
+        ensures cache { result.cache ≡ cache }
+        ensures stands { StandsForEntries result (topology_of cache.graph) [] }
+    {
+        Session {
             cache,
             windows: Windows::new(alloc, length),
-            course: Course::Wanted {
-                distance: wanted,
-                ready: None,
-            },
+            course: Course::Wanted { wish, ready: None },
             scratch: Scratch::new(alloc),
-        })
+        }
     }
 
     /// A session by one codebook, whose columns are positions among those of the topology. It makes no codebook, and refuses each edit, since that
     /// might make the given one wrong.
-    pub fn fixed(
+    pub fn by_book(
         alloc: Global,
         cache: Cache,
         book: Book,
@@ -101,7 +135,45 @@ impl Session {
     ) -> Result<Session, AllocError>
         requires columns { length_of book.columns < 2 ^ 32 }
         requires length { 1 ≤ length }
-        ensures mode { IfOk result (λ s. s.mode ≡ by_fixed book) }
+        ensures mode { IfOk result (λ s. s.mode ≡ by_fixed book.columns (Plain book.distance)) }
+        ensures length { IfOk result (λ s. s.windows.length ≡ length) }
+        ensures cache { IfOk result (λ s. s.cache ≡ cache) }
+        ensures stands { IfOk result (λ s. StandsForEntries s (topology_of cache.graph) []) }
+    {
+        Session::by_given(alloc, cache, BookInUse::Plain(book), length)
+    }
+
+    /// As `by_book`, by a codebook for a cap, whose radii are those of the topology's groups.
+    pub fn by_cap_book(
+        alloc: Global,
+        cache: Cache,
+        book: CapBook,
+        length: u64,
+    ) -> Result<Session, AllocError>
+        requires columns { length_of book.columns < 2 ^ 32 }
+        requires radii { (columns : Items NodeName) (groups : Items Group) → IsMatrix (topology_of cache.graph) columns groups
+            → AreRadii (length_of columns) (codes_of groups) book.cap book.radii }
+        requires length { 1 ≤ length }
+        ensures mode { IfOk result (λ s. s.mode ≡ by_fixed book.columns (Cap book.cap)) }
+        ensures length { IfOk result (λ s. s.windows.length ≡ length) }
+        ensures cache { IfOk result (λ s. s.cache ≡ cache) }
+        ensures stands { IfOk result (λ s. StandsForEntries s (topology_of cache.graph) []) }
+    {
+        Session::by_given(alloc, cache, BookInUse::Capped(book), length)
+    }
+
+    // A session at the beginning of a log, by a codebook that is given.
+    fn by_given(
+        alloc: Global,
+        cache: Cache,
+        book: BookInUse,
+        length: u64,
+    ) -> Result<Session, AllocError>
+        requires columns { length_of (in_use_of book).kept < 2 ^ 32 }
+        requires radii { (columns : Items NodeName) (groups : Items Group) → IsMatrix (topology_of cache.graph) columns groups
+            → HasRadiiOf (length_of columns) (codes_of groups) book }
+        requires length { 1 ≤ length }
+        ensures mode { IfOk result (λ s. s.mode ≡ by_fixed (in_use_of book).kept (in_use_of book).used) }
         ensures length { IfOk result (λ s. s.windows.length ≡ length) }
         ensures cache { IfOk result (λ s. s.cache ≡ cache) }
         ensures stands { IfOk result (λ s. StandsForEntries s (topology_of cache.graph) []) }
@@ -128,12 +200,14 @@ impl Session {
         ensures gives { IfOk result (λ events. (opening : Topology) (before : Items LogEntry) (entry : LogEntry) → IsRegular opening.model
             → ComesTo (log_line_of line.entry) entry → StandsForEntries self.old opening before
             → EntryGives opening self.old.mode self.old.windows.length (records_of before) entry events) }
-        ensures alone { IfOk result (λ events. (opening : Topology) (before : Items LogEntry) (entry : LogEntry) → IsRegular opening.model
-            → ComesTo (log_line_of line.entry) entry → StandsForEntries self.old opening before
-            → StandsAlone opening self.old.mode self.old.windows.length before entry events) }
+        ensures alone { IfOk result (λ events. (opening : Topology) (before : Items NumberedLine) → IsRegular opening.model
+            → StandsForLines self.old opening before
+            → StandsAlone opening self.old.mode self.old.windows.length before (log_line_of line.entry) events) }
         ensures stands { OnOk result ((opening : Topology) (before : Items LogEntry) (entry : LogEntry) → IsRegular opening.model
             → ComesTo (log_line_of line.entry) entry → StandsForEntries self.old opening before
             → StandsForEntries self.new opening (before ++ entry ∷ [])) }
+        ensures lines { OnOk result ((opening : Topology) (before : Items NumberedLine) → IsRegular opening.model
+            → StandsForLines self.old opening before → StandsForLines self.new opening (before ++ log_line_of line.entry ∷ [])) }
         ensures numbers { OnOk result (KeepsNumbers self.old.cache.graph self.new.cache.graph) }
         ensures mode { self.new.mode ≡ self.old.mode }
         ensures length { self.new.windows.length ≡ self.old.windows.length }
@@ -141,7 +215,7 @@ impl Session {
         ensures steps { OnErr result (steps.new ≡ steps.old) }
         ensures cost { OnOk result ((entry : LogEntry) → ComesTo (log_line_of line.entry) entry
             → CountsEntry self.old.mode (network_of self.old) entry steps.old steps.new) }
-        ensures fixed { (book : BookOf) → self.old.mode ≡ by_fixed book → steps.new ≡ steps.old }
+        ensures fixed { (given : Items ℕ) (met : WishOf) → self.old.mode ≡ by_fixed given met → steps.new ≡ steps.old }
         ensures regular { IsRegular (network_of self.old).model }
     {
         self.regular();
@@ -188,14 +262,14 @@ impl Session {
         ensures same { OnErr result (self.new ≡ self.old) }
         ensures steps { OnErr result (steps.new ≡ steps.old) }
         ensures cost { OnOk result (CountsEntry self.old.mode (network_of self.old) (said number next.now) steps.old steps.new) }
-        ensures fixed { (book : BookOf) → self.old.mode ≡ by_fixed book → steps.new ≡ steps.old }
+        ensures fixed { (given : Items ℕ) (met : WishOf) → self.old.mode ≡ by_fixed given met → steps.new ≡ steps.old }
     {
         match &mut self.course {
-            Course::Wanted { distance, ready } => go_on_wanted(
+            Course::Wanted { wish, ready } => go_on_wanted(
                 alloc,
                 &mut self.cache,
                 &mut self.windows,
-                *distance,
+                *wish,
                 ready,
                 number,
                 next,
@@ -212,9 +286,9 @@ impl Session {
         ensures gives { IfOk result (λ events. (opening : Topology) (before : Items LogEntry) → IsRegular opening.model
             → StandsForEntries self.now opening before
             → EndGives opening self.now.mode self.now.windows.length (records_of before) events) }
-        ensures alone { IfOk result (λ events. (opening : Topology) (before : Items LogEntry) → IsRegular opening.model
-            → StandsForEntries self.now opening before
-            → EndsAlone opening self.now.mode self.now.windows.length before events) }
+        ensures alone { IfOk result (λ events. (opening : Topology) (lines : Items NumberedLine) → IsRegular opening.model
+            → StandsForLines self.now opening lines
+            → EndsAlone opening self.now.mode self.now.windows.length lines events) }
     {
         let closing = self.windows.rest(alloc)?;
         let events = self.reported_of(alloc, &closing);
@@ -228,8 +302,8 @@ impl Session {
         ensures { IfOk result (TellsAtEnd self.now) }
     {
         match &self.course {
-            Course::Wanted { distance, ready } => {
-                Ok(closing_report(alloc, &self.cache, ready, *distance, closing)?.events)
+            Course::Wanted { wish, ready } => {
+                Ok(closing_report(alloc, &self.cache, ready, *wish, closing)?.events)
             }
             Course::Fixed { ready } => reported_in_use(alloc, ready, closing),
         }

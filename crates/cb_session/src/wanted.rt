@@ -1,4 +1,4 @@
-//! A record in a log that is correlated by codebooks for a distance.
+//! A record in a log that is correlated by codebooks for a wish.
 ghost use Rattle.std.specs.Prelude.{◌≡◌, IfOk, OnOk, OnErr};
 ghost use Rattle.cb_change.specs.Costs.{CountsAtMost};
 ghost use Rattle.cb_log.specs.Entries.{said};
@@ -15,7 +15,7 @@ use crate::basis::Ready;
 use crate::reported::{closing_report, keep_ready};
 use cb_cache::Cache;
 use cb_log::{Event, Record};
-use cb_model::List;
+use cb_model::{List, Wish};
 use cb_steps::Steps;
 use cb_window::Windows;
 use std::alloc::{AllocError, Global};
@@ -26,18 +26,18 @@ pub(crate) fn go_on_wanted<L: Ledger>(
     alloc: Global,
     cache: &mut Cache,
     windows: &mut Windows,
-    distance: u32,
+    wish: Wish,
     ready: &mut Option<Ready>,
     number: u64,
     next: &Record,
     steps: &mut Steps<L>,
 ) -> Result<List<Event>, AllocError>
     requires named { IsWellNamed next.now.body }
-    requires settled { IsSessionSettled (topology_of cache.old.graph) distance windows.old ready.old }
-    ensures gives { IfOk result (EntryTells (wanted_state cache.old distance windows.old ready.old) (said number next.now)) }
-    ensures stands { OnOk result (EntryStands (wanted_state cache.old distance windows.old ready.old)
-        (wanted_state cache.new distance windows.new ready.new) (said number next.now)) }
-    ensures settled { IsSessionSettled (topology_of cache.new.graph) distance windows.new ready.new }
+    requires settled { IsSessionSettled (topology_of cache.old.graph) wish windows.old ready.old }
+    ensures gives { IfOk result (EntryTells (wanted_state cache.old wish windows.old ready.old) (said number next.now)) }
+    ensures stands { OnOk result (EntryStands (wanted_state cache.old wish windows.old ready.old)
+        (wanted_state cache.new wish windows.new ready.new) (said number next.now)) }
+    ensures settled { IsSessionSettled (topology_of cache.new.graph) wish windows.new ready.new }
     ensures numbers { OnOk result (KeepsNumbers cache.old.graph cache.new.graph) }
     ensures length { windows.new.length ≡ windows.old.length }
     ensures same_cache { OnErr result (cache.new ≡ cache.old) }
@@ -47,7 +47,7 @@ pub(crate) fn go_on_wanted<L: Ledger>(
     ensures cost { OnOk result (CountsAtMost (IsEntryCost (topology_of cache.old.graph) (said number next.now)) steps.old steps.new) }
 {
     let closing = windows.due(alloc, next.at)?;
-    let reported = closing_report(alloc, cache, ready, distance, &closing);
+    let reported = closing_report(alloc, cache, ready, wish, &closing);
     drop(closing);
     let mut reported = reported?;
     let changed = act(

@@ -1,14 +1,18 @@
 use Rattle.std.proofs.Common.{[], ◌∷◌, Ok, Err, refl, sym, subst, ◌∙◌, append-nil, arith}
+use Rattle.cb_change.specs.Costs.{IsEditCost, CountsAtMost}
 use Rattle.cb_change.proofs.InTurn.{alone_costs, refused_costs}
+use Rattle.cb_network.specs.declared.edit.Edit.{Edit}
 use Rattle.cb_network.specs.Edits.{IsAfter}
+use Rattle.cb_network.specs.Laws.{HasGoodName}
 use Rattle.cb_log.specs.declared.event.Event.TheVariants.{Refused}
 use Rattle.cb_log.specs.declared.event.RefusedWhy.TheVariants.{Edit as EditWhy}
+use Rattle.cb_topo.specs.Accepted.{IsDecided}
+use Rattle.cb_topo.specs.Applied.{Applies}
 use Rattle.cb_topo.specs.Numbered.{Numbered, topology_of}
-use Rattle.cb_session.proofs.Numbers.{numbers_stay}
 use Rattle.cb_session.proofs.act.change.Goals as goal
 
-pub returns-in-Err-clause-acts : goal.returns-in-Err-clause-acts
-returns-in-Err-clause-acts g c =
+pub returns-in_ok-push-in-Err-clause-acts : goal.returns-in_ok-push-in-Err-clause-acts
+returns-in_ok-push-in-Err-clause-acts g c =
     let why = c.in-Err.why in (
       Refused c.args.number (EditWhy why) ∷ [],
       (
@@ -17,31 +21,37 @@ returns-in-Err-clause-acts g c =
         refl,
         (refl, refl),
       ),
-      c.in_ok-push.ensures.ok,
+      c.in_ok-push-in-Err.ensures.ok,
     )
 
-pub returns-in-Ok-clause-acts : goal.returns-in-Ok-clause-acts
-returns-in-Ok-clause-acts g c =
-    ([], (Ok (topology_of c.apply.new.self.graph), c.in-Ok.ensures.made.after, refl, (refl, refl)), sym (append-nil c.args.events.now))
+pub apply_accepted-requires-clause-name : goal.apply_accepted-requires-clause-name
+apply_accepted-requires-clause-name g c = subst HasGoodName (sym c.in-Ok.ensures.edit) c.requires
 
-pub returns-in-Err-clause-cost : goal.returns-in-Err-clause-cost
-returns-in-Err-clause-cost g c =
+pub apply_accepted-requires-clause-decided : goal.apply_accepted-requires-clause-decided
+apply_accepted-requires-clause-decided g c =
+    subst (λ (n : Numbered). IsDecided n c.in-Ok.accepted) (c.topology.ensures ∙ c.graph.ensures) c.in-Ok.ensures.decided
+
+pub returns-in_ok-apply_accepted-in-Ok-clause-acts : goal.returns-in_ok-apply_accepted-in-Ok-clause-acts
+returns-in_ok-apply_accepted-in-Ok-clause-acts g c =
+    let new = c.apply_accepted.new.self.graph in
+    let made = subst (λ (e : Edit). Applies c.args.cache.now.graph e new) c.in-Ok.ensures.edit c.in_ok-apply_accepted-in-Ok.ensures.made in
+    ([], (Ok (topology_of new), made.after, refl, (refl, refl)), sym (append-nil c.args.events.now))
+
+pub returns-in_ok-push-in-Err-clause-cost : goal.returns-in_ok-push-in-Err-clause-cost
+returns-in_ok-push-in-Err-clause-cost g c =
     let why = c.in-Err.why in
     let refused = subst (λ (n : Numbered). IsAfter (topology_of n) c.args.edit.now (Err why)) (c.topology.ensures ∙ c.graph.ensures) c.in-Err.ensures.refused in
     record { cost = 0; is_cost = refused_costs (topology_of c.args.cache.now.graph) c.args.edit.now why refused; few = omega arith }
 
-pub returns-in-Ok-clause-cost : goal.returns-in-Ok-clause-cost
-returns-in-Ok-clause-cost g c =
-    let counts = c.in-Ok.ensures.cost in
-    let made = c.in-Ok.ensures.made.after in
+pub returns-in_ok-apply_accepted-in-Ok-clause-cost : goal.returns-in_ok-apply_accepted-in-Ok-clause-cost
+returns-in_ok-apply_accepted-in-Ok-clause-cost g c =
+    let old = c.args.cache.now.graph in
+    let new = c.apply_accepted.new.self.graph in
+    let same = c.in-Ok.ensures.edit in
+    let made = subst (λ (e : Edit). Applies old e new) same c.in_ok-apply_accepted-in-Ok.ensures.made in
+    let counts = subst (λ (e : Edit). CountsAtMost (IsEditCost (topology_of old) e (topology_of new)) c.args.steps.now c.apply_accepted.new.steps) same c.in_ok-apply_accepted-in-Ok.ensures.cost in
     record {
       cost = counts.cost;
-      is_cost = alone_costs (topology_of c.args.cache.now.graph) c.args.edit.now (topology_of c.apply.new.self.graph) counts.cost made counts.is_cost;
+      is_cost = alone_costs (topology_of old) c.args.edit.now (topology_of new) counts.cost made.after counts.is_cost;
       few = counts.few;
     }
-
-pub returns-in-Err-clause-numbers : goal.returns-in-Err-clause-numbers
-returns-in-Err-clause-numbers g c = numbers_stay c.args.cache.now.graph
-
-pub returns-in-Ok-clause-numbers : goal.returns-in-Ok-clause-numbers
-returns-in-Ok-clause-numbers g c = (c.in-Ok.ensures.made.instances, c.in-Ok.ensures.made.nodes)

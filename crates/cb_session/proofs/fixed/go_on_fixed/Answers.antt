@@ -1,9 +1,8 @@
 use Rattle.std.proofs.Common.{List, sym, subst}
 use Rattle.cb_log.specs.declared.event.Event.{Event}
-use Rattle.cb_log.specs.Basis.{fixed}
 use Rattle.cb_log.specs.Entries.{said}
 use Rattle.cb_topo.specs.Numbered.{topology_of}
-use Rattle.cb_session.specs.Course.{fixed_state}
+use Rattle.cb_session.specs.Course.{fixed_state, mode_by}
 use Rattle.cb_session.specs.Steps.{EntryTells}
 use Rattle.cb_session.proofs.ByOne.{fixed_tells, fixed_stands}
 use Rattle.cb_session.proofs.Stepping.{due_rise}
@@ -19,7 +18,7 @@ returns-clause-gives c = λ cache is.
     let refuses = c.in_ok-refuse_edit.ensures.refuses in
     subst (λ (es : List Event). EntryTells (fixed_state cache windows ready) (said c.args.number c.args.next.now) es) (sym refuses.2)
     (fixed_tells cache ready c.args.number c.args.next.now windows c.in_ok-closing.closing c.in_ok-closing.ensures c.in_ok-events.events
-    (c.in_ok-events.ensures (topology_of cache.graph) (fixed ready.book) is) refuses.0 refuses.1)
+    (c.in_ok-events.ensures (topology_of cache.graph) (mode_by ready) is) refuses.0 refuses.1)
 
 pub returns-clause-stands : goal.returns-clause-stands
 returns-clause-stands c = λ cache.

@@ -10,13 +10,13 @@ pub reported_in_use-requires-clause-ready : goal.reported_in_use-requires-clause
 reported_in_use-requires-clause-ready c =
     let network = topology_of c.args.cache.now.graph in (
       network,
-      wanted c.args.wanted,
-      subst (λ (ready : Option Ready). IfSome ready (IsReady network (wanted c.args.wanted))) c.in-Some.is c.requires.ready,
+      wanted c.args.wish,
+      subst (λ (ready : Option Ready). IfSome ready (IsReady network (wanted c.args.wish))) c.in-Some.is c.requires.ready,
     )
 
 pub returns-in_ok-events-in-None : goal.returns-in_ok-events-in-None
 returns-in_ok-events-in-None c =
     let network = topology_of c.args.cache.now.graph in
     let some : length c.args.closing.now ≢ 0 = λ none. c.if-len-eq0.false (c.len.ensures ∙ none) in
-    tells_made network c.args.wanted c.args.ready.now c.in-None.is c.args.closing.now some c.in_ok-made-in-None.made c.in_ok-made-in-None.ensures
+    tells_made network c.args.wish c.args.ready.now c.in-None.is c.args.closing.now some c.in_ok-made-in-None.made c.in_ok-made-in-None.ensures
     c.in_ok-events-in-None.events (c.in_ok-events-in-None.ensures network c.in_ok-made-in-None.ensures)

@@ -1,11 +1,10 @@
-use Rattle.std.proofs.Common.{Option, List, sym, subst, ◌++◌}
+use Rattle.std.proofs.Common.{Option, List, sym, subst}
 use Rattle.cb_log.specs.declared.event.Event.{Event}
 use Rattle.cb_log.specs.Entries.{said}
 use Rattle.cb_topo.specs.Numbered.{topology_of}
 use Rattle.cb_session.specs.declared.basis.Ready.{Ready}
 use Rattle.cb_session.specs.Course.{wanted_state}
 use Rattle.cb_session.specs.Settled.{IsSessionSettled}
-use Rattle.cb_session.specs.State.{State}
 use Rattle.cb_session.specs.Steps.{EntryTells, EntryStands}
 use Rattle.cb_session.proofs.Stepping.{due_rise, Goes, settled_still, record_tells, record_stands}
 use Rattle.cb_session.proofs.wanted.go_on_wanted.Goals as goal
@@ -18,13 +17,13 @@ pub returns-clause-settled : goal.returns-clause-settled
 returns-clause-settled g c =
     let cache = c.args.cache.now in
     let fresh = c.act.new.cache in
-    let d = c.args.distance in
+    let wish = c.args.wish in
     let windows = c.args.windows.now in
     let later = c.act.new.windows in
     let ready = c.args.ready.now in
     let reported = c.in_ok-reported.reported in
     let acts = c.in_ok-changed.ensures.acts in
-    let goes : Goes d c.args.number c.args.next.now cache fresh windows later ready c.in_ok-closing.closing reported c.in_ok-changed.changed acts.0 = record {
+    let goes : Goes wish c.args.number c.args.next.now cache fresh windows later ready c.in_ok-closing.closing reported c.in_ok-changed.changed acts.0 = record {
       closes = c.in_ok-closing.ensures;
       tells = c.in_ok-reported.ensures;
       acts = acts.1;
@@ -32,19 +31,19 @@ returns-clause-settled g c =
       same_length = c.in_ok-changed.ensures.length;
       settled = c.requires.settled;
     } in
-    subst (IsSessionSettled (topology_of fresh.graph) d later) (sym c.keep_ready.ensures) (settled_still d c.args.number c.args.next.now cache fresh windows later ready c.in_ok-closing.closing reported c.in_ok-changed.changed acts.0 goes)
+    subst (IsSessionSettled (topology_of fresh.graph) wish later) (sym c.keep_ready.ensures) (settled_still wish c.args.number c.args.next.now cache fresh windows later ready c.in_ok-closing.closing reported c.in_ok-changed.changed acts.0 goes)
 
 pub returns-clause-gives : goal.returns-clause-gives
 returns-clause-gives g c =
     let cache = c.args.cache.now in
     let fresh = c.act.new.cache in
-    let d = c.args.distance in
+    let wish = c.args.wish in
     let windows = c.args.windows.now in
     let later = c.act.new.windows in
     let ready = c.args.ready.now in
     let reported = c.in_ok-reported.reported in
     let acts = c.in_ok-changed.ensures.acts in
-    let goes : Goes d c.args.number c.args.next.now cache fresh windows later ready c.in_ok-closing.closing reported c.in_ok-changed.changed acts.0 = record {
+    let goes : Goes wish c.args.number c.args.next.now cache fresh windows later ready c.in_ok-closing.closing reported c.in_ok-changed.changed acts.0 = record {
       closes = c.in_ok-closing.ensures;
       tells = c.in_ok-reported.ensures;
       acts = acts.1;
@@ -53,20 +52,20 @@ returns-clause-gives g c =
       settled = c.requires.settled;
     } in
     let entry = said c.args.number c.args.next.now in
-    subst (λ (es : List Event). EntryTells (wanted_state cache d windows ready) entry es) (sym acts.2)
-    (record_tells d c.args.number c.args.next.now cache fresh windows later ready c.in_ok-closing.closing reported c.in_ok-changed.changed acts.0 goes)
+    subst (λ (es : List Event). EntryTells (wanted_state cache wish windows ready) entry es) (sym acts.2)
+    (record_tells wish c.args.number c.args.next.now cache fresh windows later ready c.in_ok-closing.closing reported c.in_ok-changed.changed acts.0 goes)
 
 pub returns-clause-stands : goal.returns-clause-stands
 returns-clause-stands g c =
     let cache = c.args.cache.now in
     let fresh = c.act.new.cache in
-    let d = c.args.distance in
+    let wish = c.args.wish in
     let windows = c.args.windows.now in
     let later = c.act.new.windows in
     let ready = c.args.ready.now in
     let reported = c.in_ok-reported.reported in
     let acts = c.in_ok-changed.ensures.acts in
-    let goes : Goes d c.args.number c.args.next.now cache fresh windows later ready c.in_ok-closing.closing reported c.in_ok-changed.changed acts.0 = record {
+    let goes : Goes wish c.args.number c.args.next.now cache fresh windows later ready c.in_ok-closing.closing reported c.in_ok-changed.changed acts.0 = record {
       closes = c.in_ok-closing.ensures;
       tells = c.in_ok-reported.ensures;
       acts = acts.1;
@@ -75,5 +74,5 @@ returns-clause-stands g c =
       settled = c.requires.settled;
     } in
     let entry = said c.args.number c.args.next.now in
-    subst (λ (kept : Option Ready). EntryStands (wanted_state cache d windows ready) (wanted_state fresh d later kept) entry) (sym c.keep_ready.ensures)
-    (record_stands d c.args.number c.args.next.now cache fresh windows later ready c.in_ok-closing.closing reported c.in_ok-changed.changed acts.0 goes)
+    subst (λ (kept : Option Ready). EntryStands (wanted_state cache wish windows ready) (wanted_state fresh wish later kept) entry) (sym c.keep_ready.ensures)
+    (record_stands wish c.args.number c.args.next.now cache fresh windows later ready c.in_ok-closing.closing reported c.in_ok-changed.changed acts.0 goes)

@@ -1,48 +1,11 @@
-use Rattle.std.proofs.Common.{subst, sym, ap, ◌∙◌, ◌≡◌, arith, List, [], ◌∷◌, ◌++◌, length}
-use Rattle.cb_coding.specs.declared.group.Group.{Group}
-use Rattle.cb_log.specs.Basis.{IsAnnounced, book_made, wanted}
-use Rattle.cb_log.specs.declared.event.Event.{Event}
-use Rattle.cb_decode.specs.Names.{HasName}
-use Rattle.cb_session.proofs.Bases.{has_name, announced_good, announced_thin}
-use Rattle.cb_session.proofs.basis.Ready.announce.Goals.{in-Some+in_ok-thin+in_ok-push, in_default}
 use Rattle.cb_session.proofs.basis.Ready.announce.Goals as goal
-
-pub thin-requires-clause-first : goal.thin-requires-clause-first
-thin-requires-clause-first c =
-    let (network, is) = c.requires in
-    let pair = c.in-Some.pair in
-    let close = c.in-Some.ensures.pair in
-    let (below, within) = close.is_pair in
-    subst (λ (gs : List Group). HasName gs pair.first) (sym c.coded_groups.ensures.groups) (has_name network c.args.self.now (wanted c.args.wanted) is pair.first (omega arith))
-
-pub thin-requires-clause-second : goal.thin-requires-clause-second
-thin-requires-clause-second c =
-    let (network, is) = c.requires in
-    let pair = c.in-Some.pair in
-    let close = c.in-Some.ensures.pair in
-    let (below, within) = close.is_pair in
-    subst (λ (gs : List Group). HasName gs pair.second) (sym c.coded_groups.ensures.groups) (has_name network c.args.self.now (wanted c.args.wanted) is pair.second (omega arith))
 
 pub returns : goal.returns
 returns c = λ network mode basis has.
-    let ready = c.args.self.now in
-    let d = c.args.wanted in
-    let made = c.book_made.result in
-    let made_is = c.book_made.ensures network mode basis has in
-    let pushed = c.in_ok-push-2.ensures.ok in
-    elim c.match-first_thin.branch [
-      | in-Some+in_ok-thin+in_ok-push w ↦
-          let reported = w.in_ok-thin.field-0 in
-          let before : c.match-first_thin.events ≡ reported ∷ [] = w.events-is ∙ (w.in_ok-push.ensures.ok ∙ ap (λ (es : List Event). es ++ reported ∷ []) c.new-events.ensures) in
-          let are : c.push-2.new.self ≡ reported ∷ book_made basis ∷ [] =
-          pushed ∙ (ap (λ (es : List Event). es ++ made ∷ []) before ∙ ap (λ (e : Event). reported ∷ e ∷ []) made_is) in
-          let close = w.in-Some.ensures.pair in
-          let names = rw w.coded_groups.ensures.groups at w.in_ok-thin.ensures in
-          subst (λ (es : List Event). IsAnnounced basis d es) (sym are) (announced_thin basis ready has d w.in-Some.pair reported close names)
-      | in_default w ↦
-          let before : c.match-first_thin.events ≡ [] = w.events-is ∙ c.new-events.ensures in
-          let are : c.push-2.new.self ≡ book_made basis ∷ [] =
-          pushed ∙ (ap (λ (es : List Event). es ++ made ∷ []) before ∙ ap (λ (e : Event). e ∷ []) made_is) in
-          let good = w.in_default.ensures.none in
-          subst (λ (es : List Event). IsAnnounced basis d es) (sym are) (announced_good basis ready has d good)
-    ]
+    record {
+      warnings = c.in_ok-events.events;
+      are_warnings = c.in_ok-events.ensures network mode basis has;
+      made = c.book_event.result;
+      is_made = c.book_event.ensures network mode basis has;
+      events_are = c.in_ok-push.ensures.ok;
+    }

@@ -1,9 +1,9 @@
 use Rattle.std.proofs.Common.{OnOk, subst}
-use Rattle.cb_log.specs.Basis.{fixed}
 use Rattle.cb_log.specs.Entries.{said}
 use Rattle.cb_topo.specs.Numbered.{topology_of}
 use Rattle.cb_session.specs.Counted.{CountsEntry}
-use Rattle.cb_session.specs.Course.{fixed_state}
+use Rattle.cb_session.specs.Course.{fixed_state, mode_by}
+use Rattle.cb_session.specs.InUse.{in_use_of}
 use Rattle.cb_session.specs.Numbers.{KeepsNumbers}
 use Rattle.cb_session.specs.State.{State, network_of}
 use Rattle.cb_session.specs.Steps.{EntryTells, EntryStands}
@@ -17,7 +17,7 @@ pub go_on_fixed-requires-clause-ready : goal.go_on_fixed-requires-clause-ready
 go_on_fixed-requires-clause-ready g c =
     let parts = c.self.inside in
     let fits = fixed_fits parts.cache parts.windows parts.course c.args.self.now c.self.view_is c.self.invariant c.in-Fixed.ready c.in-Fixed.is in
-    (topology_of parts.cache.graph, fixed c.in-Fixed.ready.book, fits.ready_is)
+    (topology_of parts.cache.graph, mode_by c.in-Fixed.ready, fits.ready_is)
 
 pub returns-in-Fixed-clause-gives : goal.returns-in-Fixed-clause-gives
 returns-in-Fixed-clause-gives g c =
@@ -38,7 +38,7 @@ returns-in-Fixed-clause-stands g c =
 pub returns-in-Wanted-clause-cost : goal.returns-in-Wanted-clause-cost
 returns-in-Wanted-clause-cost g c =
     let parts = c.self.inside in
-    let view = wanted_view parts.cache parts.windows parts.course c.args.self.now c.self.view_is c.self.invariant c.in-Wanted.distance c.in-Wanted.ready c.in-Wanted.is in
+    let view = wanted_view parts.cache parts.windows parts.course c.args.self.now c.self.view_is c.self.invariant c.in-Wanted.wish c.in-Wanted.ready c.in-Wanted.is in
     subst (λ (s : State). OnOk c.go_on_wanted.result (CountsEntry s.mode (network_of s) (said c.args.number c.args.next.now) c.args.steps.now c.go_on_wanted.new.steps))
     view c.go_on_wanted.ensures.cost
 
@@ -47,12 +47,12 @@ returns-in-Fixed-clause-cost g c =
     let parts = c.self.inside in
     let view = fixed_view parts.cache parts.windows parts.course c.args.self.now c.self.view_is c.self.invariant c.in-Fixed.ready c.in-Fixed.is in
     subst (λ (s : State). OnOk c.go_on_fixed.result (CountsEntry s.mode (network_of s) (said c.args.number c.args.next.now) c.args.steps.now c.args.steps.now))
-    view (none_by_fixed c.go_on_fixed.result c.in-Fixed.ready.book (topology_of parts.cache.graph) (said c.args.number c.args.next.now) c.args.steps.now)
+    view (none_by_fixed c.go_on_fixed.result (in_use_of c.in-Fixed.ready.book).kept (in_use_of c.in-Fixed.ready.book).used (topology_of parts.cache.graph) (said c.args.number c.args.next.now) c.args.steps.now)
 
 pub returns-in-Wanted-clause-numbers : goal.returns-in-Wanted-clause-numbers
 returns-in-Wanted-clause-numbers g c =
     let parts = c.self.inside in
-    let view = wanted_view parts.cache parts.windows parts.course c.args.self.now c.self.view_is c.self.invariant c.in-Wanted.distance c.in-Wanted.ready c.in-Wanted.is in
+    let view = wanted_view parts.cache parts.windows parts.course c.args.self.now c.self.view_is c.self.invariant c.in-Wanted.wish c.in-Wanted.ready c.in-Wanted.is in
     subst (λ (s : State). OnOk c.go_on_wanted.result (KeepsNumbers s.cache.graph c.go_on_wanted.new.cache.graph)) view c.go_on_wanted.ensures.numbers
 
 pub returns-in-Fixed-clause-numbers : goal.returns-in-Fixed-clause-numbers
