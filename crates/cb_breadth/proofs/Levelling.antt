@@ -11,7 +11,7 @@ use Rattle.std.proofs.lemmas.Option.{slice_get_within, slice_get-get_or, same_So
 use Rattle.cb_successors.specs.Rows.{Has}
 use Rattle.cb_successors.proofs.Marks.{has_set, set_cases, nothing}
 use Rattle.cb_breadth.specs.declared.visit.LevelVisit.{LevelVisit}
-use Rattle.cb_breadth.specs.Levels.{IsLevelTree, HasEdgeBelow, IsNear, StandsBefore, level_visit, IsFirstFrom, IsNextNode, IsTier, levelled}
+use Rattle.cb_breadth.specs.Levels.{IsLevelTree, IsLevelTreePart, CountsVisits, HasEdgeBelow, IsNear, StandsBefore, level_visit, IsFirstFrom, IsNextNode, IsTier, levelled}
 use Rattle.cb_breadth.proofs.Lists.{only_item, has_or_lacks, never_both, has_below, kept_prefix}
 
 -- some visit is of the node
@@ -50,6 +50,10 @@ module _ (edge : ℕ → ℕ → Type 0) (root capacity from top : ℕ) (visits 
     order = is.order;
     first = is.first;
   }
+
+  -- until then it is a part of a tree
+  pub levelled_part : IsLevelTreePart edge root visits
+  levelled_part = record { begins = is.begins; earlier = is.earlier; edges = is.edges; once = is.once }
 
   seen_at : (i : ℕ) (v : LevelVisit) → slice_get visits i ≡ Some v → Has found v.node
   seen_at i v at = (is.found_are v.node).1 (record { place = i; visit = v; is = at; of = refl })
@@ -327,3 +331,7 @@ module _ (edge : ℕ → ℕ → Type 0) (root capacity : ℕ) (fits : root < ca
     reached = omega arith;
     low = omega arith;
   }
+
+  -- no step is counted yet
+  pub counts_none : (steps : ℕ) → CountsVisits edge root steps steps
+  counts_none steps = (alone, levelled_part edge root capacity 0 0 alone start levelled_root, omega arith)

@@ -41,6 +41,17 @@ pub record IsLevelTree (edge : ℕ → ℕ → Type 0) (root : ℕ) (visits : Li
   pub first : (i j : ℕ) (v w : LevelVisit) → 0 < j → slice_get visits i ≡ Some v → slice_get visits j ≡ Some w → v.level + 1 ≡ w.level
       → edge v.node w.node → w.parent ≤ i + 1
 
+-- a part of such a tree that begins with the root: each later node is visited from an earlier one, along an edge and one level above it, and none twice
+pub record IsLevelTreePart (edge : ℕ → ℕ → Type 0) (root : ℕ) (visits : List LevelVisit) : Type 0 where
+  pub begins : slice_get visits 0 ≡ Some (level_visit root 0 0)
+  pub earlier : (i : ℕ) (v : LevelVisit) → 0 < i → slice_get visits i ≡ Some v → (0 < v.parent) × (v.parent ≤ i)
+  pub edges : (i : ℕ) (v : LevelVisit) → 0 < i → slice_get visits i ≡ Some v → HasEdgeBelow edge visits v
+  pub once : (i j : ℕ) (v w : LevelVisit) → slice_get visits i ≡ Some v → slice_get visits j ≡ Some w → v.node ≡ w.node → i ≡ j
+
+-- no more steps are counted than some part of such a tree has visits
+abbrev pub CountsVisits : (ℕ → ℕ → Type 0) → ℕ → ℕ → ℕ → Type 0
+CountsVisits edge root old new = (visits : List LevelVisit) × IsLevelTreePart edge root visits × (new ≤ old + length visits)
+
 -- an edge leads to the node from one of the visits between two positions
 pub record IsLedTo (edge : ℕ → ℕ → Type 0) (visits : List LevelVisit) (from to node : ℕ) : Type 0 where
   pub place : ℕ

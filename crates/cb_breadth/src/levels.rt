@@ -4,7 +4,7 @@ ghost use Rattle.cb_breadth.specs.declared.visit.LevelVisit.{LevelVisit as Visit
 ghost use Rattle.std.specs.List.{All};
 ghost use Rattle.cb_successors.specs.Rows.{Has};
 ghost use Rattle.cb_breadth.specs.Lists.{AreBelow, AreRisingNumbers, IsListOf};
-ghost use Rattle.cb_breadth.specs.Levels.{IsLevelTree, IsLedTo, IsTier, levelled, MarksNewNodes};
+ghost use Rattle.cb_breadth.specs.Levels.{IsLevelTree, CountsVisits, IsLedTo, IsTier, levelled, MarksNewNodes};
 ghost use Rattle.cb_breadth.specs.Orders.{IsOrder, Follows};
 ghost use Rattle.cb_breadth.specs.Successors.{AreSuccessors};
 ghost use Rattle.cb_breadth.specs.Searches.{IsSearchOf};
@@ -37,7 +37,7 @@ pub(crate) fn grow_levels<L: Ledger, G: Edges>(
     ensures tree { IfOk result (λ visits. IsLevelTree (Follows (G.edge graph.old) order.now.nodes.items) root visits.items) }
     ensures known { OnOk result (AreSuccessors (G.edge graph.old) order.now successors.new) }
     ensures capacity { OnOk result (length found.new ≡ length order.now.nodes.items) }
-    ensures asked { IfOk result (λ visits. steps.new ≤ steps.old + length visits.items) }
+    ensures asked { CountsVisits (Follows (G.edge graph.old) order.now.nodes.items) root steps.old steps.new }
 {
     found.set(root as usize);
     let mut parents = vec![in alloc; 0_u32; order.nodes.len()]?;

@@ -3,7 +3,7 @@ ghost use Rattle.std.specs.Prelude.{◌≡◌, ◌<◌, ◌≤◌, ◌+◌, ◌^
 ghost use Rattle.cb_successors.specs.Rows.{Has};
 ghost use Rattle.cb_breadth.specs.Lists.{AreBelow, AreRisingNumbers};
 ghost use Rattle.cb_breadth.specs.Trees.{IsTree, IsVisited};
-ghost use Rattle.cb_breadth.specs.Levels.{IsLevelTree};
+ghost use Rattle.cb_breadth.specs.Levels.{IsLevelTree, CountsVisits};
 ghost use Rattle.cb_breadth.specs.Orders.{IsOrder, Follows};
 ghost use Rattle.cb_breadth.specs.Successors.{AreSuccessors};
 ghost use Rattle.cb_breadth.specs.Searches.{IsNewSearch, IsSearchOf};
@@ -85,7 +85,7 @@ pub fn level_tree<L: Ledger, G: Edges>(
     ensures same { graph.new ≡ graph.old }
     ensures tree { IfOk result (λ visits. IsLevelTree (Follows (G.edge graph.old) order.now.nodes.items) root visits.items) }
     ensures known { OnOk result (IsSearchOf (G.edge graph.old) order.now searches.new) }
-    ensures asked { IfOk result (λ visits. steps.new ≤ steps.old + length visits.items) }
+    ensures asked { CountsVisits (Follows (G.edge graph.old) order.now.nodes.items) root steps.old steps.new }
 {
     let visits = grow_levels(
         alloc,

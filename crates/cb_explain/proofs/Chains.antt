@@ -1,5 +1,5 @@
 -- Following parents in the visits of a search by levels gives the short chain, and what isn't visited isn't caused.
-use Rattle.std.proofs.Common.{◌≡◌, ℕ, zero, suc, ◌-◌, ◌<◌, ◌≤◌, List, [], ◌∷◌, true, false, length, reverse, get_or, refl, sym, ap, subst, ◌∙◌, inl, inr, arith, Some}
+use Rattle.std.proofs.Common.{◌≡◌, ℕ, zero, suc, ◌+◌, ◌-◌, ◌<◌, ◌≤◌, List, [], ◌∷◌, true, false, length, reverse, get_or, refl, sym, ap, subst, ◌∙◌, inl, inr, arith, Some}
 use Rattle.std.specs.Prelude.{slice_get}
 use Rattle.std.specs.FinSet as set
 use Rattle.std.proofs.lemmas.Option.{same_Some, slice_get-get_or}
@@ -11,7 +11,7 @@ use Rattle.cb_network.specs.Causes.{Edge, Causes}
 use Rattle.cb_network.specs.Nodes.{IsCount}
 use Rattle.cb_network.proofs.Sets.{in_insert, len_of_part}
 use Rattle.cb_breadth.specs.declared.visit.LevelVisit.{LevelVisit}
-use Rattle.cb_breadth.specs.Levels.{IsLevelTree, level_visit}
+use Rattle.cb_breadth.specs.Levels.{IsLevelTree, IsLevelTreePart, CountsVisits, level_visit}
 use Rattle.cb_levels.specs.Level.{IsPrevious, LeadBack, IsShortChain}
 use Rattle.cb_explain.specs.Made.{AreRanks}
 use Rattle.cb_explain.specs.Levelled.{IsRankVisited}
@@ -68,16 +68,18 @@ module _ (t : Topology) (edge : ℕ → ℕ → Type 0) (At : ℕ → NodeName �
       let far = from_root t edge At ranks root p at_root visits tree s causes.0 causes.1 in
       none (record { position = far.0; visit = far.1; is = far.2; of = one_rank t edge At ranks far.1.node rank s far.3 at })
 
+module _ (t : Topology) (edge : ℕ → ℕ → Type 0) (At : ℕ → NodeName → Type 0) (ranks : AreRanks t edge At) (root : ℕ) (p : NodeName) (at_root : At root p)
+    (visits : List LevelVisit) (part : IsLevelTreePart edge root visits) where
   -- visited at one of the first positions
   abbrev VisitedBelow : ℕ → NodeName → Type 0
   VisitedBelow k x = (position : ℕ) × (position < k) × IsVisitAt At visits position x
 
   visit_at : (k : ℕ) → k < length visits → (x : NodeName) × IsVisitAt At visits k x
-  visit_at zero low = (p, record { visit = level_visit root 0 0; is = tree.begins; at = at_root })
+  visit_at zero low = (p, record { visit = level_visit root 0 0; is = part.begins; at = at_root })
   visit_at (suc k) low =
       let v = get_or visits (suc k) (level_visit 0 0 0) in
       let at = slice_get-get_or visits (suc k) (level_visit 0 0 0) low in
-      let below = tree.edges (suc k) v (omega arith) at in
+      let below = part.edges (suc k) v (omega arith) at in
       let way = ranks.leads below.from.node v.node below.leads in
       (way.to, record { visit = v; is = at; at = way.to_is })
 
@@ -89,7 +91,7 @@ module _ (t : Topology) (edge : ℕ → ℕ → Type 0) (At : ℕ → NodeName �
       let fresh : set.contains s x ≡ true → ⊥ = λ has.
       let l = are x has in
       let v = l.2 in
-      let same = tree.once l.0 k v.visit here.visit v.is here.is (one_rank t edge At ranks v.visit.node here.visit.node x v.at here.at) in
+      let same = part.once l.0 k v.visit here.visit v.is here.is (one_rank t edge At ranks v.visit.node here.visit.node x v.at here.at) in
       let lt = l.1 in
       omega arith
       in (
@@ -101,16 +103,23 @@ module _ (t : Topology) (edge : ℕ → ℕ → Type 0) (At : ℕ → NodeName �
         grown s x k fresh len,
       )
 
-  -- as many nodes are caused as are visited
+  -- at least as many nodes are caused as are visited
   pub visits_few : (count : ℕ) → IsCount (Causes t p) count → length visits ≤ count
   visits_few count all =
       let (s, are, len) = set_below (length visits) (omega arith) in
-      let part : (x : NodeName) → set.contains s x ≡ true → set.contains all.nodes x ≡ true = λ x has.
+      let within : (x : NodeName) → set.contains s x ≡ true → set.contains all.nodes x ≡ true = λ x has.
       let l = are x has in
       let v = l.2 in
-      let chain = chain_below t edge At ranks root p at_root visits tree (suc l.0) l.0 v.visit x (omega arith) v.is v.at in
+      let chain = chain_below t edge At ranks root p at_root visits part (suc l.0) l.0 v.visit x (omega arith) v.is v.at in
       (all.members x).1 (chain.0, chain.1)
       in
-      let less = len_of_part node_cmp_total node_cmp_exact s all.nodes part in
+      let less = len_of_part node_cmp_total node_cmp_exact s all.nodes within in
       let size = all.len in
       omega arith
+
+-- a search counts no more steps than its root causes nodes
+pub counts_few : (t : Topology) (edge : ℕ → ℕ → Type 0) (At : ℕ → NodeName → Type 0) → AreRanks t edge At → (root : ℕ) (p : NodeName) → At root p
+    → (old new count : ℕ) → CountsVisits edge root old new → IsCount (Causes t p) count → new ≤ old + count
+counts_few t edge At ranks root p at_root old new count (visits, part, low) all =
+    let few = visits_few t edge At ranks root p at_root visits part count all in
+    omega arith

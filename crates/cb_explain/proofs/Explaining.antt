@@ -5,17 +5,19 @@ use Rattle.cb_model.specs.declared.node.NodeName.{NodeName}
 use Rattle.cb_network.specs.Causes.{Causes}
 use Rattle.cb_nodes.specs.declared.id.NodeId.{NodeId}
 use Rattle.cb_breadth.specs.declared.visit.LevelVisit.{LevelVisit}
+use Rattle.cb_breadth.specs.declared.visit.Order.{Order}
+use Rattle.cb_breadth.specs.Levels.{CountsVisits}
 use Rattle.cb_breadth.specs.Orders.{Follows}
 use Rattle.cb_levels.specs.Level.{IsShortChain}
-use Rattle.cb_topo.specs.Numbered.{Numbered, topology_of, IsNodeNamed}
+use Rattle.cb_topo.specs.Numbered.{Numbered, topology_of, IsNodeNamed, IsWhole}
 use Rattle.cb_graph.specs.Edges.{EdgeAt}
-use Rattle.cb_span.specs.Orders.{IsAtRank, IsRank}
+use Rattle.cb_span.specs.Orders.{IsAtRank, IsOrderOf, IsRank}
 use Rattle.cb_explain.specs.declared.explainer.Explainer.{Explainer}
 use Rattle.cb_explain.specs.Levelled.{AreRanksBelow, IsRankVisited}
 use Rattle.cb_explain.specs.Chained.{IsVisitTrail}
-use Rattle.cb_explain.specs.Explained.{HasSearched}
+use Rattle.cb_explain.specs.Explained.{HasSearched, CountsCaused}
 use Rattle.cb_explain.proofs.Levelling.{ranks_below, are_ranks}
-use Rattle.cb_explain.proofs.Chains.{trail_is_short, uncaused}
+use Rattle.cb_explain.proofs.Chains.{trail_is_short, uncaused, counts_few}
 
 module _ (n : Numbered) (e : Explainer) (p : NodeName) (has : HasSearched n p e) where
   abbrev nodes : List ℕ
@@ -50,3 +52,10 @@ module _ (n : Numbered) (e : Explainer) (p : NodeName) (has : HasSearched n p e)
         let is = has.explainer in
         uncaused (topology_of n) (Follows (EdgeAt n) nodes) (IsAtRank n e.order) (are_ranks n e.order is.order is.whole) has.root p has.at_root visits has.tree
         rank s (at_rank s named) none
+
+-- a search from the node of a number counts no more steps than it causes nodes
+pub counts_caused : (n : Numbered) (order : Order) → IsOrderOf n order → IsWhole n → (id : NodeId) (root : ℕ) → IsRank order id root → (old new : ℕ)
+    → CountsVisits (Follows (EdgeAt n) order.nodes.items) root old new → CountsCaused n id old new
+counts_caused n order ord whole id root ranked old new counts name count named all =
+    counts_few (topology_of n) (Follows (EdgeAt n) order.nodes.items) (IsAtRank n order) (are_ranks n order ord whole) root name
+    (record { node = id.0; at = ranked.node_is; named = named }) old new count counts all

@@ -14,7 +14,7 @@ use Rattle.cb_model.proofs.Rising.{node_strict}
 use Rattle.cb_network.specs.Topology.{Topology}
 use Rattle.cb_network.specs.Causes.{Edge, Chain}
 use Rattle.cb_breadth.specs.declared.visit.LevelVisit.{LevelVisit}
-use Rattle.cb_breadth.specs.Levels.{IsLevelTree, HasEdgeBelow, level_visit}
+use Rattle.cb_breadth.specs.Levels.{IsLevelTree, IsLevelTreePart, HasEdgeBelow, level_visit}
 use Rattle.cb_validity.specs.Spans.{StandsFor}
 use Rattle.cb_validity.proofs.SpanLaws.{stands_for_one}
 use Rattle.cb_levels.specs.declared.levels.LevelEntry.{LevelEntry}
@@ -69,6 +69,10 @@ number_below nodes rise i j m n a b less =
       | inr (inr above) ↦ absurd (node_strict m n less (rises_at node_cmp nodes rise (j - 1) (i - 1) n m (omega arith) b.is a.is))
     ]
 
+-- a tree is a part of itself
+pub part_of : (edge : ℕ → ℕ → Type 0) (root : ℕ) (visits : List LevelVisit) → IsLevelTree edge root visits → IsLevelTreePart edge root visits
+part_of edge root visits tree = record { begins = tree.begins; earlier = tree.earlier; edges = tree.edges; once = tree.once }
+
 module _ (t : Topology) (edge : ℕ → ℕ → Type 0) (At : ℕ → NodeName → Type 0) (ranks : AreRanks t edge At) where
   -- a node has one rank
   pub one_rank : (a b : ℕ) (x : NodeName) → At a x → At b x → a ≡ b
@@ -89,19 +93,19 @@ module _ (t : Topology) (edge : ℕ → ℕ → Type 0) (At : ℕ → NodeName �
     | inr (inr above) ↦ absurd (node_strict x y less (ranks.rise b a y x above at_b at_a))
   ]
 
-  module _ (root : ℕ) (p : NodeName) (at_root : At root p) (visits : List LevelVisit) (tree : IsLevelTree edge root visits) where
+  module _ (root : ℕ) (p : NodeName) (at_root : At root p) (visits : List LevelVisit) (part : IsLevelTreePart edge root visits) where
     -- a chain of as many edges as its level leads to each visited node
     pub chain_below : (bound position : ℕ) (v : LevelVisit) (n : NodeName) → position < bound → slice_get visits position ≡ Some v → At v.node n
         → (between : List NodeName) × Chain t p between n × (length between ≡ v.level)
     chain_below zero position v n low is at = absurd (omega arith)
     chain_below (suc bound) zero v n low is at =
-        let same : level_visit root 0 0 ≡ v = same_Some (level_visit root 0 0) v (sym tree.begins ∙ is) in
+        let same : level_visit root 0 0 ≡ v = same_Some (level_visit root 0 0) v (sym part.begins ∙ is) in
         let rank : root ≡ v.node = ap (λ (x : LevelVisit). x.node) same in
         let level : 0 ≡ v.level = ap (λ (x : LevelVisit). x.level) same in
         ([], ranks.one v.node p n (subst (λ k. At k p) rank at_root) at, level)
     chain_below (suc bound) (suc k) v n low is at =
-        let earlier = tree.earlier (suc k) v (omega arith) is in
-        let has = tree.edges (suc k) v (omega arith) is in
+        let earlier = part.earlier (suc k) v (omega arith) is in
+        let has = part.edges (suc k) v (omega arith) is in
         let leads = ranks.leads has.from.node v.node has.leads in
         let there : leads.to ≡ n = ranks.one v.node leads.to n leads.to_is at in
         let from = chain_below bound (v.parent - 1) has.from leads.from (omega (arith, earlier.0, earlier.1)) has.from_is leads.from_is in
@@ -111,6 +115,7 @@ module _ (t : Topology) (edge : ℕ → ℕ → Type 0) (At : ℕ → NodeName �
         let above = has.above in
         (from.0 ++ n ∷ [], one_edge_more t p from.0 leads.from n from.1 to_n, omega arith)
 
+  module _ (root : ℕ) (p : NodeName) (at_root : At root p) (visits : List LevelVisit) (tree : IsLevelTree edge root visits) where
     -- along a chain everything is visited
     along : (q : NodeName) (between : List NodeName) (s : NodeName) (position : ℕ) (v : LevelVisit) → slice_get visits position ≡ Some v → At v.node q → Chain t q between s
         → (k : ℕ) × (w : LevelVisit) × (slice_get visits k ≡ Some w) × At w.node s × (w.level ≤ v.level + length between)
@@ -139,7 +144,7 @@ module _ (t : Topology) (edge : ℕ → ℕ → Type 0) (At : ℕ → NodeName �
 
     level_at : (position : ℕ) (v : LevelVisit) (n : NodeName) → slice_get visits position ≡ Some v → At v.node n → IsLevel t p n v.level
     level_at position v n is at =
-        let chain = chain_below (suc position) position v n (omega arith) is at in
+        let chain = chain_below root p at_root visits (part_of edge root visits tree) (suc position) position v n (omega arith) is at in
         record {
           between = chain.0;
           chain = chain.1;
@@ -215,7 +220,7 @@ module _ (t : Topology) (edge : ℕ → ℕ → Type 0) (At : ℕ → NodeName �
         caused = λ n. (
           (λ l.
               let v = listed_visit l.0 l.1 n l.2 in
-              let chain = chain_below (suc l.0) l.0 v.0 n (omega arith) v.1 v.2 in
+              let chain = chain_below root p at_root visits (part_of edge root visits tree) (suc l.0) l.0 v.0 n (omega arith) v.1 v.2 in
               (chain.0, chain.1)),
           (λ causes.
               let far = from_root n causes.0 causes.1 in

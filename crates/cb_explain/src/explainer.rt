@@ -65,7 +65,7 @@ impl Explainer {
         ensures same { graph.new ≡ graph.old }
         ensures searched { OnOk result ((p : Name) → IsNodeNamed graph.old problem p → HasSearched graph.old p self.new) }
         ensures explainer { OnOk result (IsExplainerOf graph.old self.new) }
-        ensures asked { OnOk result (CountsCaused graph.old problem steps.old steps.new) }
+        ensures asked { CountsCaused graph.old problem steps.old steps.new }
     {
         let root = rank_of(&self.order, problem);
         self.visits = level_tree(alloc, graph, &self.order, &mut self.searches, root, steps)?;

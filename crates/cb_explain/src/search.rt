@@ -1,7 +1,8 @@
 //! The canonical levels of a problem, made.
-ghost use Rattle.std.specs.Prelude.{◌≡◌, ◌≤◌, ◌+◌, ℕ, length, IfOk};
+ghost use Rattle.std.specs.Prelude.{◌≡◌, ℕ, IfOk};
 ghost use Rattle.cb_span.specs.Orders.{IsRank};
 ghost use Rattle.cb_span.specs.Made.{IsProblemId};
+ghost use Rattle.cb_explain.specs.Explained.{CountsCaused};
 ghost use Rattle.cb_explain.specs.Levelled.{AreLevelsAt};
 
 use crate::written::levels_by;
@@ -24,7 +25,7 @@ pub fn levels_of<L: Ledger>(
     requires { IsProblemId graph.old problem }
     ensures same { graph.new ≡ graph.old }
     ensures made { IfOk result (AreLevelsAt graph.old problem) }
-    ensures asked { IfOk result (λ levels. steps.new ≤ steps.old + length levels.entries) }
+    ensures asked { CountsCaused graph.old problem steps.old steps.new }
 {
     let order = order_of(alloc, graph.topology())?;
     let mut searches = Searches::new(alloc, &order)?;

@@ -1,4 +1,4 @@
-use Rattle.std.proofs.Common.{◌≤◌, ◌+◌, List, length, sym, ap, subst, ◌∙◌, arith}
+use Rattle.std.proofs.Common.{List, length, sym, subst, ◌∙◌, arith}
 use Rattle.std.proofs.lemmas.Option.{slice_get_within}
 use Rattle.cb_model.specs.WellTyped.{WellTyped}
 use Rattle.cb_network.specs.Sound.{Sound}
@@ -7,10 +7,10 @@ use Rattle.cb_breadth.proofs.Beginning.{begun}
 use Rattle.cb_graph.specs.Edges.{EdgeAt}
 use Rattle.cb_topo.specs.Numbered.{Numbered, topology_of, IsWhole}
 use Rattle.cb_span.specs.Orders.{IsAtRank, IsOrderOf}
-use Rattle.cb_span.proofs.Zips.{ok_weaker, zip_count}
-use Rattle.cb_levels.specs.declared.levels.Levels.{Levels}
-use Rattle.cb_explain.specs.Made.{IsEntryFor, AreLevelsFor}
+use Rattle.cb_span.proofs.Zips.{ok_weaker}
+use Rattle.cb_explain.specs.Made.{AreLevelsFor}
 use Rattle.cb_explain.specs.Levelled.{AreLevelsAt, AreRanksBelow}
+use Rattle.cb_explain.proofs.Explaining.{counts_caused}
 use Rattle.cb_explain.proofs.Levelling.{ranks_below, live_rank, levels_made}
 use Rattle.cb_explain.proofs.search.levels_of.Goals as goal
 
@@ -66,11 +66,15 @@ returns-clause-made g c =
 pub returns-clause-asked : goal.returns-clause-asked
 returns-clause-asked g c =
     let order = c.in_ok-order.order in
-    let at = IsAtRank c.topology-2.result.now order in
-    ok_weaker (AreLevelsFor at c.deref.result.now) (λ (levels : Levels). c.level_tree.new.steps ≤ c.args.steps.now + length levels.entries) c.levels_by.result
-    (λ levels are.
-    let long = zip_count (IsEntryFor at levels.nodes) c.deref.result.now levels.entries are.entries in
-    let of_visits = c.deref.ensures.value in
-    let asked = c.in_ok-visits.ensures.asked in
-    subst (λ k. c.level_tree.new.steps ≤ c.args.steps.now + k) (sym (long ∙ ap length of_visits)) asked)
-    c.levels_by.ensures
+    let ord = subst (λ (m : Numbered). IsOrderOf m order) c.topology.ensures c.in_ok-order.ensures.order in
+    let whole = subst IsWhole c.topology.ensures c.in_ok-order.ensures.whole in
+    counts_caused c.args.graph.now order ord whole c.args.problem c.rank_of-root.result c.rank_of-root.ensures c.args.steps.now c.level_tree.new.steps
+    c.level_tree.ensures.asked
+
+pub returns-in_err-visits-clause-asked : goal.returns-in_err-visits-clause-asked
+returns-in_err-visits-clause-asked g c =
+    let order = c.in_ok-order.order in
+    let ord = subst (λ (m : Numbered). IsOrderOf m order) c.topology.ensures c.in_ok-order.ensures.order in
+    let whole = subst IsWhole c.topology.ensures c.in_ok-order.ensures.whole in
+    counts_caused c.args.graph.now order ord whole c.args.problem c.rank_of-root.result c.rank_of-root.ensures c.args.steps.now c.level_tree.new.steps
+    c.level_tree.ensures.asked

@@ -1,12 +1,9 @@
 use Rattle.std.proofs.Common.{length, sym, subst, arith}
 use Rattle.std.proofs.lemmas.Option.{slice_get_within}
-use Rattle.cb_breadth.specs.Orders.{Follows}
 use Rattle.cb_graph.specs.Edges.{EdgeAt}
-use Rattle.cb_span.specs.Orders.{IsAtRank}
-use Rattle.cb_topo.specs.Numbered.{topology_of}
 use Rattle.cb_explain.specs.Levelled.{AreRanksBelow}
-use Rattle.cb_explain.proofs.Levelling.{ranks_below, live_rank, are_ranks}
-use Rattle.cb_explain.proofs.Chains.{visits_few}
+use Rattle.cb_explain.proofs.Levelling.{ranks_below, live_rank}
+use Rattle.cb_explain.proofs.Explaining.{counts_caused}
 use Rattle.cb_explain.proofs.explainer.Explainer.search.Goals as goal
 
 pub rank_of-root-requires : goal.rank_of-root-requires
@@ -28,11 +25,11 @@ set_positions-requires-clause-below g c =
     subst (AreRanksBelow (length c.args.self.now.positions.items)) (sym c.deref.ensures.value) sized
 
 pub returns-clause-asked : goal.returns-clause-asked
-returns-clause-asked g c = λ name count named all.
-    let n = c.args.graph.now in
-    let order = c.args.self.now.order in
-    let at_root : IsAtRank n order c.rank_of-root.result name = record { node = c.args.problem.0; at = c.rank_of-root.ensures.node_is; named = named } in
-    let few = visits_few (topology_of n) (Follows (EdgeAt n) order.nodes.items) (IsAtRank n order) (are_ranks n order c.requires.explainer.order c.requires.explainer.whole)
-    c.rank_of-root.result name at_root c.in_ok-self.field-0.items c.in_ok-self.ensures.tree count all in
-    let asked = c.in_ok-self.ensures.asked in
-    omega arith
+returns-clause-asked g c =
+    counts_caused c.args.graph.now c.args.self.now.order c.requires.explainer.order c.requires.explainer.whole c.args.problem c.rank_of-root.result c.rank_of-root.ensures
+    c.args.steps.now c.level_tree.new.steps c.level_tree.ensures.asked
+
+pub returns-in_err-self-clause-asked : goal.returns-in_err-self-clause-asked
+returns-in_err-self-clause-asked g c =
+    counts_caused c.args.graph.now c.args.self.now.order c.requires.explainer.order c.requires.explainer.whole c.args.problem c.rank_of-root.result c.rank_of-root.ensures
+    c.args.steps.now c.level_tree.new.steps c.level_tree.ensures.asked
