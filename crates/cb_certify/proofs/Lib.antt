@@ -4,3 +4,5 @@ pub mod Coded
 pub mod Adding
 pub mod Treed
 pub mod Reduced
+pub mod CappedFormats
+pub mod Certified

@@ -1,5 +1,5 @@
 -- What a reduction of a topology's groups says of the topology.
-use Rattle.std.proofs.Common.{◌≡◌, ◌+◌, ◌-◌, ◌^◌, ◌<◌, ◌≤◌, ℕ, List, [], length, get_or, slice_get, Option, Some, None, Ok, Err, sym, ap, subst, ◌∙◌, arith}
+use Rattle.std.proofs.Common.{◌≡◌, ◌+◌, ◌-◌, ◌^◌, ◌<◌, ◌≤◌, ℕ, List, [], length, get_or, slice_get, Option, Some, None, Ok, sym, ap, subst, ◌∙◌, arith}
 use Rattle.std.proofs.lemmas.List.{length-map}
 use Rattle.std.proofs.lemmas.List.Sums.{count_by-le-length}
 use Rattle.std.proofs.lemmas.List.FromFn.{length-range_with_len}
@@ -8,25 +8,30 @@ use Rattle.cb_cert.specs.Format.{column_limit}
 use Rattle.cb_validity.proofs.Canonicals.{problem_is_node}
 use Rattle.cb_validity.proofs.Codebooks.{called_by}
 use Rattle.cb_coding.specs.declared.book.Book.{Book}
+use Rattle.cb_coding.specs.declared.book.CapBook.{CapBook}
 use Rattle.cb_coding.specs.declared.book.Pair.{Pair}
 use Rattle.cb_coding.specs.declared.group.Group.{Group}
 use Rattle.cb_coding.specs.Distance.{differ, bit, code_at, all_columns}
 use Rattle.cb_coding.specs.Groups.{codes_of}
-use Rattle.cb_coding.specs.Pairs.{IsFirstClose}
+use Rattle.cb_coding.specs.Books.{IsCapBook}
+use Rattle.cb_coding.specs.Pairs.{Good, IsFirstClose}
 use Rattle.cb_codes.specs.Codes.{Coded}
 use Rattle.cb_codes.specs.Groups.{Grouped, named_of}
 use Rattle.cb_finding.specs.Matrix.{IsMatrix}
+use Rattle.cb_finding.proofs.One.{matrix_is_one}
 use Rattle.cb_model.specs.declared.node.NodeName.{NodeName}
+use Rattle.cb_model.specs.declared.wish.Wish.TheVariants.{Plain}
 use Rattle.cb_network.specs.Topology.{Topology}
 use Rattle.cb_nodes.specs.declared.id.NodeId.{NodeId}
-use Rattle.cb_reduce.specs.declared.codebook.Refused.TheVariants.{TooClose}
+use Rattle.cb_reduce.specs.Close.{AreNumbered}
 use Rattle.cb_reduce.specs.Reduced.{IsReduced}
+use Rattle.cb_validity.specs.Codebooks.{HasCodebook}
 use Rattle.cb_topo.specs.Numbered.{Numbered, topology_of, IsNodeNamed}
 use Rattle.cb_certify.specs.declared.shortfall.ClosePair.{ClosePair}
 use Rattle.cb_certify.specs.Groups.{AreGroupsOf, AreLeast, IsLeastAt}
-use Rattle.cb_certify.specs.Made.{IsBookOf, IsFirstPair, HasCodebook}
+use Rattle.cb_certify.specs.Made.{IsCapBookOf, IsChoiceOf, IsFirstPair}
 use Rattle.cb_certify.specs.Members.{HasLeastNode, IsCalledBy, IsMemberAt, IsPairOf}
-use Rattle.cb_certify.proofs.Named.{called_later, has_member, names_at}
+use Rattle.cb_certify.proofs.Named.{called_later, has_member}
 
 module _ (t : Topology) (made : Grouped) (are : AreGroupsOf t made) (codes : Coded) (width : codes.width ≡ made.width) (rows : codes.rows ≡ codes_of made.groups) where
   wide : codes.width ≡ length are.columns
@@ -38,8 +43,14 @@ module _ (t : Topology) (made : Grouped) (are : AreGroupsOf t made) (codes : Cod
   pub columns_fit : codes.width ≤ 2 ^ 16
   columns_fit = let same = wide in let few = are.few_columns in omega arith
 
+  pub are_numbered : AreNumbered codes
+  are_numbered = let rows_are = rows_fit in let columns_are = columns_fit in record { places_fit = omega arith; columns_fit = omega arith }
+
+  pub cap_book_of : (book : CapBook) → IsCapBook codes.width codes.rows book → IsCapBookOf t book
+  cap_book_of book is = record { columns = are.columns; groups = made.groups; matrix = are.matrix; is = rw (wide, rows) at is; few = are.few_groups }
+
   module _ (wanted : ℕ) where
-    pub book_of : (book : Book) → IsReduced codes wanted (Ok book) → IsBookOf t book
+    pub book_of : (book : Book) → IsReduced codes wanted (Ok book) → IsChoiceOf t (Plain book.distance) book.columns
     book_of book is = record {
       columns = are.columns;
       groups = made.groups;
@@ -47,16 +58,15 @@ module _ (t : Topology) (made : Grouped) (are : AreGroupsOf t made) (codes : Cod
       is = rw (wide, rows) at is.0;
     }
 
-    -- there is a codebook
-    pub has_codebook : (book : Book) → IsReduced codes wanted (Ok book) → HasCodebook t wanted
-    has_codebook book is =
-        let b = book_of book is in
-        let (columns, have) = names_at b.columns book.columns b.is.within in (
-          columns,
-          record { all = b.columns; groups = b.groups; matrix = b.matrix; book = book; is_book = b.is; distance_is = is.1; named = have },
-        )
+    -- where no two are closer, there is a codebook
+    pub has_codebook : Good codes.rows (all_columns codes.width) wanted → HasCodebook t (Plain wanted)
+    has_codebook good columns groups matrix =
+        let here : Good (codes_of made.groups) (all_columns (length are.columns)) wanted = rw (wide, rows) at good in
+        let same = matrix_is_one t are.columns columns made.groups groups are.matrix matrix in
+        subst (λ (gs : List Group). Good (codes_of gs) (all_columns (length columns)) wanted) same.1
+        (subst (λ (cs : List NodeName). Good (codes_of made.groups) (all_columns (length cs)) wanted) same.0 here)
 
-    module _ (pair : Pair) (is : IsReduced codes wanted (Err (TooClose pair))) where
+    module _ (pair : Pair) (is : IsFirstClose (all_columns codes.width) codes.rows wanted pair) where
       pub first_close : IsFirstClose (all_columns (length are.columns)) (codes_of made.groups) wanted pair
       first_close = rw (wide, rows) at is
 

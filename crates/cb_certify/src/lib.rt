@@ -1,4 +1,4 @@
-//! The certificate of a topology's codebook, or of two groups that are too close for one.
+//! The certificate of a topology's codebook, for a distance or for a cap, or of two groups that are too close for one.
 #![tactic(auto)]
 
 mod codebook;
@@ -8,4 +8,4 @@ mod shortfall;
 mod stated;
 
 pub use codebook::{Codebook, codebook_of};
-pub use stated::stated_book;
+pub use stated::stated_columns;

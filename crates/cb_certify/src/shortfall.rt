@@ -1,6 +1,7 @@
 //! Two groups that are too close for a codebook.
 ghost use Rattle.std.specs.Prelude.{◌<◌, ◌≤◌, IfOk};
 ghost use Rattle.cb_cert.specs.Format.{IsWanted, column_limit};
+ghost use Rattle.cb_model.specs.declared.wish.Wish.TheVariants.{Plain};
 ghost use Rattle.cb_validity.specs.Codebooks.{least_of};
 ghost use Rattle.cb_network.specs.Nodes.{IsNodeOf};
 ghost use Rattle.cb_topo.specs.Numbered.{topology_of, IsNodeNamed};
@@ -38,7 +39,7 @@ pub(crate) fn shortfall<L: Ledger>(
     requires pair { IsFirstPair graph.old wanted close }
     requires wanted { IsWanted wanted }
     requires far { close.distance ≤ column_limit }
-    ensures { IfOk result (IsMadeOf (topology_of graph.old) wanted) }
+    ensures { IfOk result (IsMadeOf (topology_of graph.old) (Plain wanted)) }
 {
     let ClosePair {
         first: one,
@@ -49,6 +50,7 @@ pub(crate) fn shortfall<L: Ledger>(
     let second = graph.topology().copy_name(alloc, other)?;
     let certificate = thin(alloc, graph, one, other, wanted, distance, steps)?;
     Ok(Codebook::TooClose {
+        wanted,
         first,
         second,
         distance,

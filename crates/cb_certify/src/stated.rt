@@ -1,4 +1,4 @@
-//! The codebook that a certificate states.
+//! The columns that a certificate states.
 ghost use Rattle.std.specs.Prelude.{◌≡◌, ◌<◌, ◌^◌, length, IfOk, Some, slice_get};
 ghost use Rattle.std.specs.List.{Contains};
 ghost use Rattle.cb_validity.specs.Reading.{ArePlaces};
@@ -8,33 +8,27 @@ ghost use Rattle.cb_model.specs.Order.{Rises};
 ghost use Rattle.cb_topo.specs.Numbered.{topology_of};
 ghost use Rattle.cb_certify.specs.Columns.{ArePlacesFor, AreAmong};
 
-use cb_coding::Book;
 use cb_matrix::names_of;
 use cb_model::{List, NodeName};
 use cb_topo::Topology;
 use std::alloc::{AllocError, Global};
 
-/// The book at a distance over the columns that have these numbers among the nodes of a certificate. It has their positions among all columns of
-/// the topology.
-pub fn stated_book(
+/// The positions, among all columns of the topology, of those with these numbers among the nodes of a certificate.
+pub fn stated_columns(
     alloc: Global,
     topology: &Topology,
     nodes: &List<NodeName>,
     numbers: &List<u32>,
-    distance: u32,
-) -> Result<Book, AllocError>
+) -> Result<List<u32>, AllocError>
     requires { AreColumnNumbers (topology_of topology.now) nodes.now numbers.now }
-    ensures places { IfOk result (λ book. ArePlacesFor (topology_of topology.now) nodes.now numbers.now book.columns) }
-    ensures distance { IfOk result (λ book. book.distance ≡ distance) }
+    ensures { IfOk result (ArePlacesFor (topology_of topology.now) nodes.now numbers.now) }
 {
     // The topology is sound, so that its columns are few.
     let _capacity = topology.node_capacity();
     let ids = topology.columns(alloc)?;
     let all = names_of(alloc, topology, &ids)?;
-    Ok(Book {
-        columns: places_of(alloc, &all, nodes, numbers)?,
-        distance,
-    })
+    let places = places_of(alloc, &all, nodes, numbers)?;
+    Ok(places)
 }
 
 // The positions among all columns of those with these numbers.

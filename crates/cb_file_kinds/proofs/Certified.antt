@@ -34,6 +34,7 @@ rejection t c (rejected.Repeated entry) tells = inr (record { why = rejected.Rep
 rejection t c (rejected.NotClosed entry successor) tells = inr (record { why = rejected.NotClosed entry successor; fails = tells; is = refl })
 rejection t c (rejected.TooClose first second distance) tells = inr (record { why = rejected.TooClose first second distance; fails = tells; is = refl })
 rejection t c (rejected.NotThin distance) tells = inr (record { why = rejected.NotThin distance; fails = tells; is = refl })
+rejection t c (rejected.BadRadius place) tells = inr (record { why = rejected.BadRadius place; fails = tells; is = refl })
 
 -- a certificate, after a topology
 module _ (wanted : Wanted) (name text : List ℕ) (short : length text ≤ byte_limit (Role.certificate wanted)) (t : Topology) where

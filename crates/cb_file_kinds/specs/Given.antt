@@ -1,9 +1,10 @@
 -- A codebook that is given by a certificate.
 use Rattle.std.specs.Prelude.{◌≡◌, ℕ, List}
 use Rattle.cb_text.specs.Lines.{HasShortLines}
+use Rattle.cb_model.specs.declared.node.NodeName.{NodeName}
 use Rattle.cb_network.specs.Topology.{Topology}
 use Rattle.cb_cert.specs.declared.certificate.Certificate.{Certificate}
-use Rattle.cb_cert.specs.declared.certificate.Certificate.TheVariants.{Book as BookClaim}
+use Rattle.cb_cert.specs.declared.certificate.Certificate.TheVariants.{Book as BookClaim, Capped as CapClaim}
 use Rattle.cb_cert.specs.declared.certificate.Span.{Span}
 use Rattle.cb_cert.specs.Format.{IsCertificate, SpellsCertificate}
 use Rattle.cb_validity.specs.Valid.{IsValid}
@@ -13,13 +14,20 @@ use Rattle.cb_topo.specs.Numbered.{topology_of}
 use Rattle.cb_report.specs.CertificateTexts.{accepted_text}
 use Rattle.cb_outcome.specs.Judged.{Known, certified}
 use Rattle.cb_file_kinds.specs.declared.book_file.GivenBook.{GivenBook}
+use Rattle.cb_file_kinds.specs.declared.book_file.GivenWish.{GivenWish}
+use Rattle.cb_file_kinds.specs.declared.book_file.GivenWish.TheVariants.{Plain, Cap}
 use Rattle.cb_file_kinds.specs.declared.certificate_file.Shown.{Shown}
 use Rattle.cb_file_kinds.specs.declared.certificate_file.ValidCertificate.{ValidCertificate}
 use Rattle.cb_file_kinds.specs.declared.book_file.ShownBook.{ShownBook}
 
--- the certificate with these spans after the nodes and the columns
+-- the certificate of a codebook that keeps this, over columns, with these spans
+abbrev pub claim_of : GivenWish → List NodeName → List ℕ → List Span → Certificate
+claim_of (Plain distance) nodes columns spans = BookClaim distance nodes columns spans
+claim_of (Cap cap radii) nodes columns spans = CapClaim cap nodes columns radii spans
+
+-- that of a given one
 abbrev pub certificate_of : GivenBook → List Span → Certificate
-certificate_of given spans = BookClaim given.distance given.nodes given.columns spans
+certificate_of given spans = claim_of given.wish given.nodes given.columns spans
 
 -- it is the codebook of a certificate of the format, which is valid; its graph is of the topology
 pub record IsGivenBy (t : Topology) (c : Certificate) (given : GivenBook) : Type 0 where

@@ -21,11 +21,20 @@ use cb_topo::Topology;
 use std::alloc::Global;
 use std::sync::ledger::Ledger;
 
-/// The codebook of a valid certificate: its distance, and its columns by their numbers among the nodes. The graph is the one that the
+/// How far apart a codebook keeps the groups.
+#[derive(Drop)]
+pub enum GivenWish {
+    /// At least at this distance.
+    Plain(u32),
+    /// As far as over all columns, or as the cap where that is less; each group, in order, has a radius of its own.
+    Cap { cap: u32, radii: List<u32> },
+}
+
+/// The codebook of a valid certificate: what it keeps, and its columns by their numbers among the nodes. The graph is the one that the
 /// certificate was checked against.
 #[derive(Drop)]
 pub struct GivenBook {
-    pub distance: u32,
+    pub wish: GivenWish,
     pub nodes: List<NodeName>,
     pub columns: List<u32>,
     pub graph: Graph,
@@ -69,7 +78,7 @@ impl<'s, L: Ledger> FileKind for BookFile<'s, L> {
     }
 }
 
-// The codebook of a valid certificate, if it is a book, with the line that says what it shows.
+// The codebook of a valid certificate, if it states one, with the line that says what it shows.
 fn book_of<'w>(alloc: Global, valid: ValidCertificate) -> Result<ShownBook, Fault<'w>>
     ensures book { IfOk result (λ book. (t : TopologyOf) (text : List ℕ) → IsValidFrom t text valid → IsShownBy t valid.certificate book) }
     ensures other { IfErr result (λ fault. IsWant fault ⊎ ((¬ IsBookKind valid.certificate) × (fault ≡ NotBook))) }
@@ -86,7 +95,22 @@ fn book_of<'w>(alloc: Global, valid: ValidCertificate) -> Result<ShownBook, Faul
             ..
         } => {
             let book = GivenBook {
-                distance,
+                wish: GivenWish::Plain(distance),
+                nodes,
+                columns,
+                graph,
+            };
+            Ok(ShownBook { book, line })
+        }
+        Certificate::Capped {
+            cap,
+            nodes,
+            columns,
+            radii,
+            ..
+        } => {
+            let book = GivenBook {
+                wish: GivenWish::Cap { cap, radii },
                 nodes,
                 columns,
                 graph,

@@ -11,7 +11,7 @@ mod output;
 mod symptom_file;
 mod topology_file;
 
-pub use book_file::{BookFile, GivenBook, ShownBook};
+pub use book_file::{BookFile, GivenBook, GivenWish, ShownBook};
 pub use certificate_file::CertificateFile;
 pub use kind::{FileKind, read_as};
 pub use levels_file::{LevelsFile, ProvedLevels};

@@ -5,6 +5,7 @@ use Rattle.cb_change.specs.Costs.{IsOpenCost}
 use Rattle.cb_io.specs.LineReading.{Reading, unread, coming}
 use Rattle.cb_io.specs.Outside.{FilesReport, SinkReport, left_of, ReadsEach, ReadsPrefix}
 use Rattle.cb_text.specs.Lines.{lines_of}
+use Rattle.cb_model.specs.declared.wish.Wish.{Wish}
 use Rattle.cb_network.specs.Regular.{IsRegular}
 use Rattle.cb_network.specs.Topology.{Topology}
 use Rattle.cb_log.specs.Basis.{Mode, wanted}
@@ -41,10 +42,10 @@ none_counts t lines steps steps' same = λ cost is. omega (arith, same)
 -- ---- a log that is followed
 
 -- nothing was given yet
-pub counts_begin : (watch : Watch) (d : ℕ) → watch.mode ≡ wanted d → (now : FilesReport) (name : List ℕ) (steps : ℕ)
+pub counts_begin : (watch : Watch) (wish : Wish) → watch.mode ≡ wanted wish → (now : FilesReport) (name : List ℕ) (steps : ℕ)
     → HasCounted watch now (unread name log_line_limit log_limit) steps steps
-counts_begin watch d mode now name steps = record {
-  distance = d;
+counts_begin watch wish mode now name steps = record {
+  wish = wish;
   mode = mode;
   counts = of_all (left_of now name) _ (λ log. none_counts watch.from (log_lines (take 0 log)) steps steps refl);
 }
@@ -65,7 +66,7 @@ module _ (watch : Watch) (now : FilesReport) (out : SinkReport) (reader : Readin
   piece_taken after takes = if_some2 (left_of now reader.name) _ _ _ (λ log has counts taken.
       there (coming reader files) (PieceTakes reader after session steps steps') has.rest has.comes takes watch log start (record {
         regular = going.regular;
-        distance = counted.distance;
+        wish = counted.wish;
         mode = counted.mode;
         reported = has.reported;
         is_at = has.is_at;
@@ -79,13 +80,13 @@ module _ (watch : Watch) (now : FilesReport) (out : SinkReport) (reader : Readin
       by_end : (b : Bool) → reader'.ended ≡ b → CountsOn watch now reader' start steps' (Ok b)
       by_end true e = tt
       by_end false e = record {
-        distance = counted.distance;
+        wish = counted.wish;
         mode = counted.mode;
         counts = subst (λ (n : List ℕ). IfSome (left_of now n) (λ log. CountsLines watch.from (log_lines (take reader'.given log)) start steps')) (sym name)
             (if_some2 (left_of now reader.name) _ _ _ (λ log has counts.
             there (coming reader files) (PieceCounts reader reader' session steps steps') has.rest has.comes says watch log start (record {
               regular = going.regular;
-              distance = counted.distance;
+              wish = counted.wish;
               mode = counted.mode;
               reported = has.reported;
               is_at = has.is_at;
@@ -152,28 +153,28 @@ abbrev pub StepsSoFar : State → Summary → ℕ → ℕ → List (List ℕ) �
 StepsSoFar old summary start steps before = CountsSummed old summary (numbered before) start steps
 
 pub steps_none : (old : State) (summary : Summary) (start : ℕ) → StepsSoFar old summary start start []
-steps_none old summary start = λ opening d regular mode has. none_counts opening [] start start refl
+steps_none old summary start = λ opening wish regular mode has. none_counts opening [] start start refl
 
 module _ (old mid : State) (summary summary' : Summary) (start steps steps' : ℕ) (before : List (List ℕ)) (line : List ℕ) where
   -- one line more
   pub steps_more : StepsSoFar old summary start steps before → mid.mode ≡ old.mode
       → ((opening : Topology) → IsRegular opening.model → HasSummedUp opening [] old summary → HasSummedUp opening (numbered before) mid summary')
       → CountsLine (network_of mid) (numbered_line (length before + 1, line)) steps steps' → StepsSoFar old summary start steps' (before ++ line ∷ [])
-  steps_more so same takes counts = λ opening d regular mode has.
+  steps_more so same takes counts = λ opening wish regular mode has.
       let here = takes opening regular has in
       let now : IsNow opening (records_of here.entries) (network_of mid) =
       subst (λ (m : Mode). IsNetwork opening m (records_of here.entries) (network_of mid)) (same ∙ mode) here.stands.network in
       subst (λ (v : List NumberedLine). CountsLines opening v start steps') (sym (numbered_more before line))
       (counts_more opening regular (numbered before) here.entries here.come (network_of mid) now (numbered_line (length before + 1, line)) start steps steps'
-      (so opening d regular mode has) counts)
+      (so opening wish regular mode has) counts)
 
 -- the first lines of a text cost no more than all
 pub steps_prefix : (old : State) (summary : Summary) (start steps : ℕ) (text : List ℕ) (before rest : List (List ℕ)) → before ++ rest ≡ lines_of text
     → StepsSoFar old summary start steps before → CountsSummed old summary (log_lines text) start steps
-steps_prefix old summary start steps text before rest whole so = λ opening d regular mode has.
+steps_prefix old summary start steps text before rest whole so = λ opening wish regular mode has.
     let (later, are) = prefixes.numbered 1 before rest in
     let all : log_lines text ≡ numbered before ++ later = ap numbered (sym whole) ∙ are in
-    subst (λ (v : List NumberedLine). CountsLines opening v start steps) (sym all) (counts_prefix opening (numbered before) later start steps (so opening d regular mode has))
+    subst (λ (v : List NumberedLine). CountsLines opening v start steps) (sym all) (counts_prefix opening (numbered before) later start steps (so opening wish regular mode has))
 
 -- and all its lines are its lines
 pub steps_all : (old : State) (summary : Summary) (start steps : ℕ) (text : List ℕ) → StepsSoFar old summary start steps (lines_of text)

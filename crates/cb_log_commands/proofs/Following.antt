@@ -17,7 +17,7 @@ use Rattle.cb_outcome.specs.LogJobs.{Watch, PrefixTells, log_limit}
 use Rattle.cb_session.specs.State.{State}
 use Rattle.cb_log_commands.specs.Following.{IsDueUpto, IsReportedInPart, EndsLog}
 use Rattle.cb_file_kinds.specs.Kinds.{ReadsOnly}
-use Rattle.cb_log_commands.specs.Stops.{stop_of_read, fault_of_stop}
+use Rattle.cb_log_commands.specs.Stops.{stop_of_read, fault_of_log_stop}
 use Rattle.cb_log_commands.specs.Telling.{joined, ComesNext, ComesLast, LogComes, PieceSays, StopSays, ReadsLog, HasReported, Going, GoesOrEnds, OpensLog}
 use Rattle.cb_file_kinds.proofs.Chain.{if_some}
 use Rattle.cb_log_commands.proofs.Lines.{one_none}
@@ -219,7 +219,7 @@ module _ (watch : Watch) (now : FilesReport) (out : SinkReport) (reader : Readin
   -- what is wrong where the next piece is refused
   pub refused : (stop : ReadStop) → IfSome (coming reader files) (StopSays reader files' stop)
       → (stop ≡ reads.ReadFault → ReadFailed files files' reader.name)
-      → EndsLog watch reader'.name now files' out out_now (Some (fault_of_stop reader'.name (stop_of_read stop)))
+      → EndsLog watch reader'.name now files' out out_now (Some (fault_of_log_stop reader'.name (stop_of_read stop)))
   refused reads.TooMuch says failed = too_much says
   refused reads.ReadFault says failed = read_fault says (failed refl)
   refused reads.NoMemory says failed = no_memory

@@ -7,6 +7,8 @@ use Rattle.cb_coding.specs.declared.group.Group.{Group}
 use Rattle.cb_codes.specs.Groups.{named, named_of}
 use Rattle.cb_network.specs.declared.edit.EditRefusal.{EditRefusal}
 use Rattle.cb_model.specs.declared.node.NodeName.{NodeName}
+use Rattle.cb_model.specs.declared.wish.Wish.{Wish}
+use Rattle.cb_model.specs.declared.wish.Wish.TheVariants.{Plain, Cap}
 use Rattle.cb_model.proofs.Numbers.{take_more}
 use Rattle.cb_network.specs.Nodes.{IsProblem, AreProblems, IsCount, IsCountWithin}
 use Rattle.cb_network.specs.Regular.{IsRegular}
@@ -15,11 +17,11 @@ use Rattle.cb_network.proofs.Counts.{count_is_one, count_of_rising}
 use Rattle.cb_network.specs.Topology.{Topology}
 use Rattle.cb_log.specs.declared.closed.Closed.{Closed}
 use Rattle.cb_log.specs.declared.event.Event.{Event}
-use Rattle.cb_log.specs.declared.event.Event.TheVariants.{Skipped, Refused, Thin, BookMade, Diagnosis}
+use Rattle.cb_log.specs.declared.event.Event.TheVariants.{Skipped, Refused, Thin, BookMade, CapMade, Diagnosis}
 use Rattle.cb_log.specs.declared.record.Body.{Body}
 use Rattle.cb_log.specs.declared.record.Body.TheVariants.{Raise, Clear, Change, Tick}
 use Rattle.cb_log.specs.declared.record.Record.{Record}
-use Rattle.cb_log.specs.Basis.{Mode, wanted, fixed, Basis, IsDiagnosis, IsAnnounced, book_made}
+use Rattle.cb_log.specs.Basis.{Mode, wanted, fixed, Basis, IsDiagnosis, IsMadeFor, AreWarnings, IsAnnounced}
 use Rattle.cb_log.specs.Entries.{LogEntry, said, skipped, blank, records_of}
 use Rattle.cb_log.specs.Events.{IsOpening, Diagnoses, IsRefusal, BodyGives, EntryGives, EntriesGive, EndGives}
 use Rattle.cb_log.proofs.OneForEach.{records_of_both}
@@ -42,16 +44,25 @@ skips_none_of (Skipped line why ∷ xs) ys a b = a
 skips_none_of (Refused line why ∷ xs) ys a b = refl
 skips_none_of (Thin d first second far ∷ xs) ys a b = refl
 skips_none_of (BookMade k n d r g ∷ xs) ys a b = refl
+skips_none_of (CapMade k n cap low high g ∷ xs) ys a b = refl
 skips_none_of (Diagnosis from opened closed finding ∷ xs) ys a b = refl
 
 no_events : (events : List Event) → events ≡ [] → skips events ≡ false
 no_events events none = ap skips none
 
 module _ {network : Topology} {mode : Mode} (basis : Basis network mode) where
-  announced : (d : ℕ) (events : List Event) → IsAnnounced basis d events → skips events ≡ false
-  announced d events (inl (good, is)) = ap skips is
-  announced d events (inr (event, thin, is)) =
-      ap skips is ∙ ap (λ (e : Event). skips (e ∷ book_made basis ∷ [])) thin.is
+  made : (used : Wish) (event : Event) → IsMadeFor basis used event → skips (event ∷ []) ≡ false
+  made (Plain d) event is = ap (λ (e : Event). skips (e ∷ [])) is
+  made (Cap cap) event is = ap (λ (e : Event). skips (e ∷ [])) is.is
+
+  warned : (wish : Wish) (events : List Event) → AreWarnings basis wish events → skips events ≡ false
+  warned (Plain d) events (inl (good, is)) = ap skips is
+  warned (Plain d) events (inr (event, thin, is)) = ap skips is ∙ ap (λ (e : Event). skips (e ∷ [])) thin.is
+  warned (Cap cap) events is = ap skips is
+
+  announced : (wish : Wish) (events : List Event) → IsAnnounced basis wish events → skips events ≡ false
+  announced wish events is =
+      ap skips is.events_are ∙ skips_none_of is.warnings (is.made ∷ []) (warned wish is.warnings is.are_warnings) (made basis.used is.made is.is_made)
 
   diagnosed : (closing : List Closed) (events : List Event) → AllZip (IsDiagnosis basis) closing events → skips events ≡ false
   diagnosed closing [] each = refl
@@ -60,9 +71,9 @@ module _ {network : Topology} {mode : Mode} (basis : Basis network mode) where
 
 opening_tells : (t : Topology) (mode : Mode) (w : ℕ) (records : List Record) (network : Topology) (basis : Basis network mode) (events : List Event)
     → IsOpening t mode w records basis events → skips events ≡ false
-opening_tells t (wanted d) w records network basis events (inl (has, is)) = no_events events is
-opening_tells t (wanted d) w records network basis events (inr (none, is)) = announced basis d events is
-opening_tells t (fixed book) w records network basis events is = no_events events is
+opening_tells t (wanted wish) w records network basis events (inl (has, is)) = no_events events is
+opening_tells t (wanted wish) w records network basis events (inr (none, is)) = announced basis wish events is
+opening_tells t (fixed kept used) w records network basis events is = no_events events is
 
 module _ (t : Topology) (mode : Mode) (w : ℕ) where
   diagnoses_tell : (records : List Record) (closing : List Closed) (events : List Event) → Diagnoses t mode w records closing events → skips events ≡ false
@@ -77,14 +88,14 @@ refusal_tells line (Err why) events is = ap skips is
 
 body_tells : (t : Topology) (mode : Mode) (records : List Record) (line : ℕ) (body : Body) (events : List Event) → BodyGives t mode records line body events
     → skips events ≡ false
-body_tells t (wanted d) records line (Change edit) events (network, now, result, after, is) = refusal_tells line result events is
-body_tells t (wanted d) records line (Raise source node) events is = no_events events is
-body_tells t (wanted d) records line (Clear source node) events is = no_events events is
-body_tells t (wanted d) records line Tick events is = no_events events is
-body_tells t (fixed book) records line (Change edit) events is = ap skips is
-body_tells t (fixed book) records line (Raise source node) events is = no_events events is
-body_tells t (fixed book) records line (Clear source node) events is = no_events events is
-body_tells t (fixed book) records line Tick events is = no_events events is
+body_tells t (wanted wish) records line (Change edit) events (network, now, result, after, is) = refusal_tells line result events is
+body_tells t (wanted wish) records line (Raise source node) events is = no_events events is
+body_tells t (wanted wish) records line (Clear source node) events is = no_events events is
+body_tells t (wanted wish) records line Tick events is = no_events events is
+body_tells t (fixed kept used) records line (Change edit) events is = ap skips is
+body_tells t (fixed kept used) records line (Raise source node) events is = no_events events is
+body_tells t (fixed kept used) records line (Clear source node) events is = no_events events is
+body_tells t (fixed kept used) records line Tick events is = no_events events is
 
 -- ---- whether a line was a record
 

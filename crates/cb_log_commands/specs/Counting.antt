@@ -4,6 +4,7 @@ use Rattle.cb_io.specs.declared.line_reader.Line.{Line as Given}
 use Rattle.cb_io.specs.declared.line_reader.Line.TheVariants as given
 use Rattle.cb_io.specs.LineReading.{Reading}
 use Rattle.cb_io.specs.Outside.{FilesReport, left_of}
+use Rattle.cb_model.specs.declared.wish.Wish.{Wish}
 use Rattle.cb_network.specs.Regular.{IsRegular}
 use Rattle.cb_network.specs.Topology.{Topology}
 use Rattle.cb_log.specs.Basis.{wanted}
@@ -31,13 +32,13 @@ CountsGiven network (given.Text number) bytes old new = CountsLine network (Numb
 CountsGiven network (given.Long number) bytes old new = CountsLine network (NumberedLine.long number) old new
 CountsGiven network given.End bytes old new = new ≡ old
 
--- ---- a log that is followed by codebooks for a wanted distance
+-- ---- a log that is followed by codebooks for a wish
 
 -- these bytes come, and since the start no more steps were counted than the lines cost that were given
 pub record IsCountedAt (watch : Watch) (log : List ℕ) (reader : Reading) (bytes : List ℕ) (session : State) (start steps : ℕ) : Type 0 where
   pub regular : IsRegular watch.from.model
-  pub distance : ℕ
-  pub mode : watch.mode ≡ wanted distance
+  pub wish : Wish
+  pub mode : watch.mode ≡ wanted wish
   pub reported : List ℕ
   pub is_at : IsLogAt watch log reader.number reader.given bytes session reported
   pub counts : CountsLines watch.from (log_lines (take reader.given log)) start steps
@@ -54,8 +55,8 @@ PieceCounts reader reader' session old new bytes = (watch : Watch) (log : List �
 
 -- since the start no more steps were counted than the lines cost that were given
 pub record HasCounted (watch : Watch) (now : FilesReport) (reader : Reading) (start steps : ℕ) : Type 0 where
-  pub distance : ℕ
-  pub mode : watch.mode ≡ wanted distance
+  pub wish : Wish
+  pub mode : watch.mode ≡ wanted wish
   pub counts : IfSome (left_of now reader.name) (λ log. CountsLines watch.from (log_lines (take reader.given log)) start steps)
 
 -- the steps of a line that was taken, where the log goes on
@@ -70,7 +71,7 @@ CountsTaken t name now after start steps =
 
 -- ---- a log that is summed up
 
--- no more steps are counted than these lines cost, where they are taken from the beginning by codebooks for a wanted distance
+-- no more steps are counted than these lines cost, where they are taken from the beginning by codebooks for a wish
 abbrev pub CountsSummed : State → Summary → List NumberedLine → ℕ → ℕ → Type 0
-CountsSummed session summary lines old new = (opening : Topology) (d : ℕ) → IsRegular opening.model → session.mode ≡ wanted d
+CountsSummed session summary lines old new = (opening : Topology) (wish : Wish) → IsRegular opening.model → session.mode ≡ wanted wish
     → HasSummedUp opening [] session summary → CountsLines opening lines old new

@@ -1,6 +1,6 @@
 -- A log that is followed by a codebook that is given.
-use Rattle.std.specs.Prelude.{◌≡◌, ℕ, []}
-use Rattle.cb_coding.specs.declared.book.Book.{Book}
+use Rattle.std.specs.Prelude.{◌≡◌, ℕ, List, []}
+use Rattle.cb_model.specs.declared.wish.Wish.{Wish}
 use Rattle.cb_network.specs.Regular.{IsRegular}
 use Rattle.cb_network.specs.Topology.{Topology}
 use Rattle.cb_cert.specs.declared.certificate.Certificate.{Certificate}
@@ -11,8 +11,9 @@ use Rattle.cb_outcome.specs.LogJobs.{States}
 -- a session at the beginning of a log over the topology, by the codebook that a certificate states
 pub record StandsFixed (t : Topology) (c : Certificate) (window : ℕ) (session : State) : Type 0 where
   pub regular : IsRegular t.model
-  pub book : Book
-  pub states : States t c book
-  pub mode : session.mode ≡ fixed book
+  pub kept : List ℕ
+  pub used : Wish
+  pub states : States t c kept used
+  pub mode : session.mode ≡ fixed kept used
   pub length : session.windows.length ≡ window
   pub stands : StandsForEntries session t []

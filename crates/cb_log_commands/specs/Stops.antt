@@ -14,8 +14,8 @@ stop_of_read reads.TooMuch = stops.TooMuch
 stop_of_read reads.NoMemory = stops.NoMemory
 
 -- what is wrong with a log of this name
-abbrev pub fault_of_stop : List ℕ → LogStop → Fault
-fault_of_stop name stops.ReadFault = faults.ReadFault name
-fault_of_stop name stops.TooMuch = faults.LimitBytes name
-fault_of_stop name stops.WriteFault = faults.WriteFault
-fault_of_stop name stops.NoMemory = faults.Memory
+abbrev pub fault_of_log_stop : List ℕ → LogStop → Fault
+fault_of_log_stop name stops.ReadFault = faults.ReadFault name
+fault_of_log_stop name stops.TooMuch = faults.LimitBytes name
+fault_of_log_stop name stops.WriteFault = faults.WriteFault
+fault_of_log_stop name stops.NoMemory = faults.Memory

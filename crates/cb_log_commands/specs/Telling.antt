@@ -20,7 +20,7 @@ use Rattle.cb_session.specs.State.{State, StandsForEntries}
 use Rattle.cb_log_commands.specs.declared.stop.LogStop.{LogStop}
 use Rattle.cb_log_commands.specs.Following.{EndsLog}
 use Rattle.cb_file_kinds.specs.Kinds.{ReadsOnly}
-use Rattle.cb_log_commands.specs.Stops.{fault_of_stop}
+use Rattle.cb_log_commands.specs.Stops.{fault_of_log_stop}
 
 -- the bytes of lines, each ended by a LF, which is 10
 abbrev pub joined : List (List ℕ) → List ℕ
@@ -131,13 +131,13 @@ pub record Going (watch : Watch) (now : FilesReport) (out : SinkReport) (reader 
 -- what is wrong where following a log of this name ends so
 abbrev pub wrong_of : List ℕ → Result (Unit {0}) LogStop → Option Fault
 wrong_of name (Ok done) = None
-wrong_of name (Err stop) = Some (fault_of_stop name stop)
+wrong_of name (Err stop) = Some (fault_of_log_stop name stop)
 
 -- where the next piece was written it goes on, unless that was the last; and else it has ended
 abbrev pub GoesOrEnds : Watch → FilesReport → SinkReport → Reading → FilesReport → SinkReport → State → Result Bool LogStop → Type 0
 GoesOrEnds watch now out reader files out' session (Ok false) = Going watch now out reader files out' session
 GoesOrEnds watch now out reader files out' session (Ok true) = EndsLog watch reader.name now files out out' None
-GoesOrEnds watch now out reader files out' session (Err stop) = EndsLog watch reader.name now files out out' (Some (fault_of_stop reader.name stop))
+GoesOrEnds watch now out reader files out' session (Err stop) = EndsLog watch reader.name now files out out' (Some (fault_of_log_stop reader.name stop))
 
 -- A session stands at the beginning of a log, and what the watch opens with is written.
 pub record OpensLog (watch : Watch) (session : State) (out out' : SinkReport) : Type 0 where

@@ -1,9 +1,9 @@
 //! The command `correlate`.
 ghost use Rattle.std.specs.Prelude.{◌≡◌, ◌≤◌, ◌+◌, ℕ, [], IfOk};
-ghost use Rattle.cb_cert.specs.Format.{IsWanted};
 ghost use Rattle.cb_change.specs.Costs.{IsOpenCost};
 ghost use Rattle.cb_log.specs.Basis.{wanted as for_wanted};
 ghost use Rattle.cb_network.specs.Regular.{IsRegular};
+ghost use Rattle.cb_outcome.specs.Command.{IsWishWithin};
 ghost use Rattle.cb_outcome.specs.Commands.Correlate.{correlate as command};
 ghost use Rattle.cb_session.specs.State.{StandsForEntries};
 ghost use Rattle.cb_topo.specs.Numbered.{topology_of};
@@ -15,6 +15,7 @@ use cb_cache::Cache;
 use cb_file_kinds::read_network;
 use cb_graph::Graph;
 use cb_io::{Files, Sink};
+use cb_model::Wish;
 use cb_report::Fault;
 use cb_request::FileName;
 use cb_session::Session;
@@ -23,10 +24,10 @@ use cb_topo::Topology;
 use std::alloc::{AllocError, Global};
 use std::sync::ledger::Ledger;
 
-/// How a log is correlated: the distance at which codebooks are wanted, and the length of windows.
+/// How a log is correlated: what is wanted of codebooks, and the length of windows.
 #[derive(Clone, Copy)]
 pub struct Correlation {
-    pub distance: u64,
+    pub wish: Wish,
     pub window: u64,
 }
 
@@ -41,10 +42,10 @@ pub fn correlate<'w, F: Files, O: Sink, L: Ledger>(
     asked: Correlation,
     steps: &mut Steps<L>,
 ) -> Result<(), Fault<'w>>
-    requires { (command model topology log asked.distance asked.window).range }
-    ensures ends { Ends (command model.entry topology.entry log.entry asked.distance asked.window) (F.tells files.old) (F.tells files.new)
+    requires { (command model topology log asked.wish asked.window).range }
+    ensures ends { Ends (command model.entry topology.entry log.entry asked.wish asked.window) (F.tells files.old) (F.tells files.new)
         (O.tells out.old) (O.tells out.new) (wrong result) }
-    ensures steps { (command model.entry topology.entry log.entry asked.distance asked.window).counts (F.tells files.old) (F.tells files.new)
+    ensures steps { (command model.entry topology.entry log.entry asked.wish asked.window).counts (F.tells files.old) (F.tells files.new)
         steps.old steps.new }
 {
     let topology = read_network(alloc, files, model, topology)?;
@@ -61,9 +62,9 @@ pub fn open_session<L: Ledger>(
     asked: Correlation,
     steps: &mut Steps<L>,
 ) -> Result<Session, AllocError>
-    requires distance { IsWanted asked.distance }
+    requires wish { IsWishWithin 1 9999 asked.wish }
     requires window { 1 ≤ asked.window }
-    ensures mode { IfOk result (λ session. session.mode ≡ for_wanted asked.distance) }
+    ensures mode { IfOk result (λ session. session.mode ≡ for_wanted asked.wish) }
     ensures length { IfOk result (λ session. session.windows.length ≡ asked.window) }
     ensures stands { IfOk result (λ session. StandsForEntries session (topology_of topology) []) }
     ensures regular { IsRegular (topology_of topology).model }
@@ -72,5 +73,19 @@ pub fn open_session<L: Ledger>(
     let _typed = topology.model();
     let graph = Graph::new(alloc, topology)?;
     let cache = Cache::open(alloc, graph, steps)?;
-    Session::open(alloc, cache, asked.distance as u32, asked.window)
+    session_for(alloc, cache, asked)
+}
+
+// A session at the beginning of a log, over the topology of a cache.
+fn session_for(alloc: Global, cache: Cache, asked: Correlation) -> Result<Session, AllocError>
+    requires wish { IsWishWithin 1 9999 asked.wish }
+    requires window { 1 ≤ asked.window }
+    ensures mode { IfOk result (λ session. session.mode ≡ for_wanted asked.wish) }
+    ensures length { IfOk result (λ session. session.windows.length ≡ asked.window) }
+    ensures stands { IfOk result (λ session. StandsForEntries session (topology_of cache.graph) []) }
+{
+    match asked.wish {
+        Wish::Plain(distance) => Session::open(alloc, cache, distance, asked.window),
+        Wish::Cap(cap) => Session::open_cap(alloc, cache, cap, asked.window),
+    }
 }

@@ -15,8 +15,9 @@ ghost use Rattle.cb_file_kinds.specs.Ending.{wrong};
 
 use crate::follow::follow;
 use cb_cache::Cache;
-use cb_certify::stated_book;
-use cb_file_kinds::{BookFile, GivenBook, ShownBook, read_as, read_network};
+use cb_certify::stated_columns;
+use cb_coding::{Book, CapBook};
+use cb_file_kinds::{BookFile, GivenBook, GivenWish, ShownBook, read_as, read_network};
 use cb_io::{Files, Sink, write_all};
 use cb_report::Fault;
 use cb_request::FileName;
@@ -70,17 +71,29 @@ fn session_over<L: Ledger>(
     requires window { 1 ≤ window }
     ensures { IfOk result (λ session. (t : TopologyOf) (c : Certificate) → IsGivenBy t c given → StandsFixed t c window session) }
 {
-    let cache = Cache::open(alloc, given.graph, steps)?;
+    let GivenBook {
+        wish,
+        nodes,
+        columns: numbers,
+        graph: checked,
+    } = given;
+    let cache = Cache::open(alloc, checked, steps)?;
     let topology = cache.graph().topology();
     let _typed = topology.model();
-    let book = stated_book(
-        alloc,
-        topology,
-        &given.nodes,
-        &given.columns,
-        given.distance,
-    )?;
-    Session::fixed(alloc, cache, book, window)
+    let columns = stated_columns(alloc, topology, &nodes, &numbers)?;
+    match wish {
+        GivenWish::Plain(distance) => {
+            Session::by_book(alloc, cache, Book { columns, distance }, window)
+        }
+        GivenWish::Cap { cap, radii } => {
+            let book = CapBook {
+                columns,
+                cap,
+                radii,
+            };
+            Session::by_cap_book(alloc, cache, book, window)
+        }
+    }
 }
 
 // Writes a text, and follows a log after it.

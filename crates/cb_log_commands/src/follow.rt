@@ -4,6 +4,7 @@ ghost use Rattle.cb_alarm.specs.Lines.{log_line_limit};
 ghost use Rattle.cb_io.specs.LineReading.{coming, unread, ReadsSame, ReadingGoesOn};
 ghost use Rattle.cb_io.specs.Outside.{FilesReport, SinkReport, ReadFailed};
 ghost use Rattle.cb_log.specs.Basis.{wanted as for_wanted};
+ghost use Rattle.cb_model.specs.declared.wish.Wish.{Wish as WishOf};
 ghost use Rattle.cb_outcome.specs.LogJobs.{Watch, log_limit};
 ghost use Rattle.cb_log_commands.specs.Counting.{PieceTakes, PieceCounts, HasCounted, CountsOn, CountsTaken};
 ghost use Rattle.cb_log_commands.specs.Following.{EndsLog};
@@ -38,7 +39,7 @@ pub(crate) fn follow<'w, F: Files, O: Sink, L: Ledger>(
 ) -> Result<(), Fault<'w>>
     ensures ends { (watch : Watch) (before : SinkReport) → OpensLog watch session.old before (O.tells out.old)
         → EndsLog watch log.entry (F.tells files.old) (F.tells files.new) before (O.tells out.new) (wrong result) }
-    ensures steps { (watch : Watch) (before : SinkReport) (d : ℕ) → watch.mode ≡ for_wanted d → OpensLog watch session.old before (O.tells out.old)
+    ensures steps { (watch : Watch) (before : SinkReport) (wish : WishOf) → watch.mode ≡ for_wanted wish → OpensLog watch session.old before (O.tells out.old)
         → CountsTaken watch.from log.entry (F.tells files.old) (F.tells files.new) steps.old steps.new }
 {
     match follow_lines(alloc, files, out, log.as_str(), session, steps) {
@@ -58,7 +59,7 @@ fn follow_lines<F: Files, O: Sink, L: Ledger>(
 ) -> Result<(), LogStop>
     ensures ends { (watch : Watch) (before : SinkReport) → OpensLog watch session.old before (O.tells out.old)
         → EndsLog watch log.now (F.tells files.old) (F.tells files.new) before (O.tells out.new) (wrong_of log.now result) }
-    ensures steps { (watch : Watch) (before : SinkReport) (d : ℕ) → watch.mode ≡ for_wanted d → OpensLog watch session.old before (O.tells out.old)
+    ensures steps { (watch : Watch) (before : SinkReport) (wish : WishOf) → watch.mode ≡ for_wanted wish → OpensLog watch session.old before (O.tells out.old)
         → CountsTaken watch.from log.now (F.tells files.old) (F.tells files.new) steps.old steps.new }
 {
     let mut reader = reader_of(alloc, log)?;

@@ -16,6 +16,7 @@ use cb_check::check;
 use cb_file_kinds::Output;
 use cb_gen::{log_text, model_text, topology_text};
 use cb_line_files::{LineFault, TopologyStop, read_topology};
+use cb_model::Wish;
 use cb_report::{Fault, Status, Summary, Text, grow_text};
 use cb_steps::Steps;
 use cb_syntax::parse;
@@ -25,7 +26,7 @@ use std::sync::ledger::Ledger;
 
 /// Codebooks are wanted at this distance, and windows have this length.
 const ASKED: Correlation = Correlation {
-    distance: 2,
+    wish: Wish::Plain(2),
     window: 40,
 };
 

@@ -1,6 +1,6 @@
 //! Why a log isn't followed to its end.
 ghost use Rattle.std.specs.Prelude.{◌≡◌};
-ghost use Rattle.cb_log_commands.specs.Stops.{fault_of_stop};
+ghost use Rattle.cb_log_commands.specs.Stops.{fault_of_log_stop};
 
 use cb_io::{Failed, ReadStop};
 use cb_report::Fault;
@@ -60,7 +60,7 @@ impl From<AllocError> for LogStop {
 impl LogStop {
     /// What is wrong then, with a log of this name.
     pub fn fault(self, log: FileName<'_>) -> Fault<'_>
-        ensures { result ≡ fault_of_stop log.entry self }
+        ensures { result ≡ fault_of_log_stop log.entry self }
     {
         match self {
             LogStop::ReadFault => Fault::ReadFault { name: log },

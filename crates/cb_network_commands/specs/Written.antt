@@ -12,11 +12,11 @@ use Rattle.cb_report.specs.declared.fault.Fault.TheVariants.{LimitEntries, Dista
 abbrev pub CanBeWritten : Codebook → Type 0
 CanBeWritten (Certified certificate) = IsCertificate certificate
 CanBeWritten TooManyEntries = ⊤
-CanBeWritten (TooClose first second distance certificate) = IsCertificate certificate
+CanBeWritten (TooClose wanted first second distance certificate) = IsCertificate certificate
 
 -- the bytes, and the fault beside them
-abbrev pub IsWritten : Codebook → ℕ → List ℕ → Option Fault → Type 0
-IsWritten (Certified certificate) wanted bytes fault = (bytes ≡ text_of certificate) × (fault ≡ None)
-IsWritten TooManyEntries wanted bytes fault = (bytes ≡ []) × (fault ≡ Some LimitEntries)
-IsWritten (TooClose first second distance certificate) wanted bytes fault =
+abbrev pub IsWritten : Codebook → List ℕ → Option Fault → Type 0
+IsWritten (Certified certificate) bytes fault = (bytes ≡ text_of certificate) × (fault ≡ None)
+IsWritten TooManyEntries bytes fault = (bytes ≡ []) × (fault ≡ Some LimitEntries)
+IsWritten (TooClose wanted first second distance certificate) bytes fault =
     (bytes ≡ text_of certificate) × (fault ≡ Some (Distance wanted first (Least second) distance))

@@ -22,10 +22,10 @@ pub request_lawful : (request : Request) → IsLawful (command_of request)
 request_lawful (Burst one two three) = burst.lawful one two three
 request_lawful (Model one) = model.lawful one
 request_lawful (Matrix one two) = matrix.lawful one two
-request_lawful (Codebook one two distance) = codebook.lawful one two distance
+request_lawful (Codebook one two wish) = codebook.lawful one two wish
 request_lawful (Verify one two three) = verify.lawful one two three
 request_lawful (Decode one two three log window) = decode.lawful one two three log window
-request_lawful (Correlate one two log distance window) = correlate.lawful one two log distance window
+request_lawful (Correlate one two log wish window) = correlate.lawful one two log wish window
 request_lawful (Grow sites start) = grow.lawful sites start
 request_lawful (Pairs one two three) = pairs.lawful one two three
 request_lawful (Explain one two three) = explain.lawful one two three

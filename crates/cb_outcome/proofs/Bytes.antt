@@ -1,12 +1,11 @@
 -- Outcomes go by the bytes of the file words alone.
 use Rattle.std.proofs.Common.{◌≡◌, ℕ, suc, List, [], ◌∷◌, ◌++◌, refl, sym, ap, subst, inl, inr}
-use Rattle.std.specs.Prelude.{Option, map, if◌then◌else◌}
+use Rattle.std.specs.Prelude.{map, if◌then◌else◌}
 use Rattle.std.specs.List.{Contains, list_any}
 use Rattle.std.specs.Str.{bytes_eq}
 use Rattle.std.proofs.lemmas.List.Elements.{Contains-append_left, Contains-append_right}
 use Rattle.cb_model.proofs.Rising.{contains_head, contains_tail}
 use Rattle.cb_io.specs.Outside.{bytes_left_of, contents}
-use Rattle.cb_request.specs.declared.request.Request.{Request}
 use Rattle.cb_outcome.specs.Roles.{Role}
 use Rattle.cb_outcome.specs.Outcome.{Outcome}
 use Rattle.cb_outcome.specs.Judged.{File, Known, nothing, Job, Gives}

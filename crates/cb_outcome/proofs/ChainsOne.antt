@@ -1,13 +1,12 @@
 -- What `explain`, `levels` and `prove` give is one.
-use Rattle.std.proofs.Common.{◌≡◌, ℕ, List, [], ◌∷◌, length, refl, sym, ap, subst, ◌∙◌, inl, inr, arith}
+use Rattle.std.proofs.Common.{◌≡◌, ℕ, List, [], ◌∷◌, refl, sym, ap, subst, ◌∙◌, inl, inr, arith}
 use Rattle.std.specs.Prelude.{Option, None, Some}
-use Rattle.std.specs.List.{AllZip, flat_map, slice_get}
+use Rattle.std.specs.List.{AllZip, flat_map}
 use Rattle.cb_text.proofs.Cuts.{node_read_once}
 use Rattle.cb_model.specs.declared.node.NamedGroup.{NamedGroup}
 use Rattle.cb_model.specs.declared.node.NodeName.{NodeName}
 use Rattle.cb_finding.specs.declared.finding.Finding.{Finding}
 use Rattle.cb_finding.proofs.One.{burst_is_one, matrix_is_one}
-use Rattle.cb_network.specs.Nodes.{IsProblem}
 use Rattle.cb_network.specs.Topology.{Topology}
 use Rattle.cb_network.specs.Causes.{Causes}
 use Rattle.cb_validity.specs.Spans.{StandsFor}
@@ -22,11 +21,10 @@ use Rattle.cb_levels.specs.Text.{levels_text}
 use Rattle.cb_levels.specs.Valid.{BeginsAtProblem}
 use Rattle.cb_levels.proofs.One.{short_chain_is_one, short_chain_is_shortest}
 use Rattle.cb_levels.proofs.Uniques.{canonical_is_one}
-use Rattle.cb_report.specs.declared.fault.Fault.TheVariants as faults
 use Rattle.cb_report.specs.ChainTexts.{explained_text}
 use Rattle.cb_report.specs.LevelTexts.{proved_text}
 use Rattle.cb_outcome.specs.Explained.{ExplainsColumn, ExplainsColumns, chains_in, ExplainsMembers, ExplainsGroups}
-use Rattle.cb_outcome.specs.Outcome.{Outcome, done, refused}
+use Rattle.cb_outcome.specs.Outcome.{Outcome, done}
 use Rattle.cb_outcome.specs.Jobs.{ExplainGives, NamesNode, WritesLevels, RefusesProblem, LevelsGives, ProveGives}
 
 -- where each item has one partner, a list has one list of partners

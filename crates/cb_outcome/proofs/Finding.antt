@@ -2,14 +2,14 @@
 use Rattle.std.proofs.Common.{◌≡◌, ◌≤◌, ◌<◌, ℕ, List, [], ◌∷◌, ap, subst, arith, length}
 use Rattle.std.specs.Prelude.{IsTrue, Option}
 use Rattle.std.proofs.lemmas.List.{length-map}
+use Rattle.cb_coding.specs.declared.book.Answer.{Answer}
 use Rattle.cb_coding.specs.declared.group.Group.{Group}
 use Rattle.cb_coding.specs.Distance.{all_columns}
 use Rattle.cb_coding.specs.Groups.{codes_of}
-use Rattle.cb_coding.specs.Pairs.{least_or_one}
 use Rattle.cb_model.specs.declared.node.NodeName.{NodeName}
 use Rattle.cb_io.specs.Outside.{WritesAll}
 use Rattle.cb_finding.specs.declared.finding.Finding.{Finding}
-use Rattle.cb_finding.specs.Finding.{IsBurst, IsFinding, named_groups}
+use Rattle.cb_finding.specs.Finding.{IsBurst, IsFindingWhere, named_groups}
 use Rattle.cb_finding.proofs.Nearest.{burst_finds_the_cause}
 use Rattle.cb_network.specs.Topology.{Topology}
 use Rattle.cb_cert.specs.Lines.{text_of}
@@ -22,13 +22,13 @@ use Rattle.cb_outcome.specs.Seen.{Seen, SaysFault}
 use Rattle.cb_outcome.specs.Prints.{ListsTheNearest, far_from, RefusesDistance}
 use Rattle.cb_outcome.proofs.Acceptable.{text_is_valid, text_fits}
 
--- what is found lists exactly the nearest groups, where it names a cause alone within the radius
-pub lists_nearest : (columns : List NodeName) (groups : List Group) (book : List ℕ) (d : ℕ) (nodes : List NodeName) (finding : Finding)
-    → IsFinding columns groups book d nodes finding
-    → ((i : ℕ) → i < length groups → far_from book columns groups nodes i ≤ finding.radius
+-- what is found lists exactly the nearest groups, where it names a cause alone within its radius
+pub lists_nearest : {Reported : Answer → ℕ → Type 0} {Sure : Answer → Type 0} (columns : List NodeName) (groups : List Group) (book : List ℕ)
+    (nodes : List NodeName) (finding : Finding) → IsFindingWhere Reported Sure columns groups book nodes finding → (radius_of : ℕ → ℕ)
+    → ((i : ℕ) → i < length groups → far_from book columns groups nodes i ≤ radius_of i
     → (finding.groups ≡ named_groups groups (i ∷ [])) × IsTrue finding.sure)
-    → ListsTheNearest groups (far_from book columns groups nodes) finding
-lists_nearest columns groups book d nodes finding found alone =
+    → ListsTheNearest groups (far_from book columns groups nodes) radius_of finding
+lists_nearest columns groups book nodes finding found radius_of alone =
     let answered = found.answered in
     let wide = length-map groups (λ (g : Group). g.code) in record {
       places = found.answer.groups;
@@ -48,9 +48,9 @@ lists_nearest columns groups book d nodes finding found alone =
     }
 
 pub lists_the_nearest : (t : Topology) (nodes : List NodeName) (finding : Finding) (burst : IsBurst t nodes finding)
-    → ListsTheNearest burst.groups (far_from (all_columns (length burst.columns)) burst.columns burst.groups nodes) finding
+    → ListsTheNearest burst.groups (far_from (all_columns (length burst.columns)) burst.columns burst.groups nodes) (λ i. finding.radius) finding
 lists_the_nearest t nodes finding burst =
-    lists_nearest burst.columns burst.groups (all_columns (length burst.columns)) (least_or_one burst.least) nodes finding burst.found
+    lists_nearest burst.columns burst.groups (all_columns (length burst.columns)) nodes finding burst.found (λ i. finding.radius)
     (λ i lt near. burst_finds_the_cause t nodes finding burst i lt near)
 
 -- ---- a distance that is refused

@@ -1,5 +1,5 @@
 -- What `grow` gives is one outcome.
-use Rattle.std.proofs.Common.{◌≡◌, ◌⊎◌, ℕ, List, length, refl, sym, ap, ◌∙◌, subst, inl, inr}
+use Rattle.std.proofs.Common.{◌≡◌, ℕ, List, length, sym, ap, ◌∙◌, subst, inl, inr}
 use Rattle.cb_model.specs.declared.node.NodeName.{NodeName}
 use Rattle.cb_coding.specs.declared.group.Group.{Group}
 use Rattle.cb_finding.proofs.One.{matrix_is_one}
@@ -23,7 +23,7 @@ use Rattle.cb_report.specs.declared.fault.Fault.{Fault}
 use Rattle.cb_report.specs.declared.summary.Summary.{Summary}
 use Rattle.cb_report.specs.SummaryText.{CountsEvents, grow_text}
 use Rattle.cb_outcome.specs.Judged.{Known, nothing, network, Means, HasFault}
-use Rattle.cb_outcome.specs.Grown.{MakesUp, HasMadeUpFault, CountsNetwork, SumsUpLog, SumsUp, PrintsSummary, RefusesMadeUp, GrowGives, grow_distance, grow_window}
+use Rattle.cb_outcome.specs.Grown.{MakesUp, HasMadeUpFault, CountsNetwork, SumsUpLog, SumsUp, PrintsSummary, GrowGives, grow_wish, grow_window}
 use Rattle.cb_outcome.specs.Outcome.{Outcome, done, refused}
 use Rattle.cb_outcome.proofs.Once.{IsSound, means_one, fault_one, means_or_fault, means_sound}
 
@@ -156,7 +156,7 @@ log_is_one t mode w log r s regular a b =
 
 summary_is_one : (sites start : ℕ) (t : Topology) (r s : Summary) → IsRegular t.model → SumsUp sites start t r → SumsUp sites start t s → r ≡ s
 summary_is_one sites start t r s regular a b =
-    let one = log_is_one t (wanted grow_distance) grow_window (log_text sites start) r s regular a.log b.log in
+    let one = log_is_one t (wanted grow_wish) grow_window (log_text sites start) r s regular a.log b.log in
     same_summary r s (a.sites_are ∙ sym b.sites_are) (a.start_is ∙ sym b.start_is) one.records one.sizes one.counts
 
 -- ---- and so there is one outcome

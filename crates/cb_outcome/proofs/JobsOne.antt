@@ -1,25 +1,29 @@
 -- Each job gives one outcome.
-use Rattle.std.proofs.Common.{◌≡◌, ℕ, List, [], ◌∷◌, length, refl, sym, ap, ◌∙◌, subst, inl, inr, Some, arith}
-use Rattle.std.specs.Prelude.{◌⊎◌}
+use Rattle.std.proofs.Common.{◌≡◌, ℕ, Bool, List, [], ◌∷◌, length, refl, sym, ap, ◌∙◌, subst, inl, inr, Some, arith}
 use Rattle.std.specs.List.{slice_get}
 use Rattle.cb_model.specs.declared.node.GroupName.{GroupName}
 use Rattle.cb_model.specs.declared.node.GroupName.TheVariants.{Least}
 use Rattle.cb_model.specs.declared.node.NodeName.{NodeName}
-use Rattle.cb_coding.specs.declared.book.Book.{Book}
 use Rattle.cb_coding.specs.declared.book.Pair.{Pair}
 use Rattle.cb_coding.specs.declared.group.Group.{Group}
-use Rattle.cb_coding.specs.Books.{IsBook}
+use Rattle.cb_coding.specs.Books.{IsChoice}
 use Rattle.cb_coding.specs.Distance.{all_columns}
 use Rattle.cb_coding.specs.Groups.{codes_of}
-use Rattle.cb_coding.specs.Pairs.{IsClosestPair, IsFirstClose}
-use Rattle.cb_coding.proofs.BookLaws.{book_is_one}
+use Rattle.cb_coding.specs.Needs.{need_of}
+use Rattle.cb_coding.specs.Pairs.{GoodFor, IsClosestPair, IsFirstClose}
+use Rattle.cb_coding.proofs.BookLaws.{choice_is_one}
+use Rattle.cb_coding.proofs.RadiusLaws.{radii_are_one}
 use Rattle.cb_coding.proofs.One.{least_is_one, first_close_is_one}
 use Rattle.cb_network.specs.Topology.{Topology}
 use Rattle.cb_finding.specs.declared.finding.Finding.{Finding}
 use Rattle.cb_finding.specs.Finding.{IsCalled}
 use Rattle.cb_finding.proofs.One.{burst_is_one, matrix_is_one, group_name_is_one}
 use Rattle.cb_cert.specs.declared.certificate.Certificate.{Certificate}
-use Rattle.cb_cert.specs.declared.certificate.Certificate.TheVariants.{Book as BookClaim, Thin as ThinClaim}
+use Rattle.cb_cert.specs.declared.certificate.Certificate.TheVariants.{Book as BookClaim, Capped as CapClaim, Thin as ThinClaim}
+use Rattle.cb_model.specs.declared.wish.Wish.{Wish}
+use Rattle.cb_model.specs.declared.wish.Wish.TheVariants.{Plain, Cap}
+use Rattle.cb_coding.specs.Used.{AreLeastAndGreatest}
+use Rattle.cb_coding.proofs.UsedLaws.{least_and_greatest_are_one}
 use Rattle.cb_cert.specs.declared.certificate.Side.{Side}
 use Rattle.cb_cert.specs.declared.certificate.Side.TheVariants as side
 use Rattle.cb_cert.specs.declared.certificate.Span.{Span}
@@ -27,15 +31,15 @@ use Rattle.cb_cert.specs.declared.certificate.Entry.{Entry}
 use Rattle.cb_cert.specs.Lines.{text_of}
 use Rattle.cb_validity.specs.declared.verdict.Accepted.{Accepted}
 use Rattle.cb_validity.specs.declared.verdict.Accepted.TheVariants as accepted
-use Rattle.cb_validity.specs.Canonical.{IsCanonicalThin}
-use Rattle.cb_validity.specs.Codebooks.{AreBookColumns, AreFirstClose, least_of}
+use Rattle.cb_validity.specs.Canonical.{IsCanonicalCapped, IsCanonicalThin}
+use Rattle.cb_validity.specs.Codebooks.{HasCodebook, AreBookColumns, IsCanonicalFor, IsCodebook, AreFirstClose, least_of}
 use Rattle.cb_validity.specs.Laws.{HavePlaces}
 use Rattle.cb_validity.specs.Spans.{StandsFor, BeginsWithRoot}
 use Rattle.cb_validity.specs.Verdicts.{IsSideName, CertificateShows}
 use Rattle.cb_validity.proofs.Firsts.{made_is_one}
 use Rattle.cb_validity.proofs.SpanLaws.{stands_for_one}
 use Rattle.cb_validity.proofs.Totals.{few_are_not_many}
-use Rattle.cb_validity.proofs.Wholes.{canonical_book_is_one, canonical_thin_is_one}
+use Rattle.cb_validity.proofs.Wholes.{canonical_book_is_one, canonical_capped_is_one, canonical_thin_is_one}
 use Rattle.cb_report.specs.declared.fault.Fault.TheVariants as faults
 use Rattle.cb_report.specs.CertificateTexts.{accepted_text}
 use Rattle.cb_report.specs.Lines.{burst_text}
@@ -44,7 +48,7 @@ use Rattle.cb_report.specs.declared.fits.FoundFits.{FoundFits}
 use Rattle.cb_report.specs.FitsText.{fits_text}
 use Rattle.cb_outcome.specs.Fits.{IsFoundFor}
 use Rattle.cb_outcome.specs.Outcome.{Outcome, done, done_with, refused}
-use Rattle.cb_outcome.specs.Jobs.{BurstGives, MatrixGives, WritesCanonical, RefusesMany, WritesBook, WritesThin, CodebookGives, VerifyGives, ListsFits, RefusesGroups, PairsGives}
+use Rattle.cb_outcome.specs.Jobs.{BurstGives, MatrixGives, WritesCodebook, RefusesWish, WritesThin, CodebookGives, VerifyGives, ListsFits, RefusesGroups, PairsGives}
 use Rattle.cb_outcome.proofs.FitsOne.{found_is_one}
 
 pub burst_one : (t : Topology) (nodes : List NodeName) (whole : ℕ) (a b : Outcome) → BurstGives t nodes whole a → BurstGives t nodes whole b → a ≡ b
@@ -77,38 +81,53 @@ names_are_one all (x ∷ xs) (y ∷ ys) (p ∷ ps) a b =
     let rest = names_are_one all xs ys ps a.1 b.1 in
     cc
 
-book_columns_are_one : (t : Topology) (d : ℕ) (xs ys : List NodeName) → AreBookColumns t d xs → AreBookColumns t d ys → xs ≡ ys
-book_columns_are_one t d xs ys a b =
-    let same = matrix_is_one t a.all b.all a.groups b.groups a.matrix b.matrix in
-    let over : IsBook (length a.all) (codes_of a.groups) b.book =
-    subst (λ (cs : List NodeName). IsBook (length cs) (codes_of a.groups) b.book) (sym same.0)
-    (subst (λ (gs : List Group). IsBook (length b.all) (codes_of gs) b.book) (sym same.1) b.is_book)
-    in
-    let books = book_is_one (length a.all) (codes_of a.groups) a.book b.book a.is_book over (a.distance_is ∙ sym b.distance_is) in
-    let named : HavePlaces a.all ys a.book.columns =
-    subst (λ (k : Book). HavePlaces a.all ys k.columns) (sym books) (subst (λ (cs : List NodeName). HavePlaces cs ys b.book.columns) (sym same.0) b.named)
-    in
-    names_are_one a.all xs ys a.book.columns a.named named
+module _ (t : Topology) (wish : Wish) where
+  abbrev IsChoiceOver : List NodeName → List Group → List ℕ → Type 0
+  IsChoiceOver columns groups kept = IsChoice (length columns) (codes_of groups) (need_of (length columns) (codes_of groups) wish) kept
 
-few_one : (t : Topology) (columns : List NodeName) (d whole : ℕ) (a b : Outcome) → WritesCanonical t columns d whole a → WritesCanonical t columns d whole b
-    → a ≡ b
-few_one t columns d whole a b p q =
-    let same = canonical_book_is_one t columns d p.certificate q.certificate p.canonical q.canonical in
+  book_columns_are_one : (xs ys : List NodeName) → AreBookColumns t wish xs → AreBookColumns t wish ys → xs ≡ ys
+  book_columns_are_one xs ys a b =
+      let same = matrix_is_one t a.all b.all a.groups b.groups a.matrix b.matrix in
+      let over : IsChoiceOver a.all a.groups b.kept =
+      subst (λ (cs : List NodeName). IsChoiceOver cs a.groups b.kept) (sym same.0)
+      (subst (λ (gs : List Group). IsChoiceOver b.all gs b.kept) (sym same.1) b.choice)
+      in
+      let kept = choice_is_one (length a.all) (codes_of a.groups) (need_of (length a.all) (codes_of a.groups) wish) a.kept b.kept a.choice over in
+      let named : HavePlaces a.all ys a.kept =
+      subst (λ (ks : List ℕ). HavePlaces a.all ys ks) (sym kept) (subst (λ (cs : List NodeName). HavePlaces cs ys b.kept) (sym same.0) b.named)
+      in
+      names_are_one a.all xs ys a.kept a.named named
+
+canonical_for_one : (t : Topology) (width : ℕ) (codes : List (List Bool)) (columns : List NodeName) (wish : Wish) (c d : Certificate)
+    → IsCanonicalFor t width codes columns wish c → IsCanonicalFor t width codes columns wish d → c ≡ d
+canonical_for_one t width codes columns (Plain d) a b p q = canonical_book_is_one t columns d a b p q
+canonical_for_one t width codes columns (Cap cap) a b (radii, are, p) (others, are', q) =
+    let same : others ≡ radii = radii_are_one width codes cap others radii are' are in
+    canonical_capped_is_one t columns cap radii a b p (subst (λ (rs : List ℕ). IsCanonicalCapped t columns cap rs b) same q)
+
+codebook_is_one : (t : Topology) (wish : Wish) (c d : Certificate) → IsCodebook t wish c → IsCodebook t wish d → c ≡ d
+codebook_is_one t wish c d p q =
+    let a = p.are_columns in
+    let b = q.are_columns in
+    let same = matrix_is_one t a.all b.all a.groups b.groups a.matrix b.matrix in
+    let columns = book_columns_are_one t wish p.columns q.columns a b in
+    let of_names = subst (λ (cs : List NodeName). IsCanonicalFor t (length b.all) (codes_of b.groups) cs wish d) (sym columns) q.canonical in
+    let of_groups = subst (λ (gs : List Group). IsCanonicalFor t (length b.all) (codes_of gs) p.columns wish d) (sym same.1) of_names in
+    let over = subst (λ (cs : List NodeName). IsCanonicalFor t (length cs) (codes_of a.groups) p.columns wish d) (sym same.0) of_groups in
+    canonical_for_one t (length a.all) (codes_of a.groups) p.columns wish c d p.canonical over
+
+certified_one : (t : Topology) (wish : Wish) (whole : ℕ) (a b : Outcome) → WritesCodebook t wish whole a → WritesCodebook t wish whole b → a ≡ b
+certified_one t wish whole a b p q =
+    let same = codebook_is_one t wish p.certificate q.certificate p.is q.is in
     p.gives ∙ (ap (λ (c : Certificate). done (text_of c) whole) same ∙ sym q.gives)
 
--- the entries are few or many
-either_one : (t : Topology) (columns : List NodeName) (d whole : ℕ) (a b : Outcome) → WritesCanonical t columns d whole a ⊎ RefusesMany t whole a
-    → WritesCanonical t columns d whole b ⊎ RefusesMany t whole b → a ≡ b
-either_one t columns d whole a b (inl p) (inl q) = few_one t columns d whole a b p q
-either_one t columns d whole a b (inl p) (inr q) = absurd (few_are_not_many t p.few q.many)
-either_one t columns d whole a b (inr p) (inl q) = absurd (few_are_not_many t q.few p.many)
-either_one t columns d whole a b (inr p) (inr q) = p.gives ∙ sym q.gives
-
-book_one : (t : Topology) (d whole : ℕ) (a b : Outcome) → WritesBook t d whole a → WritesBook t d whole b → a ≡ b
-book_one t d whole a b p q =
-    let columns = book_columns_are_one t d q.columns p.columns q.are_columns p.are_columns in
-    either_one t p.columns d whole a b p.gives
-    (subst (λ (cs : List NodeName). WritesCanonical t cs d whole b ⊎ RefusesMany t whole b) columns q.gives)
+-- what has a certificate exists
+codebook_exists : (t : Topology) (wish : Wish) (c : Certificate) → IsCodebook t wish c → HasCodebook t wish
+codebook_exists t wish c is columns groups matrix =
+    let a = is.are_columns in
+    let same = matrix_is_one t a.all columns a.groups groups a.matrix matrix in
+    subst (λ (gs : List Group). GoodFor (codes_of gs) (all_columns (length columns)) (need_of (length columns) (codes_of gs) wish)) same.1
+    (subst (λ (cs : List NodeName). GoodFor (codes_of a.groups) (all_columns (length cs)) (need_of (length cs) (codes_of a.groups) wish)) same.0 a.choice.good)
 
 -- ---- two groups that are too close
 
@@ -156,26 +175,31 @@ thin_one t d whole a b p q =
     let c = canonical_thin_is_one t (least_of p.first) p.second d p.distance p.certificate q.certificate p.canonical over in
     p.gives ∙ ((λ i. done_with (text_of (c i)) (faults.Distance d (f i) (Least (s i)) (x i)) whole) ∙ sym q.gives)
 
--- where there is a codebook for the distance, no two groups are closer
-book_or_close : (t : Topology) (d : ℕ) (columns : List NodeName) (first : GroupName) (second : NodeName) (distance : ℕ) → AreBookColumns t d columns
-    → AreFirstClose t d first second distance → ⊥
-book_or_close t d columns first second distance a b =
-    let same = matrix_is_one t b.columns a.all b.groups a.groups b.matrix a.matrix in
-    let over : IsFirstClose (all_columns (length a.all)) (codes_of a.groups) d b.pair =
-    subst (λ (cs : List NodeName). IsFirstClose (all_columns (length cs)) (codes_of a.groups) d b.pair) same.0
-    (subst (λ (gs : List Group). IsFirstClose (all_columns (length b.columns)) (codes_of gs) d b.pair) same.1 b.is_first)
-    in
-    let far = a.is_book.good b.pair.first b.pair.second over.is_pair in
-    let near = over.close in
-    let measured = over.distance in
-    let wanted = a.distance_is in
-    omega (arith, far, near, measured, wanted)
+refused_wish_one : (t : Topology) (wish : Wish) (whole : ℕ) (a b : Outcome) → RefusesWish t wish whole a → RefusesWish t wish whole b → a ≡ b
+refused_wish_one t (Plain d) whole a b p q = thin_one t d whole a b p q
+refused_wish_one t (Cap cap) whole a b p q = absurd p
 
-pub codebook_one : (t : Topology) (d whole : ℕ) (a b : Outcome) → CodebookGives t d whole a → CodebookGives t d whole b → a ≡ b
-codebook_one t d whole a b (inl p) (inl q) = book_one t d whole a b p q
-codebook_one t d whole a b (inl p) (inr q) = absurd (book_or_close t d p.columns q.first q.second q.distance p.are_columns q.close)
-codebook_one t d whole a b (inr p) (inl q) = absurd (book_or_close t d q.columns p.first p.second p.distance q.are_columns p.close)
-codebook_one t d whole a b (inr p) (inr q) = thin_one t d whole a b p q
+-- where there is a codebook, nothing is refused: no two groups are closer than a distance
+exists_or_refused : (t : Topology) (wish : Wish) (whole : ℕ) (outcome : Outcome) → HasCodebook t wish → RefusesWish t wish whole outcome → ⊥
+exists_or_refused t (Plain d) whole outcome exists p =
+    let close = p.close in
+    let first = close.is_first in
+    let far = exists close.columns close.groups close.matrix close.pair.first close.pair.second first.is_pair in
+    let near = first.close in
+    let measured = first.distance in
+    omega (arith, far, near, measured)
+exists_or_refused t (Cap cap) whole outcome exists p = p
+
+pub codebook_one : (t : Topology) (wish : Wish) (whole : ℕ) (a b : Outcome) → CodebookGives t wish whole a → CodebookGives t wish whole b → a ≡ b
+codebook_one t wish whole a b (inl p) (inl q) = certified_one t wish whole a b p q
+codebook_one t wish whole a b (inl p) (inr (inl q)) = absurd (few_are_not_many t p.few q.many)
+codebook_one t wish whole a b (inl p) (inr (inr q)) = absurd (exists_or_refused t wish whole b (codebook_exists t wish p.certificate p.is) q)
+codebook_one t wish whole a b (inr (inl p)) (inl q) = absurd (few_are_not_many t q.few p.many)
+codebook_one t wish whole a b (inr (inl p)) (inr (inl q)) = p.gives ∙ sym q.gives
+codebook_one t wish whole a b (inr (inl p)) (inr (inr q)) = absurd (exists_or_refused t wish whole b p.exists q)
+codebook_one t wish whole a b (inr (inr p)) (inl q) = absurd (exists_or_refused t wish whole a (codebook_exists t wish q.certificate q.is) p)
+codebook_one t wish whole a b (inr (inr p)) (inr (inl q)) = absurd (exists_or_refused t wish whole a q.exists p)
+codebook_one t wish whole a b (inr (inr p)) (inr (inr q)) = refused_wish_one t wish whole a b p q
 
 -- ---- what a certificate shows
 
@@ -205,10 +229,27 @@ shows_is_one t (ThinClaim wanted distance nodes first second) (accepted.Thin w f
     let seconds = side_name_is_one nodes (side.Root second) s u ss us in
     let far : x ≡ y = px ∙ sym py in
     λ i. accepted.Thin (wants i) (firsts i) (seconds i) (far i)
+shows_is_one t (CapClaim cap nodes numbers radii spans) (accepted.Capped n a b g k) (accepted.Capped m d e h l) (p, x) (q, y) =
+    let made = made_is_one t nodes spans x.all y.all x.made y.made x.made_are y.made_are in
+    let over = subst (λ (gs : List Group). AreLeastAndGreatest (length y.all) (codes_of gs) (Cap cap) d e) (sym made.1) y.radii_are in
+    let here = subst (λ (cs : List NodeName). AreLeastAndGreatest (length cs) (codes_of x.made) (Cap cap) d e) (sym made.0) over in
+    let both = least_and_greatest_are_one (length x.all) (codes_of x.made) (Cap cap) a b d e x.radii_are here in
+    let caps : n ≡ m = p ∙ sym q in
+    let groups : g ≡ h = x.groups_are ∙ (ap (λ (gs : List Group). length gs) made.1 ∙ sym y.groups_are) in
+    let columns : k ≡ l = x.columns_are ∙ sym y.columns_are in
+    λ i. accepted.Capped (caps i) (both.0 i) (both.1 i) (groups i) (columns i)
+shows_is_one t (BookClaim distance nodes numbers spans) (accepted.Capped n r s h l) b p q = absurd p
 shows_is_one t (BookClaim distance nodes numbers spans) (accepted.Thin w f s x) b p q = absurd p
+shows_is_one t (BookClaim distance nodes numbers spans) (accepted.Book d r g k) (accepted.Capped n a s h l) p q = absurd q
 shows_is_one t (BookClaim distance nodes numbers spans) (accepted.Book d r g k) (accepted.Thin w f s x) p q = absurd q
+shows_is_one t (CapClaim cap nodes numbers radii spans) (accepted.Book d r g k) b p q = absurd p
+shows_is_one t (CapClaim cap nodes numbers radii spans) (accepted.Thin w f s x) b p q = absurd p
+shows_is_one t (CapClaim cap nodes numbers radii spans) (accepted.Capped n a s h l) (accepted.Book d r g k) p q = absurd q
+shows_is_one t (CapClaim cap nodes numbers radii spans) (accepted.Capped n a s h l) (accepted.Thin w f u x) p q = absurd q
 shows_is_one t (ThinClaim wanted distance nodes first second) (accepted.Book d r g k) b p q = absurd p
+shows_is_one t (ThinClaim wanted distance nodes first second) (accepted.Capped n r s h l) b p q = absurd p
 shows_is_one t (ThinClaim wanted distance nodes first second) (accepted.Thin w f s x) (accepted.Book d r g k) p q = absurd q
+shows_is_one t (ThinClaim wanted distance nodes first second) (accepted.Thin w f s x) (accepted.Capped n a u h l) p q = absurd q
 
 pub verify_one : (t : Topology) (c : Certificate) (whole : ℕ) (a b : Outcome) → VerifyGives t c whole a → VerifyGives t c whole b → a ≡ b
 verify_one t c whole a b (x, shows, e) (y, shows', h) =

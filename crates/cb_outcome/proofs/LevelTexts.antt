@@ -1,5 +1,4 @@
 -- What `levels` writes is the text of valid levels.
-use Rattle.std.proofs.Common.{List, ℕ}
 use Rattle.cb_model.specs.declared.node.NodeName.{NodeName}
 use Rattle.cb_network.specs.Nodes.{IsProblem}
 use Rattle.cb_network.specs.Topology.{Topology}

@@ -1,5 +1,5 @@
 -- What `levels` writes, `prove` accepts.
-use Rattle.std.proofs.Common.{◌≡◌, ◌≢◌, ◌⊎◌, ℕ, List, [], ◌∷◌, refl, sym, ap, subst, inl, inr, Some}
+use Rattle.std.proofs.Common.{◌≡◌, ◌≢◌, ℕ, List, [], ◌∷◌, refl, sym, ap, subst, inl, inr, Some}
 use Rattle.std.specs.Prelude.{None}
 use Rattle.cb_io.specs.Outside.{contents}
 use Rattle.cb_network.specs.Topology.{Topology}

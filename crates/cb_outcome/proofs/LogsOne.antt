@@ -3,12 +3,12 @@ use Rattle.std.proofs.Common.{◌≡◌, ◌≤◌, ◌<◌, ℕ, zero, suc, tak
 use Rattle.std.proofs.lemmas.List.{take-append-drop}
 use Rattle.std.proofs.lemmas.Grind.{flat_map-append}
 use Rattle.cb_model.specs.declared.node.NodeName.{NodeName}
-use Rattle.cb_coding.specs.declared.book.Book.{Book}
+use Rattle.cb_model.specs.declared.wish.Wish.{Wish}
 use Rattle.cb_network.specs.Regular.{IsRegular}
 use Rattle.cb_network.specs.Topology.{Topology}
 use Rattle.cb_network.proofs.One.{columns_are_one}
 use Rattle.cb_cert.specs.declared.certificate.Certificate.{Certificate}
-use Rattle.cb_cert.specs.declared.certificate.Certificate.TheVariants.{Book as BookClaim, Thin as ThinClaim}
+use Rattle.cb_cert.specs.declared.certificate.Certificate.TheVariants.{Book as BookClaim, Capped as CapClaim, Thin as ThinClaim}
 use Rattle.cb_validity.specs.Reading.{ArePlaces}
 use Rattle.cb_validity.proofs.Firsts.{places_found_once}
 use Rattle.cb_log.specs.declared.event.Event.{Event}
@@ -22,31 +22,29 @@ use Rattle.cb_report.specs.CertificateTexts.{accepted_text}
 use Rattle.cb_report.specs.EventTexts.{event_text, events_text}
 use Rattle.cb_report.specs.declared.fault.Fault.TheVariants as faults
 use Rattle.cb_outcome.specs.Outcome.{Outcome, done, done_with}
-use Rattle.cb_outcome.specs.LogJobs.{Watch, StatesBook, States, IsFixedWatch, WholeTells, PrefixTells, LogTells, log_limit}
+use Rattle.cb_outcome.specs.LogJobs.{Watch, StatesColumns, States, IsFixedWatch, WholeTells, PrefixTells, LogTells, log_limit}
 use Rattle.cb_outcome.specs.Laws.{BeginsWith}
 use Rattle.cb_outcome.proofs.JobsOne.{shows_is_one}
 use Rattle.cb_outcome.proofs.LogPrefixes.{prefix_gives_prefix}
 
 -- ---- a log is followed in one way
 
-stated_is_one : (t : Topology) (d : ℕ) (nodes : List NodeName) (numbers : List ℕ) (a b : Book) → StatesBook t d nodes numbers a → StatesBook t d nodes numbers b
-    → a ≡ b
-stated_is_one t d nodes numbers a b p q =
+stated_are_one : (t : Topology) (nodes : List NodeName) (numbers a b : List ℕ) → StatesColumns t nodes numbers a → StatesColumns t nodes numbers b → a ≡ b
+stated_are_one t nodes numbers a b p q =
     let columns = columns_are_one t p.columns q.columns p.columns_are q.columns_are in
-    let over = subst (λ (cs : List NodeName). ArePlaces nodes cs numbers b.columns) (sym columns) q.places in
-    let places = places_found_once nodes p.columns p.columns_are.rise numbers a.columns b.columns p.places over in
-    let distances : a.distance ≡ b.distance = p.distance_is ∙ sym q.distance_is in
-    λ i. record { columns = places i; distance = distances i }
+    let over = subst (λ (cs : List NodeName). ArePlaces nodes cs numbers b) (sym columns) q.places in
+    places_found_once nodes p.columns p.columns_are.rise numbers a b p.places over
 
-states_one : (t : Topology) (c : Certificate) (a b : Book) → States t c a → States t c b → a ≡ b
-states_one t (BookClaim d nodes numbers spans) a b p q = stated_is_one t d nodes numbers a b p q
-states_one t (ThinClaim wanted d nodes first second) a b p q = absurd p
+states_one : (t : Topology) (c : Certificate) (a b : List ℕ) (u v : Wish) → States t c a u → States t c b v → (a ≡ b) × (u ≡ v)
+states_one t (BookClaim d nodes numbers spans) a b u v p q = (stated_are_one t nodes numbers a b p.0 q.0, p.1 ∙ sym q.1)
+states_one t (CapClaim cap nodes numbers radii spans) a b u v p q = (stated_are_one t nodes numbers a b p.0 q.0, p.1 ∙ sym q.1)
+states_one t (ThinClaim wanted d nodes first second) a b u v p q = absurd p
 
 pub fixed_is_one : (t : Topology) (c : Certificate) (w : ℕ) (a b : Watch) → IsFixedWatch t c w a → IsFixedWatch t c w b → a ≡ b
 fixed_is_one t c w a b p q =
     let accepts = shows_is_one t c p.accepted q.accepted p.shows q.shows in
-    let books = states_one t c p.book q.book p.states q.states in
-    p.is ∙ ((λ i. record { opening = accepted_text (accepts i); from = t; mode = fixed (books i); window = w }) ∙ sym q.is)
+    let (kept, used) = states_one t c p.kept q.kept p.used q.used p.states q.states in
+    p.is ∙ ((λ i. record { opening = accepted_text (accepts i); from = t; mode = fixed (kept i) (used i); window = w }) ∙ sym q.is)
 
 -- ---- and gives one outcome
 

@@ -1,5 +1,5 @@
 -- A file says one thing at most, is refused in one way at most, and never both.
-use Rattle.std.proofs.Common.{◌≡◌, ◌⊎◌, List, [], ◌∷◌, ℕ, refl, sym, ap, subst, ◌∙◌, inl, inr, Ok, Err, arith}
+use Rattle.std.proofs.Common.{◌≡◌, List, [], ◌∷◌, ℕ, refl, sym, ap, subst, ◌∙◌, inl, inr, Ok, Err, arith}
 use Rattle.cb_model.specs.declared.node.NodeName.{NodeName}
 use Rattle.cb_model.specs.declared.tables.Tables.{Tables}
 use Rattle.cb_grammar.specs.declared.tree.Tree.{Tree}
@@ -24,13 +24,11 @@ use Rattle.cb_cert.specs.declared.fault.CertText.{CertText}
 use Rattle.cb_cert.specs.Format.{SpellsCertificate}
 use Rattle.cb_cert.specs.Prefixes.{IsReading}
 use Rattle.cb_cert.proofs.Readings.{reading_is_one}
-use Rattle.cb_validity.specs.declared.verdict.Rejected.{Rejected}
 use Rattle.cb_validity.specs.Checks.{IsFirstFail}
 use Rattle.cb_validity.proofs.Firsts.{first_fail_is_one}
 use Rattle.cb_validity.proofs.Passing.{valid_is_not_rejected}
 use Rattle.cb_levels.specs.declared.fault.LevelText.{LevelText}
 use Rattle.cb_levels.specs.declared.levels.Levels.{Levels}
-use Rattle.cb_levels.specs.declared.verdict.LevelFault.{LevelFault}
 use Rattle.cb_levels.specs.Checks.{IsRejectedFor}
 use Rattle.cb_levels.specs.Faults.{IsLevelFault}
 use Rattle.cb_levels.specs.Format.{SpellsLevels}

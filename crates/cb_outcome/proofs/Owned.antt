@@ -1,17 +1,17 @@
 -- The fault of a text is determined by the words and the files alone, and names no file.
-use Rattle.std.proofs.Common.{◌≡◌, ◌⊎◌, ℕ, List, [], refl, sym, ap, subst, inl, inr}
+use Rattle.std.proofs.Common.{◌≡◌, ℕ, List, [], refl, sym, ap, subst, inl, inr}
 use Rattle.cb_network.specs.Topology.{Topology}
 use Rattle.cb_syntax.specs.declared.fault.SyntaxFault.{SyntaxFault}
 use Rattle.cb_syntax.specs.declared.fault.SyntaxFault.TheVariants as syntax
 use Rattle.cb_syntax.specs.Spells.{IsFirstSyntaxFault as IsSyntaxFault}
 use Rattle.cb_cert.specs.declared.certificate.Certificate.{Certificate}
-use Rattle.cb_cert.specs.declared.certificate.Certificate.TheVariants.{Book, Thin}
+use Rattle.cb_cert.specs.declared.certificate.Certificate.TheVariants.{Book, Capped, Thin}
 use Rattle.cb_cert.specs.declared.fault.CertText.{CertText}
 use Rattle.cb_cert.specs.declared.fault.CertText.TheVariants as texts
 use Rattle.cb_cert.specs.Prefixes.{IsFault as IsFormFault}
 use Rattle.cb_validity.specs.declared.verdict.Rejected.{Rejected}
 use Rattle.cb_validity.specs.declared.verdict.Rejected.TheVariants as rejected
-use Rattle.cb_validity.specs.Checks.{Check, node_check, column_check, root_check, parent_check, edge_check, new_check, closed_check, no_more_problems, no_more_spans, claim_check, ReportsCheck, IsFirstFail}
+use Rattle.cb_validity.specs.Checks.{Check, node_check, column_check, root_check, parent_check, edge_check, new_check, closed_check, no_more_problems, no_more_spans, claim_check, radius_check, ReportsCheck, IsFirstFail}
 use Rattle.cb_levels.specs.declared.fault.LevelText.{LevelText}
 use Rattle.cb_levels.specs.declared.fault.LevelText.TheVariants as level_texts
 use Rattle.cb_levels.specs.declared.levels.Levels.{Levels}
@@ -42,7 +42,11 @@ tells_no_want t c (closed_check a place) (successor, least, e) = cc
 tells_no_want t c (no_more_problems problems spans) (p, is, e) = cc
 tells_no_want t c (no_more_spans problems spans) e = cc
 tells_no_want t (Book distance nodes columns spans) claim_check none = none
+tells_no_want t (Capped cap nodes columns radii spans) claim_check none = none
 tells_no_want t (Thin wanted distance nodes first second) claim_check none = none
+tells_no_want t (Book distance nodes columns spans) radius_check none = none
+tells_no_want t (Capped cap nodes columns radii spans) radius_check (place, is, e) = cc
+tells_no_want t (Thin wanted distance nodes first second) radius_check none = none
 
 -- the status of a fault of a text, by its role
 abbrev pub IsStatusFor : Role → Status → Type 0
@@ -83,6 +87,7 @@ of_check wanted t c (rejected.Repeated entry) fails = record { nameless = tt; st
 of_check wanted t c (rejected.NotClosed entry successor) fails = record { nameless = tt; status = refl }
 of_check wanted t c (rejected.TooClose first second distance) fails = record { nameless = tt; status = refl }
 of_check wanted t c (rejected.NotThin distance) fails = record { nameless = tt; status = refl }
+of_check wanted t c (rejected.BadRadius place) fails = record { nameless = tt; status = refl }
 of_check wanted t c rejected.NoMemory (checks, are, fails) = absurd (tells_no_want t c fails.check fails.tells)
 
 -- no check of levels reports that memory ran out

@@ -1,16 +1,19 @@
 -- What words ask for is in the range of its command.
-use Rattle.std.proofs.Common.{◌≡◌, ℕ, ◌<◌, ◌≤◌, ◌^◌, List, [], ◌∷◌, Bool, true, false, refl, sym, subst, arith, Some}
-use Rattle.std.specs.Prelude.{Option, None, if◌then◌else◌, codes}
+use Rattle.std.proofs.Common.{◌≡◌, ℕ, ◌<◌, ◌^◌, List, [], ◌∷◌, true, false, refl, subst, arith, Some}
+use Rattle.std.specs.Prelude.{Option, None}
 use Rattle.std.specs.Str.{bytes_eq}
 use Rattle.std.specs.Option.{option_map, option_and_then}
 use Rattle.cb_io.specs.Pairs.{look_up}
+use Rattle.cb_model.specs.declared.wish.Wish.{Wish}
+use Rattle.cb_model.specs.declared.wish.Wish.TheVariants.{Plain, Cap}
 use Rattle.cb_request.specs.Commands.{burst_of, model_of, matrix_of, codebook_of, verify_of, decode_of, correlate_of, grow_of, pairs_of, explain_of, levels_of, prove_of, commands, request_of}
 use Rattle.cb_request.specs.NodeWords.{node_in}
-use Rattle.cb_request.specs.Numbers.{number_in, distance_in, window_in, sites_in, start_in}
+use Rattle.cb_request.specs.Numbers.{number_in, window_in, sites_in, start_in, wish_in}
 use Rattle.cb_request.specs.declared.request.Request.{Request}
 use Rattle.cb_request.specs.declared.request.Request.TheVariants as requests
 use Rattle.cb_request.proofs.NumberWords.{number_is_read}
-use Rattle.cb_outcome.specs.Command.{IsWithin}
+use Rattle.cb_request.proofs.WishWords.{wish_is_read}
+use Rattle.cb_outcome.specs.Command.{IsWithin, IsWishWithin}
 use Rattle.cb_outcome.specs.Asked.{command_of, command_for}
 use Rattle.cb_outcome.specs.Laws.{AskedIsInRange}
 
@@ -23,6 +26,10 @@ Keeps reads = (words : List (List ℕ)) (request : Request) → reads words ≡ 
 
 number_within : (least most : ℕ) (word : List ℕ) (n : ℕ) → most < 2 ^ 64 → number_in least most word ≡ Some n → IsWithin least most n
 number_within least most word n small e = let (written, low, high) = (number_is_read least most word n small).0 e in (low, high)
+
+wish_within : (word : List ℕ) (wish : Wish) → wish_in word ≡ Some wish → IsWishWithin 1 9999 wish
+wish_within word (Plain d) e = let is = (wish_is_read word (Plain d)).0 e in (is.some, is.few)
+wish_within word (Cap cap) e = let (number, begun, is) = (wish_is_read word (Cap cap)).0 e in (is.some, is.few)
 
 -- of an option that is mapped
 mapped : {X : Type 0} (f : X → Request) (P : X → Type 0) → ((x : X) → P x → IsInRange (f x)) → (found : Option X)
@@ -54,7 +61,7 @@ codebook_keeps [] request e = cc
 codebook_keeps (one ∷ []) request e = cc
 codebook_keeps (one ∷ two ∷ []) request e = cc
 codebook_keeps (one ∷ two ∷ three ∷ []) request e =
-    mapped (requests.Codebook one two) (IsWithin 1 9999) (λ d is. is) (distance_in three) (λ d is. number_within 1 9999 three d (omega arith) is) request e
+    mapped (requests.Codebook one two) (IsWishWithin 1 9999) (λ wish is. is) (wish_in three) (λ wish is. wish_within three wish is) request e
 codebook_keeps (one ∷ two ∷ three ∷ more ∷ rest) request e = cc
 
 verify_keeps : Keeps verify_of
@@ -89,8 +96,8 @@ correlate_keeps (one ∷ two ∷ []) request e = cc
 correlate_keeps (one ∷ two ∷ three ∷ []) request e = cc
 correlate_keeps (one ∷ two ∷ three ∷ four ∷ []) request e = cc
 correlate_keeps (one ∷ two ∷ three ∷ four ∷ five ∷ []) request e =
-    then_mapped (requests.Correlate one two three) (IsWithin 1 9999) (IsWithin 1 1000000000000) (λ d w is also. (is, also)) (distance_in four)
-    (λ d is. number_within 1 9999 four d (omega arith) is) (window_in five) (λ w is. number_within 1 1000000000000 five w (omega arith) is) request e
+    then_mapped (requests.Correlate one two three) (IsWishWithin 1 9999) (IsWithin 1 1000000000000) (λ wish w is also. (is, also)) (wish_in four)
+    (λ wish is. wish_within four wish is) (window_in five) (λ w is. number_within 1 1000000000000 five w (omega arith) is) request e
 correlate_keeps (one ∷ two ∷ three ∷ four ∷ five ∷ more ∷ rest) request e = cc
 
 grow_keeps : Keeps grow_of

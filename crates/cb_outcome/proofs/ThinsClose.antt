@@ -1,5 +1,5 @@
 -- Each thin event, before a log's end and of a log that is summed up, names two groups that are closer than wanted.
-use Rattle.std.proofs.Common.{ℕ, List, ◌++◌, subst}
+use Rattle.std.proofs.Common.{ℕ, List, subst}
 use Rattle.std.specs.Prelude.{IsTrue}
 use Rattle.std.specs.List.{Contains}
 use Rattle.cb_log.specs.declared.event.Event.{Event}

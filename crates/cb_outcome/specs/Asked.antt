@@ -1,5 +1,5 @@
 -- The command that words ask for.
-use Rattle.std.specs.Prelude.{ℕ, List, Option, None, Some, String}
+use Rattle.std.specs.Prelude.{List, Option, None, Some, String}
 use Rattle.std.specs.declared.alloc.Global.{Global}
 use Rattle.cb_request.specs.Commands.{request_of_arguments}
 use Rattle.cb_request.specs.declared.request.Request.{Request}
@@ -24,10 +24,10 @@ abbrev pub command_of : Request → Command
 command_of (Burst one two three) = burst one two three
 command_of (Model one) = model one
 command_of (Matrix one two) = matrix one two
-command_of (Codebook one two distance) = codebook one two distance
+command_of (Codebook one two wish) = codebook one two wish
 command_of (Verify one two three) = verify one two three
 command_of (Decode one two three log window) = decode one two three log window
-command_of (Correlate one two log distance window) = correlate one two log distance window
+command_of (Correlate one two log wish window) = correlate one two log wish window
 command_of (Grow sites start) = grow sites start
 command_of (Pairs one two three) = pairs one two three
 command_of (Explain one two three) = explain one two three

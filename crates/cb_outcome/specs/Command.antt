@@ -1,11 +1,13 @@
 -- What a command is.
-use Rattle.std.specs.Prelude.{◌≡◌, ℕ, ◌≤◌, ◌++◌, List, [], ◌∷◌}
+use Rattle.std.specs.Prelude.{◌≡◌, ℕ, ◌≤◌, List, [], ◌∷◌}
 use Rattle.cb_io.specs.Outside.{FilesReport}
+use Rattle.cb_model.specs.declared.wish.Wish.{Wish}
+use Rattle.cb_model.specs.declared.wish.Wish.TheVariants.{Plain, Cap}
 use Rattle.cb_outcome.specs.Roles.{Role}
 use Rattle.cb_report.specs.declared.fault.Fault.{Fault}
 use Rattle.cb_report.specs.declared.status.Status.{Status}
 use Rattle.cb_report.specs.declared.status.Status.TheVariants as statuses
-use Rattle.cb_outcome.specs.Outcome.{Outcome, refused}
+use Rattle.cb_outcome.specs.Outcome.{refused}
 use Rattle.cb_outcome.specs.Judged.{Known, Job}
 use Rattle.cb_outcome.specs.Contents.{Left, Reads, names_of, log_from}
 use Rattle.cb_outcome.specs.LogJobs.{Watch, LogTells}
@@ -15,6 +17,11 @@ use Rattle.cb_outcome.specs.Seen.{Seen}
 -- a number from the least to the most
 abbrev pub IsWithin : ℕ → ℕ → ℕ → Type 0
 IsWithin least most n = (least ≤ n) × (n ≤ most)
+
+-- a wish whose number is from the least to the most
+abbrev pub IsWishWithin : ℕ → ℕ → Wish → Type 0
+IsWishWithin least most (Plain d) = IsWithin least most d
+IsWishWithin least most (Cap cap) = IsWithin least most cap
 
 -- A job whose output is made before it is written: what it gives, which faults it may end with once all files have passed, and what is seen of
 -- a run that ends with a status.

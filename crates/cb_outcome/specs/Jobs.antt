@@ -3,6 +3,8 @@ use Rattle.std.specs.Prelude.{◌≡◌, ◌⊎◌, ℕ, ◌<◌, List, length, 
 use Rattle.cb_model.specs.declared.node.GroupName.{GroupName}
 use Rattle.cb_model.specs.declared.node.GroupName.TheVariants.{Least}
 use Rattle.cb_model.specs.declared.node.NodeName.{NodeName}
+use Rattle.cb_model.specs.declared.wish.Wish.{Wish}
+use Rattle.cb_model.specs.declared.wish.Wish.TheVariants.{Plain, Cap}
 use Rattle.cb_coding.specs.declared.book.Pair.{Pair}
 use Rattle.cb_coding.specs.declared.group.Group.{Group}
 use Rattle.cb_coding.specs.Groups.{codes_of}
@@ -15,8 +17,8 @@ use Rattle.cb_cert.specs.declared.certificate.Certificate.{Certificate}
 use Rattle.cb_cert.specs.Format.{IsCertificate}
 use Rattle.cb_cert.specs.Lines.{text_of}
 use Rattle.cb_validity.specs.declared.verdict.Accepted.{Accepted}
-use Rattle.cb_validity.specs.Canonical.{IsCanonicalBook, IsCanonicalThin}
-use Rattle.cb_validity.specs.Codebooks.{AreBookColumns, AreFirstClose, least_of}
+use Rattle.cb_validity.specs.Canonical.{IsCanonicalThin}
+use Rattle.cb_validity.specs.Codebooks.{HasCodebook, IsCodebook, AreFirstClose, least_of}
 use Rattle.cb_validity.specs.Totals.{HasFewEntries, HasManyEntries}
 use Rattle.cb_validity.specs.Verdicts.{CertificateShows}
 use Rattle.cb_pairs.specs.Fits.{group_limit}
@@ -54,26 +56,21 @@ pub record MatrixGives (t : Topology) (whole : ℕ) (outcome : Outcome) : Type 0
   pub least_is : IsClosestPair (length columns) (codes_of groups) least
   pub gives : outcome ≡ done (matrix_text columns groups least) whole
 
--- the canonical book of these columns is written, whose entries are few
-pub record WritesCanonical (t : Topology) (columns : List NodeName) (distance whole : ℕ) (outcome : Outcome) : Type 0 where
+-- the canonical certificate of the codebook for the wish is written, whose entries are few
+pub record WritesCodebook (t : Topology) (wish : Wish) (whole : ℕ) (outcome : Outcome) : Type 0 where
   pub few : HasFewEntries t
   pub certificate : Certificate
-  pub canonical : IsCanonicalBook t columns distance certificate
+  pub is : IsCodebook t wish certificate
   pub of_format : IsCertificate certificate
   pub gives : outcome ≡ done (text_of certificate) whole
 
--- the entries would be too many, and nothing is written
-pub record RefusesMany (t : Topology) (whole : ℕ) (outcome : Outcome) : Type 0 where
+-- there is a codebook for the wish, but its certificate would have too many entries, and nothing is written
+pub record RefusesMany (t : Topology) (wish : Wish) (whole : ℕ) (outcome : Outcome) : Type 0 where
+  pub exists : HasCodebook t wish
   pub many : HasManyEntries t
   pub gives : outcome ≡ refused faults.LimitEntries whole
 
--- there is a codebook for the distance, and its canonical certificate is written, unless its entries would be too many
-pub record WritesBook (t : Topology) (distance whole : ℕ) (outcome : Outcome) : Type 0 where
-  pub columns : List NodeName
-  pub are_columns : AreBookColumns t distance columns
-  pub gives : WritesCanonical t columns distance whole outcome ⊎ RefusesMany t whole outcome
-
--- there is none, and the canonical certificate that two groups are too close is written beside the fault
+-- there is none for the distance, and the canonical certificate that two groups are too close is written beside the fault
 pub record WritesThin (t : Topology) (wanted whole : ℕ) (outcome : Outcome) : Type 0 where
   pub first : GroupName
   pub second : NodeName
@@ -84,9 +81,14 @@ pub record WritesThin (t : Topology) (wanted whole : ℕ) (outcome : Outcome) : 
   pub of_format : IsCertificate certificate
   pub gives : outcome ≡ done_with (text_of certificate) (faults.Distance wanted first (Least second) distance) whole
 
--- `codebook`: a certificate of the codebook for a distance, or one that there is none
-abbrev pub CodebookGives : Topology → ℕ → ℕ → Outcome → Type 0
-CodebookGives t distance whole outcome = WritesBook t distance whole outcome ⊎ WritesThin t distance whole outcome
+-- a distance may be refused, and a cap never is
+abbrev pub RefusesWish : Topology → Wish → ℕ → Outcome → Type 0
+RefusesWish t (Plain d) whole outcome = WritesThin t d whole outcome
+RefusesWish t (Cap cap) whole outcome = ⊥
+
+-- `codebook`: a certificate of the codebook for a wish, or one that there is none
+abbrev pub CodebookGives : Topology → Wish → ℕ → Outcome → Type 0
+CodebookGives t wish whole outcome = WritesCodebook t wish whole outcome ⊎ (RefusesMany t wish whole outcome ⊎ RefusesWish t wish whole outcome)
 
 -- `verify`: what the certificate shows
 abbrev pub VerifyGives : Topology → Certificate → ℕ → Outcome → Type 0

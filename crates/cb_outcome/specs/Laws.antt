@@ -2,6 +2,7 @@
 use Rattle.std.specs.Prelude.{◌≡◌, ◌≢◌, ◌⊎◌, ◌≤◌, ℕ, ◌++◌, List, [], ◌∷◌, length, codes, Option, None, Some, IsTrue}
 use Rattle.std.specs.List.{Contains}
 use Rattle.cb_io.specs.Outside.{bytes_left_of, contents}
+use Rattle.cb_model.specs.declared.wish.Wish.{Wish}
 use Rattle.cb_network.specs.Regular.{IsRegular}
 use Rattle.cb_network.specs.Topology.{Topology}
 use Rattle.cb_log.specs.declared.event.Event.{Event}
@@ -22,7 +23,7 @@ use Rattle.cb_outcome.specs.Commands.Codebook.{codebook}
 use Rattle.cb_outcome.specs.Commands.Verify.{verify}
 use Rattle.cb_outcome.specs.Commands.Levels.{levels}
 use Rattle.cb_outcome.specs.Commands.Prove.{prove}
-use Rattle.cb_outcome.specs.Asked.{command_of, command_for}
+use Rattle.cb_outcome.specs.Asked.{command_for}
 use Rattle.cb_outcome.specs.Grown.{SumsUpLog}
 use Rattle.cb_outcome.specs.LogJobs.{Watch, PrefixTells, log_limit}
 use Rattle.cb_outcome.specs.Answer.{IsOutcome, IsDue}
@@ -96,9 +97,11 @@ DoneReadsAll = (asked : Option Request) (left : Left) (outcome : Outcome) → Is
 abbrev pub AskedIsInRange : Type 0
 AskedIsInRange = (words : List (List ℕ)) → (command_for (request_of words)).range
 
--- the file words of `verify` are its three files, and words of no command name none
+-- the file words of `verify` and `prove` are their three files, those of `levels` the two before its node, and words of no command name none
 abbrev pub FileWordsAreRead : Type 0
 FileWordsAreRead = (m t c : List ℕ) → (file_words (command_for (request_of (codes "verify" ∷ m ∷ t ∷ c ∷ []))) ≡ m ∷ t ∷ c ∷ [])
+    × (file_words (command_for (request_of (codes "prove" ∷ m ∷ t ∷ c ∷ []))) ≡ m ∷ t ∷ c ∷ [])
+    × (file_words (command_for (request_of (codes "levels" ∷ m ∷ t ∷ codes "Down@p1" ∷ []))) ≡ m ∷ t ∷ [])
     × (file_words (command_for (request_of (codes "models" ∷ m ∷ []))) ≡ [])
 
 -- a model and a topology have the same bytes for both
@@ -108,8 +111,8 @@ pub record HaveSameNetwork (left left' : Left) (model topology : List ℕ) : Typ
 
 -- what `codebook` writes of a network, be it of its codebook or that there is none, `verify` accepts for the same files
 abbrev pub WrittenIsAccepted : Type 0
-WrittenIsAccepted = (left left' : Left) (model topology certificate : List ℕ) (distance : ℕ) (a b : Outcome)
-    → HaveSameNetwork left left' model topology → IsOutcome (codebook model topology distance) left a → a.out ≢ []
+WrittenIsAccepted = (left left' : Left) (model topology certificate : List ℕ) (wish : Wish) (a b : Outcome)
+    → HaveSameNetwork left left' model topology → IsOutcome (codebook model topology wish) left a → a.out ≢ []
     → contents left' (model ∷ topology ∷ []) certificate ≡ a.out → IsOutcome (verify model topology certificate) left' b
     → b.fault ≡ None
 

@@ -1,11 +1,12 @@
 -- What results from a log, and from its first bytes.
 use Rattle.std.specs.Prelude.{◌≡◌, ◌⊎◌, ℕ, suc, ◌^◌, ◌<◌, ◌≤◌, ◌++◌, List, [], take, length}
 use Rattle.cb_model.specs.declared.node.NodeName.{NodeName}
-use Rattle.cb_coding.specs.declared.book.Book.{Book}
+use Rattle.cb_model.specs.declared.wish.Wish.{Wish}
+use Rattle.cb_model.specs.declared.wish.Wish.TheVariants.{Plain, Cap}
 use Rattle.cb_network.specs.Nodes.{AreColumns}
 use Rattle.cb_network.specs.Topology.{Topology}
 use Rattle.cb_cert.specs.declared.certificate.Certificate.{Certificate}
-use Rattle.cb_cert.specs.declared.certificate.Certificate.TheVariants.{Book as BookClaim, Thin as ThinClaim}
+use Rattle.cb_cert.specs.declared.certificate.Certificate.TheVariants.{Book as BookClaim, Capped as CapClaim, Thin as ThinClaim}
 use Rattle.cb_validity.specs.declared.verdict.Accepted.{Accepted}
 use Rattle.cb_validity.specs.Reading.{ArePlaces}
 use Rattle.cb_validity.specs.Verdicts.{CertificateShows}
@@ -28,29 +29,30 @@ pub record Watch : Type 0 where
   pub mode : Mode
   pub window : ℕ
 
--- the codebook that a certificate states, by the positions of its columns among all
-pub record StatesBook (t : Topology) (distance : ℕ) (nodes : List NodeName) (numbers : List ℕ) (book : Book) : Type 0 where
+-- the columns that a certificate states, by their positions among all
+pub record StatesColumns (t : Topology) (nodes : List NodeName) (numbers kept : List ℕ) : Type 0 where
   pub columns : List NodeName
   pub columns_are : AreColumns t columns
-  pub places : ArePlaces nodes columns numbers book.columns
-  pub distance_is : book.distance ≡ distance
+  pub places : ArePlaces nodes columns numbers kept
 
--- the same of any certificate; only a book states one
-abbrev pub States : Topology → Certificate → Book → Type 0
-States t (BookClaim distance nodes numbers spans) book = StatesBook t distance nodes numbers book
-States t (ThinClaim close distance nodes first second) book = ⊥
+-- the codebook that a certificate states, by its columns and the wish that they meet; a thin one states none
+abbrev pub States : Topology → Certificate → List ℕ → Wish → Type 0
+States t (BookClaim distance nodes numbers spans) kept used = StatesColumns t nodes numbers kept × (used ≡ Plain distance)
+States t (CapClaim cap nodes numbers radii spans) kept used = StatesColumns t nodes numbers kept × (used ≡ Cap cap)
+States t (ThinClaim close distance nodes first second) kept used = ⊥
 
 -- by the codebook of a certificate, after the line that accepts it
 pub record IsFixedWatch (t : Topology) (c : Certificate) (window : ℕ) (watch : Watch) : Type 0 where
   pub accepted : Accepted
   pub shows : CertificateShows t c accepted
-  pub book : Book
-  pub states : States t c book
-  pub is : watch ≡ record { opening = accepted_text accepted; from = t; mode = fixed book; window = window }
+  pub kept : List ℕ
+  pub used : Wish
+  pub states : States t c kept used
+  pub is : watch ≡ record { opening = accepted_text accepted; from = t; mode = fixed kept used; window = window }
 
--- by codebooks for a wanted distance
-abbrev pub IsWantedWatch : Topology → ℕ → ℕ → Watch → Type 0
-IsWantedWatch t distance window watch = watch ≡ record { opening = []; from = t; mode = wanted distance; window = window }
+-- by codebooks for a wish
+abbrev pub IsWantedWatch : Topology → Wish → ℕ → Watch → Type 0
+IsWantedWatch t wish window watch = watch ≡ record { opening = []; from = t; mode = wanted wish; window = window }
 
 -- the output of a whole log
 abbrev pub WholeTells : Watch → List ℕ → List ℕ → Type 0

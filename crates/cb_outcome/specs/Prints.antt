@@ -1,5 +1,5 @@
 -- What outputs say of causes.
-use Rattle.std.specs.Prelude.{◌≡◌, ◌↔◌, ℕ, ◌<◌, ◌≤◌, ◌++◌, List, [], ◌∷◌, length, Bool, Option, Some, IsTrue}
+use Rattle.std.specs.Prelude.{◌≡◌, ◌↔◌, ℕ, ◌<◌, ◌≤◌, ◌++◌, List, [], ◌∷◌, length, Bool, Some, IsTrue}
 use Rattle.std.specs.List.{Contains}
 use Rattle.std.specs.List.Sorted.{IsStrictlyIncreasing}
 use Rattle.cb_io.specs.Outside.{SinkReport, WritesAll}
@@ -52,13 +52,14 @@ use Rattle.cb_outcome.specs.Seen.{Seen, SaysFault}
 abbrev pub IsNearest : List Group → (ℕ → ℕ) → ℕ → Type 0
 IsNearest groups far i = (i < length groups) × ((j : ℕ) → j < length groups → far i ≤ far j)
 
--- a group is listed exactly where none is nearer, and where one is no farther than the radius, it alone, and surely
-pub record ListsTheNearest (groups : List Group) (far : ℕ → ℕ) (finding : Finding) : Type 0 where
+-- a group is listed exactly where none is nearer, and where one is no farther than its radius, it alone, and surely; `radius_of` gives
+-- the radius of each
+pub record ListsTheNearest (groups : List Group) (far radius_of : ℕ → ℕ) (finding : Finding) : Type 0 where
   pub places : List ℕ
   pub rise : IsStrictlyIncreasing places
   pub nearest : (i : ℕ) → Contains places i ↔ IsNearest groups far i
   pub listed : finding.groups ≡ named_groups groups places
-  pub alone : (i : ℕ) → i < length groups → far i ≤ finding.radius
+  pub alone : (i : ℕ) → i < length groups → far i ≤ radius_of i
       → (finding.groups ≡ named_groups groups (i ∷ [])) × IsTrue finding.sure
 
 -- at how many of a codebook's columns the raised nodes differ from the code of the group at a position
@@ -75,7 +76,7 @@ pub record PrintsFinding (t : Topology) (nodes : List NodeName) (out out' : Sink
   pub finding : Finding
   pub burst : IsBurst t nodes finding
   pub printed : WritesAll out out' (burst_text finding)
-  pub lists : ListsTheNearest burst.groups (far_from (all_columns (length burst.columns)) burst.columns burst.groups nodes) finding
+  pub lists : ListsTheNearest burst.groups (far_from (all_columns (length burst.columns)) burst.columns burst.groups nodes) (λ i. finding.radius) finding
 
 -- What fits the nodes was printed: exactly the guesses nearest to them, by codes from what causes what. Where they differ from the code of a guess
 -- at no more columns than the radius, exactly the guesses with that code are listed, and it is sure.
@@ -90,15 +91,15 @@ pub record PrintsFits (t : Topology) (nodes : List NodeName) (out out' : SinkRep
       → IsTrue found.sure × ((h : Guess) → Contains is_found.fits.guesses h ↔ HasCodeOf (codes_of groups) g h)
 
 -- The events of a log were printed: there is one diagnosis for each window, in the order in which the windows close, and each lists exactly
--- the groups nearest to the window's nodes; each thin event names two groups that are closer than wanted, with their distance; and of each
--- source the diagnoses are those of the lines that it alone would have made.
+-- the groups nearest to the window's nodes, and one that is no farther than its radius alone; each thin event names two groups that are
+-- closer than wanted, with their distance; and of each source the diagnoses are those of the lines that it alone would have made.
 pub record PrintsEvents (watch : Watch) (log : List ℕ) (out out' : SinkReport) : Type 0 where
   pub events : List Event
   pub gives : LogGives watch.from watch.mode watch.window log events
   pub printed : WritesAll out out' (watch.opening ++ events_text events)
   pub one_each : OneForEach watch.from watch.mode watch.window (records_of gives.entries) events
   pub lists : (c : Closed) (event : Event) (e : Explains watch.from watch.mode watch.window (records_of gives.entries) c event)
-      → ListsTheNearest e.basis.groups (far_from e.basis.book.columns e.basis.columns e.basis.groups c.nodes) e.is.finding
+      → ListsTheNearest e.basis.groups (far_from e.basis.kept e.basis.columns e.basis.groups c.nodes) e.is.found.radius_of e.is.finding
   pub thin : (event : Event) → Contains events event → IsTrue (is_thin event)
       → TellsThin watch.from watch.mode watch.window (records_of gives.entries) event
   pub alone : (source : List ℕ) → LinesAlone watch.from watch.mode watch.window source (log_lines log) events
@@ -128,7 +129,7 @@ pub record RefusesDistance (t : Topology) (wanted : ℕ) (s : Seen) : Type 0 whe
 pub record PrintsChains (t : Topology) (nodes : List NodeName) (out out' : SinkReport) : Type 0 where
   pub finding : Finding
   pub burst : IsBurst t nodes finding
-  pub lists : ListsTheNearest burst.groups (far_from (all_columns (length burst.columns)) burst.columns burst.groups nodes) finding
+  pub lists : ListsTheNearest burst.groups (far_from (all_columns (length burst.columns)) burst.columns burst.groups nodes) (λ i. finding.radius) finding
   pub chains : List (List (List NodeName))
   pub explains : ExplainsGroups t burst.columns finding.groups chains
   pub printed : WritesAll out out' (explained_text finding chains)

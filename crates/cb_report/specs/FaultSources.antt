@@ -55,6 +55,7 @@ fault_of_rejected (rejected.Repeated entry) = CertRejected (checks.Repeated entr
 fault_of_rejected (rejected.NotClosed entry successor) = CertRejected (checks.NotClosed entry successor)
 fault_of_rejected (rejected.TooClose first second distance) = CertRejected (checks.TooClose first second distance)
 fault_of_rejected (rejected.NotThin distance) = CertRejected (checks.NotThin distance)
+fault_of_rejected (rejected.BadRadius place) = CertRejected (checks.BadRadius place)
 fault_of_rejected rejected.NoMemory = Memory
 
 -- of the text of levels

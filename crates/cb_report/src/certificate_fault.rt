@@ -80,7 +80,7 @@ pub enum FailedCheck {
         entry: u32,
         successor: NodeName,
     },
-    /// Over the columns these two groups are less than the distance apart.
+    /// Over the columns these two groups are only this distance apart, and more is claimed.
     TooClose {
         first: GroupName,
         second: GroupName,
@@ -89,6 +89,10 @@ pub enum FailedCheck {
     /// Over all columns the two groups are this far apart, which isn't what is claimed.
     NotThin {
         distance: u32,
+    },
+    /// The radius at this position is lacking, has no group, or isn't the group's.
+    BadRadius {
+        place: u32,
     },
 }
 
@@ -120,6 +124,7 @@ impl<'w> From<Rejected> for Fault<'w> {
             Rejected::NotThin { distance } => {
                 Fault::CertRejected(FailedCheck::NotThin { distance })
             }
+            Rejected::BadRadius { place } => Fault::CertRejected(FailedCheck::BadRadius { place }),
             Rejected::NoMemory => Fault::Memory,
         }
     }

@@ -4,7 +4,7 @@ use Rattle.std.proofs.lemmas.List.{length-map}
 use Rattle.std.proofs.lemmas.Slice.Eq.{bytes_eq-Decides}
 use Rattle.std.specs.Prelude.{◌∷◌, codes, None, string_bytes}
 use Rattle.std.specs.Str.{bytes_eq}
-use Rattle.cb_request.specs.Commands.{request_of, levels_of, texts}
+use Rattle.cb_request.specs.Commands.{request_of, codebook_of, correlate_of, levels_of, texts}
 
 differs : (one other : List ℕ) → other ≢ one → bytes_eq one other ≡ false
 differs one other ne = by_test (bytes_eq one other) refl
@@ -45,7 +45,31 @@ other_asks_for_nothing command words is =
       differs (codes "prove") command is.prove,
     ) refl
 
--- `levels` has three words after it
+-- `correlate` has five words after it
+not_five : (words : List (List ℕ)) → length words ≢ 5 → None ≡ correlate_of words
+not_five [] other = refl
+not_five (one ∷ []) other = refl
+not_five (one ∷ two ∷ []) other = refl
+not_five (one ∷ two ∷ three ∷ []) other = refl
+not_five (one ∷ two ∷ three ∷ four ∷ []) other = refl
+not_five (one ∷ two ∷ three ∷ four ∷ five ∷ []) other = absurd (other refl)
+not_five (one ∷ two ∷ three ∷ four ∷ five ∷ more ∷ words) other = refl
+
+pub more_or_fewer_than_five : (words : List (String Global)) → length words ≢ 5 → None ≡ correlate_of (texts words)
+more_or_fewer_than_five words other = not_five (texts words) (λ e. other (sym (length-map words string_bytes) ∙ e))
+
+-- `codebook` has three words after it
+no_codebook : (words : List (List ℕ)) → length words ≢ 3 → None ≡ codebook_of words
+no_codebook [] other = refl
+no_codebook (one ∷ []) other = refl
+no_codebook (one ∷ two ∷ []) other = refl
+no_codebook (one ∷ two ∷ distance ∷ []) other = absurd (other refl)
+no_codebook (one ∷ two ∷ distance ∷ more ∷ words) other = refl
+
+pub other_number_for_codebook : (words : List (String Global)) → length words ≢ 3 → None ≡ codebook_of (texts words)
+other_number_for_codebook words other = no_codebook (texts words) (λ e. other (sym (length-map words string_bytes) ∙ e))
+
+-- and so has `levels`
 not_three : (words : List (List ℕ)) → length words ≢ 3 → None ≡ levels_of words
 not_three [] other = refl
 not_three (one ∷ []) other = refl

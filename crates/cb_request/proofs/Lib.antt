@@ -1,3 +1,4 @@
 pub mod NumberWords
 pub mod NodesRead
 mod CommandWords
+pub mod WishWords

@@ -1,6 +1,6 @@
 -- A number word is read as the number that is written so.
 use Rattle.std.proofs.Common.{◌≡◌, ℕ, ◌<◌, ◌≤◌, ◌^◌, List, Bool, true, false, ◌&&◌, refl, sym, ap, ◌∙◌, subst, Some, arith}
-use Rattle.std.proofs.lemmas.Fmt.{digits_value-decimal}
+use Rattle.std.proofs.lemmas.Fmt.{digits_decimal, digits_value-decimal}
 use Rattle.std.proofs.lemmas.Slice.Eq.{bytes_eq-Decides}
 use Rattle.std.proofs.lemmas.Str.Parse.{IsNumeralModel}
 use Rattle.std.specs.Prelude.{nat_le, decimal, Option, None, IsSome, T, if◌then◌else◌}
@@ -13,6 +13,9 @@ use Rattle.cb_request.specs.Numbers.{is_written, number_in}
 
 own : IsNumeralModel (AllDigits 10) (digits_value 10)
 own = record { to = λ ds h. h; from = λ ds h. h; same = λ ds h. refl }
+
+pub all_digits : (number : ℕ) → number < 2 ^ 64 → AllDigits 10 (decimal number)
+all_digits number small = digits_decimal own number small
 
 both : (a b : Bool) → (a && b) ≡ true → (a ≡ true) × (b ≡ true)
 both true b e = (refl, e)

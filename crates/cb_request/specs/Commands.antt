@@ -4,7 +4,7 @@ use Rattle.std.specs.declared.alloc.Global.{Global}
 use Rattle.std.specs.Option.{option_map, option_and_then}
 use Rattle.cb_io.specs.Pairs.{look_up}
 use Rattle.cb_request.specs.NodeWords.{node_in}
-use Rattle.cb_request.specs.Numbers.{distance_in, window_in, sites_in, start_in}
+use Rattle.cb_request.specs.Numbers.{window_in, sites_in, start_in, wish_in}
 use Rattle.cb_request.specs.declared.request.Request.{Request}
 use Rattle.cb_request.specs.declared.request.Request.TheVariants as requests
 
@@ -26,7 +26,7 @@ matrix_of (one ∷ two ∷ []) = Some (requests.Matrix one two)
 matrix_of words = None
 
 abbrev pub codebook_of : List (List ℕ) → Option Request
-codebook_of (one ∷ two ∷ distance ∷ []) = option_map (requests.Codebook one two) (distance_in distance)
+codebook_of (one ∷ two ∷ distance ∷ []) = option_map (requests.Codebook one two) (wish_in distance)
 codebook_of words = None
 
 abbrev pub verify_of : List (List ℕ) → Option Request
@@ -39,7 +39,7 @@ decode_of words = None
 
 abbrev pub correlate_of : List (List ℕ) → Option Request
 correlate_of (one ∷ two ∷ log ∷ distance ∷ window ∷ []) =
-    option_and_then (λ d. option_map (requests.Correlate one two log d) (window_in window)) (distance_in distance)
+    option_and_then (λ wish. option_map (requests.Correlate one two log wish) (window_in window)) (wish_in distance)
 correlate_of words = None
 
 abbrev pub grow_of : List (List ℕ) → Option Request

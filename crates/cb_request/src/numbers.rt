@@ -1,11 +1,12 @@
 //! Words that are numbers.
 ghost use Rattle.std.specs.Prelude.{◌≡◌};
-ghost use Rattle.cb_request.specs.Numbers.{number_in as number_of, distance_in as distance_of, window_in as window_of, sites_in as sites_of, start_in as start_of};
+ghost use Rattle.cb_request.specs.Numbers.{number_in as number_of, distance_in as distance_of, window_in as window_of, sites_in as sites_of, start_in as start_of, wish_in as wish_of};
 
+use cb_model::Wish;
 use cb_text::decimal_of;
 
-/// A wanted distance.
-pub(crate) fn distance_in(word: &str) -> Option<u64>
+// A wanted distance.
+fn distance_in(word: &str) -> Option<u64>
     ensures { result ≡ distance_of word.now }
 {
     number_in(1, 9_999, word)
@@ -30,6 +31,16 @@ pub(crate) fn start_in(word: &str) -> Option<u64>
     ensures { result ≡ start_of word.now }
 {
     number_in(0, u64::MAX, word)
+}
+
+/// A wanted distance, or a cap.
+pub(crate) fn wish_in(word: &str) -> Option<Wish>
+    ensures { result ≡ wish_of word.now }
+{
+    match word.strip_prefix("cap") {
+        Some(number) => Some(Wish::Cap(distance_in(number)? as u32)),
+        None => Some(Wish::Plain(distance_in(word)? as u32)),
+    }
 }
 
 // The number that the word is, if it is one from the least to the most.

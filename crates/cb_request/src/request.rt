@@ -1,6 +1,7 @@
 //! What may be asked for.
 use crate::file_name::FileName;
 use crate::node_word::NodeWord;
+use cb_model::Wish;
 
 /// A command with the names of its files, with its node and with its numbers, in the order of its words.
 #[derive(Drop)]
@@ -20,11 +21,11 @@ pub enum Request<'w> {
         model: FileName<'w>,
         topology: FileName<'w>,
     },
-    /// A certificate of the codebook for a wanted distance.
+    /// A certificate of the codebook for a wanted distance or a cap.
     Codebook {
         model: FileName<'w>,
         topology: FileName<'w>,
-        distance: u64,
+        wish: Wish,
     },
     /// What a certificate shows.
     Verify {
@@ -40,12 +41,12 @@ pub enum Request<'w> {
         log: FileName<'w>,
         window: u64,
     },
-    /// The events of a log, by codebooks for a wanted distance.
+    /// The events of a log, by codebooks for a wanted distance or a cap.
     Correlate {
         model: FileName<'w>,
         topology: FileName<'w>,
         log: FileName<'w>,
-        distance: u64,
+        wish: Wish,
         window: u64,
     },
     /// Which group, or which two at once, fit the symptoms of a file.

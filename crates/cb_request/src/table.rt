@@ -4,7 +4,7 @@ ghost use Rattle.cb_request.specs.Commands.{request_of_arguments, texts, request
 
 use crate::file_name::FileName;
 use crate::node_word::NodeWord;
-use crate::numbers::{distance_in, sites_in, start_in, window_in};
+use crate::numbers::{sites_in, start_in, window_in, wish_in};
 use crate::request::Request;
 
 impl<'w> Request<'w> {
@@ -83,7 +83,7 @@ fn codebook<'w>(words: &'w [String]) -> Option<Request<'w>>
         [model, topology, distance] => Some(Request::Codebook {
             model: FileName(model.as_str()),
             topology: FileName(topology.as_str()),
-            distance: distance_in(distance.as_str())?,
+            wish: wish_in(distance.as_str())?,
         }),
         _ => None,
     }
@@ -125,7 +125,7 @@ fn correlate<'w>(words: &'w [String]) -> Option<Request<'w>>
             model: FileName(model.as_str()),
             topology: FileName(topology.as_str()),
             log: FileName(log.as_str()),
-            distance: distance_in(distance.as_str())?,
+            wish: wish_in(distance.as_str())?,
             window: window_in(window.as_str())?,
         }),
         _ => None,

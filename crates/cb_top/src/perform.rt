@@ -51,11 +51,8 @@ pub(crate) fn perform<'w, F: Files, O: Sink, L: Ledger>(
         Request::Codebook {
             model,
             topology,
-            distance,
-        } => deliver(
-            codebook(alloc, files, model, topology, distance, steps),
-            out,
-        ),
+            wish,
+        } => deliver(codebook(alloc, files, model, topology, wish, steps), out),
         Request::Verify {
             model,
             topology,
@@ -68,10 +65,10 @@ pub(crate) fn perform<'w, F: Files, O: Sink, L: Ledger>(
             model,
             topology,
             log,
-            distance,
+            wish,
             window,
         } => {
-            let asked = Correlation { distance, window };
+            let asked = Correlation { wish, window };
             correlate(alloc, files, out, model, topology, log, asked, steps)
         }
         Request::Decode {

@@ -60,7 +60,8 @@ pub fn run<F: Files, O: Sink, E: Sink, L: Ledger>(
     // its code. What `explain` prints at 0 are the groups as those of `burst`, and of each exactly the short chains from its members to the
     // columns that they cause. What `levels` prints at 0 spells valid levels, and those that `prove` accepts are valid: they list exactly what their
     // problem causes, each node with its least number of edges. Of each window of a log that `correlate` or `decode` follows to 0 the same as of
-    // `burst` is said, over the codebook in use, and each thin line names two groups that are closer than wanted, too. No distance of 1 is refused so.
+    // `burst` is said, over the codebook in use and by the radius of each group, and each thin line names two groups that are closer than wanted, too.
+    // No distance of 1 is refused so, nor a cap.
     ensures finds { Finds (command_in words.now) result (seen_from F.tells O.tells E.tells files.old files.new out.old out.new err.old err.new) }
     // No step is counted by `model`, nor where no topology results from the files; by `burst`, `matrix` and `pairs` no more than it costs to search
     // from each problem of the topology; by `correlate` and `grow` no more than that, and again after each edit of the log for the problems that it makes dirty or new, of

@@ -38,7 +38,8 @@ module _ (model topology certificate log : List ℕ) (window : ℕ) (left : Left
   apart (certified t c) watch passed watches =
       let valid = is_valid t c passed in
       subst (λ (x : Watch). AllApart x.from x.mode) (sym watches.is)
-      (fixed_apart t (fixed watches.book) watches.book refl (given_keeps_apart t c watches.book valid.0 valid.1 watches.states))
+      (fixed_apart t (fixed watches.kept watches.used) watches.kept watches.used refl
+      (given_keeps_apart t c watches.kept watches.used valid.0 valid.1 watches.states))
   apart known watch passed watches = absurd watches
 
 pub lawful : (model topology certificate log : List ℕ) (window : ℕ) → IsLawful (decode model topology certificate log window)

@@ -1,25 +1,19 @@
-use Rattle.std.proofs.Common.{◌<◌, ℕ, length, sym, subst, subst₂, Err, List, arith}
-use Rattle.cb_reduce.specs.declared.codebook.Refused.{Refused}
-use Rattle.cb_reduce.specs.Reduced.{IsReduced}
+use Rattle.std.proofs.Common.{◌<◌, ℕ, length, sym, subst, subst₂, List, arith}
 use Rattle.cb_codes.specs.Groups.{named_of}
 use Rattle.cb_model.specs.declared.node.NamedGroup.{NamedGroup}
 use Rattle.cb_topo.specs.Numbered.{Numbered, topology_of}
 use Rattle.cb_certify.specs.Members.{HasLeastNode, IsCalledBy, IsMemberAt, IsPairOf}
-use Rattle.cb_certify.proofs.Reduced.{rows_fit, columns_fit, has_codebook, first_close, places_within, pair_far, first_pair, called_member, pair_called, has_node}
+use Rattle.cb_certify.proofs.Reduced.{are_numbered, has_codebook, first_close, places_within, pair_far, first_pair, called_member, pair_called, has_node}
 use Rattle.cb_certify.proofs.codebook.by_groups.Goals as goal
 
-pub reduce-requires-clause-places_fit : goal.reduce-requires-clause-places_fit
-reduce-requires-clause-places_fit g c =
-    rows_fit (topology_of c.args.graph.now) c.args.groups.now c.requires.groups c.codes.result.now c.codes.ensures.width c.codes.ensures.rows
+pub first_close-requires : goal.first_close-requires
+first_close-requires g c =
+    are_numbered (topology_of c.args.graph.now) c.args.groups.now c.requires.groups c.codes.result.now c.codes.ensures.width c.codes.ensures.rows
 
-pub reduce-requires-clause-columns_fit : goal.reduce-requires-clause-columns_fit
-reduce-requires-clause-columns_fit g c =
-    columns_fit (topology_of c.args.graph.now) c.args.groups.now c.requires.groups c.codes.result.now c.codes.ensures.width c.codes.ensures.rows
-
-pub returns-in-Ok : goal.returns-in-Ok
-returns-in-Ok g c = (
+pub returns-in-None : goal.returns-in-None
+returns-in-None g c = (
   has_codebook (topology_of c.args.graph.now) c.args.groups.now c.requires.groups c.codes.result.now c.codes.ensures.width c.codes.ensures.rows c.args.wanted
-      c.in-Ok.book c.in-Ok.ensures,
+      c.in-None.ensures.none,
   c.requires.many,
 )
 
@@ -28,8 +22,8 @@ close_named-close-requires g c =
     let n = c.args.graph.now in
     let made = c.args.groups.now in
     let are = c.requires.groups in
-    let pair = c.in-Err-TooClose.pair in
-    let is = subst (λ (why : Refused). IsReduced c.codes.result.now c.args.wanted (Err why)) c.in-Err-TooClose.field-0-is c.in-Err-TooClose.ensures in
+    let pair = c.in-Some.pair in
+    let is = c.in-Some.ensures.pair in
     let (below, within) = places_within (topology_of n) made are c.codes.result.now c.codes.ensures.width c.codes.ensures.rows c.args.wanted pair is in
     let node : (place : ℕ) → 0 < place → place < length made.groups → HasLeastNode c.topology.result.now c.named.result.now place =
     λ place later low. subst₂ (λ (m : Numbered) (named : List NamedGroup). HasLeastNode m named place) (sym c.topology.ensures) (sym c.named.ensures)
@@ -41,8 +35,8 @@ shortfall-requires-clause-pair g c =
     let n = c.args.graph.now in
     let made = c.args.groups.now in
     let are = c.requires.groups in
-    let pair = c.in-Err-TooClose.pair in
-    let is = subst (λ (why : Refused). IsReduced c.codes.result.now c.args.wanted (Err why)) c.in-Err-TooClose.field-0-is c.in-Err-TooClose.ensures in
+    let pair = c.in-Some.pair in
+    let is = c.in-Some.ensures.pair in
     let close = c.close_named-close.result in
     let by_names = subst₂ (λ (m : Numbered) (named : List NamedGroup). IsPairOf (IsMemberAt m named) pair close) c.topology.ensures c.named.ensures c.close_named-close.ensures in
     first_pair n made are c.args.wanted pair close
@@ -51,8 +45,8 @@ shortfall-requires-clause-pair g c =
 
 pub shortfall-requires-clause-far : goal.shortfall-requires-clause-far
 shortfall-requires-clause-far g c =
-    let pair = c.in-Err-TooClose.pair in
-    let is = subst (λ (why : Refused). IsReduced c.codes.result.now c.args.wanted (Err why)) c.in-Err-TooClose.field-0-is c.in-Err-TooClose.ensures in
+    let pair = c.in-Some.pair in
+    let is = c.in-Some.ensures.pair in
     let far = pair_far (topology_of c.args.graph.now) c.args.groups.now c.requires.groups c.codes.result.now c.codes.ensures.width c.codes.ensures.rows c.args.wanted pair is in
     let same = c.close_named-close.ensures.distance in
     omega arith

@@ -1,4 +1,5 @@
 use Rattle.std.proofs.Common.{◌∙◌, IfOk, sym, subst}
+use Rattle.cb_model.specs.declared.wish.Wish.TheVariants.{Plain}
 use Rattle.cb_validity.specs.Totals.{HasManyEntries}
 use Rattle.cb_topo.specs.Numbered.{Numbered, topology_of}
 use Rattle.cb_certify.specs.Made.{IsMadeOf}
@@ -10,4 +11,4 @@ of_matrix-requires-clause-many g c =
 
 pub returns-in-Ok : goal.returns-in-Ok
 returns-in-Ok g c =
-    subst (λ (n : Numbered). IfOk c.of_matrix.result (IsMadeOf (topology_of n) c.args.wanted)) (c.into_graph.ensures ∙ c.in_ok-cache.ensures.graph) c.of_matrix.ensures
+    subst (λ (n : Numbered). IfOk c.of_matrix.result (IsMadeOf (topology_of n) (Plain c.args.wanted))) (c.into_graph.ensures ∙ c.in_ok-cache.ensures.graph) c.of_matrix.ensures

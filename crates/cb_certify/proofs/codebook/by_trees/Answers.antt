@@ -1,4 +1,6 @@
-use Rattle.std.proofs.Common.{◌∙◌, sym, subst, IfOk, Err, arith}
+use Rattle.std.proofs.Common.{◌≡◌, ◌∙◌, ℕ, sym, ap, subst, IfOk, Err, arith}
+use Rattle.cb_model.specs.declared.wish.Wish.{Wish}
+use Rattle.cb_model.specs.declared.wish.Wish.TheVariants.{Plain, Cap}
 use Rattle.cb_reduce.specs.declared.codebook.Refused.{Refused}
 use Rattle.cb_reduce.specs.Reduced.{IsReduced}
 use Rattle.cb_cert.specs.Format.{IsWanted}
@@ -7,9 +9,9 @@ use Rattle.cb_span.specs.Searched.{AreTreesOf}
 use Rattle.cb_topo.specs.Numbered.{Numbered, topology_of}
 use Rattle.cb_certify.specs.Columns.{AreColumnsIn}
 use Rattle.cb_certify.specs.Groups.{AreGroupsIn, IsLeastAt}
-use Rattle.cb_certify.specs.Made.{IsBookOf, IsMadeOf}
+use Rattle.cb_certify.specs.Made.{IsCapBookOf, IsChoiceOf, IsMadeOf, IsWantedWish}
 use Rattle.cb_certify.specs.Members.{IsCalledBy}
-use Rattle.cb_certify.proofs.Reduced.{rows_fit, columns_fit, book_of, first_close, places_within, pair_far, first_pair, called_least, pair_called}
+use Rattle.cb_certify.proofs.Reduced.{rows_fit, columns_fit, book_of, cap_book_of, first_close, places_within, pair_far, first_pair, called_least, pair_called}
 use Rattle.cb_certify.proofs.codebook.by_trees.Goals as goal
 
 pub all_columns-requires : goal.all_columns-requires
@@ -45,24 +47,25 @@ with_book-requires-clause-book g c =
     let made = c.in_ok-groups.groups in
     let are = subst (λ (m : Numbered). AreGroupsIn m made) c.topology-2.ensures c.in_ok-groups.ensures in
     let book = c.in-Ok.book in
-    subst (λ (m : Numbered). IsBookOf (topology_of m) book) (sym c.topology-in-Ok.ensures)
-    (book_of (topology_of c.args.graph.now) are.groups are.are made.codes are.width are.codes c.args.wanted book c.in-Ok.ensures)
+    subst (λ (m : Numbered). IsChoiceOf (topology_of m) (Plain book.distance) book.columns) (sym c.topology-in-Ok.ensures)
+    (book_of (topology_of c.args.graph.now) are.groups are.are made.codes are.width are.codes c.in-Plain.wanted book c.in-Ok.ensures)
 
 pub with_book-requires-clause-wanted : goal.with_book-requires-clause-wanted
-with_book-requires-clause-wanted g c = subst IsWanted (sym c.in-Ok.ensures.1) c.requires.wanted
+with_book-requires-clause-wanted g c = subst IsWanted (sym c.in-Ok.ensures.1) (subst IsWantedWish c.in-Plain.is c.requires.wish)
 
 pub returns-in-Ok : goal.returns-in-Ok
 returns-in-Ok g c =
-    subst (λ distance. IfOk c.with_book.result (IsMadeOf (topology_of c.args.graph.now) distance)) c.in-Ok.ensures.1
-    (subst (λ (m : Numbered). IfOk c.with_book.result (IsMadeOf (topology_of m) c.in-Ok.book.distance)) c.topology-in-Ok.ensures c.with_book.ensures)
+    let wish : Plain c.in-Ok.book.distance ≡ c.args.wish = ap (λ (d : ℕ). Plain d) c.in-Ok.ensures.1 ∙ sym c.in-Plain.is in
+    subst (λ (w : Wish). IfOk c.with_book.result (IsMadeOf (topology_of c.args.graph.now) w)) wish
+    (subst (λ (m : Numbered). IfOk c.with_book.result (IsMadeOf (topology_of m) (Plain c.in-Ok.book.distance))) c.topology-in-Ok.ensures c.with_book.ensures)
 
 pub close_groups-close-requires : goal.close_groups-close-requires
 close_groups-close-requires g c =
     let made = c.in_ok-groups.groups in
     let are = subst (λ (m : Numbered). AreGroupsIn m made) c.topology-2.ensures c.in_ok-groups.ensures in
     let pair = c.in-Err-TooClose.pair in
-    let is = subst (λ (why : Refused). IsReduced made.codes c.args.wanted (Err why)) c.in-Err-TooClose.field-0-is c.in-Err-TooClose.ensures in
-    let (below, within) = places_within (topology_of c.args.graph.now) are.groups are.are made.codes are.width are.codes c.args.wanted pair is in
+    let is = subst (λ (why : Refused). IsReduced made.codes c.in-Plain.wanted (Err why)) c.in-Err-TooClose.field-0-is c.in-Err-TooClose.ensures in
+    let (below, within) = places_within (topology_of c.args.graph.now) are.groups are.are made.codes are.width are.codes c.in-Plain.wanted pair is in
     let count = are.least.count in
     record { first = omega arith; second = omega arith; later = omega arith }
 
@@ -72,10 +75,10 @@ shortfall-requires-clause-pair g c =
     let made = c.in_ok-groups.groups in
     let are = subst (λ (m : Numbered). AreGroupsIn m made) c.topology-2.ensures c.in_ok-groups.ensures in
     let pair = c.in-Err-TooClose.pair in
-    let is = subst (λ (why : Refused). IsReduced made.codes c.args.wanted (Err why)) c.in-Err-TooClose.field-0-is c.in-Err-TooClose.ensures in
-    let (below, within) = places_within (topology_of n) are.groups are.are made.codes are.width are.codes c.args.wanted pair is in
-    first_pair n are.groups are.are c.args.wanted pair c.close_groups-close.result
-    (first_close (topology_of n) are.groups are.are made.codes are.width are.codes c.args.wanted pair is)
+    let is = subst (λ (why : Refused). IsReduced made.codes c.in-Plain.wanted (Err why)) c.in-Err-TooClose.field-0-is c.in-Err-TooClose.ensures in
+    let (below, within) = places_within (topology_of n) are.groups are.are made.codes are.width are.codes c.in-Plain.wanted pair is in
+    first_pair n are.groups are.are c.in-Plain.wanted pair c.close_groups-close.result
+    (first_close (topology_of n) are.groups are.are made.codes are.width are.codes c.in-Plain.wanted pair is)
     (pair_called (IsLeastAt made.least) (IsCalledBy n are.groups.groups) pair c.close_groups-close.result
     (called_least n are.groups.groups made.least are.least pair.first (omega arith)) (called_least n are.groups.groups made.least are.least pair.second within)
     c.close_groups-close.ensures)
@@ -85,7 +88,26 @@ shortfall-requires-clause-far g c =
     let made = c.in_ok-groups.groups in
     let are = subst (λ (m : Numbered). AreGroupsIn m made) c.topology-2.ensures c.in_ok-groups.ensures in
     let pair = c.in-Err-TooClose.pair in
-    let is = subst (λ (why : Refused). IsReduced made.codes c.args.wanted (Err why)) c.in-Err-TooClose.field-0-is c.in-Err-TooClose.ensures in
-    let far = pair_far (topology_of c.args.graph.now) are.groups are.are made.codes are.width are.codes c.args.wanted pair is in
+    let is = subst (λ (why : Refused). IsReduced made.codes c.in-Plain.wanted (Err why)) c.in-Err-TooClose.field-0-is c.in-Err-TooClose.ensures in
+    let far = pair_far (topology_of c.args.graph.now) are.groups are.are made.codes are.width are.codes c.in-Plain.wanted pair is in
     let same = c.close_groups-close.ensures.distance in
     omega arith
+
+pub shortfall-requires-clause-wanted : goal.shortfall-requires-clause-wanted
+shortfall-requires-clause-wanted g c = subst IsWantedWish c.in-Plain.is c.requires.wish
+
+pub returns-in-Err-TooClose : goal.returns-in-Err-TooClose
+returns-in-Err-TooClose g c =
+    subst (λ (w : Wish). IfOk c.shortfall.result (IsMadeOf (topology_of c.args.graph.now) w)) (sym c.in-Plain.is) c.shortfall.ensures
+
+-- for a cap
+pub with_cap_book-requires-clause-book : goal.with_cap_book-requires-clause-book
+with_cap_book-requires-clause-book g c =
+    let made = c.in_ok-groups.groups in
+    let are = subst (λ (m : Numbered). AreGroupsIn m made) c.topology-2.ensures c.in_ok-groups.ensures in
+    let book = c.in_ok-book-in-Cap.book in
+    subst (λ (m : Numbered). IsCapBookOf (topology_of m) book) (sym c.topology-in-Cap.ensures)
+    (cap_book_of (topology_of c.args.graph.now) are.groups are.are made.codes are.width are.codes book c.in_ok-book-in-Cap.ensures.book)
+
+pub with_cap_book-requires-clause-wanted : goal.with_cap_book-requires-clause-wanted
+with_cap_book-requires-clause-wanted g c = subst IsWanted (sym c.in_ok-book-in-Cap.ensures.cap) (subst IsWantedWish c.in-Cap.is c.requires.wish)

@@ -9,16 +9,16 @@ use Rattle.cb_certify.proofs.codebook.codebook_of.Goals as goal
 pub of_trees-requires-clause-trees : goal.of_trees-requires-clause-trees
 of_trees-requires-clause-trees g c = subst (λ (n : Numbered). AreTreesOf n c.in-Ok.trees) (sym c.of.ensures.same) c.in-Ok.ensures.trees
 
-pub by_rows-requires-clause-many : goal.by_rows-requires-clause-many
-by_rows-requires-clause-many g c =
+pub of_many-requires-clause-many : goal.of_many-requires-clause-many
+of_many-requires-clause-many g c =
     let n = c.in_ok-graph.graph in
     subst (λ (m : Numbered). HasManyEntries (topology_of m)) (sym c.of.ensures.same)
     (subst (PreventsBook (topology_of n)) c.in-Err-TooManyEntries.field-0-is c.in-Err-TooManyEntries.ensures.fault)
 
 pub returns-in-Ok : goal.returns-in-Ok
 returns-in-Ok g c =
-    subst (λ (n : Numbered). IfOk c.of_trees.result (IsMadeOf (topology_of n) c.args.wanted)) (c.of.ensures.same ∙ c.in_ok-graph.ensures) c.of_trees.ensures
+    subst (λ (n : Numbered). IfOk c.of_trees.result (IsMadeOf (topology_of n) c.args.wish)) (c.of.ensures.same ∙ c.in_ok-graph.ensures) c.of_trees.ensures
 
 pub returns-in-Err-TooManyEntries : goal.returns-in-Err-TooManyEntries
 returns-in-Err-TooManyEntries g c =
-    subst (λ (n : Numbered). IfOk c.by_rows.result (IsMadeOf (topology_of n) c.args.wanted)) (c.of.ensures.same ∙ c.in_ok-graph.ensures) c.by_rows.ensures
+    subst (λ (n : Numbered). IfOk c.of_many.result (IsMadeOf (topology_of n) c.args.wish)) (c.of.ensures.same ∙ c.in_ok-graph.ensures) c.of_many.ensures

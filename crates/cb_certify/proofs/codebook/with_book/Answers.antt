@@ -1,49 +1,12 @@
-use Rattle.std.proofs.Common.{List, length, refl, ap, subst, arith}
-use Rattle.cb_model.specs.declared.node.NodeName.{NodeName}
-use Rattle.cb_network.proofs.One.{columns_are_one}
-use Rattle.cb_validity.specs.Codebooks.{AreBookColumns}
-use Rattle.cb_validity.specs.Laws.{HavePlaces}
-use Rattle.cb_validity.proofs.Passing.{zip_lengths}
+use Rattle.cb_model.specs.declared.wish.Wish.TheVariants.{Plain}
 use Rattle.cb_topo.specs.Numbered.{topology_of}
-use Rattle.cb_certify.proofs.Named.{columns_stand, named_at, names_are_one}
+use Rattle.cb_certify.proofs.Certified.{book_made}
 use Rattle.cb_certify.proofs.codebook.with_book.Goals as goal
 
-pub columns_at-requires : goal.columns_at-requires
-columns_at-requires c = λ k d lt.
-    let b = c.requires.book in
-    let all = c.requires.all in
-    let low = b.is.within k d lt in
-    let same = columns_are_one (topology_of c.args.topology.now) b.columns all.names b.matrix.columns_are all.are in
-    let long = ap length same in
-    let count = zip_lengths _ c.args.all.now all.names all.named in
-    omega arith
-
-pub book-requires-clause-columns : goal.book-requires-clause-columns
-book-requires-clause-columns c =
-    let all = c.requires.all in
-    let n = c.args.topology.now in
-    let places = c.args.apart.now.columns in
-    let ids = c.in_ok-columns.columns in
-    columns_stand n all.names all.are places c.requires.book.is.rise ids (named_at n c.args.all.now all.names all.named places ids c.in_ok-columns.ensures)
+pub book_over-requires-clause-kept : goal.book_over-requires-clause-kept
+book_over-requires-clause-kept c = (Plain c.args.apart.now.distance, c.requires.book)
 
 pub returns : goal.returns
 returns c =
-    let b = c.requires.book in
-    let all = c.requires.all in
-    let n = c.args.topology.now in
-    let places = c.args.apart.now.columns in
-    let ids = c.in_ok-columns.columns in
-    let (columns, named, have) = named_at n c.args.all.now all.names all.named places ids c.in_ok-columns.ensures in
-    let made = c.in_ok-certificate.ensures.made in
-    let same = names_are_one n ids columns made.columns named made.named in
-    let all_same = columns_are_one (topology_of n) all.names b.columns all.are b.matrix.columns_are in
-    let are_columns : AreBookColumns (topology_of n) c.args.apart.now.distance made.columns = record {
-      all = b.columns;
-      groups = b.groups;
-      matrix = b.matrix;
-      book = c.args.apart.now;
-      is_book = b.is;
-      distance_is = refl;
-      named = subst (λ (ns : List NodeName). HavePlaces ns made.columns places) all_same (subst (λ (ns : List NodeName). HavePlaces all.names ns places) same have);
-    } in
-    (record { columns = made.columns; are_columns = are_columns; canonical = made.canonical }, c.in_ok-certificate.ensures.few, made.of_format c.requires.wanted)
+    book_made (topology_of c.args.topology.now) c.args.apart.now.distance c.args.apart.now.columns c.in_ok-certificate.certificate c.requires.book c.requires.wanted
+    c.in_ok-certificate.ensures

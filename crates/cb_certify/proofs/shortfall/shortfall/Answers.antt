@@ -1,4 +1,4 @@
-use Rattle.std.proofs.Common.{sym, subst}
+use Rattle.std.proofs.Common.{refl, sym, subst}
 use Rattle.std.specs.Prelude.{Option, Some}
 use Rattle.cb_model.specs.declared.node.GroupName.TheVariants.{Least}
 use Rattle.cb_model.specs.declared.node.NodeName.{NodeName}
@@ -59,4 +59,4 @@ returns g c =
       second_is = name_called n p.columns p.groups p.matrix p.pair.second (Some c.args.close.second) (Least second) p.is.second other;
       distance_is = p.is.distance;
     } in
-    (record { close = close; canonical = canonical }, made.of_format c.requires.wanted c.requires.far)
+    (refl, record { close = close; canonical = canonical }, made.of_format c.requires.wanted c.requires.far)

@@ -47,7 +47,7 @@ returns-clause-ends g c =
     let out = g.O.Sink.tells c.args.out.now in
     let t = topology_of c.in_ok-topology.topology in
     let passed = c.in_ok-topology.ensures.passed in
-    let watch : Watch = record { opening = []; from = t; mode = wanted c.args.asked.distance; window = c.args.asked.window } in
+    let watch : Watch = record { opening = []; from = t; mode = wanted c.args.asked.wish; window = c.args.asked.window } in
     inr (record {
       range = c.requires;
       known = network t;
@@ -84,7 +84,7 @@ pub returns-clause-steps : goal.returns-clause-steps
 returns-clause-steps g c =
     let out = g.O.Sink.tells c.args.out.now in
     let t = topology_of c.in_ok-topology.topology in
-    let watch : Watch = record { opening = []; from = t; mode = wanted c.args.asked.distance; window = c.args.asked.window } in
+    let watch : Watch = record { opening = []; from = t; mode = wanted c.args.asked.wish; window = c.args.asked.window } in
     let passed = c.in_ok-topology.ensures.passed in
     let opens : OpensLog watch c.in_ok-session.session out out = record {
       regular = c.in_ok-session.ensures.regular;
@@ -97,4 +97,4 @@ returns-clause-steps g c =
     correlate_followed c.args.model c.args.topology c.args.log (g.F.Files.tells c.args.files.now)
     (g.F.Files.tells c.read_network.new.files) (g.F.Files.tells c.follow-end.new.files) t c.args.steps.now c.open_session.new.steps c.follow-end.new.steps passed.said
     passed.read (c.follow-end.ensures.ends watch out opens).only.prefix c.open_session.ensures.cost
-    (c.follow-end.ensures.steps watch out c.args.asked.distance refl opens)
+    (c.follow-end.ensures.steps watch out c.args.asked.wish refl opens)

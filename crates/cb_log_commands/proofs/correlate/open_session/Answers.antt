@@ -17,8 +17,8 @@ returns-clause-regular g c = typed_is_regular (topology_of c.args.topology).mode
 
 pub returns-clause-stands : goal.returns-clause-stands
 returns-clause-stands g c =
-    subst (λ (n : Numbered). IfOk c.open-2.result (λ (session : State). StandsForEntries session (topology_of n) []))
-    (c.in_ok-cache.ensures.graph ∙ c.in_ok-graph.ensures) c.open-2.ensures.stands
+    subst (λ (n : Numbered). IfOk c.session_for.result (λ (session : State). StandsForEntries session (topology_of n) []))
+    (c.in_ok-cache.ensures.graph ∙ c.in_ok-graph.ensures) c.session_for.ensures.stands
 
 pub returns-in_err-cache-clause-cost : goal.returns-in_err-cache-clause-cost
 returns-in_err-cache-clause-cost g c = λ cost is. let same = c.in_err-cache.ensures.steps in omega (arith, same)

@@ -90,14 +90,14 @@ returns g c =
     let stands = c.in_ok-session.ensures from certificate given.2.given in
     let shows = given.2.line in
     let accepted = shows.accepted in
-    let watch : Watch = record { opening = accepted_text accepted; from = from; mode = fixed stands.book; window = c.args.window } in
+    let watch : Watch = record { opening = accepted_text accepted; from = from; mode = fixed stands.kept stands.used; window = c.args.window } in
     let passed = subst (λ (k : Known). Passed ((Role.model, m) ∷ (Role.topology, t) ∷ (Role.certificate Wanted.book, b) ∷ []) k old three) given.1 after in
     inr (record {
       range = c.requires;
       known = certified from certificate;
       passed = passed.said;
       watch = watch;
-      watches = record { accepted = accepted; shows = shows.shows; book = stands.book; states = stands.states; is = refl };
+      watches = record { accepted = accepted; shows = shows.shows; kept = stands.kept; used = stands.used; states = stands.states; is = refl };
       name = names.log;
       log = refl;
       now = three;

@@ -34,19 +34,19 @@ returns-clause-ends g c =
 
 pub returns-in_err-reader-clause-steps : goal.returns-in_err-reader-clause-steps
 returns-in_err-reader-clause-steps g c =
-    λ watch before d mode opens.
+    λ watch before wish mode opens.
     let now = g.F.Files.tells c.args.files.now in
     takes_nothing watch.from now now c.args.log.now c.args.steps.now
 
 pub returns-clause-steps : goal.returns-clause-steps
 returns-clause-steps g c =
-    λ watch before d mode opens.
+    λ watch before wish mode opens.
     let now = g.F.Files.tells c.args.files.now in
     let out = g.O.Sink.tells c.args.out.now in
     let after = g.F.Files.tells c.tell_all-end.new.files in
     let steps = c.args.steps.now in
     let going = subst (λ (r : Reading). Going watch now before r now out c.args.session.now) (sym c.in_ok-reader.ensures)
     (begins watch c.args.session.now before out now c.args.log.now opens) in
-    let counted = subst (λ (r : Reading). HasCounted watch now r steps steps) (sym c.in_ok-reader.ensures) (counts_begin watch d mode now c.args.log.now steps) in
+    let counted = subst (λ (r : Reading). HasCounted watch now r steps steps) (sym c.in_ok-reader.ensures) (counts_begin watch wish mode now c.args.log.now steps) in
     subst (λ (n : List ℕ). CountsTaken watch.from n now after steps c.tell_all-end.new.steps) (ap (λ (r : Reading). r.name) c.in_ok-reader.ensures)
     (c.tell_all-end.ensures.steps watch now before steps going counted)

@@ -2,7 +2,7 @@ use Rattle.std.proofs.Common.{◌≡◌, ◌∙◌, ℕ, List, refl, ap, subst}
 use Rattle.cb_gen.specs.Log.{log_text}
 use Rattle.cb_log.specs.Basis.{Mode, wanted}
 use Rattle.cb_report.specs.declared.summary.Summary.{Summary}
-use Rattle.cb_outcome.specs.Grown.{SumsUpLog}
+use Rattle.cb_outcome.specs.Grown.{SumsUpLog, grow_wish}
 use Rattle.cb_topo.specs.Numbered.{topology_of}
 use Rattle.cb_outcome.specs.Costs.{CountsLog}
 use Rattle.cb_alarm.specs.Lines.{log_lines}
@@ -22,13 +22,13 @@ returns-clause-gives g c =
     let sums = c.in_ok-end.ensures.sums t c.in_ok-session.ensures.regular c.in_ok-session.ensures.stands c.new-summary.ensures.none
     (ap (λ (s : Summary). s.records) made) in
     let by_mode = subst (λ (m : Mode). SumsUpLog t m session.windows.length c.deref.result.now new) c.in_ok-session.ensures.mode sums in
-    let by_length = subst (λ (w : ℕ). SumsUpLog t (wanted 2) w c.deref.result.now new) c.in_ok-session.ensures.length by_mode in
+    let by_length = subst (λ (w : ℕ). SumsUpLog t (wanted grow_wish) w c.deref.result.now new) c.in_ok-session.ensures.length by_mode in
     if_ok_more c.grow_text.result _ _ (λ text is. (
       new,
       record {
         sites_are = asked.sites ∙ ap (λ (s : Summary). s.sites) made;
         start_is = asked.start ∙ ap (λ (s : Summary). s.start) made;
-        log = subst (λ (l : List ℕ). SumsUpLog t (wanted 2) 40 l new) log by_length;
+        log = subst (λ (l : List ℕ). SumsUpLog t (wanted grow_wish) 40 l new) log by_length;
       },
       is,
     )) c.grow_text.ensures
@@ -47,7 +47,7 @@ returns-in_err-end-clause-steps g c =
     let made = c.new-summary.ensures.fields in
     let log : c.deref.result.now ≡ log_text c.args.sites c.args.start = c.deref.ensures.value ∙ c.in_ok-log.ensures in
     let none = none_summed t session c.new-summary.result c.in_ok-session.ensures.stands c.new-summary.ensures.none (ap (λ (s : Summary). s.records) made) in
-    let counts = c.sum_up-end.ensures.counts t 2 c.in_ok-session.ensures.regular c.in_ok-session.ensures.mode none in
+    let counts = c.sum_up-end.ensures.counts t grow_wish c.in_ok-session.ensures.regular c.in_ok-session.ensures.mode none in
     subst (λ (l : List ℕ). CountsLog t l c.args.steps.now c.sum_up-end.new.steps) log
     (log_counts t c.deref.result.now c.args.steps.now c.open_session.new.steps c.sum_up-end.new.steps c.open_session.ensures.cost counts)
 
@@ -58,6 +58,6 @@ returns-clause-steps g c =
     let made = c.new-summary.ensures.fields in
     let log : c.deref.result.now ≡ log_text c.args.sites c.args.start = c.deref.ensures.value ∙ c.in_ok-log.ensures in
     let none = none_summed t session c.new-summary.result c.in_ok-session.ensures.stands c.new-summary.ensures.none (ap (λ (s : Summary). s.records) made) in
-    let counts = c.sum_up-end.ensures.counts t 2 c.in_ok-session.ensures.regular c.in_ok-session.ensures.mode none in
+    let counts = c.sum_up-end.ensures.counts t grow_wish c.in_ok-session.ensures.regular c.in_ok-session.ensures.mode none in
     subst (λ (l : List ℕ). CountsLog t l c.args.steps.now c.sum_up-end.new.steps) log
     (log_counts t c.deref.result.now c.args.steps.now c.open_session.new.steps c.sum_up-end.new.steps c.open_session.ensures.cost counts)
