@@ -3,10 +3,8 @@ ghost use Rattle.std.specs.Prelude.{◌≡◌, ◌<◌, ◌≤◌, length, IsTru
 
 use crate::reduce::{are_small, code_of, codes_of};
 use cb_codes::Codes;
-use cb_coding::Book;
 use cb_compact::CompactRow;
 use cb_decode::{Answer, Decoder, nearest_cap, nearest_cap_by};
-use cb_model::List;
 use cb_reduce::{CapBook, radii, reduce_cap};
 use std::alloc::{AllocError, Global};
 use std::test::Fail;
@@ -118,15 +116,7 @@ fn is_answered(
     requires narrow { length book.now.columns ≤ 100 }
     requires radii { length book.now.radii ≡ length codes.now.rows }
 {
-    let columns = List::of(Vec::from_slice(alloc, book.columns.as_slice())?);
-    let decoder = Decoder::of(
-        alloc,
-        codes,
-        &Book {
-            columns,
-            distance: 1,
-        },
-    )?;
+    let decoder = Decoder::of(alloc, codes, &book.columns)?;
     let plain = nearest_cap(alloc, codes, book, word)?;
     let quick = nearest_cap_by(alloc, codes, book, &decoder, word)?;
     Ok(want.is(&plain) && want.is(&quick))

@@ -104,7 +104,7 @@ fn decodes_words(rt: HostRuntime) -> Result<(), Fail> {
         let code = CompactRow::of(alloc, &code_of(alloc, word.len(), word)?)?;
         let answer = nearest(alloc, &codes, &book, &code)?;
         assert!(rt; is_answer(&answer, far, groups, sure), "of {word}");
-        let decoder = Decoder::of(alloc, &codes, &book)?;
+        let decoder = Decoder::of(alloc, &codes, &book.columns)?;
         let answer = nearest_by(alloc, &codes, &book, &decoder, &code)?;
         assert!(rt;
             is_answer(&answer, far, groups, sure),

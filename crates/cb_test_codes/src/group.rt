@@ -6,8 +6,8 @@ ghost use Rattle.cb_coding.specs.Groups.{AreCodedProblems};
 
 use cb_bits::Row;
 use cb_coding::{Group, Pair, Problem, codes};
-use cb_group::{first_close, groups};
-use cb_model::{List, NodeName};
+use cb_group::{first_short, groups, radii};
+use cb_model::{List, NodeName, Wish};
 use std::alloc::{AllocError, Global};
 use std::cmp::Ordering;
 use std::test::Fail;
@@ -129,13 +129,50 @@ fn finds_the_first_close_pair(rt: HostRuntime) -> Result<(), Fail> {
     for (texts, columns, distance, want) in cases {
         let groups = groups_of(rt.alloc(), texts)?;
         assert!(rt; groups.len() <= 4);
-        let found = first_close(rt.alloc(), &groups, columns, distance)?;
+        let found = first_short(rt.alloc(), &groups, columns, 6, Wish::Plain(distance))?;
         let want = want.map(|(first, second, distance)| Pair {
             first,
             second,
             distance,
         });
         assert_eq!(rt; found, want);
+    }
+    Ok(())
+}
+
+// Codes, columns, a cap, the first two codes that are closer than they need with how far they are, and the radii.
+type CapCase<'a> = (
+    &'a [&'a str],
+    &'a [u32],
+    u32,
+    Option<(u32, u32, u32)>,
+    &'a [u32],
+);
+
+#[test]
+fn finds_the_first_short_pair_and_radii(rt: HostRuntime) -> Result<(), Fail> {
+    let all: &[u32] = &[0, 1, 2, 3];
+    let worked: &[&str] = &["0000", "1110", "0001"];
+    let cases: [CapCase; 7] = [
+        (worked, all, 3, None, &[0, 1, 0]),
+        (worked, &[0, 1, 3], 3, Some((0, 1, 2)), &[0, 1, 0]),
+        (worked, &[0, 3], 1, None, &[0, 0, 0]),
+        (worked, &[0, 1, 2], 9_999, Some((0, 2, 0)), &[0, 1, 0]),
+        (&["0000"], &[], 7, None, &[3]),
+        (&["0000", "1111"], &[0, 1, 2], 4, Some((0, 1, 3)), &[1, 1]),
+        (&["0000", "1111"], &[0, 1, 2], 3, None, &[1, 1]),
+    ];
+    for (texts, columns, cap, want, tolerated) in cases {
+        let groups = groups_of(rt.alloc(), texts)?;
+        assert!(rt; groups.len() <= 4);
+        let found = first_short(rt.alloc(), &groups, columns, 4, Wish::Cap(cap))?;
+        let want = want.map(|(first, second, distance)| Pair {
+            first,
+            second,
+            distance,
+        });
+        assert_eq!(rt; found, want);
+        assert_eq!(rt; radii(rt.alloc(), &groups, 4, cap)?.as_slice(), tolerated);
     }
     Ok(())
 }

@@ -126,6 +126,18 @@ fn put_event(alloc: Global, out: &mut String, event: &Event) -> Result<(), Alloc
                 "book {columns} of {of} distance {distance} radius {radius} groups {groups}"
             )?.as_str())
         }
+        Event::CapMade {
+            columns,
+            of,
+            cap,
+            least,
+            greatest,
+            groups,
+        } => {
+            out.push_str(format!(in alloc;
+                "book {columns} of {of} cap {cap} radius {least} to {greatest} groups {groups}"
+            )?.as_str())
+        }
         Event::Diagnosis {
             from,
             opened,
@@ -143,7 +155,8 @@ fn put_event(alloc: Global, out: &mut String, event: &Event) -> Result<(), Alloc
     }
 }
 
-fn text_of(alloc: Global, events: &List<Event>) -> Result<String, AllocError> {
+/// The lines of events.
+pub(crate) fn text_of(alloc: Global, events: &List<Event>) -> Result<String, AllocError> {
     let mut out = String::new(alloc);
     for event in events.as_slice() {
         put_event(alloc, &mut out, event)?;
@@ -152,8 +165,8 @@ fn text_of(alloc: Global, events: &List<Event>) -> Result<String, AllocError> {
     Ok(out)
 }
 
-// The line, without its bytes where there are none or too many.
-fn line_of(number: u64, text: Option<&'static str>) -> LogLine<'static>
+/// The line, without its bytes where there are none or too many.
+pub(crate) fn line_of(number: u64, text: Option<&'static str>) -> LogLine<'static>
     ensures { IsFitting result }
 {
     match text {

@@ -18,14 +18,97 @@ const SPANS: &[u8] = b"entry 6 1\nspan 2\nentry 3 0\nentry 4 1\nspan 2\nentry 5 
 const THIN: &[u8] =
     b"codebook certificate 1\nkind thin\nwanted 2\ndistance 1\nnodes 2\nnode Fail@a\nnode NoSignal@a\nquiet\nspan 2\nentry 1 0\nentry 2 1\n";
 
+const CAPPED: &[u8] =
+    b"codebook certificate 2\nkind book\ncap 3\nnodes 6\nnode A@u\nnode B@u\nnode C@u\nnode D@u\nnode X@u\nnode Y@u\n";
+
+const ALL_COLUMNS: &[u8] = b"columns 4\ncolumn 1\ncolumn 2\ncolumn 3\ncolumn 4\n";
+
+const RADII: &[u8] = b"radii 3\nradius 0\nradius 1\nradius 0\n";
+
+const TWO_SPANS: &[u8] =
+    b"spans 2\nspan 4\nentry 5 0\nentry 1 1\nentry 2 1\nentry 3 1\nspan 2\nentry 6 0\nentry 4 1\n";
+
 // Texts in parts, with their faults, if they have any. Without one the text is the one that is written again.
-const TEXTS: [([&[u8]; 5], Option<CertText>); 17] = [
+const TEXTS: [([&[u8]; 5], Option<CertText>); 30] = [
     ([HEAD, COLUMNS, FIRST_SPAN, SPANS, b"end\n"], None),
     ([THIN, b"", b"", b"", b"end\n"], None),
     ([b"", b"", b"", b"", b""], Some(CertText::Truncated)),
     (
         [b"codebook certificate 2\n", b"", b"", b"", b""],
+        Some(CertText::Truncated),
+    ),
+    (
+        [b"codebook certificate 3\n", b"", b"", b"", b""],
         Some(CertText::BadHeader),
+    ),
+    ([CAPPED, ALL_COLUMNS, RADII, TWO_SPANS, b"end\n"], None),
+    (
+        [b"codebook certificate 2\nkind thin\n", b"", b"", b"", b""],
+        Some(CertText::BadLine { line: 2 }),
+    ),
+    (
+        [
+            b"codebook certificate 2\nkind book\ndistance 3\n",
+            b"",
+            b"",
+            b"",
+            b"",
+        ],
+        Some(CertText::BadLine { line: 3 }),
+    ),
+    (
+        [
+            b"codebook certificate 1\nkind book\ncap 3\n",
+            b"",
+            b"",
+            b"",
+            b"",
+        ],
+        Some(CertText::BadLine { line: 3 }),
+    ),
+    (
+        [
+            b"codebook certificate 2\nkind book\ncap 0\n",
+            b"",
+            b"",
+            b"",
+            b"",
+        ],
+        Some(CertText::BadLine { line: 3 }),
+    ),
+    (
+        [
+            b"codebook certificate 2\nkind book\ncap 10000\n",
+            b"",
+            b"",
+            b"",
+            b"",
+        ],
+        Some(CertText::BadLine { line: 3 }),
+    ),
+    (
+        [CAPPED, ALL_COLUMNS, b"radii 0\n", b"", b""],
+        Some(CertText::BadLine { line: 16 }),
+    ),
+    (
+        [CAPPED, ALL_COLUMNS, b"radii 8194\n", b"", b""],
+        Some(CertText::BadLine { line: 16 }),
+    ),
+    (
+        [CAPPED, ALL_COLUMNS, b"radii 1\nradius 5000\n", b"", b""],
+        Some(CertText::BadLine { line: 17 }),
+    ),
+    (
+        [CAPPED, ALL_COLUMNS, b"radii 1\nradius 4999\n", b"", b""],
+        Some(CertText::Truncated),
+    ),
+    (
+        [CAPPED, ALL_COLUMNS, TWO_SPANS, b"end\n", b""],
+        Some(CertText::BadLine { line: 16 }),
+    ),
+    (
+        [CAPPED, ALL_COLUMNS, RADII, TWO_SPANS, b"end\n\n"],
+        Some(CertText::Extra { line: 30 }),
     ),
     (
         [b"codebook certificate 1\r\n", b"", b"", b"", b""],

@@ -18,6 +18,154 @@ const EMPTY_BOOK: &str =
 
 const ACCEPTED: &str = "accepted book distance 1 radius 0 groups 4 columns 2\n";
 
+// Two problems that share no symptom: X causes three, Y one. The certificate of their codebook for a cap of 3.
+const UNLIKE: &str =
+    "class U { problem X; problem Y; symptom A; symptom B; symptom C; symptom D; rule a: X => A; rule b: X => B; rule c: X => C; rule d: Y => D; }";
+
+const CAPPED: &str =
+    "codebook certificate 2\nkind book\ncap 3\nnodes 6\nnode A@u\nnode B@u\nnode C@u\nnode D@u\nnode X@u\nnode Y@u\ncolumns 4\ncolumn 1\ncolumn 2\ncolumn 3\ncolumn 4\nradii 3\nradius 0\nradius 1\nradius 0\nspans 2\nspan 4\nentry 5 0\nentry 1 1\nentry 2 1\nentry 3 1\nspan 2\nentry 6 0\nentry 4 1\nend\n";
+
+// At a distance of 3 the second of them is too close to `quiet`.
+const TOO_CLOSE: &str =
+    "codebook certificate 1\nkind thin\nwanted 3\ndistance 1\nnodes 2\nnode D@u\nnode Y@u\nquiet\nspan 2\nentry 2 0\nentry 1 1\nend\n";
+
+const EMPTY_CAPPED: &str =
+    "codebook certificate 2\nkind book\ncap 4\nnodes 0\ncolumns 0\nradii 1\nradius 1\nspans 0\nend\n";
+
+#[test]
+fn a_codebook_for_a_cap_is_certified(rt: HostRuntime) -> Result<(), Fail> {
+    // The topology, the distance or the cap, the status, the certificate, and the line of the fault.
+    let cases: [(&str, &str, u8, &str, &str); 3] = [
+        ("create u U\n", "cap3", 0, CAPPED, ""),
+        ("", "cap4", 0, EMPTY_CAPPED, ""),
+        (
+            "create u U\n",
+            "3",
+            6,
+            TOO_CLOSE,
+            "error 6 distance wanted 3 first quiet second Y@u distance 1\n",
+        ),
+    ];
+    for (topology, distance, code, out, err) in cases {
+        let case = Case {
+            words: &["codebook", "m", "t", distance],
+            files: &[("m", UNLIKE), ("t", topology)],
+            piece: 7,
+            failing_read: 0,
+            failing_write: 0,
+        };
+        check(&rt, rt.alloc(), &case, &Wanted { code, out, err })?;
+    }
+    Ok(())
+}
+
+// An edit, two of the three symptoms of X, and that of Y.
+const OF_BOTH: &str =
+    "{\"at\":1,\"edit\":\"mute A@u\"}\n{\"at\":2,\"from\":\"c1\",\"raise\":\"A@u\"}\n{\"at\":3,\"from\":\"c1\",\"raise\":\"B@u\"}\n{\"at\":13,\"from\":\"c1\",\"raise\":\"A@u\"}\n{\"at\":14,\"from\":\"c1\",\"raise\":\"B@u\"}\n{\"at\":14,\"from\":\"c1\",\"raise\":\"D@u\"}\n";
+
+#[test]
+fn a_log_is_followed_by_a_certificate_for_a_cap(rt: HostRuntime) -> Result<(), Fail> {
+    // The certificate, the status, the output, and the line of the fault.
+    let cases: [(&str, u8, &str, &str); 2] = [
+        (
+            CAPPED,
+            0,
+            "accepted book cap 3 radius 0 to 1 groups 3 columns 4\nrefused 1 fixed\ndiagnosis c1 2 13 raised 2 unknown 0 distance 1 radius 1 sure groups 1\n  group X@u\ndiagnosis c1 13 14 raised 3 unknown 0 distance 2 radius 1 unsure groups 2\n  group X@u\n  group Y@u\n",
+            "",
+        ),
+        (TOO_CLOSE, 5, "", "error 5 certificate not-book\n"),
+    ];
+    for (certificate, code, out, err) in cases {
+        let case = Case {
+            words: &["decode", "m", "t", "c", "l", "10"],
+            files: &[
+                ("m", UNLIKE),
+                ("t", "create u U\n"),
+                ("c", certificate),
+                ("l", OF_BOTH),
+            ],
+            piece: 65_536,
+            failing_read: 0,
+            failing_write: 0,
+        };
+        check(&rt, rt.alloc(), &case, &Wanted { code, out, err })?;
+    }
+    Ok(())
+}
+
+#[test]
+fn a_codebook_for_a_cap_is_checked(rt: HostRuntime) -> Result<(), Fail> {
+    // What is changed of the certificate, the status, the output, and the line of the fault.
+    let cases: [(&[(&str, &str)], u8, &str, &str); 7] = [
+        (
+            &[],
+            0,
+            "accepted book cap 3 radius 0 to 1 groups 3 columns 4\n",
+            "",
+        ),
+        (
+            &[("radius 1\nradius 0\n", "radius 1\nradius 1\n")],
+            5,
+            "",
+            "error 5 certificate bad-radius place 3\n",
+        ),
+        (
+            &[("radii 3\n", "radii 4\n"), ("spans 2", "radius 0\nspans 2")],
+            5,
+            "",
+            "error 5 certificate bad-radius place 4\n",
+        ),
+        (
+            &[(
+                "radii 3\nradius 0\nradius 1\nradius 0\n",
+                "radii 1\nradius 0\n",
+            )],
+            5,
+            "",
+            "error 5 certificate bad-radius place 2\n",
+        ),
+        // Two groups that are too close come before a radius that is wrong.
+        (
+            &[
+                ("columns 4\ncolumn 1\n", "columns 3\n"),
+                ("radius 1\n", "radius 2\n"),
+            ],
+            5,
+            "",
+            "error 5 certificate too-close first quiet second X@u distance 2\n",
+        ),
+        // Under a cap of 2 one column of X can go, and no group has a radius but 0.
+        (
+            &[
+                ("cap 3", "cap 2"),
+                ("columns 4\ncolumn 1\n", "columns 3\n"),
+                ("radius 1\n", "radius 0\n"),
+            ],
+            0,
+            "accepted book cap 2 radius 0 to 0 groups 3 columns 3\n",
+            "",
+        ),
+        (
+            &[("kind book", "kind thin")],
+            5,
+            "",
+            "error 5 certificate bad-line line 2\n",
+        ),
+    ];
+    for (parts, code, out, err) in cases {
+        let text = changed(rt.alloc(), CAPPED, parts)?;
+        let case = Case {
+            words: &["verify", "m", "t", "c"],
+            files: &[("m", UNLIKE), ("t", "create u U\n"), ("c", &text)],
+            piece: 65_536,
+            failing_read: 0,
+            failing_write: 0,
+        };
+        check(&rt, rt.alloc(), &case, &Wanted { code, out, err })?;
+    }
+    Ok(())
+}
+
 #[test]
 fn a_codebook_is_certified(rt: HostRuntime) -> Result<(), Fail> {
     // The topology, the distance, the status, the certificate, and the line of the fault.

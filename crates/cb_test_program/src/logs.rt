@@ -17,6 +17,16 @@ const PATH: &str =
 
 const PATHS: &str = "create a1 A\ncreate b1 B\ncreate c1 C\nlink a1 mid b1\n";
 
+// Three problems that cause much, little and nothing, and a symptom that none of them causes.
+const UNLIKE: &str =
+    "class U {\n  problem X;\n  problem Y;\n  problem Z;\n  symptom A;\n  symptom B;\n  symptom C;\n  symptom D;\n  symptom E;\n  rule a: X => A;\n  rule b: X => B;\n  rule c: X => C;\n  rule d: Y => D;\n}\n";
+
+const ONE: &str = "create u U\n";
+
+// The third symptom of `X` is lost.
+const TWO_OF_THREE: &str =
+    "{\"at\":1,\"from\":\"c1\",\"raise\":\"A@u\"}\n{\"at\":2,\"from\":\"c1\",\"raise\":\"B@u\"}\n";
+
 /// A log, what it is followed over, and what results from it.
 #[derive(Clone, Copy)]
 struct Followed {
@@ -28,7 +38,7 @@ struct Followed {
     out: &'static str,
 }
 
-const LOGS: [Followed; 12] = [
+const LOGS: [Followed; 19] = [
     // An edit that is refused, and the instance made before it counts as a column.
     Followed {
         model: LINK,
@@ -100,6 +110,69 @@ const LOGS: [Followed; 12] = [
         window: "10",
         log: "{\"at\":1,\"from\":\"c1\",\"raise\":\"NoSignal@a\"}\n{\"at\":2,\"from\":\"c1\",\"raise\":\"NoSignal@b\"}\n",
         out: "thin wanted 2 first quiet second Fail@a distance 1\nbook columns 2 of 3 distance 1 radius 0 groups 4\ndiagnosis c1 1 2 raised 2 unknown 0 distance 0 radius 0 sure groups 1\n  group Cut@L1\n",
+    },
+    // For a cap each group has a radius of its own. `X` is three places from the others, which are one apart.
+    Followed {
+        model: UNLIKE,
+        topology: ONE,
+        distance: "cap3",
+        window: "10",
+        log: TWO_OF_THREE,
+        out: "book columns 4 of 5 cap 3 radius 0 to 1 groups 3\ndiagnosis c1 1 2 raised 2 unknown 0 distance 1 radius 1 sure groups 1\n  group X@u\n",
+    },
+    // At a distance all groups have the radius of the closest two, and two symptoms of `X` don't count.
+    Followed {
+        model: UNLIKE,
+        topology: ONE,
+        distance: "3",
+        window: "10",
+        log: TWO_OF_THREE,
+        out: "thin wanted 3 first quiet second Y@u distance 1\nbook columns 2 of 5 distance 1 radius 0 groups 3\ndiagnosis c1 1 2 raised 2 unknown 0 distance 0 radius 0 sure groups 1\n  group X@u\n",
+    },
+    // The radius is that of the first listed group: of two as near, and of `quiet` with its problem. What no problem causes doesn't count.
+    Followed {
+        model: UNLIKE,
+        topology: ONE,
+        distance: "cap3",
+        window: "2",
+        log: "{\"at\":1,\"from\":\"c1\",\"raise\":\"A@u\"}\n{\"at\":2,\"from\":\"c1\",\"raise\":\"B@u\"}\n{\"at\":2,\"from\":\"c1\",\"raise\":\"D@u\"}\n{\"at\":3,\"from\":\"c1\",\"raise\":\"C@u\"}\n{\"at\":3,\"from\":\"c1\",\"raise\":\"E@u\"}\n",
+        out: "book columns 4 of 5 cap 3 radius 0 to 1 groups 3\ndiagnosis c1 1 3 raised 3 unknown 0 distance 2 radius 1 unsure groups 2\n  group X@u\n  group Y@u\ndiagnosis c1 3 3 raised 2 unknown 0 distance 1 radius 0 unsure groups 1\n  group quiet Z@u\n",
+    },
+    // The greatest cap keeps every column that some problem causes.
+    Followed {
+        model: UNLIKE,
+        topology: ONE,
+        distance: "cap9999",
+        window: "10",
+        log: "{\"at\":1,\"from\":\"c1\",\"raise\":\"C@u\"}\n",
+        out: "book columns 4 of 5 cap 9999 radius 0 to 1 groups 3\ndiagnosis c1 1 1 raised 1 unknown 0 distance 1 radius 0 unsure groups 1\n  group quiet Z@u\n",
+    },
+    // Each accepted edit makes a codebook for the cap anew, and no thin event comes.
+    Followed {
+        model: LINK,
+        topology: LINKED,
+        distance: "cap9999",
+        window: "10",
+        log: "{\"at\":1,\"from\":\"c1\",\"raise\":\"NoSignal@a\"}\n{\"at\":2,\"from\":\"c1\",\"raise\":\"NoSignal@b\"}\n{\"at\":3,\"edit\":\"mute Loss@L1\"}\n{\"at\":4,\"edit\":\"mute Loss@L1\"}\n{\"at\":20,\"from\":\"c1\",\"raise\":\"NoSignal@a\"}\n{\"at\":30,\"edit\":\"unmute Loss@L1\"}\n{\"at\":31,\"from\":\"c1\",\"raise\":\"NoSignal@a\"}\n",
+        out: "refused 4 already-muted\nbook columns 2 of 2 cap 9999 radius 0 to 0 groups 4\ndiagnosis c1 1 20 raised 2 unknown 0 distance 0 radius 0 sure groups 1\n  group Cut@L1\ndiagnosis c1 20 30 raised 1 unknown 0 distance 0 radius 0 sure groups 1\n  group Fail@a\nbook columns 3 of 3 cap 9999 radius 0 to 0 groups 4\ndiagnosis c1 31 31 raised 1 unknown 0 distance 0 radius 0 sure groups 1\n  group Fail@a\n",
+    },
+    // With `quiet` alone the radius is that of the cap.
+    Followed {
+        model: UNLIKE,
+        topology: "",
+        distance: "cap6",
+        window: "10",
+        log: "{\"at\":1,\"from\":\"c1\",\"raise\":\"A@u\"}\n",
+        out: "book columns 0 of 0 cap 6 radius 2 to 2 groups 1\ndiagnosis c1 1 1 raised 1 unknown 1 distance 0 radius 2 sure groups 1\n  group quiet\n",
+    },
+    // A cap of 1 keeps what a distance of 1 does.
+    Followed {
+        model: LINK,
+        topology: LINKED,
+        distance: "cap1",
+        window: "10",
+        log: "{\"at\":1,\"from\":\"c1\",\"raise\":\"NoSignal@a\"}\n{\"at\":2,\"from\":\"c1\",\"raise\":\"NoSignal@b\"}\n",
+        out: "book columns 2 of 3 cap 1 radius 0 to 0 groups 4\ndiagnosis c1 1 2 raised 2 unknown 0 distance 0 radius 0 sure groups 1\n  group Cut@L1\n",
     },
     // A link at the second place of a path.
     Followed {

@@ -363,7 +363,7 @@ fn each_call_fails_in_turn(rt: HostRuntime) -> Result<(), Fail> {
 #[test]
 fn words_are_a_command_or_not(rt: HostRuntime) -> Result<(), Fail> {
     const USAGE: (u8, &str) = (2, "error 2 usage\n");
-    let cases: [(&[&str], (u8, &str)); 19] = [
+    let cases: [(&[&str], (u8, &str)); 27] = [
         (&[], USAGE),
         (&["burst", "m", "t"], USAGE),
         (&["Burst", "m", "t", "s"], USAGE),
@@ -375,6 +375,14 @@ fn words_are_a_command_or_not(rt: HostRuntime) -> Result<(), Fail> {
         (&["decode", "m", "t", "c", "l", "1000000000001"], USAGE),
         (&["decode", "m", "t", "c", "l", "0"], USAGE),
         (&["correlate", "m", "t", "l", "10", "0"], USAGE),
+        (&["correlate", "m", "t", "l", "cap0", "10"], USAGE),
+        (&["correlate", "m", "t", "l", "cap03", "10"], USAGE),
+        (&["correlate", "m", "t", "l", "cap", "10"], USAGE),
+        (&["correlate", "m", "t", "l", "cap10000", "10"], USAGE),
+        (&["correlate", "m", "t", "l", "3", "cap10"], USAGE),
+        (&["codebook", "m", "t", "cap0"], USAGE),
+        (&["codebook", "m", "t", "cap03"], USAGE),
+        (&["codebook", "m", "t", "cap"], USAGE),
         (&["grow", "257", "0"], USAGE),
         (&["grow", "0", "7"], USAGE),
         (&["grow", "4", "18446744073709551616"], USAGE),
