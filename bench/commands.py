@@ -63,6 +63,9 @@ LOGS = (
     ("mesh", 1000, 50_000, 4_000, 5),
 )
 
+# Networks of which one alarm is followed at a distance or a cap: of chains each problem causes all that follows, so with a cap past the distances each column is kept.
+CAPPED = (("chain", 8192, "1"), ("chain", 8192, "cap500"), ("chain", 8192, "cap9999"), ("ring", 2048, "3"), ("ring", 2048, "cap3"), ("ring", 2048, "cap9999"))
+
 # How many sites `grow` makes up, and from which number on its numbers are drawn.
 GROWN = ((200, 7), (256, 1))
 
@@ -163,6 +166,13 @@ def followed(words, folder, kind, sites, lines, counted, every):
     line(words, ["correlate", "m", "t", "log", "1", "30"], network, folder, ["correlate", "m", "t", "short", "1", "30"])
 
 
+def capped(words, folder, kind, sites, distance):
+    make(words, folder, kind, sites)
+    alarm = (folder / "s").read_text().splitlines()[0]
+    (folder / "log").write_text(f'{{"at":1,"from":"c1","raise":"{alarm}"}}\n')
+    line(words, ["correlate", "m", "t", "log", distance, "30"], f"{kind} {sites:,}, one alarm at {distance}", folder)
+
+
 def grown(words, folder, sites, start):
     line(words, ["grow", str(sites), str(start)], f"{sites} sites from {start}", folder)
 
@@ -179,7 +189,7 @@ def main():
         return
     models = (("1,024 classes", full_model()), ("16 MiB of classes", long_model(False)))
     print("| Command | Network | Seconds | Other | Ratio | MiB | Other | Ratio | Million instructions | Other | Ratio |\n|---|---|---|---|---|---|---|---|---|---|---|")
-    for measured, inputs in ((answered, ANSWERED), (paired, PAIRED), (explained, EXPLAINED), (levelled, LEVELLED), (repeated, RUNS), (certified, CERTIFIED), (followed, LOGS), (grown, GROWN), (checked, models)):
+    for measured, inputs in ((answered, ANSWERED), (paired, PAIRED), (explained, EXPLAINED), (levelled, LEVELLED), (repeated, RUNS), (certified, CERTIFIED), (followed, LOGS), (capped, CAPPED), (grown, GROWN), (checked, models)):
         for asked in inputs:
             with tempfile.TemporaryDirectory() as name:
                 measured(words, pathlib.Path(name), *asked)

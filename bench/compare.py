@@ -314,7 +314,9 @@ def words_of(rng, network):
                 ["nothing", "m"],
                 ["codebook", "m", "t", "0"],
                 ["codebook", "m", "t", "01"],
+                ["codebook", "m", "t", rng.choice(("cap", "cap0", "cap03", "cap10000", "CAP3"))],
                 ["correlate", "m", "t", "s", "1", "1000000000001"],
+                ["correlate", "m", "t", "l", rng.choice(("cap", "cap0", "cap03", "cap10000", "CAP3", "cap3 ", "cap+3")), "10"],
                 ["model", "missing"],
                 ["grow", "257", "0"],
                 ["grow", str(rng.randrange(1, 9)), str(rng.randrange(2**64))],
@@ -325,9 +327,11 @@ def words_of(rng, network):
             ["model", "m"],
             ["matrix", "m", "t"],
             ["codebook", "m", "t", str(rng.choice((1, 1, 2, 3, 9999)))],
+            ["codebook", "m", "t", f"cap{rng.choice((1, 2, 3, 3, 4, 5, 9999))}"],
             ["verify", "m", "t", "c"],
             ["verify", "m", "t", "c"],
             ["correlate", "m", "t", "l", str(rng.choice((1, 1, 2, 3, 9999))), str(rng.choice((1, 5, 10, 10**12)))],
+            ["correlate", "m", "t", "l", f"cap{rng.choice((1, 2, 3, 3, 4, 5, 9999))}", str(rng.choice((1, 5, 10, 10**12)))],
             ["decode", "m", "t", "c", "l", str(rng.choice((1, 5, 10, 10**12)))],
             ["correlate", "m", "t", "l", str(rng.choice((1, 2))), str(rng.choice((3, 10)))],
             ["burst", "m", "t", "s"],
@@ -360,8 +364,7 @@ def damaged(rng, text):
             lines = lines[:at]
         case _:
             words = lines[at].split(" ")
-            # The other program knows a second form of certificates, whose header has another number.
-            numbers = [place for place, word in enumerate(words) if word.isdecimal() and at > 0]
+            numbers = [place for place, word in enumerate(words) if word.isdecimal()]
             if numbers:
                 place = rng.choice(numbers)
                 words[place] = str(max(0, int(words[place]) + rng.choice((-1, 1, 1, 2, 70000))))
@@ -373,7 +376,7 @@ def damaged(rng, text):
 
 def certificate_text(rng, peer, folder):
     """A certificate of the network, by the other program, now and then damaged."""
-    _, out, _ = answer(peer, ["codebook", "m", "t", str(rng.choice((1, 1, 2, 3)))], folder)
+    _, out, _ = answer(peer, ["codebook", "m", "t", rng.choice(("1", "1", "2", "3", "cap1", "cap2", "cap3", "cap9999"))], folder)
     text = out.decode()
     for _ in range(rng.choice((0, 1, 1, 1, 2))):
         text = damaged(rng, text)

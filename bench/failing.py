@@ -51,6 +51,8 @@ COMMANDS = [
     ["prove", "link.model", "link.topology", "fixed.log"],
     ["codebook", "link.model", "link.topology", "1"],
     ["codebook", "link.model", "link.topology", "2"],
+    ["codebook", "link.model", "link.topology", "cap3"],
+    ["verify", "link.model", "link.topology", "capped.certificate"],
     ["verify", "link.model", "link.topology", "link.certificate"],
     ["verify", "link.model", "link.topology", "thin.certificate"],
     ["correlate", "link.model", "link.topology", "refused-link.log", "1", "10"],
@@ -58,6 +60,7 @@ COMMANDS = [
     ["correlate", "link.model", "link.topology", "each-edit.log", "1", "10"],
     ["correlate", "link.model", "link.topology", "cleared.log", "1", "10"],
     ["correlate", "link.model", "link.topology", "cleared.log", "2", "10"],
+    ["correlate", "link.model", "link.topology", "cleared.log", "cap3", "10"],
     ["correlate", "path.model", "path.topology", "second-place.log", "1", "5"],
     ["model", "row.model"],
     ["burst", "row.model", "row.topology", "row.symptoms"],
@@ -65,6 +68,7 @@ COMMANDS = [
     ["correlate", "row.model", "row.topology", "row.log", "1", "5"],
     ["decode", "link.model", "link.topology", "link.certificate", "fixed.log", "10"],
     ["decode", "link.model", "link.topology", "thin.certificate", "fixed.log", "10"],
+    ["decode", "link.model", "link.topology", "capped.certificate", "fixed.log", "10"],
     ["grow", "2", "7"],
 ]
 
@@ -157,7 +161,9 @@ FILES = {
 }
 
 # Files that the program writes itself before it is disturbed.
-WRITTEN = {"link.certificate": ("codebook", "1"), "thin.certificate": ("codebook", "2"), "link.levels": ("levels", "Cut@L1")}
+WRITTEN = {
+    "link.certificate": ("codebook", "1"), "thin.certificate": ("codebook", "2"), "capped.certificate": ("codebook", "cap3"), "link.levels": ("levels", "Cut@L1"),
+}
 
 # What `correlate` is to print for some of the logs.
 ANSWERS = {

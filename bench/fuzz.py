@@ -11,9 +11,8 @@ then a word is odd, or names another file, or none that is there. Both programs 
 has, 9 and 10 aside, and the same output and error line.
 
 A run in which the answers differ, or a program ends by a signal, is printed, and its files are kept in a folder below --keep; the status is then 1. The
-seed of run K is --seed and K together: with that seed and `--runs 1` the run is repeated. A certificate with the header of the second form gets that of the
-first, since the other program knows both. It prints how many runs of each command ended with each status, how many with a changed file ended with 0, and
-how often each error line came, without its names and numbers.
+seed of run K is --seed and K together: with that seed and `--runs 1` the run is repeated. It prints how many runs of each command ended with each status, how
+many with a changed file ended with 0, and how often each error line came, without its names and numbers.
 """
 import argparse
 import collections
@@ -43,16 +42,17 @@ COMMANDS = (
     ("explain", "m", "t", "s"),
     ("levels", "m", "t", "NODE"),
     ("prove", "m", "t", "v"),
-    ("codebook", "m", "t", "DISTANCE"),
+    ("codebook", "m", "t", "WISH"),
     ("verify", "m", "t", "c"),
-    ("correlate", "m", "t", "l", "DISTANCE", "WINDOW"),
+    ("correlate", "m", "t", "l", "WISH", "WINDOW"),
     ("decode", "m", "t", "c", "l", "WINDOW"),
 )
-DISTANCES = ("1", "1", "1", "2", "3", "9999")
+WISHES = ("1", "1", "1", "2", "3", "9999", "cap1", "cap2", "cap3", "cap9999")
 WINDOWS = ("10", "10", "60", "1", "1000000000000")
 ODD_FILES = ("m", "t", "s", "c", "v", "l", "./m", "./t", "-", ".", "nothing", "")
 ODD_NODES = ("", "@", "e@", "@i", "e@i", "e@i@i", "class@i", "e @i", "-", "m", "e" * 64 + "@i", "e" * 63 + "@" + "i" * 63)
-ODD_WORDS = ("0", "01", "", "-1", "+1", "1 ", "10000", "1000000000001", "18446744073709551616", "\N{DIGIT ONE}\N{COMBINING ENCLOSING KEYCAP}", "x")
+ODD_WORDS = ("0", "01", "", "-1", "+1", "1 ", "10000", "1000000000001", "18446744073709551616", "\N{DIGIT ONE}\N{COMBINING ENCLOSING KEYCAP}", "x", "cap", "cap0",
+             "cap01", "cap10000", "Cap1", "cap 1")
 
 ODD_BYTES = [bytes([byte]) for byte in b"\0\n\r\t #@{};:.=>+-_/\"\\[],'0aZ\x7f\x80\xc0\xff"] + [b"\r\n", b"\n\n", b"\xc3\xa9", b"\xed\xa0\x80", b"\xef\xbb\xbf"]
 NUMBERS = [
@@ -290,10 +290,10 @@ class Fuzzer:
         return done.returncode, done.stdout, done.stderr
 
     def certificates(self, files):
-        """The certificates of the network at some distances."""
+        """The certificates of the network at some distances and caps."""
         (self.folder / "m").write_bytes(files["m"][0])
         (self.folder / "t").write_bytes(files["t"][0])
-        made = (self.answer(self.peer, ["codebook", "m", "t", distance]) for distance in "123")
+        made = (self.answer(self.peer, ["codebook", "m", "t", wish]) for wish in ("1", "2", "3", "cap2", "cap9999"))
         return [out for status, out, _ in made if status in (0, 6)]
 
     def problems(self):
@@ -307,7 +307,7 @@ class Fuzzer:
         if rng.random() < 0.005:
             return ["grow", rng.choice(("1", "2", "3", *ODD_WORDS, "257")), rng.choice((str(rng.randrange(1 << 64)), *ODD_WORDS))]
         words = rng.choice(COMMANDS)
-        numbers = {"DISTANCE": DISTANCES, "WINDOW": WINDOWS}
+        numbers = {"WISH": WISHES, "WINDOW": WINDOWS}
         odd = rng.random() < 0.01
         words = [rng.choice(ODD_WORDS if odd else numbers[word]) if word in numbers else word for word in words]
         if rng.random() < 0.01:
@@ -327,8 +327,6 @@ class Fuzzer:
             for _ in range(rng.choice((1, 1, 1, 2, 3, 4))):
                 other = rng.choice(rng.choice(self.networks)[kind])
                 files[kind] = rng.choice(CHANGES[kind])(rng, files[kind], other)
-        if files["c"].startswith(b"codebook certificate 2"):
-            files["c"] = files["c"].replace(b"certificate 2", b"certificate 1", 1)
         for kind in needed:
             (self.folder / kind).write_bytes(files[kind])
         return files != valid

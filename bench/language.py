@@ -40,6 +40,10 @@ link uplink ends port-a
 link port-b on uplink
 """
 CHAIN = "class N {\n  problem P;\n  relation next to N one inverse back;\n  relation back to N one inverse next;\n  rule r: P => next.P;\n}\n"
+# X causes three of the four symptoms, and Y the fourth: with quiet they are 3, 1 and 4 apart.
+UNLIKE = """class U { problem X; problem Y; symptom A; symptom B; symptom C; symptom D; symptom E;
+  rule a: X => A; rule b: X => B; rule c: X => C; rule d: Y => D; }
+"""
 NEAR = "class N {\n  problem symptom Sick;\n  relation near to N many inverse near;\n  rule spread: Sick => near.Sick;\n}\n"
 BOOK = "book columns 2 of 3 distance 1 radius 0 groups 4"
 ACCEPTED = "accepted book distance 1 radius 0 groups 4 columns 2"
@@ -110,6 +114,8 @@ SKIPPED = (
 WORDS = (["burst", "m", "t"], ["pairs", "m", "t"], ["explain", "m", "t"], ["levels", "m", "t"], ["prove", "m", "t"], ["levels", "m", "t", "-"],
          ["levels", "missing", "t", "Cut"], ["levels", "m", "t", "one@uplink"], ["codebook", "m", "t", "0"], ["codebook", "m", "t", "03"], ["codebook", "m", "t", "10000"],
          ["codebook", "missing", "t", "0"], ["correlate", "m", "t", "empty", "1", str(10**12 + 1)], ["grow", "257", "1"],
+         *(["correlate", "m", "t", "empty", word, "10"] for word in ("cap", "cap0", "cap03", "cap10000", "cap 3", "cap-3", "Cap3", "3cap", "capcap3")),
+         ["correlate", "m", "t", "empty", "3", "cap10"], *(["codebook", "m", "t", word] for word in ("cap", "cap0", "cap03", "cap10000", "Cap3")),
          ["grow", "1", str(2**64)], ["--help"], [])
 
 
@@ -229,6 +235,7 @@ def try_statuses(trial):
     trial.write("chain", CHAIN)
     chain = "".join(f"create i{i} N\n" for i in range(1500)) + "".join(f"link i{i} next i{i + 1}\n" for i in range(1499))
     trial.fails(["codebook", "chain", "-", "1"], chain, 7, "limit entries")
+    trial.fails(["codebook", "chain", "-", "cap3"], chain, 7, "limit entries")
     with open("/dev/full", "w", encoding="utf-8") as full:
         outside = {"capture_output": False, "stdout": full, "stderr": subprocess.PIPE}
         trial.wants("write", trial.run(["matrix", "m", "t"], **outside), (9, "", "error 9 write\n"))
@@ -265,7 +272,7 @@ def try_certificates(trial):
     many = f"{head}spans 17\n" + 16 * ("span 65536\n" + entries) + "span 1\nentry 1 0\nend\n"
     rest = fail_b + span(*cut)
     for text, fault in (
-        ("codebook certificate 2\n", "bad-header"), ("", "truncated"), (book[:-5], "truncated"),
+        ("codebook certificate 3\n", "bad-header"), ("", "truncated"), (book[:-5], "truncated"),
         (book.replace("distance 1", "distance 01"), "bad-line line 3"), (book + "x", f"extra line {len(lines) + 1}"),
         (many, f"too-many-entries line {head.count(chr(10)) + 2 + 16 * 65537}"),
         (book.replace("node Cut@uplink", "node Cut@gone"), f"bad-node place {number['Cut@uplink']}"),
@@ -284,6 +291,20 @@ def try_certificates(trial):
     ):
         trial.fails(["verify", "m", "t", "-"], text, 5, f"certificate {fault}")
     trial.fails(["decode", "m", "t", "thin", "empty", "5"], "", 5, "certificate not-book")
+    # For a cap of 3 all columns are kept. No port is 3 columns from quiet, and the link is 1 from each port.
+    capped = trial.run(["codebook", "m", "t", "cap3"])[1]
+    trial.gives(["verify", "m", "t", "-"], capped, ["accepted book cap 3 radius 0 to 0 groups 4 columns 3"])
+    form = capped.splitlines()
+    radii = form.index("radii 4")
+    for old, new, fault in (
+        ("certificate 2", "certificate 1", "bad-line line 3"), ("kind book", "kind thin", "bad-line line 2"), ("cap 3", "cap 0", "bad-line line 3"),
+        ("cap 3", "cap 10000", "bad-line line 3"), ("radii 4", "radii 0", f"bad-line line {radii + 1}"), ("radius 0", "radius 5000", f"bad-line line {radii + 2}"),
+        ("radii 4\nradius 0", "radii 4\nradius 1", "bad-radius place 1"), ("radii 4\nradius 0\n", "radii 3\n", "bad-radius place 4"),
+        ("radii 4\n", "radii 5\nradius 0\n", "bad-radius place 5"),
+    ):
+        trial.fails(["verify", "m", "t", "-"], capped.replace(old, new, 1), 5, f"certificate {fault}")
+    trial.write("capped", capped)
+    trial.gives(["decode", "m", "t", "capped", "empty", "5"], "", ["accepted book cap 3 radius 0 to 0 groups 4 columns 3"])
 
 
 def try_chains(trial):
@@ -375,9 +396,38 @@ def try_logs(trial):
     trial.gives(correlate, first + edit(15, "delete gone") + last, [BOOK, answer, port_a, "refused 2 no-instance", after, port_a])
     trial.gives(["correlate", "m", "t", "-", "3", "10"], first,
                 ["thin wanted 3 first quiet second Fail@port-a distance 1", BOOK, f"diagnosis a 5 5 raised 1 {SURE}", port_a])
+    try_caps(trial)
     trial.gives(decode, first + edit(15, "delete port-a") + last, [ACCEPTED, answer, port_a, "refused 2 fixed", after, port_a])
     grown = trial.run(["grow", "4", "7"])[1].splitlines()
     trial.wants("grow", (len(grown), grown[0]), (4, "grow sites 4 start 7"))
+
+
+def try_caps(trial):
+    """Codebooks for a cap: their columns, the radius of each group, and what is sure by it."""
+    trial.write("unlike", UNLIKE)
+    trial.write("one", "create u U\n")
+    two = record(1, "c1", "raise", "A@u") + record(2, "c1", "raise", "B@u")
+    found = "diagnosis c1 1 2 raised 2 unknown 0 distance"
+    for cap, columns, radius, lines in (
+        ("cap3", 4, "0 to 1", [f"{found} 1 radius 1 sure groups 1", "  group X@u"]), ("cap9999", 4, "0 to 1", [f"{found} 1 radius 1 sure groups 1", "  group X@u"]),
+        ("cap2", 3, "0 to 0", [f"{found} 0 radius 0 sure groups 1", "  group X@u"]), ("cap1", 2, "0 to 0", [f"{found} 0 radius 0 sure groups 1", "  group X@u"]),
+    ):
+        trial.gives(["correlate", "unlike", "one", "-", cap, "10"], two, [f"book columns {columns} of 5 cap {cap[3:]} radius {radius} groups 3", *lines])
+    # Of quiet and Y the radius is 0. A column that no problem causes is in no codebook: it changes no distance, and isn't unknown.
+    correlate = ["correlate", "unlike", "one", "-", "cap3", "10"]
+    book = "book columns 4 of 5 cap 3 radius 0 to 1 groups 3"
+    trial.gives(correlate, record(1, "c1", "raise", "C@u"), [book, "diagnosis c1 1 1 raised 1 unknown 0 distance 1 radius 0 unsure groups 1", "  group quiet"])
+    trial.gives(correlate, record(1, "c1", "raise", "E@u"), [book, f"diagnosis c1 1 1 raised 1 {SURE}", "  group quiet"])
+    trial.gives(correlate, two + record(3, "c1", "raise", "D@u"),
+                [book, "diagnosis c1 1 3 raised 3 unknown 0 distance 2 radius 1 unsure groups 2", "  group X@u", "  group Y@u"])
+    # A mute makes the codebook anew. There is no thin line.
+    trial.gives(correlate, two + edit(11, "mute C@u") + record(12, "c1", "raise", "A@u"),
+                [book, "diagnosis c1 1 11 raised 2 unknown 0 distance 1 radius 1 sure groups 1", "  group X@u",
+                 "book columns 3 of 4 cap 3 radius 0 to 0 groups 3", "diagnosis c1 12 12 raised 1 unknown 0 distance 1 radius 0 unsure groups 2",
+                 "  group quiet", "  group X@u"])
+    # With quiet alone the radius is that of the cap.
+    trial.gives(["correlate", "m", "empty", "-", "cap3", "10"], record(1, "c1", "raise", "Loss@uplink"),
+                ["book columns 0 of 0 cap 3 radius 1 to 1 groups 1", "diagnosis c1 1 1 raised 1 unknown 1 distance 0 radius 1 sure groups 1", "  group quiet"])
 
 
 def lines_of(page):

@@ -99,6 +99,8 @@ def cases():
         yield f"run of {8_191 + closed:,} links", burst, {"m": SITE, "t": row(8_192, closed), "s": raised}, 0, "  group Power@n0"
     yield "1,048,576 entries", codebook, {"m": NODE, "t": circle(1024)}, 0, ""
     yield "1,050,625 entries", codebook, {"m": NODE, "t": circle(1025)}, 7, "error 7 limit entries"
+    yield "1,048,576 entries for a cap", ["codebook", "m", "t", "cap3"], {"m": NODE, "t": circle(1024)}, 0, ""
+    yield "1,050,625 entries for a cap", ["codebook", "m", "t", "cap3"], {"m": NODE, "t": circle(1025)}, 7, "error 7 limit entries"
     yield "certificate with 1,048,576 entries", verify, {**alive, "c": book(16, 65_536)}, 5, "error 5 certificate no-edge entry 2"
     yield "certificate with 17 spans of 65,536", verify, {**alive, "c": book(17, 65_536)}, 5, f"error 5 certificate too-many-entries line {7 + 16 * 65_537 + 1}"
     prove = ["prove", "m", "t", "v"]
@@ -114,8 +116,16 @@ def cases():
     for groups, due, line in ((128, 0, "  fit P@n0"), (129, 13, "error 13 groups 129")):
         files = {"m": ALIVE, "t": created(groups - 1, "Alive"), "s": "S@n0\n"}
         yield f"pairs of {groups} groups", ["pairs", "m", "t", "s"], files, due, line
-    for what, words in (("distance of 10,000", ["codebook", "m", "t", "10000"]), ("window of 10^12 + 1", ["correlate", "m", "t", "s", "1", str(10**12 + 1)])):
+    for what, words in (
+        ("distance of 10,000", ["codebook", "m", "t", "10000"]),
+        ("cap of 10,000", ["correlate", "m", "t", "s", "cap10000", "1"]),
+        ("cap of 10,000, certified", ["codebook", "m", "t", "cap10000"]),
+        ("window of 10^12 + 1", ["correlate", "m", "t", "s", "1", str(10**12 + 1)]),
+    ):
         yield what, words, alive, 2, "error 2 usage"
+    full = {"m": ALIVE, "t": created(8_192, "Alive"), "l": '{"at":1,"from":"a","raise":"S@n0"}\n'}
+    line = "book columns 8192 of 8192 cap 9999 radius 0 to 0 groups 8193"
+    yield "cap of 9,999 over 8,193 groups", ["correlate", "m", "t", "l", "cap9999", "1"], full, 0, line
     for what, words in (("257 sites", ["grow", "257", "0"]), ("start of 2^64", ["grow", "1", str(2**64)])):
         yield what, words, {"m": ""}, 2, "error 2 usage"
     log = '{"at":1,"tick":true}\n'

@@ -10,8 +10,8 @@ by Python's `random`, whose numbers are the same on each machine:
   damaged    372 bursts: each of the 79 problems with six alarms or more three times, a quarter of its alarms lost (rounded down), and each of
              the 135 problems with one alarm lost and one spurious. It is the first draw that `correlate` answers as it did then: the problem
              alone 361 times, among others 7 times, and wrong and sure 4 times.
-  two lost   not of the user's trial: all problems, with any two of their alarms lost. This is more than the radius allows for. "Distance 4" is
-             the cluster with a symptom more for six problems.
+  two lost   not of the user's trial: all problems, with any two of their alarms lost. This is more than the least radius allows for. "Six more
+             symptoms" is the cluster with a symptom more for six problems.
   late       the 79 problems with six alarms or more. An alarm is five minutes late with a chance of 0.4. It is the first draw with 75 problems
              that have late alarms, as then. "First" are the windows of a problem's first alarms, and "later" the others.
   webhooks   an hour with 9 problems that share no alarm, 400 seconds apart; each lasts for 5 to 15 minutes. Alertmanager groups by alertname,
@@ -49,6 +49,7 @@ KINDS = ["right sure", "right unsure", "one of several", "wrong unsure", "wrong 
 START = 1_700_000_000
 CLOUD = {"Unhealthy", "ConnectTimeout", "FlowRejected", "NoTraffic", "HealthUnknown"}
 CLOSE = ["KubeletDead", "NetBroken", "Blocked", "BadCertificate", "BadRule", "BadSelector"]
+FEW, ALL, CAP = "few", "all", "cap9999"
 DRAWS = {"damaged": 31, "late": 29, "webhooks": 1889, "names": 1}
 PROBE = {"NoPing", "ProbeFailed", "ProbeTimeout", "CertificateExpired", "TlsErrors"}
 
@@ -64,7 +65,7 @@ def run(*words, given=None):
 
 
 class Cluster:
-    """The network, and the two codebooks by which it is followed: with few columns, and with all."""
+    """The network, and the codebooks by which it is followed: with few columns, with all (of a certificate, or by a cap)."""
 
     def __init__(self, certificate, files, distance):
         self.files, self.distance, self.certificate = files, distance, certificate
@@ -79,17 +80,23 @@ class Cluster:
         certificate.write_text(run("all-columns", *files, distance))
         self.few = columns_of(run("jeknaule", "codebook", *files, distance))
         self.all = columns_of(self.certificate.read_text())
+        self.caused = set().union(*self.codes.values())
 
-    def follow(self, records, window, every_column):
-        """The answers to a log, and for each of them the alarms of its window and how many of these no column is for."""
+    def follow(self, records, window, columns):
+        """The answers to a log by a codebook with these columns, and for each of them the alarms of its window and how many of these no column is for."""
         log = "".join(json.dumps(record, separators=(",", ":")) + "\n" for record in records)
-        words = ["decode", *self.files, self.certificate, "-"] if every_column else ["correlate", *self.files, "-", self.distance]
+        words = {
+            FEW: ["correlate", *self.files, "-", self.distance],
+            ALL: ["decode", *self.files, self.certificate, "-"],
+            CAP: ["correlate", *self.files, "-", "cap9999"],
+        }[columns]
         answers = answers_of(run("jeknaule", *words, window, given=log))
         logs = timed_by_source(records)
         raised = [alarms_of(logs[answer.source], answer.opened, window) for answer in answers]
         if any(answer.unknown or answer.raised != len(up) for answer, up in zip(answers, raised)):
             sys.exit("bench/live.py: the alarms of a window are others than those of its answer")
-        return answers, raised, [len(up - (self.all if every_column else self.few)) for up in raised]
+        counted = {FEW: self.few, ALL: self.all, CAP: self.caused}[columns]
+        return answers, raised, [len(up - counted) for up in raised]
 
 
 def columns_of(certificate):
@@ -212,23 +219,26 @@ def mended(room):
 
 
 def damaged(cluster, room):
-    def followed(cases, every_column, network=cluster):
+    def followed(cases, columns, network=cluster):
         log = [raised(0, f"case-{number}", node) for number, (_, alarms) in enumerate(cases) for node in sorted(alarms)]
-        return network.follow(log, 60, every_column)
+        return network.follow(log, 60, columns)
 
     def by(cases):
         return lambda answer, _: cases[int(answer.source[5:])][0]
 
     better = mended(room)
     bursts, lost, less = damaged_bursts(cluster, DRAWS["damaged"]), two_lost(cluster), two_lost(better)
-    by_few = followed(bursts, False)
+    by_few = followed(bursts, FEW)
     return [
-        Line("damaged", False, "`correlate`", by_few, by(bursts), False),
-        Line("damaged", True, "all columns", followed(bursts, True), by(bursts), False),
-        Line("damaged", True, "`correlate` and `burst`", asked_too(cluster, by_few), by(bursts), False),
-        Line("two lost", False, "`correlate`", followed(lost, False), by(lost), False),
-        Line("two lost", False, "all columns", followed(lost, True), by(lost), False),
-        Line("two lost", True, "all columns, distance 4", followed(less, True, better), by(less), False),
+        Line("damaged", False, "distance 3", by_few, by(bursts), False),
+        Line("damaged", True, "`cap9999`", followed(bursts, CAP), by(bursts), False),
+        Line("damaged", True, "all columns", followed(bursts, ALL), by(bursts), False),
+        Line("damaged", False, "distance 3 and `burst`", asked_too(cluster, by_few), by(bursts), False),
+        Line("two lost", False, "distance 3", followed(lost, FEW), by(lost), False),
+        Line("two lost", False, "`cap9999`", followed(lost, CAP), by(lost), False),
+        Line("two lost", False, "all columns", followed(lost, ALL), by(lost), False),
+        Line("two lost", True, "`cap9999`, six more symptoms", followed(less, CAP, better), by(less), False),
+        Line("two lost", True, "all columns at 4, six more symptoms", followed(less, ALL, better), by(less), False),
     ]
 
 
@@ -262,14 +272,15 @@ def late(cluster):
     def problem_of(answer, _):
         return answer.source.replace(":", "@")
 
-    first, later = parted(cluster.follow(log, 60, False))
-    mended_first, mended_later = parted(cluster.follow([json.loads(line) for line in restated.splitlines()], 60, True))
+    first, later = parted(cluster.follow(log, 60, FEW))
+    mended_first, mended_later = parted(cluster.follow([json.loads(line) for line in restated.splitlines()], 60, CAP))
     return [
-        Line("late, first", False, "`correlate`, window 60", first, problem_of),
-        Line("late, later", False, "`correlate`, window 60", later, problem_of),
-        Line("late, first", False, "all columns, window 60, `restate.jq`", mended_first, problem_of),
-        Line("late, later", True, "all columns, window 60, `restate.jq`", mended_later, problem_of),
-        Line("late", True, "all columns, window 600", cluster.follow(log, 600, True), problem_of),
+        Line("late, first", False, "distance 3, window 60", first, problem_of),
+        Line("late, later", False, "distance 3, window 60", later, problem_of),
+        Line("late, first", False, "`cap9999`, window 60, `restate.jq`", mended_first, problem_of),
+        Line("late, later", True, "`cap9999`, window 60, `restate.jq`", mended_later, problem_of),
+        Line("late", True, "`cap9999`, window 600", cluster.follow(log, 600, CAP), problem_of),
+        Line("late", True, "all columns, window 600", cluster.follow(log, 600, ALL), problem_of),
     ]
 
 
@@ -376,11 +387,12 @@ def webhooks(cluster, room):
         return max((owner[node] for node in up), key=begin.get, default="quiet")
 
     return [
-        Line("webhooks", False, "as posted, `correlate`", cluster.follow(posted, 60, False), problem_of),
-        Line("webhooks", True, "`webhook.jq`, `correlate`", cluster.follow(few, 60, False), problem_of),
-        Line("webhooks", True, "`webhook.jq`, all columns", cluster.follow(few, 60, True), problem_of),
-        Line("webhooks", True, "`poll 15`, all columns", cluster.follow(polled(posts, room, 15), 60, True), problem_of),
-        Line("webhooks, default waits", False, "`webhook.jq`, all columns", cluster.follow(changes(cluster, slow, room), 60, True), problem_of),
+        Line("webhooks", False, "as posted, distance 3", cluster.follow(posted, 60, FEW), problem_of),
+        Line("webhooks", False, "`webhook.jq`, distance 3", cluster.follow(few, 60, FEW), problem_of),
+        Line("webhooks", True, "`webhook.jq`, `cap9999`", cluster.follow(few, 60, CAP), problem_of),
+        Line("webhooks", True, "`webhook.jq`, all columns", cluster.follow(few, 60, ALL), problem_of),
+        Line("webhooks", True, "`poll 15`, `cap9999`", cluster.follow(polled(posts, room, 15), 60, CAP), problem_of),
+        Line("webhooks, default waits", False, "`webhook.jq`, `cap9999`", cluster.follow(changes(cluster, slow, room), 60, CAP), problem_of),
     ]
 
 
@@ -398,8 +410,9 @@ def names(cluster):
         return order[(answer.opened - START) // 2880]
 
     return [
-        Line("names", False, "three names, `correlate`", cluster.follow(with_ticks(several, 86_400), 60, False), problem_of),
-        Line("names", True, "one name, all columns", cluster.follow(with_ticks(one, 86_400), 60, True), problem_of),
+        Line("names", False, "three names, distance 3", cluster.follow(with_ticks(several, 86_400), 60, FEW), problem_of),
+        Line("names", True, "one name, `cap9999`", cluster.follow(with_ticks(one, 86_400), 60, CAP), problem_of),
+        Line("names", True, "one name, all columns", cluster.follow(with_ticks(one, 86_400), 60, ALL), problem_of),
     ]
 
 

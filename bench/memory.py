@@ -40,8 +40,10 @@ COMMANDS = [
     ["prove", "m", "t", "v"],
     ["codebook", "m", "t", "1"],
     ["codebook", "m", "t", "2"],
+    ["codebook", "m", "t", "cap9999"],
     ["verify", "m", "t", "c"],
     ["correlate", "m", "t", "l", "1", "30"],
+    ["correlate", "m", "t", "l", "cap9999", "30"],
     ["decode", "m", "t", "c", "l", "30"],
     ["grow", "100", "7"],
 ]

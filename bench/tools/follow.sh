@@ -1,5 +1,5 @@
 cd $R/examples/cluster
-follow cluster.model cluster.topology 3 60 "$PORT" > $W/answers &
+follow cluster.model cluster.topology cap9999 60 "$PORT" > $W/answers &
 python3 - "$PORT" <<'END'
 import json, sys, time, urllib.request
 names = ["Unhealthy", "ConnectTimeout", "DiskFilling"]
