@@ -26,4 +26,7 @@ class Hook(http.server.BaseHTTPRequestHandler):
         pass
 
 
-http.server.HTTPServer(("127.0.0.1", int(sys.argv[1])), Hook).serve_forever()
+try:
+    http.server.HTTPServer(("127.0.0.1", int(sys.argv[1])), Hook).serve_forever()
+except OSError as fault:
+    sys.exit(f"receive.py: port {sys.argv[1]}: {fault.strerror}")

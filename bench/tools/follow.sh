@@ -15,5 +15,15 @@ for count in (1, 3, 3):
 END
 kill $!
 wait $!
+echo "status $?"
 # A time in the future counts as now.
 sed 's/since 1[0-9]*$/since now/' $W/answers
+# If `correlate` or the receiver ends by itself, so does follow, with its status.
+follow cluster.model cluster.topology cap 60 "$PORT" 2>&1
+echo "status $?"
+receive.py "$PORT" > /dev/null &
+sleep 1
+follow cluster.model cluster.topology cap9999 60 "$PORT" 2> $W/faults
+echo "status $?"
+kill $!
+sed "s/$PORT/PORT/" $W/faults
