@@ -1,5 +1,5 @@
 -- The code of the first of some visits.
-use Rattle.std.proofs.Common.{◌≡◌, ◌↔◌, ◌⊎◌, inl, inr, ℕ, ◌+◌, ◌<◌, ◌≤◌, List, Bool, false, true, length, replicate, Option, None, Some, slice_get, sym, subst, ◌∙◌, arith}
+use Rattle.std.proofs.Common.{◌≡◌, ◌↔◌, ◌⊎◌, inl, inr, ℕ, ◌+◌, ◌<◌, ◌≤◌, List, Bool, false, true, length, replicate, Option, None, Some, slice_get, refl, sym, subst, ◌∙◌, arith}
 use Rattle.std.specs.Prelude.{slice_set, IfSome}
 use Rattle.std.proofs.lemmas.Bool.{cases_lt}
 use Rattle.std.proofs.lemmas.List.{length-set, length-replicate}
@@ -9,7 +9,7 @@ use Rattle.cb_successors.specs.Rows.{Has}
 use Rattle.cb_successors.proofs.Marks.{has_set, set_cases, nothing}
 use Rattle.cb_breadth.specs.declared.visit.Visit.{Visit}
 use Rattle.cb_graph.specs.Edges.{number}
-use Rattle.cb_matrix.specs.Codes.{IsColumnIndex}
+use Rattle.cb_topo.specs.Columns.{IsPositionOf}
 use Rattle.cb_matrix.proofs.Passed.{same_number, still}
 use Rattle.cb_certify.specs.Groups.{IsCodeBy, with_one}
 
@@ -49,60 +49,53 @@ module _ (nodes : List ℕ) (columns : List NodeId) (visits : List Visit) (to : 
         inr (same_Some node m (sym at ∙ subst (λ (w : Visit). slice_get nodes w.node ≡ Some m) (sym same) has.at))
   ]
 
-  module _ (capacity : ℕ) (places : List (Option ℕ)) (are : IsColumnIndex capacity columns places) where
-    place_low : (place : ℕ) → slice_get places node ≡ Some (Some place) → place < length code
-    place_low place there = let e = slice_get_within columns place (number node) (are.each node place there) in let f = old.width in omega arith
-
-    alone : (place k : ℕ) → slice_get places node ≡ Some (Some place) → slice_get columns k ≡ Some (number node) → k ≡ place
-    alone place k there column =
-        let both : Some (Some k) ≡ Some (Some place) = sym (are.all node k column) ∙ there in
-        cc
+  module _ (place : ℕ) (there : IsPositionOf columns (number node) (Some place)) where
+    place_low : place < length code
+    place_low = let e = slice_get_within columns place (number node) ((there place).1 refl) in let f = old.width in omega arith
 
     -- its node is a column
-    column_coded : (place : ℕ) → slice_get places node ≡ Some (Some place) → IsCodedTo nodes columns visits (to + 1) (slice_set code place true)
-    column_coded place there =
-        let low = place_low place there in
+    column_coded : IsCodedTo nodes columns visits (to + 1) (slice_set code place true)
+    column_coded =
+        let low = place_low in
         record {
           width = length-set code place true ∙ old.width;
           each = λ k m column. (
             λ has. elim (set_cases code place k has) [
               | inl same ↦
-                  let one : node ≡ m = same_number columns place node m (are.each node place there) (subst (λ p. slice_get columns p ≡ Some (number m)) same column) in
+                  let one : node ≡ m = same_number columns place node m ((there place).1 refl) (subst (λ p. slice_get columns p ≡ Some (number m)) same column) in
                   subst (HasNodeTo nodes visits (to + 1)) one here
               | inr had ↦ before m ((old.each k m column).0 had)
             ],
             λ has. elim (split m has) [
               | inl earlier ↦ still code place k low ((old.each k m column).1 earlier)
               | inr one ↦
-                  let same : k ≡ place = alone place k there (subst (λ n. slice_get columns k ≡ Some (number n)) (sym one) column) in
+                  let same : k ≡ place = (there k).0 (subst (λ n. slice_get columns k ≡ Some (number n)) (sym one) column) in
                   subst (Has (slice_set code place true)) (sym same) (has_set code place low)
             ],
           );
         }
 
-    -- it is none
-    other_coded : slice_get places node ≡ Some None → IsCodedTo nodes columns visits (to + 1) code
-    other_coded none = record {
-      width = old.width;
-      each = λ k m column. (
-        λ has. before m ((old.each k m column).0 has),
-        λ has. elim (split m has) [
-          | inl earlier ↦ (old.each k m column).1 earlier
-          | inr one ↦
-              let both : Some (Some k) ≡ Some None = sym (are.all node k (subst (λ n. slice_get columns k ≡ Some (number n)) (sym one) column)) ∙ none in
-              absurd (cc)
-        ],
-      );
-    }
+  -- it is none
+  other_coded : IsPositionOf columns (number node) None → IsCodedTo nodes columns visits (to + 1) code
+  other_coded none = record {
+    width = old.width;
+    each = λ k m column. (
+      λ has. before m ((old.each k m column).0 has),
+      λ has. elim (split m has) [
+        | inl earlier ↦ (old.each k m column).1 earlier
+        | inr one ↦ absurd (none k (subst (λ n. slice_get columns k ≡ Some (number n)) (sym one) column))
+      ],
+    );
+  }
 
-    -- one visit more
-    pub next_coded : (place : Option ℕ) → slice_get places node ≡ Some place → IsCodedTo nodes columns visits (to + 1) (with_one code place)
-    next_coded None none = other_coded none
-    next_coded (Some place) there = column_coded place there
+  -- one visit more
+  pub next_coded : (place : Option ℕ) → IsPositionOf columns (number node) place → IsCodedTo nodes columns visits (to + 1) (with_one code place)
+  next_coded None none = other_coded none
+  next_coded (Some place) there = column_coded place there
 
-    pub place_fits : (place : Option ℕ) → slice_get places node ≡ Some place → IfSome place (λ k. k < length code)
-    place_fits None none = tt
-    place_fits (Some place) there = place_low place there
+  pub place_fits : (place : Option ℕ) → IsPositionOf columns (number node) place → IfSome place (λ k. k < length code)
+  place_fits None none = tt
+  place_fits (Some place) there = place_low place there
 
 pub all_coded : (nodes : List ℕ) (columns : List NodeId) (visits : List Visit) (to : ℕ) (code : List Bool) → length visits ≤ to
     → IsCodedTo nodes columns visits to code → IsCodeBy nodes columns visits code

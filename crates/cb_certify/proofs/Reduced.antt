@@ -23,7 +23,7 @@ use Rattle.cb_model.specs.declared.node.NodeName.{NodeName}
 use Rattle.cb_model.specs.declared.wish.Wish.TheVariants.{Plain}
 use Rattle.cb_network.specs.Topology.{Topology}
 use Rattle.cb_nodes.specs.declared.id.NodeId.{NodeId}
-use Rattle.cb_reduce.specs.Close.{AreNumbered}
+use Rattle.cb_distance.specs.Close.{AreNumbered}
 use Rattle.cb_reduce.specs.Reduced.{IsReduced}
 use Rattle.cb_validity.specs.Codebooks.{HasCodebook}
 use Rattle.cb_topo.specs.Numbered.{Numbered, topology_of, IsNodeNamed}

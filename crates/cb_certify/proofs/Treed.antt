@@ -10,6 +10,7 @@ use Rattle.cb_coding.specs.Groups.{AreCodedProblems, AreGroups}
 use Rattle.cb_finding.proofs.Nearest.{coded_are_wide}
 use Rattle.cb_graph.specs.Edges.{EdgeAt}
 use Rattle.cb_network.specs.Sound.{Sound}
+use Rattle.cb_topo.specs.Columns.{AreAllColumns}
 use Rattle.cb_topo.specs.Numbered.{Numbered, topology_of, IsNodeNamed, IsWhole}
 use Rattle.cb_matrix.specs.Coded.{IsCodeFrom, IsProblemAt}
 use Rattle.cb_matrix.proofs.Held.{length_zip}
@@ -21,7 +22,6 @@ use Rattle.cb_span.proofs.Led.{tree_has}
 use Rattle.cb_span.proofs.Using.{tree_ranked}
 use Rattle.cb_span.proofs.Zips.{zip_right}
 use Rattle.cb_certify.specs.declared.groups.CodedGroups.{CodedGroups}
-use Rattle.cb_certify.specs.Columns.{AreAllColumns}
 use Rattle.cb_certify.specs.Groups.{IsCodeBy, AreGroupsIn}
 use Rattle.cb_certify.proofs.Adding.{AreAdded, all_coded_are, all_groups_are, groups_few}
 use Rattle.cb_certify.proofs.Named.{name_at}

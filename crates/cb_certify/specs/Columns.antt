@@ -8,20 +8,8 @@ use Rattle.cb_validity.specs.Laws.{HavePlaces}
 use Rattle.cb_validity.specs.Reading.{ArePlaces}
 use Rattle.cb_validity.specs.Spans.{StandsFor}
 use Rattle.cb_nodes.specs.declared.id.NodeId.{NodeId}
+use Rattle.cb_topo.specs.Columns.{AreAllColumns}
 use Rattle.cb_topo.specs.Numbered.{Numbered, topology_of, AreNamed}
-use Rattle.cb_matrix.specs.Codes.{IsColumnIndex as AreColumnPlaces}
-use Rattle.cb_matrix.specs.declared.codes.Columns.{Columns}
-
--- the numbers of all columns, in order
-pub record AreAllColumns (n : Numbered) (ids : List NodeId) : Type 0 where
-  pub names : List NodeName
-  pub are : AreColumns (topology_of n) names
-  pub named : AreNamed n ids names
-
--- these are the topology's columns in order, with the position of each by its number
-pub record AreColumnsIn (n : Numbered) (columns : Columns) : Type 0 where
-  pub all : AreAllColumns n columns.nodes
-  pub places : AreColumnPlaces (length n.nodes) columns.nodes columns.places.items
 
 -- the numbers at these positions
 abbrev pub AreAt : List NodeId → List ℕ → List NodeId → Type 0
@@ -34,7 +22,3 @@ HaveColumnPlaces n all places ids = (columns : List NodeName) × AreNamed n ids 
 -- among all columns of the topology, the columns of these numbers have these positions
 abbrev pub ArePlacesFor : Topology → List NodeName → List ℕ → List ℕ → Type 0
 ArePlacesFor t nodes numbers places = (all : List NodeName) → AreColumns t all → ArePlaces nodes all numbers places
-
--- each of these numbers is that of one of the columns
-abbrev pub AreAmong : List NodeName → List NodeName → List ℕ → Type 0
-AreAmong all nodes numbers = All (λ number. (column : NodeName) × StandsFor nodes number column × Contains all column) numbers

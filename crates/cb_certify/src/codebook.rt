@@ -5,24 +5,25 @@ ghost use Rattle.cb_model.specs.declared.wish.Wish.TheVariants.{Plain, Cap};
 ghost use Rattle.cb_validity.specs.Totals.{HasManyEntries};
 ghost use Rattle.cb_finding.specs.Matrix.{IsMatrix};
 ghost use Rattle.cb_network.specs.Sound.{problem_limit, symptom_limit};
+ghost use Rattle.cb_topo.specs.Columns.{AreAllColumns};
 ghost use Rattle.cb_topo.specs.Numbered.{topology_of};
 ghost use Rattle.cb_span.specs.Searched.{AreTreesOf};
-ghost use Rattle.cb_certify.specs.Columns.{AreAllColumns};
 ghost use Rattle.cb_certify.specs.Groups.{AreGroupsOf};
 ghost use Rattle.cb_certify.specs.Made.{IsBookClaim, IsBookOver, IsCapBookOf, IsCappedFrom, IsChoiceOf, IsMadeOf, IsSomeChoice, IsWantedWish};
 
 use crate::columns::columns_at;
-use crate::groups::{all_columns, close_groups, groups_of};
+use crate::groups::{close_groups, groups_of};
 use crate::shortfall::{close_named, shortfall};
 use cb_cache::Cache;
 use cb_cert::Certificate;
 use cb_codes::Groups;
 use cb_coding::{Book, CapBook};
+use cb_distance::first_close;
 use cb_graph::Graph;
 use cb_matrix::Matrix;
 use cb_model::{GroupName, List, NodeName, Wish};
 use cb_nodes::NodeId;
-use cb_reduce::{Refused, first_close, reduce, reduce_cap};
+use cb_reduce::{Refused, reduce, reduce_cap};
 use cb_span::{SpanFault, Trees};
 use cb_steps::Steps;
 use cb_topo::Topology;
@@ -99,14 +100,14 @@ fn by_trees<L: Ledger>(
     requires wish { IsWantedWish wish }
     ensures { IfOk result (IsMadeOf (topology_of graph.old) wish) }
 {
-    let columns = all_columns(alloc, graph.topology(), &trees.order)?;
+    let columns = graph.topology().column_index(alloc)?;
     let groups = groups_of(alloc, graph.topology(), &trees, &columns)?;
     // Once there is a book, the codes are of no more use, and take as much memory as the certificate.
     match wish {
         Wish::Plain(wanted) => match reduce(alloc, &groups.codes, wanted) {
             Ok(book) => {
                 drop(groups);
-                with_book(alloc, graph.topology(), trees, &columns.nodes, &book)
+                with_book(alloc, graph.topology(), trees, columns.nodes(), &book)
             }
             Err(Refused::TooClose(pair)) => {
                 let close = close_groups(&groups, pair);
@@ -117,7 +118,7 @@ fn by_trees<L: Ledger>(
         Wish::Cap(cap) => {
             let book = reduce_cap(alloc, &groups.codes, cap)?;
             drop(groups);
-            with_cap_book(alloc, graph.topology(), trees, &columns.nodes, book)
+            with_cap_book(alloc, graph.topology(), trees, columns.nodes(), book)
         }
     }
 }

@@ -1,11 +1,9 @@
 //! The groups of a topology's problems, by their trees.
 ghost use Rattle.std.specs.Prelude.{◌≡◌, ◌<◌, ◌≤◌, ℕ, length, IfOk, OnOk, IfSome, Some, slice_get};
-ghost use Rattle.cb_breadth.specs.Lists.{AreBelow};
-ghost use Rattle.cb_matrix.specs.Codes.{IsColumnIndex};
+ghost use Rattle.cb_graph.specs.Edges.{number};
 ghost use Rattle.cb_span.specs.Numberings.{HaveRanksBelow as AreVisitsBelow};
-ghost use Rattle.cb_span.specs.Orders.{IsOrderOf};
 ghost use Rattle.cb_span.specs.Searched.{AreTreesOf};
-ghost use Rattle.cb_certify.specs.Columns.{AreColumnsIn};
+ghost use Rattle.cb_topo.specs.Columns.{AreAllColumns, IsPositionOf};
 ghost use Rattle.cb_certify.specs.Groups.{IsCodeBy, with_one, AreGroupsIn, IsLeastAt, IsQuietAlone, TakesLeast};
 ghost use Rattle.cb_certify.specs.Members.{IsPairOf};
 
@@ -14,27 +12,11 @@ use cb_bits::Row;
 use cb_breadth::{Order, Visit};
 use cb_codes::{Codes, EachOnce};
 use cb_coding::Pair;
-use cb_matrix::{Columns, column_index};
 use cb_model::List;
 use cb_nodes::NodeId;
-use cb_span::{Trees, columns_in};
-use cb_topo::Topology;
+use cb_span::Trees;
+use cb_topo::{ColumnIndex, Topology};
 use std::alloc::{AllocError, Global};
-
-/// All columns of the topology, with their positions.
-pub(crate) fn all_columns(
-    alloc: Global,
-    topology: &Topology,
-    order: &Order,
-) -> Result<Columns, AllocError>
-    requires { IsOrderOf topology.now order.now }
-    ensures { IfOk result (AreColumnsIn topology.now) }
-{
-    let capacity = topology.node_capacity();
-    let nodes = columns_in(alloc, topology, order)?;
-    let columns = column_index(alloc, nodes, capacity)?;
-    Ok(columns)
-}
 
 /// The code of each group, quiet first, and the least member that names each of the others.
 #[derive(Drop)]
@@ -49,15 +31,15 @@ pub(crate) fn groups_of(
     alloc: Global,
     topology: &Topology,
     trees: &Trees,
-    columns: &Columns,
+    columns: &ColumnIndex,
 ) -> Result<CodedGroups, AllocError>
     requires trees { AreTreesOf topology.now trees.now }
-    requires columns { AreColumnsIn topology.now columns.now }
+    requires columns { AreAllColumns topology.now columns.now }
     ensures { IfOk result (AreGroupsIn topology.now) }
 {
     // The topology is sound.
     let _model = topology.model();
-    let mut codes = quiet_code(alloc, columns.nodes.len())?;
+    let mut codes = quiet_code(alloc, columns.len())?;
     let mut least = List::new(alloc);
     for place in 0..trees.problems.len() {
         let code = code_of(alloc, columns, &trees.order, &trees.visits[place])?;
@@ -92,16 +74,14 @@ fn add_least(least: &mut List<NodeId>, group: usize, problem: NodeId) -> Result<
 // For each column, whether the visits have it.
 fn code_of(
     alloc: Global,
-    columns: &Columns,
+    columns: &ColumnIndex,
     order: &Order,
     visits: &[Visit],
 ) -> Result<Row, AllocError>
-    requires places { IsColumnIndex (length columns.now.places.items) columns.now.nodes columns.now.places.items }
-    requires nodes { AreBelow (length columns.now.places.items) order.now.nodes.items }
-    requires visits { AreVisitsBelow (length order.now.nodes.items) visits.now }
-    ensures { IfOk result (IsCodeBy order.now.nodes.items columns.now.nodes visits.now) }
+    requires { AreVisitsBelow (length order.now.nodes.items) visits.now }
+    ensures { IfOk result (IsCodeBy order.now.nodes.items columns.now visits.now) }
 {
-    let mut code = Row::zeroed(alloc, columns.nodes.len())?;
+    let mut code = Row::zeroed(alloc, columns.len())?;
     for at in 0..visits.len() {
         let place = place_of(columns, order, visits[at].node);
         set_at(&mut code, place);
@@ -110,23 +90,21 @@ fn code_of(
 }
 
 // Makes the value at a position true, where there is one.
-fn set_at(code: &mut Row, place: Option<usize>)
+fn set_at(code: &mut Row, place: Option<u32>)
     requires { IfSome place (λ k. k < length code.old) }
     ensures { code.new ≡ with_one code.old place }
 {
     if let Some(k) = place {
-        code.set(k);
+        code.set(k as usize);
     }
 }
 
 // The position among the columns of the node with a rank, where it is one.
-fn place_of(columns: &Columns, order: &Order, rank: u32) -> Option<usize>
-    requires nodes { AreBelow (length columns.now.places.items) order.now.nodes.items }
-    requires within { rank < length order.now.nodes.items }
-    ensures { (node : ℕ) → slice_get order.now.nodes.items rank ≡ Some node → slice_get columns.now.places.items node ≡ Some result }
+fn place_of(columns: &ColumnIndex, order: &Order, rank: u32) -> Option<u32>
+    requires { rank < length order.now.nodes.items }
+    ensures { (node : ℕ) → slice_get order.now.nodes.items rank ≡ Some node → IsPositionOf columns.now (number node) result }
 {
-    let node = order.nodes[rank as usize];
-    columns.places[node as usize]
+    columns.position(NodeId(order.nodes[rank as usize]))
 }
 
 /// The two groups at the positions of a pair.

@@ -1,6 +1,6 @@
 -- A whole book: its checks one after another, and its claim.
-use Rattle.std.proofs.Common.{◌≡◌, ◌↔◌, ◌<◌, ap, ℕ, ◌≤◌, List, [], ◌∷◌, ◌++◌, length, map, refl, sym, subst, arith}
-use Rattle.std.specs.Prelude.{Result, Ok, Err, IfOk}
+use Rattle.std.proofs.Common.{◌≡◌, ◌↔◌, ◌<◌, ap, ℕ, ◌≤◌, List, [], ◌∷◌, ◌++◌, length, map, refl, sym, subst, ◌∙◌, arith}
+use Rattle.std.specs.Prelude.{Result, Ok, Err}
 use Rattle.std.specs.List.{All, flat_map}
 use Rattle.cb_model.specs.declared.node.NodeName.{NodeName}
 use Rattle.cb_model.specs.declared.node.GroupName.{GroupName}
@@ -11,6 +11,7 @@ use Rattle.cb_coding.specs.declared.group.Group.{Group}
 use Rattle.cb_coding.specs.Groups.{AreGroups, codes_of}
 use Rattle.cb_coding.specs.declared.book.Pair.{Pair}
 use Rattle.cb_coding.specs.Needs.{need_of}
+use Rattle.cb_codes.specs.Groups.{Grouped}
 use Rattle.cb_coding.specs.Pairs.{GoodFor, IsFirstShort}
 use Rattle.cb_model.proofs.Rising.{node_cmp_total, node_cmp_exact}
 use Rattle.cb_network.specs.Nodes.{IsColumn, AreColumns, IsCount}
@@ -35,7 +36,7 @@ use Rattle.cb_checker.specs.Known.{AreLive, IsKnown, verdict_of}
 use Rattle.cb_checker.specs.declared.sides.Sides.{Sides}
 use Rattle.cb_checker.specs.Books.{AreReadTo}
 use Rattle.cb_checker.specs.Verdicts.{AreSidesOf, IsGrouped}
-use Rattle.cb_checker.specs.Claims.{book_of, ReportsTooClose, JudgesBook}
+use Rattle.cb_checker.specs.Claims.{book_of, ReportsTooClose, JudgesClaim}
 use Rattle.cb_checker.specs.Places.{ArePlacesOf}
 use Rattle.cb_checker.proofs.Joined.{fails_here, pass_one}
 use Rattle.cb_checker.proofs.Naming.{zip_right}
@@ -152,18 +153,6 @@ module _ (t : Topology) (wish : Wish) (nodes : List NodeName) (numbers radii : L
           let less = close.close in
           omega arith
 
--- there are few columns
-pub few_columns : (t : Topology) → Sound t → (names : List NodeName) → AreColumns t names → length names ≤ symptom_limit
-few_columns t sound names are =
-    let count : IsCount (IsColumn t) (length names) = count_of_rising (IsColumn t) names are.rise (λ q. (are.each q, are.all q)) in
-    let within = sound.few_symptoms in
-    let all = within.1 in
-    let less = len_of_part node_cmp_total node_cmp_exact count.nodes all.nodes (λ q has. (all.members q).1 ((count.members q).0 has).symptom) in
-    let m = count.len in
-    let k = all.len in
-    let low = within.2 in
-    omega arith
-
 -- the stages of a book
 module _ (t : Topology) (wish : Wish) (nodes : List NodeName) (numbers radii : List ℕ) (spans : List Span) (names : List NodeName) where
   abbrev pub of_nodes : List Check
@@ -224,25 +213,27 @@ module _ (n : Numbered) (ids : List NodeId) (wish : Wish) (nodes : List NodeName
   same_width : length are.column_names ≡ length sides.columns
   same_width = sym (zip_lengths (IsNodeNamed n) sides.columns are.column_names are.columns_named)
 
-  pub claim_judged : (judged : Result (List Group) Rejected) → JudgesBook sides.columns ids numbers coded wish judged
-      → Judges (topology_of n) book (claim_check ∷ []) (verdict_of judged)
-  claim_judged (Ok groups) good =
-      claim_holds (topology_of n) wish nodes numbers radii spans are.column_names groups good.places (made_of groups good.groups_are)
-      (spots_of good.places good.places_are) (subst (λ w. GoodFor (codes_of groups) good.places (need_of w (codes_of groups) wish)) (sym same_width) good.good)
-  claim_judged (Err why) bad =
-      claim_fails (topology_of n) wish nodes numbers radii spans are.column_names bad.groups bad.places (made_of bad.groups bad.groups_are)
-      (spots_of bad.places bad.places_are) bad.pair
-      (subst (λ w. IsFirstShort bad.places (codes_of bad.groups) (need_of w (codes_of bad.groups) wish) bad.pair) (sym same_width) bad.close) why bad.reported
+  module _ (groups : Grouped) (wide : groups.width ≡ length sides.columns) (groups_are : AreGroups (length sides.columns) coded groups.groups) where
+    width_is : groups.width ≡ length are.column_names
+    width_is = wide ∙ sym same_width
 
-  pub claim_grouped : (judged : Result (List Group) Rejected) → JudgesBook sides.columns ids numbers coded wish judged
-      → IfOk judged (IsGrouped n sides nodes spans)
-  claim_grouped (Ok groups) good =
-      let quiet = ap length good.groups_are.quiet in
-      record {
-        columns = are.column_names;
-        made = made_of groups good.groups_are;
-        width = same_width;
-        some = omega arith;
-        few = good.few;
-      }
-  claim_grouped (Err why) bad = tt
+    pub claim_judged : (judged : Result (Unit {0}) Rejected) → JudgesClaim sides.columns ids numbers groups wish judged
+        → Judges (topology_of n) book (claim_check ∷ []) (verdict_of judged)
+    claim_judged (Ok done) far =
+        claim_holds (topology_of n) wish nodes numbers radii spans are.column_names groups.groups far.places (made_of groups.groups groups_are)
+        (spots_of far.places far.places_are) (subst (λ w. GoodFor (codes_of groups.groups) far.places (need_of w (codes_of groups.groups) wish)) width_is far.good)
+    claim_judged (Err why) bad =
+        claim_fails (topology_of n) wish nodes numbers radii spans are.column_names groups.groups bad.places (made_of groups.groups groups_are)
+        (spots_of bad.places bad.places_are) bad.pair
+        (subst (λ w. IsFirstShort bad.places (codes_of groups.groups) (need_of w (codes_of groups.groups) wish) bad.pair) width_is bad.close) why bad.reported
+
+    pub claim_grouped : length groups.groups < 4294967296 → IsGrouped n nodes spans groups
+    claim_grouped few =
+        let quiet = ap length groups_are.quiet in
+        record {
+          columns = are.column_names;
+          made = made_of groups.groups groups_are;
+          width = sym width_is;
+          some = omega arith;
+          few = few;
+        }

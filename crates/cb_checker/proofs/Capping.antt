@@ -1,9 +1,9 @@
 -- The last check of a book for a cap: its radii.
 use Rattle.std.proofs.Common.{◌≡◌, ◌⊎◌, ℕ, ◌+◌, ◌<◌, List, [], ◌∷◌, length, refl, sym, ap, subst, ◌∙◌, arith, inl, inr, Some}
-use Rattle.std.specs.Prelude.{Result, Ok, Err, IfOk, slice_get, slice_index_or}
+use Rattle.std.specs.Prelude.{Result, Ok, Err, IfOk, slice_get}
 use Rattle.std.specs.List.{All}
 use Rattle.std.proofs.lemmas.List.{length-map}
-use Rattle.std.proofs.lemmas.Option.{same_Some, slice_get_within, slice_get-get_or, get_or_from_slice_get}
+use Rattle.std.proofs.lemmas.Option.{slice_get_within, slice_get-get_or, get_or_from_slice_get}
 use Rattle.cb_model.specs.declared.node.NodeName.{NodeName}
 use Rattle.cb_model.specs.declared.wish.Wish.TheVariants.{Cap}
 use Rattle.cb_coding.specs.declared.group.Group.{Group}
@@ -16,7 +16,6 @@ use Rattle.cb_cert.specs.declared.certificate.Certificate.{Certificate}
 use Rattle.cb_cert.specs.declared.certificate.Certificate.TheVariants.{Capped}
 use Rattle.cb_cert.specs.declared.certificate.Span.{Span}
 use Rattle.cb_validity.specs.declared.verdict.Accepted.{Accepted}
-use Rattle.cb_validity.specs.declared.verdict.Accepted.TheVariants as accepted
 use Rattle.cb_validity.specs.declared.verdict.Rejected.{Rejected}
 use Rattle.cb_validity.specs.declared.verdict.Rejected.TheVariants.{BadRadius, NoMemory}
 use Rattle.cb_validity.specs.Checks.{Judges, Passes, book_checks, capped_checks, radius_check, IsOwnRadius, IsFirstBadRadius}
@@ -25,7 +24,7 @@ use Rattle.cb_validity.specs.Verdicts.{CertificateShows, ShowsCapped}
 use Rattle.cb_validity.proofs.Firsts.{made_is_one}
 use Rattle.cb_validity.proofs.Stages.{passed_go_on}
 use Rattle.cb_checker.specs.Known.{verdict_of}
-use Rattle.cb_checker.specs.Radii.{AreSameAt, IsFirstDifference, ShowRadii, LackRadius, JudgesRadii}
+use Rattle.cb_checker.specs.Radii.{LackRadius, JudgesRadii}
 use Rattle.cb_checker.proofs.Joined.{fails_here, pass_one}
 
 -- a failed check of radii tells a position, or memory ran out

@@ -8,12 +8,12 @@ pub mod Stating
 pub mod Asking
 pub mod Closing
 pub mod Spanning
+pub mod Grouping
 pub mod Claiming
 pub mod Reading
 pub mod Booking
 pub mod Siding
 pub mod Thinning
-pub mod Tabled
 pub mod Coding
 pub mod Tolerated
 pub mod Capping

@@ -63,13 +63,6 @@ zipped_more R to xs ys old x y at is = record {
 pub all_zipped : {X Y : Type 0} (R : X → Y → Type 0) (to : ℕ) (xs : List X) (ys : List Y) → Zipped R to xs ys → to ≡ length ys → AllZip R xs ys
 all_zipped R to xs ys old end = zip_each R xs ys (sym end ∙ sym old.count) old.each
 
--- the number of a node is below the capacity
-pub live_below : (n : Numbered) (id : NodeId) → IsLiveNode n id → id.0 < length n.nodes
-live_below n id live = elim (cases_lt id.0 (length n.nodes)) [
-  | inl lt ↦ lt
-  | inr past ↦ absurd (let none = get_or_past n.nodes id.0 None past in let some = live.1.is in cc)
-]
-
 pub one_id : (ids : List NodeId) (number : ℕ) (a b : NodeId) → IsIdAt ids number a → IsIdAt ids number b → a ≡ b
 one_id ids number a b at_a at_b = same_Some a b (sym at_a.is ∙ at_b.is)
 

@@ -1,10 +1,10 @@
 -- Radii that are stated, beside those of the groups.
-use Rattle.std.proofs.Common.{◌≡◌, ◌⊎◌, max, min, ℕ, ◌+◌, ◌<◌, ◌≤◌, List, length, refl, sym, ap, subst, ◌∙◌, arith, inl, inr, Some, None}
-use Rattle.std.specs.Prelude.{slice_get, slice_index_or}
-use Rattle.std.proofs.lemmas.Bool.{cases_lt, cases_eq}
-use Rattle.std.proofs.lemmas.Option.{same_Some, slice_get_within, slice_get-get_or}
+use Rattle.std.proofs.Common.{◌≡◌, max, min, ℕ, ◌+◌, ◌<◌, ◌≤◌, List, length, sym, ap, subst, ◌∙◌, arith, inl, inr, Some, None}
+use Rattle.std.specs.Prelude.{slice_get}
+use Rattle.std.proofs.lemmas.Bool.{cases_lt}
+use Rattle.std.proofs.lemmas.Option.{same_Some, slice_get_within}
 use Rattle.cb_validity.proofs.Uniques.{got, lists_from_gets}
-use Rattle.cb_checker.specs.Radii.{AreSameAt, IsFirstDifference, AreExtremes}
+use Rattle.cb_checker.specs.Radii.{AreSameAt, AreExtremes}
 
 -- where two lists agree at all positions they are one
 pub same_lists : (xs ys : List ℕ) (end : ℕ) → length xs ≤ end → length ys ≤ end → ((k : ℕ) → k < end → AreSameAt xs ys k) → ys ≡ xs

@@ -1,8 +1,12 @@
 -- Problems with the codes that are read off spans, and what the checks of a book's spans come to.
-use Rattle.std.specs.Prelude.{◌≡◌, ◌↔◌, ℕ, List, Bool, [], ◌∷◌, length, Result, Some, slice_get}
+use Rattle.std.specs.Prelude.{◌≡◌, ◌↔◌, ◌≤◌, ◌+◌, ℕ, List, Bool, [], ◌∷◌, length, Result, Some, slice_get}
 use Rattle.std.specs.List.{flat_map}
 use Rattle.cb_model.specs.declared.node.NodeName.{NodeName}
 use Rattle.cb_coding.specs.declared.group.Problem.{Problem}
+use Rattle.cb_coding.specs.Groups.{AreCodedProblems, AreGroups}
+use Rattle.cb_codes.specs.declared.grouping.Grouping.{Grouping}
+use Rattle.cb_codes.specs.Grouped.{AddsProblem, FitsTogether, groups_in}
+use Rattle.cb_codes.specs.Groups.{Grouped}
 use Rattle.cb_cert.specs.declared.certificate.Certificate.{Certificate}
 use Rattle.cb_cert.specs.declared.certificate.Span.{Span}
 use Rattle.cb_validity.specs.declared.verdict.Rejected.{Rejected}
@@ -36,6 +40,21 @@ pub record AreReadTo (n : Numbered) (ids problems columns : List NodeId) (spans 
   pub count : length coded ≡ to
   pub each : (i : ℕ) (p : Problem) → slice_get coded i ≡ Some p
       → (id : NodeId) × (span : Span) × (slice_get problems i ≡ Some id) × (slice_get spans i ≡ Some span) × IsReadOff n ids columns id span p
+
+-- the problem of this number joins the group of the code that a row makes, or opens it
+pub record AddsCoded (n : Numbered) (columns : List NodeId) (id : NodeId) (listed : List Bool) (old new : Grouping) : Type 0 where
+  pub problem : Problem
+  pub coded : IsCodedBy n columns id listed problem
+  pub adds : AddsProblem problem (groups_in old) (groups_in new)
+  pub sound : FitsTogether (length columns) new
+
+-- the groups of the first problems, each with the code that is read off the span at its position
+pub record AreGroupsReadTo (n : Numbered) (ids problems columns : List NodeId) (spans : List Span) (to : ℕ) (groups : Grouped) : Type 0 where
+  pub coded : List Problem
+  pub read : AreReadTo n ids problems columns spans to coded
+  pub wide : groups.width ≡ length columns
+  pub are : AreCodedProblems (length columns) coded → AreGroups (length columns) coded groups.groups
+  pub few : AreCodedProblems (length columns) coded → length groups.groups ≤ to + 1
 
 -- whatever the certificate claims, this is what the checks of these spans come to
 abbrev pub JudgesSpans : Numbered → List NodeId → List NodeId → List Span → Result (Unit {0}) Rejected → Type 0

@@ -2,10 +2,10 @@
 use Rattle.std.specs.Prelude.{◌≡◌, ℕ, ◌<◌, List, length, Result, Ok, Err, Some, slice_get}
 use Rattle.cb_coding.specs.declared.book.Pair.{Pair}
 use Rattle.cb_coding.specs.declared.group.Group.{Group}
-use Rattle.cb_coding.specs.declared.group.Problem.{Problem}
-use Rattle.cb_coding.specs.Groups.{AreGroups, codes_of}
+use Rattle.cb_coding.specs.Groups.{codes_of}
 use Rattle.cb_coding.specs.Needs.{need_of}
 use Rattle.cb_coding.specs.Pairs.{GoodFor, IsFirstShort}
+use Rattle.cb_codes.specs.Groups.{Grouped}
 use Rattle.cb_finding.specs.Finding.{IsCalled}
 use Rattle.cb_model.specs.declared.node.GroupName.{GroupName}
 use Rattle.cb_model.specs.declared.node.NodeName.{NodeName}
@@ -36,24 +36,20 @@ abbrev pub book_of : Wish → List NodeName → List ℕ → List ℕ → List S
 book_of (Plain d) nodes numbers radii spans = Book d nodes numbers spans
 book_of (Cap cap) nodes numbers radii spans = Capped cap nodes numbers radii spans
 
--- these are the groups of the problems, and over the columns they are as far apart as the wish asks
-pub record IsGoodBook (columns ids : List NodeId) (numbers : List ℕ) (problems : List Problem) (wish : Wish) (groups : List Group) : Type 0 where
+-- over the columns the groups are as far apart as the wish asks
+pub record AreFarApart (columns ids : List NodeId) (numbers : List ℕ) (groups : Grouped) (wish : Wish) : Type 0 where
   pub places : List ℕ
-  pub groups_are : AreGroups (length columns) problems groups
-  pub few : length groups < 4294967296
   pub places_are : ArePlacesOf columns ids numbers places
-  pub good : GoodFor (codes_of groups) places (need_of (length columns) (codes_of groups) wish)
+  pub good : GoodFor (codes_of groups.groups) places (need_of groups.width (codes_of groups.groups) wish)
 
 -- two groups are too close, and these are the first
-pub record IsBadBook (columns ids : List NodeId) (numbers : List ℕ) (problems : List Problem) (wish : Wish) (why : Rejected) : Type 0 where
-  pub groups : List Group
+pub record TwoAreTooClose (columns ids : List NodeId) (numbers : List ℕ) (groups : Grouped) (wish : Wish) (why : Rejected) : Type 0 where
   pub places : List ℕ
   pub pair : Pair
-  pub groups_are : AreGroups (length columns) problems groups
   pub places_are : ArePlacesOf columns ids numbers places
-  pub close : IsFirstShort places (codes_of groups) (need_of (length columns) (codes_of groups) wish) pair
-  pub reported : ReportsTooClose groups pair why
+  pub close : IsFirstShort places (codes_of groups.groups) (need_of groups.width (codes_of groups.groups) wish) pair
+  pub reported : ReportsTooClose groups.groups pair why
 
-abbrev pub JudgesBook : List NodeId → List NodeId → List ℕ → List Problem → Wish → Result (List Group) Rejected → Type 0
-JudgesBook columns ids numbers problems wish (Ok groups) = IsGoodBook columns ids numbers problems wish groups
-JudgesBook columns ids numbers problems wish (Err why) = IsBadBook columns ids numbers problems wish why
+abbrev pub JudgesClaim : List NodeId → List NodeId → List ℕ → Grouped → Wish → Result (Unit {0}) Rejected → Type 0
+JudgesClaim columns ids numbers groups wish (Ok done) = AreFarApart columns ids numbers groups wish
+JudgesClaim columns ids numbers groups wish (Err why) = TwoAreTooClose columns ids numbers groups wish why

@@ -1,10 +1,6 @@
 -- Codes over the columns of a topology, by numbers.
-use Rattle.std.specs.Prelude.{◌≡◌, false, ℕ, ◌<◌, List, Bool, Some, length, slice_get, slice_index_or}
+use Rattle.std.specs.Prelude.{◌≡◌, false, ℕ, List, Bool, Some, length, slice_get, slice_index_or}
 use Rattle.cb_nodes.specs.declared.id.NodeId.{NodeId}
-
--- all numbers are below the bound
-abbrev pub AreIdsBelow : ℕ → List NodeId → Type 0
-AreIdsBelow capacity ids = (i : ℕ) (id : NodeId) → slice_get ids i ≡ Some id → id.0 < capacity
 
 -- for each column, whether the row has it
 pub record IsCodeOfListed (columns : List NodeId) (listed code : List Bool) : Type 0 where

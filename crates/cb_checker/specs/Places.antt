@@ -1,19 +1,9 @@
 -- The positions of columns among all columns, by numbers.
-use Rattle.std.specs.Prelude.{◌≡◌, ℕ, List, Option, Some, slice_get}
+use Rattle.std.specs.Prelude.{◌≡◌, ℕ, List, Some, slice_get}
 use Rattle.std.specs.List.{AllZip}
 use Rattle.cb_nodes.specs.declared.id.NodeId.{NodeId}
-use Rattle.cb_graph.specs.Edges.{number}
 use Rattle.cb_checker.specs.Known.{IsIdAt}
 use Rattle.cb_checker.specs.Listed.{IsAmongPlaced}
-
--- no node stands twice
-abbrev pub AreDistinctNodes : List NodeId → Type 0
-AreDistinctNodes all = (i j : ℕ) (id : NodeId) → slice_get all i ≡ Some id → slice_get all j ≡ Some id → i ≡ j
-
--- for the number of each node its one position among these nodes, if it is one of them
-pub record IsTable (all : List NodeId) (places : List (Option ℕ)) : Type 0 where
-  pub each : (node place : ℕ) → slice_get places node ≡ Some (Some place) → slice_get all place ≡ Some (number node)
-  pub whole : (node place : ℕ) → slice_get all place ≡ Some (number node) → slice_get places node ≡ Some (Some place)
 
 -- the number is that of one of these nodes
 abbrev pub IsThere : List NodeId → List NodeId → ℕ → Type 0

@@ -2,7 +2,7 @@
 use Rattle.std.specs.Prelude.{◌≡◌, ◌<◌, ◌≤◌, ℕ, List, length, Result}
 use Rattle.cb_model.specs.declared.node.NodeName.{NodeName}
 use Rattle.cb_model.specs.declared.wish.Wish.{Wish}
-use Rattle.cb_coding.specs.declared.group.Group.{Group}
+use Rattle.cb_codes.specs.Groups.{Grouped}
 use Rattle.cb_network.specs.Nodes.{AreColumns, AreProblems}
 use Rattle.cb_network.specs.Sound.{symptom_limit}
 use Rattle.cb_cert.specs.declared.certificate.Certificate.TheVariants.{Book, Capped}
@@ -29,12 +29,12 @@ pub record AreSidesOf (n : Numbered) (sides : Sides) : Type 0 where
   pub few : length sides.columns ≤ symptom_limit
 
 -- groups that the spans make over all columns
-pub record IsGrouped (n : Numbered) (sides : Sides) (nodes : List NodeName) (spans : List Span) (groups : List Group) : Type 0 where
+pub record IsGrouped (n : Numbered) (nodes : List NodeName) (spans : List Span) (groups : Grouped) : Type 0 where
   pub columns : List NodeName
-  pub made : MakeGroups (topology_of n) nodes spans columns groups
-  pub width : length columns ≡ length sides.columns
-  pub some : 0 < length groups
-  pub few : length groups < 4294967296
+  pub made : MakeGroups (topology_of n) nodes spans columns groups.groups
+  pub width : length columns ≡ groups.width
+  pub some : 0 < length groups.groups
+  pub few : length groups.groups < 4294967296
 
 -- this is what the checks come to that a book has for any wish, over the problems of these numbers
 abbrev pub JudgesGroupsOver : Numbered → List NodeId → List NodeName → List ℕ → List Span → Wish → Result (Unit {0}) Rejected → Type 0

@@ -15,7 +15,7 @@ use crate::sides::Sides;
 use crate::spans::{check_count, check_spans};
 use crate::stated::judge_radii;
 use cb_cert::Span;
-use cb_coding::Group;
+use cb_codes::Groups;
 use cb_graph::Graph;
 use cb_model::{List, NodeName, Wish};
 use cb_nodes::NodeId;
@@ -75,7 +75,7 @@ pub(crate) fn check_capped<L: Ledger>(
     let wish = Wish::Cap(cap);
     let groups = check_groups(alloc, graph, sides, nodes, numbers, spans, wish, steps)?;
     let columns = numbers.len() as u32;
-    judge_radii(alloc, &groups, sides.columns.len(), cap, radii, columns)
+    judge_radii(alloc, &groups, cap, radii, columns)
 }
 
 // Checks what a book has for any wish, and makes its groups.
@@ -88,16 +88,16 @@ fn check_groups<L: Ledger>(
     spans: &List<Span>,
     wish: Wish,
     steps: &mut Steps<L>,
-) -> Result<List<Group>, Rejected>
+) -> Result<Groups, Rejected>
     requires sides { AreSidesOf graph.old sides.now }
     requires few { length nodes.now + length numbers.now + length spans.now + entries_of spans.now + 1 < 4294967296 }
     ensures same { graph.new ≡ graph.old }
     ensures judges { JudgesGroupsOver graph.old sides.now.problems nodes.now numbers.now spans.now wish (verdict_of result) }
-    ensures grouped { IfOk result (IsGrouped graph.old sides.now nodes.now spans.now) }
+    ensures grouped { IfOk result (IsGrouped graph.old nodes.now spans.now) }
 {
     let ids = known(alloc, graph.topology(), nodes)?;
     check_columns(graph.topology(), &ids, numbers)?;
-    let coded = check_spans(
+    let groups = check_spans(
         alloc,
         graph,
         &ids,
@@ -107,10 +107,11 @@ fn check_groups<L: Ledger>(
         steps,
     )?;
     check_count(alloc, graph.topology(), &sides.problems, spans)?;
-    match judge_groups(alloc, &sides.columns, &ids, numbers, &coded, wish) {
-        Ok(judged) => judged,
-        Err(_) => Err(Rejected::NoMemory),
-    }
+    let Ok(judged) = judge_groups(alloc, &sides.columns, &ids, numbers, &groups, wish) else {
+        return Err(Rejected::NoMemory);
+    };
+    judged?;
+    Ok(groups)
 }
 
 /// Checks the nodes of a certificate, and finds their numbers.

@@ -2,8 +2,8 @@
 ghost use Rattle.std.specs.Prelude.{◌≡◌, ◌<◌, ◌-◌, ◌+◌, ℕ, [], length, IfOk, IfErr, OnOk, Err};
 ghost use Rattle.std.specs.List.{Contains, flat_map, range_with_len};
 ghost use Rattle.cb_validity.specs.Checks.{entry_checks};
+ghost use Rattle.cb_topo.specs.Columns.{AreIdsBelow};
 ghost use Rattle.cb_checker.specs.declared.reasons.Reason.{Reason as Stated};
-ghost use Rattle.cb_checker.specs.Codes.{AreIdsBelow};
 ghost use Rattle.cb_checker.specs.Known.{AreLive};
 ghost use Rattle.cb_checker.specs.Listed.{ArePlaced, AreListed, AreMarked};
 ghost use Rattle.cb_checker.specs.Reasons.{IsStated, AreStated, JudgesEntry, JudgesEntryIfLed, JudgesIfLed, JudgesIfUnled};

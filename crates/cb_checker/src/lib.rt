@@ -1,7 +1,6 @@
 //! Certificates, checked against a topology.
 #![tactic(auto)]
 
-mod all_columns;
 mod book;
 mod checked;
 mod claim;

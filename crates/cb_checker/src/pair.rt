@@ -5,13 +5,12 @@ ghost use Rattle.cb_validity.specs.declared.verdict.Rejected.TheVariants.{NoMemo
 ghost use Rattle.cb_validity.specs.Canonical.{side_spans};
 ghost use Rattle.cb_validity.specs.Checks.{span_checks};
 ghost use Rattle.cb_validity.specs.Verdicts.{entries_of};
+ghost use Rattle.cb_topo.specs.Columns.{AreIdsBelow};
 ghost use Rattle.cb_checker.specs.Known.{AreLive, verdict_of};
 ghost use Rattle.cb_checker.specs.Listed.{AreMarked};
-ghost use Rattle.cb_checker.specs.Codes.{AreIdsBelow};
 ghost use Rattle.cb_checker.specs.Spans.{JudgesSpan};
 ghost use Rattle.cb_checker.specs.Pairs.{IsRead, IsSideRead, JudgesSide, JudgesSides};
 
-use crate::all_columns::AllColumns;
 use crate::codes::code_of;
 use crate::marks::SpanNodes;
 use crate::span::check_span;
@@ -20,6 +19,7 @@ use cb_cert::{Side, Span};
 use cb_graph::Graph;
 use cb_nodes::NodeId;
 use cb_steps::Steps;
+use cb_topo::ColumnIndex;
 use cb_validity::Rejected;
 use std::alloc::Global;
 use std::sync::ledger::Ledger;
@@ -36,7 +36,7 @@ pub(crate) fn read_sides<L: Ledger>(
     alloc: Global,
     graph: &mut Graph,
     ids: &[NodeId],
-    columns: &AllColumns,
+    columns: &ColumnIndex,
     first: &Side,
     second: &Span,
     steps: &mut Steps<L>,
@@ -76,7 +76,7 @@ fn read_side<L: Ledger>(
     alloc: Global,
     graph: &mut Graph,
     ids: &[NodeId],
-    columns: &AllColumns,
+    columns: &ColumnIndex,
     side: &Side,
     marks: &mut SpanNodes,
     steps: &mut Steps<L>,
@@ -112,7 +112,7 @@ fn read_span<L: Ledger>(
     alloc: Global,
     graph: &mut Graph,
     ids: &[NodeId],
-    columns: &AllColumns,
+    columns: &ColumnIndex,
     span: &Span,
     before: u32,
     marks: &mut SpanNodes,

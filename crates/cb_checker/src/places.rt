@@ -2,15 +2,15 @@
 ghost use Rattle.std.specs.Prelude.{IfOk};
 ghost use Rattle.cb_checker.specs.Places.{IsThere, AreThere, IsPlaceOf, ArePlacesOf};
 
-use crate::all_columns::AllColumns;
 use crate::known::id_at;
 use cb_nodes::NodeId;
+use cb_topo::ColumnIndex;
 use std::alloc::{AllocError, Global};
 
 /// For each number of a column, its position among all columns.
 pub(crate) fn places_of(
     alloc: Global,
-    all: &AllColumns,
+    all: &ColumnIndex,
     ids: &[NodeId],
     numbers: &[u32],
 ) -> Result<Vec<u32>, AllocError>
@@ -25,10 +25,10 @@ pub(crate) fn places_of(
 }
 
 // The position of the column of this number.
-fn place_of(all: &AllColumns, ids: &[NodeId], number: u32) -> u32
+fn place_of(all: &ColumnIndex, ids: &[NodeId], number: u32) -> u32
     requires there { IsThere all.now ids.now number }
     ensures { IsPlaceOf all.now ids.now number result }
 {
     let id = id_at(ids, number).unwrap();
-    all.place(id).unwrap()
+    all.position(id).unwrap()
 }

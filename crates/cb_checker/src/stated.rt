@@ -1,30 +1,30 @@
 //! The radii that a certificate states.
-ghost use Rattle.std.specs.Prelude.{◌≡◌, ◌<◌, ◌+◌, ◌^◌, ◌↔◌, length, IfSome, IfNone, IsTrue};
+ghost use Rattle.std.specs.Prelude.{◌≡◌, ◌<◌, ◌+◌, ◌^◌, ◌↔◌, length, IfOk, IfSome, IfNone, IsTrue};
+ghost use Rattle.cb_coding.specs.Groups.{codes_of};
+ghost use Rattle.cb_coding.specs.Radii.{AreRadii};
 ghost use Rattle.cb_checker.specs.Radii.{AreSameAt, IsFirstDifference, AreExtremes, JudgesRadii};
 
-use cb_coding::Group;
-use cb_group::radii;
+use cb_codes::Groups;
+use cb_distance::radii;
 use cb_model::List;
 use cb_validity::{Accepted, Rejected};
-use std::alloc::Global;
+use std::alloc::{AllocError, Global};
 
-/// Whether these are the radii of the groups for the cap; else the first position at which one is lacking, or isn't the group's. There are
-/// `width` columns in all, and `columns` of the certificate.
+/// Whether these are the radii of the groups for the cap; else the first position at which one is lacking, or isn't the group's. The
+/// certificate has `columns` columns.
 pub(crate) fn judge_radii(
     alloc: Global,
-    groups: &List<Group>,
-    width: usize,
+    groups: &Groups,
     cap: u32,
     stated: &[u32],
     columns: u32,
 ) -> Result<Accepted, Rejected>
-    requires narrow { width < 2 ^ 32 }
-    requires some { 0 < length groups.now }
-    requires groups { length groups.now < 2 ^ 32 }
+    requires some { 0 < length groups.now.groups }
+    requires groups { length groups.now.groups < 2 ^ 32 }
     requires stated { length stated.now + 1 < 2 ^ 32 }
-    ensures { JudgesRadii width groups.now cap stated.now columns result }
+    ensures { JudgesRadii groups.now.width groups.now.groups cap stated.now columns result }
 {
-    let Ok(own) = radii(alloc, groups, width, cap) else {
+    let Ok(own) = own_radii(alloc, groups, cap) else {
         return Err(Rejected::NoMemory);
     };
     if let Some(place) = first_difference(own.as_slice(), stated) {
@@ -40,6 +40,13 @@ pub(crate) fn judge_radii(
         groups: groups.len() as u32,
         columns,
     })
+}
+
+// The radius of each group for the cap.
+fn own_radii(alloc: Global, groups: &Groups, cap: u32) -> Result<List<u32>, AllocError>
+    ensures { IfOk result (AreRadii groups.now.width (codes_of groups.now.groups) cap) }
+{
+    radii(alloc, groups.codes(), cap)
 }
 
 // The first position with an item where the lists differ.

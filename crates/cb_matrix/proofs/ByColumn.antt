@@ -1,5 +1,5 @@
 -- The code of a row, column by column.
-use Rattle.std.proofs.Common.{◌≡◌, ◌↔◌, ℕ, ◌+◌, ◌<◌, ◌≤◌, List, Bool, false, true, length, replicate, Option, Some, slice_get, slice_index_or, sym, subst, ◌∙◌, inl, inr, arith}
+use Rattle.std.proofs.Common.{◌≡◌, ◌↔◌, ℕ, ◌+◌, ◌<◌, ◌≤◌, List, Bool, false, true, length, replicate, Some, slice_get, slice_index_or, sym, subst, ◌∙◌, inl, inr, arith}
 use Rattle.std.specs.Prelude.{slice_set}
 use Rattle.std.proofs.lemmas.Bool.{cases_eq}
 use Rattle.std.proofs.lemmas.List.{length-set, length-replicate}
@@ -8,7 +8,7 @@ use Rattle.cb_nodes.specs.declared.id.NodeId.{NodeId}
 use Rattle.cb_successors.specs.Rows.{Has}
 use Rattle.cb_successors.proofs.Marks.{has_set, set_cases, nothing}
 use Rattle.cb_graph.specs.Edges.{number}
-use Rattle.cb_matrix.specs.Codes.{IsColumnIndex, IsBelow, IsCodeOf}
+use Rattle.cb_matrix.specs.Codes.{IsCodeOf}
 use Rattle.cb_matrix.proofs.Passed.{same_number, still}
 
 -- for each of the first columns, whether the row has it; none of the others yet
@@ -70,10 +70,3 @@ all_columns_coded columns reached to code all old = record {
     λ has. (old.each k m at).1 (has, let lt = slice_get_within columns k (number m) at in omega arith),
   );
 }
-
--- columns that have places have numbers below the capacity
-pub columns_below : (capacity : ℕ) (columns : List NodeId) (places : List (Option ℕ)) → IsColumnIndex capacity columns places → IsBelow capacity columns
-columns_below capacity columns places are i id is =
-    let low = slice_get_within places id.0 (Some i) (are.all id.0 i is) in
-    let size = are.size in
-    omega arith

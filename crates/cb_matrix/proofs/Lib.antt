@@ -1,4 +1,3 @@
-pub mod Placed
 pub mod Passed
 pub mod ByColumn
 pub mod Matched

@@ -23,7 +23,7 @@ use Rattle.cb_graph.specs.Edges.{EdgeAt, number}
 use Rattle.cb_graph.proofs.Chains.{named_once, lead_to_caused}
 use Rattle.cb_cache.specs.Numbers.{IsProblemNumber}
 use Rattle.cb_cache.proofs.Opened.{few_of_rising}
-use Rattle.cb_matrix.specs.Codes.{AreDistinctIds, IsBelow, IsCodeOf}
+use Rattle.cb_matrix.specs.Codes.{IsCodeOf}
 use Rattle.cb_matrix.specs.Coded.{IsCodeFrom, AreProblemsAt}
 
 -- a set's code is a search's, where the set is what was found
@@ -41,49 +41,11 @@ zip_more R xs ys i d y lt zip here =
     subst (λ prefix. AllZip R prefix (ys ++ y ∷ [])) (sym (take_more xs i (slice_index_or xs i d) (slice_get-get_or xs i d lt)))
     (zip_push R (take i xs) ys (slice_index_or xs i d) y zip here)
 
--- the name of the number at a place
-name_there : (n : Numbered) (ids : List NodeId) (names : List NodeName) → AreNamed n ids names → (i : ℕ) (id : NodeId) → slice_get ids i ≡ Some id
-    → (name : NodeName) × (slice_get names i ≡ Some name) × IsNodeNamed n id name
-name_there n [] names zip i id at = absurd (cc at)
-name_there n (a ∷ ids) [] zip i id at = absurd zip
-name_there n (a ∷ ids) (x ∷ names) zip zero id at = let same : a ≡ id = cc at in (x, refl, subst (λ (k : NodeId). IsNodeNamed n k x) same zip.0)
-name_there n (a ∷ ids) (x ∷ names) zip (suc i) id at = name_there n ids names zip.1 i id at
-
 pub all_live : (n : Numbered) (ids : List NodeId) (names : List NodeName) → AreNamed n ids names → All (IsLiveNode n) ids
 all_live n [] names zip k d lt = absurd (omega arith)
 all_live n (a ∷ ids) [] zip k d lt = absurd zip
 all_live n (a ∷ ids) (x ∷ names) zip zero d lt = (x, zip.0)
 all_live n (a ∷ ids) (x ∷ names) zip (suc k) d lt = all_live n ids names zip.1 k d (omega arith)
-
-pub all_below : (n : Numbered) (capacity : ℕ) (ids : List NodeId) (names : List NodeName) → ((id : NodeId) → IsLiveNode n id → id.0 < capacity) → AreNamed n ids names → IsBelow capacity ids
-all_below n capacity ids names below zip i id at = let there = name_there n ids names zip i id at in below id (there.0, there.2)
-
--- in a list in order no node stands twice
-apart : (names : List NodeName) (i j : ℕ) (x : NodeName) → Rises node_cmp names → slice_get names i ≡ Some x → slice_get names j ≡ Some x → i < j → ⊥
-apart names i j x rise at_i at_j lt =
-    let below = rise i j x lt (slice_get_within names j x at_j) in
-    let less : node_cmp x x ≡ Less =
-    subst (λ y. node_cmp x y ≡ Less) (get_or_from_slice_get names j x x at_j)
-    (subst (λ y. node_cmp y (slice_index_or names j x) ≡ Less) (get_or_from_slice_get names i x x at_i) below) in
-    node_strict x x less less
-
--- numbers of nodes in order are each there once
-pub once_of : (n : Numbered) (ids : List NodeId) (names : List NodeName) → Rises node_cmp names → AreNamed n ids names → AreDistinctIds ids
-once_of n ids names rise zip i j id at_i at_j =
-    let one = name_there n ids names zip i id at_i in
-    let other = name_there n ids names zip j id at_j in
-    let same : other.0 ≡ one.0 = named_once n id other.0 one.0 other.2 one.2 in
-    let there : slice_get names j ≡ Some one.0 = other.1 ∙ ap Some same in
-    elim (cases_eq i j) [
-      | inl is ↦ is
-      | inr not_same ↦ elim (cases_lt i j) [
-        | inl lt ↦ absurd (apart names i j one.0 rise one.1 there lt)
-        | inr le ↦ absurd (apart names j i one.0 rise there one.1 (before i j le not_same))
-      ]
-    ]
-  where
-    before : (i j : ℕ) → j ≤ i → (i ≡ j → ⊥) → j < i
-    before i j le ne = elim (cases_lt j i) [ inl lt ↦ lt | inr high ↦ absurd (ne (omega arith)) ]
 
 -- names in one list are those in the other
 pub names_are_one : (n : Numbered) (ids : List NodeId) (names others : List NodeName) → AreNamed n ids names → AreNamed n ids others → names ≡ others

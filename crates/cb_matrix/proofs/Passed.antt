@@ -1,5 +1,5 @@
 -- The code of the nodes that a row has below some number.
-use Rattle.std.proofs.Common.{◌≡◌, ◌↔◌, ℕ, ◌+◌, ◌<◌, List, Bool, false, true, length, replicate, Option, None, Some, slice_get, sym, ap, subst, ◌∙◌, ◌⊎◌, inl, inr, arith}
+use Rattle.std.proofs.Common.{◌≡◌, ◌↔◌, ℕ, ◌+◌, ◌<◌, List, Bool, false, true, length, replicate, Some, slice_get, refl, sym, ap, subst, ◌∙◌, ◌⊎◌, inl, inr, arith}
 use Rattle.std.specs.Prelude.{slice_set}
 use Rattle.std.proofs.lemmas.Bool.{cases_eq, cases_lt}
 use Rattle.std.proofs.lemmas.List.{length-set, length-replicate, get_or-set_other}
@@ -9,7 +9,8 @@ use Rattle.cb_bits.specs.Bits.{IsNextOne, HasNoneFrom}
 use Rattle.cb_successors.specs.Rows.{Has}
 use Rattle.cb_successors.proofs.Marks.{has_set, set_cases, nothing}
 use Rattle.cb_graph.specs.Edges.{number}
-use Rattle.cb_matrix.specs.Codes.{IsColumnIndex, IsCodeOf}
+use Rattle.cb_topo.specs.Columns.{IsPositionOf}
+use Rattle.cb_matrix.specs.Codes.{IsCodeOf}
 
 -- for each column, whether the row has it among the numbers below this one
 pub record IsCodedTo (columns : List NodeId) (reached : List Bool) (to : ℕ) (code : List Bool) : Type 0 where
@@ -80,19 +81,12 @@ module _ (columns : List NodeId) (reached : List Bool) (to : ℕ) (code : List B
     );
   }
 
-  module _ (capacity : ℕ) (places : List (Option ℕ)) (are : IsColumnIndex capacity columns places) where
-    -- the next node is a column
-    pub coded_here : (place : ℕ) → slice_get places node ≡ Some (Some place) → IsCodedTo columns reached (node + 1) (slice_set code place true)
-    coded_here place at = coded_more place (are.each node place at) (λ k is.
-        let both : Some (Some k) ≡ Some (Some place) = sym (are.all node k is) ∙ at in
-        cc)
+  -- the next node is a column
+  pub coded_here : (place : ℕ) → IsPositionOf columns (number node) (Some place) → IsCodedTo columns reached (node + 1) (slice_set code place true)
+  coded_here place at = coded_more place ((at place).1 refl) (λ k is. (at k).0 is)
 
-    pub place_low : (place : ℕ) → slice_get places node ≡ Some (Some place) → place < length code
-    place_low place at = let e = slice_get_within columns place (number node) (are.each node place at) in let f = old.width in omega arith
-
-    -- it is none
-    pub coded_on : slice_get places node ≡ Some None → IsCodedTo columns reached (node + 1) code
-    coded_on at = coded_past (λ k is. let both : Some (Some k) ≡ Some None = sym (are.all node k is) ∙ at in absurd (cc))
+  pub place_low : (place : ℕ) → IsPositionOf columns (number node) (Some place) → place < length code
+  place_low place at = let e = slice_get_within columns place (number node) ((at place).1 refl) in let f = old.width in omega arith
 
 pub all_coded : (columns : List NodeId) (reached : List Bool) (to : ℕ) (code : List Bool) → IsCodedTo columns reached to code → HasNoneFrom reached to
     → IsCodeOf columns reached code

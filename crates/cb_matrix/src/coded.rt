@@ -1,33 +1,35 @@
 //! The problems in their groups, each with its code from its row.
-ghost use Rattle.std.specs.Prelude.{◌≡◌, ◌≤◌, ◌*◌, replicate, IfOk};
+ghost use Rattle.std.specs.Prelude.{◌≡◌, ◌≤◌, length, replicate, IfOk};
 ghost use Rattle.std.specs.List.{All};
 ghost use Rattle.cb_lanes.specs.Words.{word_limit};
+ghost use Rattle.cb_network.specs.Sound.{node_limit};
 ghost use Rattle.cb_cache.specs.Numbers.{IsProblemNumber};
-ghost use Rattle.cb_matrix.specs.Codes.{IsColumnIndex};
+ghost use Rattle.cb_topo.specs.Columns.{AreIdsBelow};
 ghost use Rattle.cb_matrix.specs.Coded.{IsProblemAt, AreGroupedAt};
 
-use crate::codes::{Columns, code_of};
+use crate::codes::code_of;
 use cb_cache::Cache;
 use cb_codes::Grouping;
 use cb_coding::Problem;
 use cb_model::List;
 use cb_nodes::NodeId;
+use cb_topo::ColumnIndex;
 use std::alloc::{AllocError, Global};
 
 /// The problems of these numbers in the groups of their codes over the columns.
 pub(crate) fn grouping_of(
     alloc: Global,
     cache: &Cache,
-    columns: &Columns,
+    columns: &ColumnIndex,
     nodes: &List<NodeId>,
 ) -> Result<Grouping, AllocError>
-    requires columns { IsColumnIndex (64 * cache.now.pool.width) columns.now.nodes columns.now.places.items }
-    requires few { cache.now.pool.width ≤ word_limit }
+    requires columns { AreIdsBelow (length cache.now.graph.nodes) columns.now }
+    requires few { length cache.now.graph.nodes ≤ node_limit }
     requires problems { All (IsProblemNumber cache.now.graph) nodes.now }
-    ensures { IfOk result (AreGroupedAt cache.now.graph columns.now.nodes nodes.now) }
+    ensures { IfOk result (AreGroupedAt cache.now.graph columns.now nodes.now) }
 {
     let none = zeros(alloc, cache.pool().width())?;
-    let mut grouping = Grouping::of_quiet(alloc, columns.nodes.len())?;
+    let mut grouping = Grouping::of_quiet(alloc, columns.len())?;
     for node in nodes.as_slice() {
         let problem = coded_problem(alloc, cache, columns, *node, &none)?;
         grouping.add(alloc, problem)?;
@@ -39,15 +41,15 @@ pub(crate) fn grouping_of(
 fn coded_problem(
     alloc: Global,
     cache: &Cache,
-    columns: &Columns,
+    columns: &ColumnIndex,
     node: NodeId,
     none: &[u64],
 ) -> Result<Problem, AllocError>
-    requires columns { IsColumnIndex (64 * cache.now.pool.width) columns.now.nodes columns.now.places.items }
+    requires columns { AreIdsBelow (length cache.now.graph.nodes) columns.now }
     requires few { cache.now.pool.width ≤ word_limit }
     requires problem { IsProblemNumber cache.now.graph node }
     requires none { none.now ≡ replicate cache.now.pool.width 0 }
-    ensures { IfOk result (IsProblemAt cache.now.graph columns.now.nodes node) }
+    ensures { IfOk result (IsProblemAt cache.now.graph columns.now node) }
 {
     let name = cache.graph().topology().copy_name(alloc, node)?;
     let code = code_of(alloc, columns, cache.row(node), none)?;

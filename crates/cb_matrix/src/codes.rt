@@ -2,71 +2,33 @@
 ghost use Rattle.std.specs.Prelude.{◌≡◌, ◌<◌, ◌≤◌, ◌+◌, ◌*◌, length, replicate, IfOk, IfSome, IfNone};
 ghost use Rattle.cb_lanes.specs.Words.{bit_of, word_limit};
 ghost use Rattle.cb_bits.specs.Bits.{IsNextOne, HasNoneFrom};
-ghost use Rattle.cb_matrix.specs.Codes.{AreDistinctIds, IsBelow, IsColumnIndex, AreIndexed, IsCodeOf, bits};
+ghost use Rattle.cb_topo.specs.Columns.{AreIdsBelow};
+ghost use Rattle.cb_matrix.specs.Codes.{IsCodeOf, bits};
 
 use cb_bits::Row;
 use cb_lanes::next_in_a_not_b;
 use cb_model::List;
 use cb_nodes::NodeId;
+use cb_topo::ColumnIndex;
 use std::alloc::{AllocError, Global};
-
-/// Columns, and the position of each by its number.
-#[derive(Drop)]
-pub struct Columns {
-    /// The numbers of the columns in order.
-    pub nodes: List<NodeId>,
-    /// For the number of each node, its position among the columns.
-    pub places: Vec<Option<usize>>,
-}
-
-/// The columns of these numbers. All numbers of nodes are below `capacity`.
-pub fn column_index(
-    alloc: Global,
-    nodes: List<NodeId>,
-    capacity: usize,
-) -> Result<Columns, AllocError>
-    requires once { AreDistinctIds nodes }
-    requires below { IsBelow capacity nodes }
-    ensures { IfOk result (AreIndexed capacity nodes) }
-{
-    let places = places_of(alloc, &nodes, capacity)?;
-    Ok(Columns { nodes, places })
-}
-
-// For the number of each node, its position among the columns.
-fn places_of(
-    alloc: Global,
-    columns: &List<NodeId>,
-    capacity: usize,
-) -> Result<Vec<Option<usize>>, AllocError>
-    requires once { AreDistinctIds columns.now }
-    requires below { IsBelow capacity columns.now }
-    ensures { IfOk result (λ places. IsColumnIndex capacity columns.now places.items) }
-{
-    let mut places = vec![in alloc; None; capacity]?;
-    for place in 0..columns.len() {
-        places[columns.at(place).0 as usize] = Some(place);
-    }
-    Ok(places)
-}
 
 /// For each column, whether the row has it. Only what the row has is looked at, or each column, whichever is less. `none` has
 /// zeros alone.
 pub(crate) fn code_of(
     alloc: Global,
-    columns: &Columns,
+    columns: &ColumnIndex,
     reached: &[u64],
     none: &[u64],
 ) -> Result<Row, AllocError>
-    requires places { IsColumnIndex (64 * length reached.now) columns.now.nodes columns.now.places.items }
+    requires columns { AreIdsBelow (64 * length reached.now) columns.now }
     requires few { length reached.now ≤ word_limit }
     requires none { none.now ≡ replicate (length reached.now) 0 }
-    ensures { IfOk result (IsCodeOf columns.now.nodes (bits reached.now)) }
+    ensures { IfOk result (IsCodeOf columns.now (bits reached.now)) }
 {
-    if has_fewer(reached, columns.nodes.len()) {
+    if has_fewer(reached, columns.len()) {
         code_by_nodes(alloc, columns, reached, none)
     } else {
-        code_by_columns(alloc, &columns.nodes, reached)
+        code_by_columns(alloc, columns.nodes(), reached)
     }
 }
 
@@ -99,20 +61,19 @@ fn ones_of_four(words: &[u64], at: usize) -> usize
 // The code of a row, by the nodes that the row has.
 fn code_by_nodes(
     alloc: Global,
-    columns: &Columns,
+    columns: &ColumnIndex,
     reached: &[u64],
     none: &[u64],
 ) -> Result<Row, AllocError>
-    requires places { IsColumnIndex (64 * length reached.now) columns.now.nodes columns.now.places.items }
     requires few { length reached.now ≤ word_limit }
     requires none { none.now ≡ replicate (length reached.now) 0 }
-    ensures { IfOk result (IsCodeOf columns.now.nodes (bits reached.now)) }
+    ensures { IfOk result (IsCodeOf columns.now (bits reached.now)) }
 {
-    let mut code = Row::zeroed(alloc, columns.nodes.len())?;
+    let mut code = Row::zeroed(alloc, columns.len())?;
     let mut from = 0;
     while let Some(node) = next_node(reached, none, from) {
-        if let Some(place) = columns.places[node] {
-            code.set(place);
+        if let Some(place) = columns.position(NodeId(node as u32)) {
+            code.set(place as usize);
         }
         from = node + 1;
     }
@@ -121,7 +82,7 @@ fn code_by_nodes(
 
 // The code of a row, column by column.
 fn code_by_columns(alloc: Global, nodes: &List<NodeId>, reached: &[u64]) -> Result<Row, AllocError>
-    requires { IsBelow (64 * length reached.now) nodes.now }
+    requires { AreIdsBelow (64 * length reached.now) nodes.now }
     ensures { IfOk result (IsCodeOf nodes.now (bits reached.now)) }
 {
     let mut code = Row::zeroed(alloc, nodes.len())?;

@@ -7,6 +7,5 @@ mod matrix;
 mod names;
 mod problems;
 
-pub use codes::{Columns, column_index};
 pub use matrix::Matrix;
 pub use names::names_of;

@@ -4,7 +4,6 @@ ghost use Rattle.cb_topo.specs.Numbered.{topology_of};
 ghost use Rattle.cb_matrix.specs.Problems.{AreAllGrouped};
 
 use crate::coded::grouping_of;
-use crate::codes::column_index;
 use crate::names::names_of;
 use cb_cache::Cache;
 use cb_codes::Grouping;
@@ -24,11 +23,10 @@ impl GroupedProblems {
         ensures { IfOk result (AreAllGrouped (topology_of cache.now.graph)) }
     {
         let topology = cache.graph().topology();
-        // All numbers of nodes are below it.
+        // All numbers of nodes are below it, and it is not great.
         let _capacity = topology.node_capacity();
-        let column_nodes = topology.columns(alloc)?;
-        let columns = names_of(alloc, topology, &column_nodes)?;
-        let index = column_index(alloc, column_nodes, 64 * cache.pool().width())?;
+        let index = topology.column_index(alloc)?;
+        let columns = names_of(alloc, topology, index.nodes())?;
         let problem_nodes = topology.problems(alloc)?;
         let grouping = grouping_of(alloc, cache, &index, &problem_nodes)?;
         Ok(GroupedProblems { columns, grouping })

@@ -1,27 +1,28 @@
 -- Columns that are forced, and what they tell apart.
-use Rattle.std.proofs.Common.{◌≡◌, ℕ, ◌+◌, ◌<◌, ◌≤◌, List, [], ◌∷◌, length, slice_get, Some, Bool, true, false, not, cond, nat_lt, refl, sym, ap, ◌∙◌, inl, inr, arith}
-use Rattle.std.specs.List.{count_by, filter}
-use Rattle.std.proofs.lemmas.Bool.{cases_lt, cases_Bool, lt-ltb, le-ltb, ltb-true, ltb-false, not-true, both_ways}
+use Rattle.std.proofs.Common.{◌≡◌, ℕ, ◌+◌, ◌<◌, ◌≤◌, List, [], ◌∷◌, length, slice_get, slice_set, Some, Bool, true, false, not, cond, nat_lt, refl, sym, ap, subst, ◌∙◌, inl, inr, arith}
+use Rattle.std.specs.List.{Contains, count_by, filter}
+use Rattle.std.proofs.lemmas.Bool.{cases_lt, cases_eq, cases_Bool, lt-ltb, le-ltb, ltb-true, ltb-false, not-true, both_ways}
 use Rattle.std.proofs.lemmas.List.Filters.{sum_by-filter_both}
 use Rattle.std.proofs.lemmas.List.Kept.{AllPairs-filter}
 use Rattle.std.proofs.lemmas.List.Sums.{sum_by-cons}
-use Rattle.cb_coding.specs.Distance.{differ, bit, all_columns, code_at, apart}
-use Rattle.cb_coding.proofs.Distances.{all_columns_rise, in_all_columns, below_from_all_columns, count_of_fewer}
+use Rattle.std.proofs.lemmas.List.{get_or_past}
+use Rattle.cb_coding.specs.Distance.{HaveWidth, differ, bit, all_columns, code_at, apart}
+use Rattle.cb_coding.proofs.Distances.{Rising, all_columns_rise, in_all_columns, below_from_all_columns, count_of_fewer, triangle}
 use Rattle.cb_coding.proofs.BookLaws.{kept_by_filter, was_in_filtered}
 use Rattle.cb_reduce.specs.Pairs.{DifferAt}
 use Rattle.cb_reduce.specs.Places.{kept_of}
-use Rattle.cb_reduce.specs.Moves.{SomeAreClose}
+use Rattle.cb_reduce.specs.Moves.{SomeAreClose, IsMarked}
 use Rattle.cb_coding.specs.Pairs.{IsPair}
 use Rattle.cb_reduce.specs.Forced.{IsForced, Forces, MarksOnly, MarksApart}
 use Rattle.cb_reduce.proofs.Places.{code_at_is}
-use Rattle.cb_reduce.proofs.Prefixes.{prefix, prefix_more, step_where}
-use Rattle.cb_reduce.proofs.Kept.{in_kept, was_kept, kept_rise}
+use Rattle.cb_reduce.proofs.Prefixes.{prefix, prefix_more, prefix_rises, step_where, same_place}
+use Rattle.cb_reduce.proofs.Kept.{in_kept, was_kept, kept_rise, set_marks}
 
 abbrev once : Bool → ℕ
 once b = cond b 1 0
 
 -- what a filter keeps counts as much as all, where it keeps all that pass the test
-count_of_kept : (p q : ℕ → Bool) (xs : List ℕ) → ((k : ℕ) → p k ≡ true → q k ≡ true) → count_by p xs ≤ count_by p (filter q xs)
+pub count_of_kept : (p q : ℕ → Bool) (xs : List ℕ) → ((k : ℕ) → p k ≡ true → q k ≡ true) → count_by p xs ≤ count_by p (filter q xs)
 count_of_kept p q [] keeps = omega arith
 count_of_kept p q (x ∷ xs) keeps =
     let rest = count_of_kept p q xs keeps in
@@ -33,6 +34,15 @@ count_of_kept p q (x ∷ xs) keeps =
         | inr fails ↦ let none : once (p x) ≡ 0 = ap once fails in omega arith
       ]
     ] refl
+
+-- where all places that pass a test are among others, no fewer of these do
+pub count_of_where : (p : ℕ → Bool) (xs ys : List ℕ) → Rising xs → Rising ys → ((k : ℕ) → Contains xs k → p k ≡ true → Contains ys k)
+    → count_by p xs ≤ count_by p ys
+count_of_where p xs ys rise rise' into =
+    let kept = count_of_kept p p xs (λ k passes. passes) in
+    let fewer = count_of_fewer p (filter p xs) ys (AllPairs-filter (λ x y. x < y) p xs rise) rise'
+    (λ k there. let was = was_in_filtered p xs k there in into k was.0 was.1) in
+    omega arith
 
 module _ (codes : List (List Bool)) (i j : ℕ) where
   abbrev differ_at : ℕ → Bool
@@ -176,3 +186,82 @@ forces_on width codes need a b c one two = record {
     | inr forced ↦ inr forced
   ];
 }
+
+-- What a mask leaves out. Where it tells each code as far apart from the first as all columns do, what is left out tells none apart.
+module _ (codes : List (List Bool)) (width : ℕ) (mask : List Bool) (long : length mask ≡ width) where
+  abbrev left_out : List ℕ
+  left_out = filter (λ k. not (bit mask k)) (all_columns width)
+
+  both_parts : (i j : ℕ) → apart (kept_of mask) codes i j + apart left_out codes i j ≡ apart (all_columns width) codes i j
+  both_parts i j =
+      let same = ap (λ n. apart (filter (bit mask) (all_columns n)) codes i j) long in
+      let sum = sum_by-filter_both (bit mask) (λ k. not (bit mask k)) (λ k. refl) (λ k. once (differ_at codes i j k)) (all_columns width) in
+      omega arith
+
+  pub told_suffices : ((i : ℕ) → i < length codes → apart (all_columns width) codes 0 i ≤ apart (kept_of mask) codes 0 i)
+      → (i j : ℕ) → IsPair codes i j → apart (all_columns width) codes i j ≤ apart (kept_of mask) codes i j
+  told_suffices told i j pair =
+      let way = triangle left_out (code_at codes i) (code_at codes j) (code_at codes 0) in
+      let one = told i (let lt = pair.0 in let within = pair.1 in omega arith) in
+      let two = told j pair.1 in
+      let parts_i = both_parts 0 i in
+      let parts_j = both_parts 0 j in
+      let parts = both_parts i j in
+      omega arith
+
+-- codes of a width differ below it
+pub differ_within : (width : ℕ) (codes : List (List Bool)) (i j : ℕ) → HaveWidth width codes → i < length codes → j < length codes → (k : ℕ)
+    → DifferAt k codes i j → k < width
+differ_within width codes i j have i_within j_within k differs = elim (cases_lt k width) [
+  | inl lt ↦ lt
+  | inr past ↦
+      let long_i = have i [] i_within in
+      let long_j = have j [] j_within in
+      let none_i : bit (code_at codes i) k ≡ false = get_or_past (code_at codes i) k false (omega arith) in
+      let none_j : bit (code_at codes j) k ≡ false = get_or_past (code_at codes j) k false (omega arith) in
+      let same : differ (bit (code_at codes i) k) (bit (code_at codes j) k) ≡ false = rw (none_i, none_j) refl in
+      absurd (both_ways _ same differs)
+]
+
+-- the first n columns at which two codes differ are marked
+abbrev pub MarksFirst : List (List Bool) → ℕ → ℕ → ℕ → List Bool → Type 0
+MarksFirst codes i j n mask = (c : ℕ) → DifferAt c codes i j → prefix codes i j c < n → bit mask c ≡ true
+
+module _ (codes : List (List Bool)) (i j n column : ℕ) (old new : List Bool) (lt : column < length old) (differs : DifferAt column codes i j)
+    (is : new ≡ slice_set old column true) where
+  now_marked : IsMarked column old new
+  now_marked = subst (λ mask. IsMarked column old mask) (sym is) (set_marks column old lt)
+
+  -- one more of these columns is marked
+  pub one_more_marked : (first : List Bool) → MarksApart codes i j first old → MarksApart codes i j first new
+  one_more_marked first was = record {
+    long = now_marked.long ∙ was.long;
+    stay = λ c there. elim (cases_eq c column) [
+      | inl e ↦ subst (λ k. bit new k ≡ true) (sym e) now_marked.here
+      | inr other ↦ now_marked.elsewhere c other ∙ was.stay c there
+    ];
+    come = λ c there. elim (cases_eq c column) [
+      | inl e ↦ inr (subst (λ k. DifferAt k codes i j) (sym e) differs)
+      | inr other ↦ was.come c (sym (now_marked.elsewhere c other) ∙ there)
+    ];
+  }
+
+  pub next_marked : prefix codes i j column + 1 ≡ n + 1 → MarksFirst codes i j n old → MarksFirst codes i j (n + 1) new
+  next_marked nth was c there before = elim (cases_eq c column) [
+    | inl e ↦ subst (λ k. bit new k ≡ true) (sym e) now_marked.here
+    | inr other ↦ now_marked.elsewhere c other ∙ was c there (elim (cases_lt (prefix codes i j c) n) [
+      | inl lower ↦ lower
+      | inr last ↦ absurd (other (same_place codes i j (n + 1) 0 c column (there, omega arith) (differs, omega arith)))
+    ])
+  ]
+
+-- where all are, they tell the two apart as all columns do
+pub first_suffice : (width : ℕ) (codes : List (List Bool)) (i j n : ℕ) (mask : List Bool) → HaveWidth width codes → i < length codes → j < length codes
+    → length mask ≡ width → prefix codes i j width ≤ n → MarksFirst codes i j n mask → apart (all_columns width) codes i j ≤ apart (kept_of mask) codes i j
+first_suffice width codes i j n mask have i_within j_within long enough marked =
+    marked_suffice codes i j width mask long (λ k differs.
+    let lt = differ_within width codes i j have i_within j_within k differs in
+    let rise = prefix_rises codes i j (k + 1) width (omega arith) in
+    let more = prefix_more codes i j k in
+    let one = step_where codes i j k differs in
+    marked k differs (omega arith))

@@ -1,7 +1,7 @@
 //! The columns that keep codes apart.
 ghost use Rattle.std.specs.Prelude.{◌≡◌, ◌≤◌, ◌<◌, ◌^◌, ℕ, length, replicate, [], false, IsTrue, IfOk, IfSome, IfNone};
 ghost use Rattle.cb_coding.specs.Distance.{all_columns, HaveWidth};
-ghost use Rattle.cb_coding.specs.Needs.{need_of};
+ghost use Rattle.cb_coding.specs.Needs.{capped_need, need_of};
 ghost use Rattle.cb_coding.specs.Pairs.{IsPair, Good, GoodFor};
 ghost use Rattle.cb_coding.specs.Books.{IsChoice, IsBook, IsCapBook, IsInUse};
 ghost use Rattle.cb_reduce.specs.Forced.{Forces};
@@ -10,15 +10,16 @@ ghost use Rattle.cb_reduce.specs.Pairs.{MustWait, StartsWithZero};
 ghost use Rattle.cb_reduce.specs.Places.{kept_of};
 ghost use Rattle.cb_reduce.specs.Reduced.{IsReduced};
 
-use crate::close::first_close;
 use crate::least_pair::closest_from;
 use crate::moves::{Waiter, decide, move_on};
+use crate::need::asks_one;
 use crate::sharing::starts_with_zero;
-use crate::tolerance::radii;
+use crate::single::{are_shared_by_few, kept_alone};
 use crate::waiting::wait_all;
 use cb_bits::Row;
 use cb_codes::Codes;
 use cb_coding::{Book, CapBook, Pair};
+use cb_distance::{first_close, radii};
 use cb_model::{List, Wish};
 use std::alloc::{AllocError, Global};
 use std::mem::replace;
@@ -109,11 +110,39 @@ fn choice_of(
     requires good { GoodFor codes.now.rows (all_columns width) (need_of codes.now.width codes.now.rows wish) }
     ensures { IfOk result (IsChoice width codes.now.rows (need_of codes.now.width codes.now.rows wish)) }
 {
+    if asks_one(wish) {
+        if let Some(columns) = choice_of_one(alloc, codes, width)? {
+            return Ok(columns);
+        }
+    }
     let mut waiting = empty_lists(alloc, width)?;
     let quiet = starts_with_zero(codes);
     let forced = wait_all(alloc, codes, quiet, width, wish, &mut waiting)?;
     let kept = kept_mask(alloc, codes, width, wish, quiet, &forced, &mut waiting)?;
     columns_of(alloc, &kept)
+}
+
+// The columns that a cap of 1 keeps, without a pair that waits; none where these would be quicker.
+fn choice_of_one(
+    alloc: Global,
+    codes: &Codes,
+    width: usize,
+) -> Result<Option<List<u32>>, AllocError>
+    requires have_width { HaveWidth width codes.now.rows }
+    requires wide { width ≡ codes.now.width }
+    requires columns_fit { width ≤ 2 ^ 16 }
+    ensures { IfOk result (λ made. IfSome made (IsChoice width codes.now.rows (capped_need width codes.now.rows 1))) }
+{
+    if !starts_with_zero(codes) {
+        return Ok(None);
+    }
+    if !are_shared_by_few(codes) {
+        return Ok(None);
+    }
+    let Some(kept) = kept_alone(alloc, codes, width)? else {
+        return Ok(None);
+    };
+    Ok(Some(columns_of(alloc, &kept)?))
 }
 
 // The columns that a wish keeps, as a mask, where pairs wait and columns are forced as long as none is kept.

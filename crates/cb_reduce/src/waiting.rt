@@ -1,14 +1,14 @@
 //! Which pairs wait at first, and which columns are forced.
 ghost use Rattle.std.specs.Prelude.{◌≡◌, ◌⊎◌, ◌<◌, ◌≤◌, ◌^◌, ℕ, [], true, false, length, replicate, IfOk, OnOk, IsTrue};
-ghost use Rattle.cb_coding.specs.Distance.{bit, HaveWidth, all_columns, apart};
+ghost use Rattle.cb_coding.specs.Distance.{bit, HaveWidth};
 ghost use Rattle.cb_coding.specs.Needs.{need_of, capped_need};
 ghost use Rattle.cb_coding.specs.Pairs.{IsPair};
 ghost use Rattle.cb_reduce.specs.Pairs.{MayBeClose, MustWait};
-ghost use Rattle.cb_reduce.specs.Forced.{Forces, MarksApart};
+ghost use Rattle.cb_reduce.specs.Forced.{Forces};
 ghost use Rattle.cb_reduce.specs.Moves.{MayWait, IsCovered, Grows};
 ghost use Rattle.cb_reduce.specs.Places.{kept_of};
 
-use crate::force::mark_alone;
+use crate::force::{are_told, force_apart, force_near};
 use crate::marked::mark_sharing;
 use crate::moves::{Waiter, wait_first};
 use cb_bits::Row;
@@ -16,8 +16,8 @@ use cb_codes::Codes;
 use cb_model::{List, Wish};
 use std::alloc::{AllocError, Global};
 
-/// Lets all pairs wait while no column is kept, but for those that need to be as far apart as they are: it gives the columns that these
-/// force. After a zero code, the pairs with it and those that share a column suffice.
+/// Lets all pairs wait while no column is kept, but for those that are known to be told apart by forced columns: it gives these. After a
+/// zero code, the pairs with it and those that share a column suffice. Where close pairs force all columns that tell codes apart, none waits.
 pub(crate) fn wait_all(
     alloc: Global,
     codes: &Codes,
@@ -34,8 +34,35 @@ pub(crate) fn wait_all(
     ensures held { IfOk result (λ forced. (i j : ℕ) → IsPair codes.now.rows i j → MustWait quiet codes.now.rows i j
         → IsCovered codes.now.rows (kept_of forced) [] (need_of codes.now.width codes.now.rows wish i j) waiting.new.items width i j) }
 {
-    let mut marked = Row::zeroed(alloc, codes.len())?;
     let mut forced = Row::zeroed(alloc, width)?;
+    force_near(alloc, codes, wish, &mut forced)?;
+    if are_told(codes, &forced) {
+        return Ok(forced);
+    }
+    wait_each(alloc, codes, quiet, width, wish, &mut forced, waiting)?;
+    Ok(forced)
+}
+
+// Lets the pairs of each code with those before it wait.
+fn wait_each(
+    alloc: Global,
+    codes: &Codes,
+    quiet: bool,
+    width: usize,
+    wish: Wish,
+    forced: &mut Row,
+    waiting: &mut Vec<List<Waiter>>,
+) -> Result<(), AllocError>
+    requires may { MayWait width codes.now.rows (need_of codes.now.width codes.now.rows wish) }
+    requires wide { width ≡ codes.now.width }
+    requires forced { length forced.old ≡ width }
+    requires lists { length waiting.old.items ≡ width }
+    ensures forces { OnOk result (Forces codes.now.width codes.now.rows (need_of codes.now.width codes.now.rows wish) forced.old forced.new) }
+    ensures grows { OnOk result (Grows codes.now.rows waiting.old.items waiting.new.items) }
+    ensures held { OnOk result ((i j : ℕ) → IsPair codes.now.rows i j → MustWait quiet codes.now.rows i j
+        → IsCovered codes.now.rows (kept_of forced.new) [] (need_of codes.now.width codes.now.rows wish i j) waiting.new.items width i j) }
+{
+    let mut marked = Row::zeroed(alloc, codes.len())?;
     for second in 0..codes.len() {
         wait_for(
             codes,
@@ -44,11 +71,11 @@ pub(crate) fn wait_all(
             width,
             wish,
             &mut marked,
-            &mut forced,
+            forced,
             waiting,
         )?;
     }
-    Ok(forced)
+    Ok(())
 }
 
 // Lets the pairs of a code with those before it wait. `marked` has a position for each code.
@@ -183,7 +210,8 @@ fn wait_before(
     }
 }
 
-// Marks the columns at which two codes differ, where they are no farther apart than a cap, and else lets them wait.
+// Marks the columns at which two codes differ, where they are no farther apart than a cap. Else lets them wait, unless the marked ones are
+// found to tell them that far apart.
 fn force_or_wait(
     codes: &Codes,
     first: usize,
@@ -208,27 +236,16 @@ fn force_or_wait(
         force_apart(codes, first, second, distance, forced);
         return Ok(());
     }
+    let a = codes.row(first);
+    // Where codes have many columns, few of these are forced.
+    if a.ones() <= width / 16 {
+        if let None = a.distance_under_below(codes.row(second), forced, cap as usize) {
+            return Ok(());
+        }
+    }
     let pair = Waiter {
         first: first as u16,
         second: second as u16,
     };
     wait_first(codes, pair, width, cap, waiting)
-}
-
-// Marks the columns at which two codes differ, where some of them aren't marked yet. The distance is their number.
-fn force_apart(codes: &Codes, first: usize, second: usize, distance: usize, forced: &mut Row)
-    requires have_width { HaveWidth (length forced.old) codes.now.rows }
-    requires first { first < length codes.now.rows }
-    requires second { second < length codes.now.rows }
-    requires distance { distance ≡ apart (all_columns (length forced.old)) codes.now.rows first second }
-    ensures marks { MarksApart codes.now.rows first second forced.old forced.new }
-    ensures enough { distance ≤ apart (kept_of forced.new) codes.now.rows first second }
-{
-    let a = codes.row(first);
-    let b = codes.row(second);
-    if let None = a.distance_under_below(b, forced, distance) {
-        return;
-    }
-    mark_alone(a, b, forced);
-    mark_alone(b, a, forced);
 }

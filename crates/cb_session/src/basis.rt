@@ -25,11 +25,11 @@ use cb_cache::Cache;
 use cb_codes::{Codes, Groups};
 use cb_coding::Pair;
 use cb_decode::{Decoder, find_by, find_cap_by, group_name};
+use cb_distance::first_close;
 use cb_finding::Finding;
 use cb_log::{Closed, Event};
 use cb_matrix::Matrix;
 use cb_model::{List, Name, NodeName, Wish};
-use cb_reduce::first_close;
 use std::alloc::{AllocError, Global};
 
 /// What windows are diagnosed by: the matrix of a topology, the codebook in use for it, and its decoder.

@@ -1,11 +1,12 @@
 //! Codebooks for a cap, and what is nearest to a word by them, beside a plain program of the definitions that goes over texts.
 ghost use Rattle.std.specs.Prelude.{◌≡◌, ◌<◌, ◌≤◌, length, IsTrue};
 
-use crate::reduce::{are_small, code_of, codes_of};
+use crate::reduce::{are_small, code_of, codes_of, drawn};
 use cb_codes::Codes;
 use cb_compact::CompactRow;
 use cb_decode::{Answer, Decoder, nearest_cap, nearest_cap_by};
-use cb_reduce::{CapBook, radii, reduce_cap};
+use cb_distance::radii;
+use cb_reduce::{CapBook, reduce_cap};
 use std::alloc::{AllocError, Global};
 use std::test::Fail;
 
@@ -39,6 +40,50 @@ fn first_wrong(alloc: Global) -> Result<Option<usize>, AllocError> {
         }
     }
     Ok(None)
+}
+
+#[test]
+fn caps_drawn_codes_as_defined(rt: HostRuntime) -> Result<(), Fail> {
+    let mut state = 13;
+    for turn in 0..240 {
+        // Up to nine codes of up to thirteen columns, sparse ones and dense ones, with a zero code first or without.
+        let (count, width, quiet) = (1 + turn % 9, 1 + turn % 13, turn % 3 != 0);
+        let codes = drawn(
+            rt.alloc(),
+            &mut state,
+            count,
+            width,
+            quiet,
+            1 + turn as u64 % 4,
+        )?;
+        assert!(rt;
+            is_capped(rt.alloc(), &codes, CAPS[turn / 4 % 4])?,
+            "{turn}"
+        );
+    }
+    Ok(())
+}
+
+// Whether a cap is answered as by the plain program, which goes over the texts of the codes.
+fn is_capped(alloc: Global, codes: &Codes, cap: u32) -> Result<bool, AllocError> {
+    let mut texts = Vec::new(alloc);
+    for place in 0..codes.len() {
+        texts.push(text_of(alloc, codes.row(place))?)?;
+    }
+    let mut lines = Vec::new(alloc);
+    for text in &texts {
+        lines.push(text.as_str())?;
+    }
+    agrees(alloc, &lines, codes, cap)
+}
+
+// A code as a text.
+fn text_of(alloc: Global, code: &CompactRow) -> Result<String, AllocError> {
+    let mut text = String::new(alloc);
+    for column in 0..code.len() {
+        text.push(if code.get(column) { '1' } else { '0' })?;
+    }
+    Ok(text)
 }
 
 // Whether each cap is answered as by the plain program.

@@ -10,7 +10,7 @@ mod codes;
 #[cfg(test)]
 mod decode;
 #[cfg(test)]
-mod group;
+mod distance;
 #[cfg(test)]
 mod pairs;
 #[cfg(test)]

@@ -3,7 +3,8 @@ ghost use Rattle.std.specs.Prelude.{◌≡◌, ◌<◌, ◌≤◌, length, IsTru
 
 use cb_bits::Row;
 use cb_codes::Codes;
-use cb_reduce::{Pair, Refused, book, book_in_use, first_close, least, reduce, whole_book};
+use cb_distance::first_close;
+use cb_reduce::{Pair, Refused, book, book_in_use, least, reduce, whole_book};
 use std::alloc::{AllocError, Global};
 use std::test::Fail;
 

@@ -14,3 +14,4 @@ pub mod Capacities
 pub mod OneCapacity
 pub mod Rising
 pub mod Following
+pub mod Positions

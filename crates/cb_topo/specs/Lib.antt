@@ -7,3 +7,4 @@ pub mod Made
 pub mod Ordered
 pub mod Settled
 pub mod Laws
+pub mod Columns

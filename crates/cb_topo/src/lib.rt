@@ -2,6 +2,7 @@
 #![tactic(auto)]
 
 mod accepted;
+mod columns;
 mod edits;
 mod fault;
 mod instances;
@@ -18,6 +19,7 @@ pub use cb_edits::{EditText, read_edit};
 pub use cb_instances::InstanceId;
 pub use cb_network::{Edit, EditRefusal};
 pub use cb_nodes::NodeId;
+pub use columns::ColumnIndex;
 pub use fault::EditFault;
 pub use laws::node_capacity_is_one;
 pub use topology::Topology;

@@ -1,27 +1,24 @@
-use Rattle.std.proofs.Common.{◌≡◌, ◌∙◌, ℕ, sym, ap, subst, IfOk, Err, arith}
+use Rattle.std.proofs.Common.{◌≡◌, ◌∙◌, ℕ, List, sym, ap, subst, subst₂, IfOk, Err, arith}
 use Rattle.cb_model.specs.declared.wish.Wish.{Wish}
 use Rattle.cb_model.specs.declared.wish.Wish.TheVariants.{Plain, Cap}
 use Rattle.cb_reduce.specs.declared.codebook.Refused.{Refused}
 use Rattle.cb_reduce.specs.Reduced.{IsReduced}
 use Rattle.cb_cert.specs.Format.{IsWanted}
-use Rattle.cb_span.specs.Orders.{IsOrderOf}
 use Rattle.cb_span.specs.Searched.{AreTreesOf}
+use Rattle.cb_nodes.specs.declared.id.NodeId.{NodeId}
+use Rattle.cb_topo.specs.Columns.{AreAllColumns}
 use Rattle.cb_topo.specs.Numbered.{Numbered, topology_of}
-use Rattle.cb_certify.specs.Columns.{AreColumnsIn}
 use Rattle.cb_certify.specs.Groups.{AreGroupsIn, IsLeastAt}
 use Rattle.cb_certify.specs.Made.{IsCapBookOf, IsChoiceOf, IsMadeOf, IsWantedWish}
 use Rattle.cb_certify.specs.Members.{IsCalledBy}
 use Rattle.cb_certify.proofs.Reduced.{rows_fit, columns_fit, book_of, cap_book_of, first_close, places_within, pair_far, first_pair, called_least, pair_called}
 use Rattle.cb_certify.proofs.codebook.by_trees.Goals as goal
 
-pub all_columns-requires : goal.all_columns-requires
-all_columns-requires g c = subst (λ (m : Numbered). IsOrderOf m c.args.trees.order) (sym c.topology.ensures) c.requires.trees.order
-
 pub groups_of-requires-clause-trees : goal.groups_of-requires-clause-trees
 groups_of-requires-clause-trees g c = subst (λ (m : Numbered). AreTreesOf m c.args.trees) (sym c.topology-2.ensures) c.requires.trees
 
 pub groups_of-requires-clause-columns : goal.groups_of-requires-clause-columns
-groups_of-requires-clause-columns g c = subst (λ (m : Numbered). AreColumnsIn m c.in_ok-columns.columns) (c.topology.ensures ∙ sym c.topology-2.ensures) c.in_ok-columns.ensures
+groups_of-requires-clause-columns g c = subst (λ (m : Numbered). AreAllColumns m c.in_ok-columns.columns) (c.topology.ensures ∙ sym c.topology-2.ensures) c.in_ok-columns.ensures.columns
 
 pub reduce-requires-clause-places_fit : goal.reduce-requires-clause-places_fit
 reduce-requires-clause-places_fit g c =
@@ -40,7 +37,7 @@ with_book-requires-clause-trees g c = subst (λ (m : Numbered). AreTreesOf m c.a
 
 pub with_book-requires-clause-all : goal.with_book-requires-clause-all
 with_book-requires-clause-all g c =
-    (subst (λ (m : Numbered). AreColumnsIn m c.in_ok-columns.columns) (c.topology.ensures ∙ sym c.topology-in-Ok.ensures) c.in_ok-columns.ensures).all
+    subst₂ (λ (m : Numbered) (ids : List NodeId). AreAllColumns m ids) (c.topology.ensures ∙ sym c.topology-in-Ok.ensures) (sym c.nodes.ensures) c.in_ok-columns.ensures.columns
 
 pub with_book-requires-clause-book : goal.with_book-requires-clause-book
 with_book-requires-clause-book g c =
@@ -101,6 +98,10 @@ returns-in-Err-TooClose g c =
     subst (λ (w : Wish). IfOk c.shortfall.result (IsMadeOf (topology_of c.args.graph.now) w)) (sym c.in-Plain.is) c.shortfall.ensures
 
 -- for a cap
+pub with_cap_book-requires-clause-all : goal.with_cap_book-requires-clause-all
+with_cap_book-requires-clause-all g c =
+    subst₂ (λ (m : Numbered) (ids : List NodeId). AreAllColumns m ids) (c.topology.ensures ∙ sym c.topology-in-Cap.ensures) (sym c.nodes-in-Cap.ensures) c.in_ok-columns.ensures.columns
+
 pub with_cap_book-requires-clause-book : goal.with_cap_book-requires-clause-book
 with_cap_book-requires-clause-book g c =
     let made = c.in_ok-groups.groups in

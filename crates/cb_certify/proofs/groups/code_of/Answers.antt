@@ -5,14 +5,14 @@ use Rattle.cb_certify.proofs.Coded.{none_coded, next_coded, place_fits, all_code
 use Rattle.cb_certify.proofs.groups.code_of.Goals as goal
 
 pub loop-at-init : goal.loop-at-init
-loop-at-init c = rw (c.in_ok-code.ensures, c.len.ensures) (none_coded c.args.order.now.nodes.items c.args.columns.now.nodes c.args.visits.now)
+loop-at-init c = rw (c.in_ok-code.ensures, c.len.ensures) (none_coded c.args.order.now.nodes.items c.args.columns.now c.args.visits.now)
 
-pub place_of-place-requires-clause-within : goal.place_of-place-requires-clause-within
-place_of-place-requires-clause-within c =
+pub place_of-place-requires : goal.place_of-place-requires
+place_of-place-requires c =
     let visits = c.args.visits.now in
     let at = c.loop-at.at in
     let low : at < length visits = omega (arith, c.loop-at-test.true) in
-    c.requires.visits at (get_or visits at (visit 0 0)) (slice_get-get_or visits at (visit 0 0) low)
+    c.requires at (get_or visits at (visit 0 0)) (slice_get-get_or visits at (visit 0 0) low)
 
 pub set_at-requires : goal.set_at-requires
 set_at-requires c =
@@ -23,10 +23,10 @@ set_at-requires c =
     let v = get_or visits at (visit 0 0) in
     let low : at < length visits = omega (arith, c.loop-at-test.true) in
     let is = slice_get-get_or visits at (visit 0 0) low in
-    let below = c.requires.visits at v is in
+    let below = c.requires at v is in
     let node = get_or nodes v.node 0 in
     let there = slice_get-get_or nodes v.node 0 below in
-    place_fits nodes columns.nodes visits at c.loop-at.code v node is there c.loop-at.invariant (length columns.places.items) columns.places.items c.requires.places
+    place_fits nodes columns visits at c.loop-at.code v node is there c.loop-at.invariant
     c.place_of-place.result (c.place_of-place.ensures node there)
 
 pub loop-at-preserved : goal.loop-at-preserved
@@ -38,14 +38,14 @@ loop-at-preserved c =
     let v = get_or visits at (visit 0 0) in
     let low : at < length visits = omega (arith, c.loop-at-test.true) in
     let is = slice_get-get_or visits at (visit 0 0) low in
-    let below = c.requires.visits at v is in
+    let below = c.requires at v is in
     let node = get_or nodes v.node 0 in
     let there = slice_get-get_or nodes v.node 0 below in
     rw (c.set_at.ensures)
-    (next_coded nodes columns.nodes visits at c.loop-at.code v node is there c.loop-at.invariant (length columns.places.items) columns.places.items c.requires.places
+    (next_coded nodes columns visits at c.loop-at.code v node is there c.loop-at.invariant
     c.place_of-place.result (c.place_of-place.ensures node there))
 
 pub returns : goal.returns
 returns c =
     let end : length c.args.visits.now ≤ c.loop-at.at = omega (arith, c.loop-at-test.false) in
-    all_coded c.args.order.now.nodes.items c.args.columns.now.nodes c.args.visits.now c.loop-at.at c.loop-at.code end c.loop-at.invariant
+    all_coded c.args.order.now.nodes.items c.args.columns.now c.args.visits.now c.loop-at.at c.loop-at.code end c.loop-at.invariant

@@ -16,8 +16,8 @@ loop-place-init c =
     let made = c.in_ok-codes.codes in
     let alone = rw c.len.ensures at c.in_ok-codes.ensures in
     record {
-      added = subst (AreAdded c.args.topology.now c.args.columns.now.nodes c.args.trees.now.problems 0 made.codes.rows) (sym c.new-least.ensures)
-          (none_added c.args.topology.now c.args.columns.now.nodes c.args.trees.now.problems made.codes.rows alone.quiet);
+      added = subst (AreAdded c.args.topology.now c.args.columns.now c.args.trees.now.problems 0 made.codes.rows) (sym c.new-least.ensures)
+          (none_added c.args.topology.now c.args.columns.now c.args.trees.now.problems made.codes.rows alone.quiet);
       wide = alone.width_is;
       keys = alone.keys;
     }
@@ -29,8 +29,8 @@ index-requires c =
     let low = c.loop-place-test.true in
     omega arith
 
-pub code_of-requires-clause-visits : goal.code_of-requires-clause-visits
-code_of-requires-clause-visits c =
+pub code_of-requires : goal.code_of-requires
+code_of-requires c =
     let zero : NodeId = record { 0 = 0 } in
     let ids = c.args.trees.now.problems in
     let at = slice_get-get_or ids c.loop-place.place zero (omega (arith, c.loop-place-test.true)) in
@@ -41,7 +41,7 @@ pub loop-place-preserved : goal.loop-place-preserved
 loop-place-preserved c =
     let n = c.args.topology.now in
     let trees = c.args.trees.now in
-    let columns = c.args.columns.now.nodes in
+    let columns = c.args.columns.now in
     let held = c.loop-place.invariant in
     let id = c.at.result.now in
     let by = subst (λ (visits : List Visit). IsCodeBy trees.order.nodes.items columns visits c.in_ok-code.code) c.deref.ensures.value c.in_ok-code.ensures in
@@ -58,6 +58,6 @@ loop-place-preserved c =
 pub returns : goal.returns
 returns c =
     let held = c.loop-place.invariant in
-    groups_are c.args.topology.now c.args.trees.now c.requires.trees c.model-model.ensures.whole c.model-model.ensures.sound c.args.columns.now.nodes c.requires.columns.all
+    groups_are c.args.topology.now c.args.trees.now c.requires.trees c.model-model.ensures.whole c.model-model.ensures.sound c.args.columns.now c.requires.columns
     c.loop-place.place (omega arith) (record { codes = c.into_codes.result; least = c.loop-place.least })
     (rw (sym c.into_codes.ensures) at held.added) (rw (sym c.into_codes.ensures) at held.wide)

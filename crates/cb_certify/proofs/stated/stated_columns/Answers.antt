@@ -1,32 +1,32 @@
-use Rattle.std.proofs.Common.{List, subst}
-use Rattle.cb_model.specs.declared.node.NodeName.{NodeName}
-use Rattle.cb_network.proofs.One.{columns_are_one}
+use Rattle.std.proofs.Common.{◌+◌, List, ℕ, take, sym, subst, arith}
+use Rattle.std.proofs.lemmas.List.{take_all}
 use Rattle.cb_topo.specs.Numbered.{topology_of}
-use Rattle.cb_validity.specs.Reading.{ArePlaces}
-use Rattle.cb_matrix.proofs.Matched.{all_live}
-use Rattle.cb_certify.proofs.Places.{columns_among, copied_columns, few_columns}
+use Rattle.cb_certify.specs.Columns.{ArePlacesFor}
+use Rattle.cb_certify.proofs.Places.{counted, within, column_is, one_more_place}
 use Rattle.cb_certify.proofs.stated.stated_columns.Goals as goal
 
-pub names_of-requires : goal.names_of-requires
-names_of-requires c = all_live c.args.topology.now c.in_ok-ids.ids c.in_ok-ids.ensures.0 c.in_ok-ids.ensures.2
+pub overflow_sub-number : goal.overflow_sub-number
+overflow_sub-number c =
+    let some = counted (topology_of c.args.topology.now) c.args.nodes.now c.args.numbers.now c.requires c.loop-k.k c.at.result.now c.at.ensures in
+    omega (arith, some)
 
-pub places_of-requires-clause-rise : goal.places_of-requires-clause-rise
-places_of-requires-clause-rise c =
-    let columns = copied_columns c.args.topology.now c.in_ok-ids.ids c.in_ok-all.all c.in_ok-ids.ensures c.in_ok-all.ensures in
-    columns.rise
+pub at-requires-in-loop-k : goal.at-requires-in-loop-k
+at-requires-in-loop-k c = within (topology_of c.args.topology.now) c.args.nodes.now c.args.numbers.now c.requires c.loop-k.k c.at.result.now c.at.ensures
 
-pub places_of-requires-clause-few : goal.places_of-requires-clause-few
-places_of-requires-clause-few c =
-    few_columns (topology_of c.args.topology.now) c.in_ok-all.all
-    (copied_columns c.args.topology.now c.in_ok-ids.ids c.in_ok-all.all c.in_ok-ids.ensures c.in_ok-all.ensures) c.node_capacity-capacity.ensures.sound
+pub place_of-requires-clause-is : goal.place_of-requires-clause-is
+place_of-requires-clause-is c =
+    column_is (topology_of c.args.topology.now) c.args.nodes.now c.args.numbers.now c.requires c.loop-k.k c.at.result.now c.at.ensures c.at-in-loop-k.result.now
+    c.at-in-loop-k.ensures
 
-pub places_of-requires-clause-among : goal.places_of-requires-clause-among
-places_of-requires-clause-among c =
-    columns_among (topology_of c.args.topology.now) c.args.nodes.now c.args.numbers.now c.in_ok-all.all c.requires
-    (copied_columns c.args.topology.now c.in_ok-ids.ids c.in_ok-all.all c.in_ok-ids.ensures c.in_ok-all.ensures)
+pub loop-k-preserved : goal.loop-k-preserved
+loop-k-preserved c =
+    let t = topology_of c.args.topology.now in
+    subst (λ (ps : List ℕ). ArePlacesFor t c.args.nodes.now (take (c.loop-k.k + 1) c.args.numbers.now) ps) (sym c.in_ok-push.ensures.ok)
+    (one_more_place t c.args.nodes.now c.args.numbers.now c.requires c.loop-k.k c.at.result.now c.at.ensures c.at-in-loop-k.result.now
+    c.at-in-loop-k.ensures c.loop-k.places c.place_of.result c.loop-k.invariant c.place_of.ensures)
 
 pub returns : goal.returns
-returns c = λ others are.
-    let columns = copied_columns c.args.topology.now c.in_ok-ids.ids c.in_ok-all.all c.in_ok-ids.ensures c.in_ok-all.ensures in
-    subst (λ (ns : List NodeName). ArePlaces c.args.nodes.now ns c.args.numbers.now c.in_ok-places.places)
-    (columns_are_one (topology_of c.args.topology.now) c.in_ok-all.all others columns are) c.in_ok-places.ensures
+returns c =
+    let numbers = c.args.numbers.now in
+    subst (λ (ns : List ℕ). ArePlacesFor (topology_of c.args.topology.now) c.args.nodes.now ns c.loop-k.places)
+    (take_all c.loop-k.k numbers (omega (arith, c.loop-k-test.false, c.len-k-end.ensures))) c.loop-k.invariant

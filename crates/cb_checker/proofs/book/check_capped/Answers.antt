@@ -1,4 +1,4 @@
-use Rattle.std.proofs.Common.{[], ◌∷◌, refl, sym, ◌∙◌}
+use Rattle.std.proofs.Common.{[], ◌∷◌, refl, sym}
 use Rattle.cb_cert.specs.declared.certificate.Certificate.TheVariants.{Capped}
 use Rattle.cb_validity.specs.Checks.{Judges, book_checks, capped_checks, radius_check}
 use Rattle.cb_validity.proofs.Stages.{failed_stop}
@@ -24,11 +24,11 @@ returns-in_err-groups-clause-judges g c = λ names are named.
 pub returns-clause-judges : goal.returns-clause-judges
 returns-clause-judges g c = λ names are named.
     let grouped = c.in_ok-groups.ensures.grouped in
-    capped_judged (topology_of c.args.graph.now) c.args.cap c.args.nodes.now c.args.numbers.now c.args.radii.now c.args.spans.now grouped.columns c.in_ok-groups.groups
-    grouped.made names _ _ (c.len.ensures ∙ sym grouped.width) (c.in_ok-groups.ensures.judges c.args.radii.now names are named) c.judge_radii.result c.judge_radii.ensures
+    capped_judged (topology_of c.args.graph.now) c.args.cap c.args.nodes.now c.args.numbers.now c.args.radii.now c.args.spans.now grouped.columns c.in_ok-groups.groups.groups
+    grouped.made names _ _ (sym grouped.width) (c.in_ok-groups.ensures.judges c.args.radii.now names are named) c.judge_radii.result c.judge_radii.ensures
 
 pub returns-clause-shows : goal.returns-clause-shows
 returns-clause-shows g c =
     let grouped = c.in_ok-groups.ensures.grouped in
-    capped_shown (topology_of c.args.graph.now) c.args.cap c.args.nodes.now c.args.numbers.now c.args.radii.now c.args.spans.now grouped.columns c.in_ok-groups.groups
-    grouped.made _ _ (c.len.ensures ∙ sym grouped.width) refl c.judge_radii.result c.judge_radii.ensures
+    capped_shown (topology_of c.args.graph.now) c.args.cap c.args.nodes.now c.args.numbers.now c.args.radii.now c.args.spans.now grouped.columns c.in_ok-groups.groups.groups
+    grouped.made _ _ (sym grouped.width) refl c.judge_radii.result c.judge_radii.ensures

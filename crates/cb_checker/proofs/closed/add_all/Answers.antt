@@ -2,9 +2,9 @@ use Rattle.std.proofs.Common.{◌≡◌, ◌<◌, length, sym, subst, ◌∙◌,
 use Rattle.std.specs.Prelude.{slice_index_or}
 use Rattle.std.proofs.lemmas.Option.{slice_get-get_or}
 use Rattle.cb_nodes.specs.declared.id.NodeId.{NodeId}
+use Rattle.cb_topo.proofs.Positions.{live_below}
 use Rattle.cb_topo.specs.Numbered.{Numbered}
 use Rattle.cb_checker.specs.Missing.{HasSuccessorsTo}
-use Rattle.cb_checker.proofs.Naming.{live_below}
 use Rattle.cb_checker.proofs.Closing.{added_more}
 use Rattle.cb_checker.proofs.closed.add_all.Goals as goal
 

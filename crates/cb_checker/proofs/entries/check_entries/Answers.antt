@@ -1,8 +1,8 @@
 use Rattle.std.proofs.Common.{length, ap, ◌∙◌, arith}
 use Rattle.std.proofs.lemmas.Result.{on_ok_weaker}
+use Rattle.cb_topo.proofs.Positions.{live_below}
 use Rattle.cb_checker.specs.declared.marks.SpanNodes.{SpanNodes}
 use Rattle.cb_checker.specs.Listed.{AreListed, AreMarked}
-use Rattle.cb_checker.proofs.Naming.{live_below}
 use Rattle.cb_checker.proofs.Stating.{stated_live}
 use Rattle.cb_checker.proofs.entries.check_entries.Goals as goal
 

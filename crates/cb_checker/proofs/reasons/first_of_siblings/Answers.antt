@@ -1,8 +1,8 @@
 use Rattle.std.proofs.Common.{inl, inr, sym, subst, arith}
 use Rattle.cb_nodes.specs.declared.id.NodeId.{NodeId}
 use Rattle.cb_graph.specs.Edges.{EdgeAt}
+use Rattle.cb_topo.proofs.Positions.{live_below}
 use Rattle.cb_checker.specs.Reasons.{HasEnd, IsLed}
-use Rattle.cb_checker.proofs.Naming.{live_below}
 use Rattle.cb_checker.proofs.Asking.{first_same}
 use Rattle.cb_checker.proofs.reasons.first_of_siblings.Goals as goal
 

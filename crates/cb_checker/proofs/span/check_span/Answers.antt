@@ -1,12 +1,12 @@
 use Rattle.std.proofs.Common.{◌-◌, [], ◌∷◌, ◌++◌, List, length, map, sym, ap, subst, ◌∙◌}
 use Rattle.std.specs.Prelude.{Ok, Err}
 use Rattle.std.specs.List.{flat_map, range_with_len}
+use Rattle.cb_topo.proofs.Positions.{live_below}
 use Rattle.cb_validity.specs.Checks.{Asked, Check, Judges, root_check, entry_checks, closed_check, span_checks, places}
 use Rattle.cb_validity.proofs.Stages.{passed_go_on, failed_stop}
 use Rattle.cb_topo.specs.Numbered.{Numbered, topology_of, IsLiveNode}
 use Rattle.cb_checker.specs.Spans.{asked, JudgesSpan, JudgesClosed}
 use Rattle.cb_checker.proofs.Joined.{exit}
-use Rattle.cb_checker.proofs.Naming.{live_below}
 use Rattle.cb_checker.proofs.Placing.{live_placed}
 use Rattle.cb_checker.proofs.Entering.{marked_more}
 use Rattle.cb_checker.proofs.Closing.{forgot_marked}

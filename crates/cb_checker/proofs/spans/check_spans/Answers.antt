@@ -1,14 +1,17 @@
-use Rattle.std.proofs.Common.{◌≡◌, ◌≤◌, ◌+◌, length, min, refl, sym, subst, ◌∙◌, Some, arith}
+use Rattle.std.proofs.Common.{◌≡◌, ◌≤◌, ◌+◌, [], ◌∷◌, length, min, refl, sym, subst, ◌∙◌, Some, arith}
 use Rattle.std.specs.Prelude.{Ok, Err}
 use Rattle.std.specs.List.{flat_map}
+use Rattle.cb_coding.specs.Groups.{zeros}
+use Rattle.cb_codes.specs.Grouped.{group, FitsTogether, groups_in}
 use Rattle.cb_validity.specs.Checks.{Judges, asked_of, span_checks}
 use Rattle.cb_topo.specs.Numbered.{Numbered, topology_of, IsLiveNode}
 use Rattle.cb_checker.specs.Known.{verdict_of}
-use Rattle.cb_checker.specs.Books.{AreReadTo, IsCodedBy, IsReadOff}
+use Rattle.cb_checker.specs.Books.{IsReadOff, AddsCoded, AreGroupsReadTo}
 use Rattle.cb_checker.specs.Listed.{AreMarked}
 use Rattle.cb_checker.specs.Spans.{JudgesSpan}
+use Rattle.cb_checker.proofs.Grouping.{none_held, one_more_held, all_held}
 use Rattle.cb_checker.proofs.Joined.{exit}
-use Rattle.cb_checker.proofs.Spanning.{entries_more, entries_within, none_read, read_more, spans_more, spans_fail, spans_pass}
+use Rattle.cb_checker.proofs.Spanning.{entries_more, entries_within, spans_more, spans_fail, spans_pass}
 use Rattle.cb_checker.proofs.spans.check_spans.Goals as goal
 
 pub loop-place-init : goal.loop-place-init
@@ -16,8 +19,11 @@ loop-place-init g c = record {
   same = refl;
   marked = subst (λ (m : Numbered). AreMarked m c.in-Ok.marks) c.topology.ensures c.in-Ok.ensures;
   before = refl;
-  coded = subst (AreReadTo c.args.graph.now c.args.ids.now c.args.problems.now c.args.columns.now c.args.spans.now 0) (sym c.new-coded.ensures)
-      (none_read c.args.graph.now c.args.ids.now c.args.problems.now c.args.columns.now c.args.spans.now);
+  held = (
+      let made = c.in-Ok-of_quiet.grouping in
+      let wide = c.len.ensures in
+      none_held c.args.graph.now c.args.ids.now c.args.problems.now c.args.columns.now c.args.spans.now made
+      (subst (λ w. FitsTogether w made) wide c.in-Ok-of_quiet.ensures.sound) (subst (λ w. groups_in made ≡ group (zeros w) [] ∷ []) wide c.in-Ok-of_quiet.ensures.quiet));
   passed = λ whole names known named place a low at. absurd (omega arith);
 }
 
@@ -84,19 +90,19 @@ loop-place-preserved g c =
     let size = c.len-in-loop-place.ensures in
     let marked = subst (λ (m : Numbered). AreMarked m marks) kept.same c.in_ok-check_span.ensures.marked in
     let there = c.topology-in-loop-place.ensures ∙ (c.in_ok-check_span.ensures.same ∙ kept.same) in
-    let coded = subst (λ (m : Numbered). IsCodedBy m columns root marks.listed added.0) there added.1 in
-    let read : IsReadOff n ids columns root span added.0 = record {
+    let adds = subst (λ (m : Numbered). AddsCoded m columns root marks.listed c.loop-place.grouping c.add_problem.new.grouping) there added in
+    let read : IsReadOff n ids columns root span adds.problem = record {
       listed = marks.listed;
       lists = record { placed = marks.placed.items; are = c.in_ok-check_span.ensures.placed; each = marked.each };
-      coded = coded;
+      coded = adds.coded;
     } in
     let judged = subst (λ (m : Numbered). JudgesSpan m ids (Some root) c.loop-place.before span span_checks (Ok tt)) kept.same c.in_ok-check_span.ensures.judges in
     record {
       same = c.in_ok-check_span.ensures.same ∙ kept.same;
       marked = marked;
       before = omega arith;
-      coded = subst (AreReadTo n ids problems columns spans (place + 1)) (sym added.2)
-          (read_more n ids problems columns spans place c.loop-place.coded added.0 root span kept.coded c.at-root.ensures c.at-span.ensures read);
+      held = one_more_held n ids problems columns spans place c.loop-place.grouping c.add_problem.new.grouping root span marks.listed adds kept.held
+          c.at-root.ensures c.at-span.ensures read;
       passed = spans_more n ids problems spans place root span c.loop-place.before c.at-root.ensures c.at-span.ensures kept.before kept.passed judged;
     }
 
@@ -107,10 +113,14 @@ returns-clause-judges g c = λ whole names known named.
     in
     spans_pass c.args.graph.now c.args.ids.now c.args.problems.now c.args.spans.now c.loop-place.place c.loop-place.invariant.passed end whole names known named
 
-pub returns-clause-coded : goal.returns-clause-coded
-returns-clause-coded g c =
+pub returns-clause-groups : goal.returns-clause-groups
+returns-clause-groups g c =
     let most = c.loop-place.auto.place-end in
     let end : c.loop-place.place ≡ min (length c.args.problems.now) (length c.args.spans.now) =
     omega (arith, c.loop-place-test.false, c.min-place-end.ensures, c.len.ensures, c.len-2.ensures)
     in
-    subst (λ k. AreReadTo c.args.graph.now c.args.ids.now c.args.problems.now c.args.columns.now c.args.spans.now k c.loop-place.coded) end c.loop-place.invariant.coded
+    let n = c.args.graph.now in
+    let made = c.into_groups.result in
+    subst (λ k. AreGroupsReadTo n c.args.ids.now c.args.problems.now c.args.columns.now c.args.spans.now k made) end
+    (all_held n c.args.ids.now c.args.problems.now c.args.columns.now c.args.spans.now c.loop-place.place c.loop-place.grouping made c.loop-place.invariant.held
+    c.into_groups.ensures.width c.into_groups.ensures.groups)

@@ -1,4 +1,4 @@
-use Rattle.std.proofs.Common.{◌≡◌, ◌≤◌, ◌+◌, min, length, sym, subst, arith}
+use Rattle.std.proofs.Common.{◌≤◌, ◌+◌, min, length, sym, subst, arith}
 use Rattle.std.specs.Prelude.{slice_index_or}
 use Rattle.std.proofs.lemmas.Option.{slice_get-get_or}
 use Rattle.cb_checker.proofs.Tolerated.{AreExtremesTo, more_extremes, all_extremes}

@@ -2,6 +2,7 @@ use Rattle.std.proofs.Common.{◌++◌, [], ◌∷◌, length, map, refl, sym, s
 use Rattle.std.specs.Prelude.{Ok, Err}
 use Rattle.std.specs.List.{flat_map}
 use Rattle.cb_cert.specs.declared.certificate.Certificate.TheVariants.{Thin}
+use Rattle.cb_topo.proofs.Positions.{live_below}
 use Rattle.cb_validity.specs.Checks.{IsGoodNode, Judges, thin_checks, node_check, places, asked_sides, span_checks, claim_check}
 use Rattle.cb_validity.specs.declared.verdict.Rejected.TheVariants.{NotThin}
 use Rattle.cb_validity.specs.Reading.{AreSidesApart}
@@ -11,7 +12,6 @@ use Rattle.cb_checker.specs.Firsts.{AreAll, JudgesNodes}
 use Rattle.cb_checker.specs.Known.{AreLive, verdict_of}
 use Rattle.cb_checker.specs.Pairs.{JudgesSides, IsSideRead, IsRead}
 use Rattle.cb_checker.proofs.Joined.{exit}
-use Rattle.cb_checker.proofs.Naming.{live_below}
 use Rattle.cb_checker.proofs.Booking.{live_named, is_known}
 use Rattle.cb_checker.proofs.Thinning.{begun_sides, thin_holds, thin_fails, at_read, side_width, far_small, shows_thin}
 use Rattle.cb_checker.proofs.thin.check_thin.Goals as goal

@@ -1,6 +1,6 @@
-use Rattle.std.proofs.Common.{◌*◌, ℕ, sym, subst, ◌∙◌}
+use Rattle.std.proofs.Common.{sym, subst, ◌∙◌, arith}
 use Rattle.cb_topo.specs.Numbered.{Numbered, IsNodeNamed, IsLiveNode}
-use Rattle.cb_matrix.specs.Codes.{IsColumnIndex, bits}
+use Rattle.cb_matrix.specs.Codes.{bits}
 use Rattle.cb_matrix.proofs.Matched.{code_from}
 use Rattle.cb_matrix.proofs.WordBits.{has_reached}
 use Rattle.cb_matrix.proofs.coded.coded_problem.Goals as goal
@@ -10,9 +10,11 @@ copy_name-requires c =
     let problem = c.requires.problem in
     subst (λ (n : Numbered). IsLiveNode n c.args.node) (sym (c.topology.ensures ∙ c.graph.ensures)) (problem.0, problem.1)
 
-pub code_of-requires-clause-places : goal.code_of-requires-clause-places
-code_of-requires-clause-places c =
-    subst (λ (width : ℕ). IsColumnIndex (64 * width) c.args.columns.now.nodes c.args.columns.now.places.items) (sym c.row.ensures.width) c.requires.columns
+pub code_of-requires-clause-columns : goal.code_of-requires-clause-columns
+code_of-requires-clause-columns c = λ i id at.
+    let low = c.requires.columns i id at in
+    let wide = c.row.ensures.bits in
+    omega arith
 
 pub returns : goal.returns
 returns c =
@@ -20,5 +22,5 @@ returns c =
     let words = c.row.result.now in
     record {
       named = subst (λ (m : Numbered). IsNodeNamed m c.args.node c.in_ok-name.name) (c.topology.ensures ∙ c.graph.ensures) c.in_ok-name.ensures;
-      coded = code_from n c.args.columns.now.nodes c.args.node (bits words) c.in_ok-code.code (has_reached n c.args.node.0 words c.row.ensures.reached) c.in_ok-code.ensures;
+      coded = code_from n c.args.columns.now c.args.node (bits words) c.in_ok-code.code (has_reached n c.args.node.0 words c.row.ensures.reached) c.in_ok-code.ensures;
     }

@@ -11,7 +11,7 @@ pub loop-node-init : goal.loop-node-init
 loop-node-init c =
     let made = c.in_ok-grouping.grouping in
     let wide = c.len.ensures in
-    none_held c.args.cache.now.graph c.args.columns.now.nodes c.args.nodes.now made (subst (λ width. FitsTogether width made) wide c.in_ok-grouping.ensures.sound)
+    none_held c.args.cache.now.graph c.args.columns.now c.args.nodes.now made (subst (λ width. FitsTogether width made) wide c.in_ok-grouping.ensures.sound)
     (rw wide at c.in_ok-grouping.ensures.quiet) c.in_ok-grouping.ensures.none
 
 pub coded_problem-requires-clause-problem : goal.coded_problem-requires-clause-problem
@@ -30,7 +30,7 @@ loop-node-preserved c =
     let i = c.loop-node.node-index in
     let n = c.args.cache.now.graph in
     let nodes = c.args.nodes.now in
-    let columns = c.args.columns.now.nodes in
+    let columns = c.args.columns.now in
     let p = c.in_ok-problem.problem in
     let is = subst (λ items. IsProblemAt n columns (slice_index_or items i zero) p) c.as_slice-node-items.ensures c.in_ok-problem.ensures in
     let low : i < length nodes = omega (arith, c.loop-node-test.true, ap length c.as_slice-node-items.ensures) in
@@ -42,4 +42,4 @@ returns c =
     let i = c.loop-node.node-index in
     let end : i ≡ length c.args.nodes.now =
     (let past = c.loop-node-test.false in let within = c.loop-node.auto.node-index-end in let same = ap length c.as_slice-node-items.ensures in omega arith) in
-    all_held c.args.cache.now.graph c.args.columns.now.nodes c.args.nodes.now i c.loop-node.grouping end c.loop-node.invariant
+    all_held c.args.cache.now.graph c.args.columns.now c.args.nodes.now i c.loop-node.grouping end c.loop-node.invariant

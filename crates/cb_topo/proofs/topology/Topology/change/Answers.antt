@@ -1,7 +1,7 @@
 use Rattle.std.proofs.Common.{sym, subst}
 use Rattle.cb_instances.specs.Net.{Net}
 use Rattle.cb_nodes.specs.Table.{Table}
-use Rattle.cb_topo.specs.Numbered.{Numbered, IsWhole}
+use Rattle.cb_topo.specs.Numbered.{IsWhole}
 use Rattle.cb_topo.proofs.Naming.{whole}
 use Rattle.cb_topo.proofs.topology.Topology.change.Goals as goal
 

@@ -1,0 +1,4 @@
+pub mod Far
+pub mod Setting
+pub mod After
+pub mod Others

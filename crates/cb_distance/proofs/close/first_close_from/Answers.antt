@@ -1,0 +1,7 @@
+use Rattle.std.proofs.Common.{arith}
+use Rattle.cb_distance.proofs.Far.{short_fits_by_width}
+use Rattle.cb_distance.proofs.close.first_close_from.Goals as goal
+
+pub first_pair-requires-clause-fits : goal.first_pair-requires-clause-fits
+first_pair-requires-clause-fits c =
+    short_fits_by_width c.args.codes.now (λ i j. c.args.wanted) (let fits = c.requires.numbered.columns_fit in omega arith)

@@ -1,0 +1,4 @@
+pub mod Chosen
+pub mod Close
+pub mod Asked
+pub mod Nearest

@@ -1,5 +1,0 @@
-pub mod Adding
-pub mod Chosen
-pub mod Close
-pub mod Asked
-pub mod Nearest
