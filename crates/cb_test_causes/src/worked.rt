@@ -140,8 +140,8 @@ fn model_of(alloc: Global, text: &[u8]) -> Result<Option<Model>, AllocError> {
     Ok(model)
 }
 
-// The edit of a line, where it is one.
-fn edit_of(alloc: Global, line: &[u8]) -> Result<Option<Edit>, AllocError> {
+/// The edit of a line, where it is one.
+pub(crate) fn edit_of(alloc: Global, line: &[u8]) -> Result<Option<Edit>, AllocError> {
     match read_edit(alloc, line) {
         Ok(edit) => Ok(Some(edit)),
         Err(EditText::BadWords) => Ok(None),
@@ -149,7 +149,7 @@ fn edit_of(alloc: Global, line: &[u8]) -> Result<Option<Edit>, AllocError> {
     }
 }
 
-fn has_good_name(edit: &Edit) -> bool
+pub(crate) fn has_good_name(edit: &Edit) -> bool
     ensures { IsTrue result → HasGoodName edit.now }
 {
     match edit {

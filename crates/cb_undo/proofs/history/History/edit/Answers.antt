@@ -1,0 +1,28 @@
+use Rattle.std.proofs.Common.{map, Ok, OnOk, subst}
+use Rattle.cb_change.specs.Costs.{CountsAtMost, IsEditCost}
+use Rattle.cb_network.specs.Edits.{IsAfter}
+use Rattle.cb_history.specs.Histories.{History as Past, edited}
+use Rattle.cb_history.specs.Records.{StandFor}
+use Rattle.cb_inverse.specs.Inverses.{inverse_edits}
+use Rattle.cb_topo.specs.Numbered.{topology_of}
+use Rattle.cb_undo.specs.Recorded.{KeepsInverse}
+use Rattle.cb_undo.specs.Undoable.{Undoable}
+use Rattle.cb_undo.proofs.Keeping.{records_stand}
+use Rattle.cb_undo.proofs.Making.{on_ok_both}
+use Rattle.cb_undo.proofs.history.History.edit.Goals as goal
+
+pub returns-clause-stands : goal.returns-clause-stands
+returns-clause-stands g c =
+    let i = c.self.inside in
+    let t = topology_of i.cache.graph in
+    let new = c.record.new in
+    let u = topology_of new.cache.graph in
+    subst (λ (v : Undoable). OnOk c.record.result ((h : Past) → StandFor v.network v.records h → StandFor u (map inverse_edits new.inverses.items) (edited v.depth h u))) c.self.view_is
+    (on_ok_both c.record.result (IsAfter t c.args.edit.now (Ok u)) (KeepsInverse t c.args.edit.now i.depth i.inverses.items new.inverses.items)
+    ((h : Past) → StandFor t (map inverse_edits i.inverses.items) h → StandFor u (map inverse_edits new.inverses.items) (edited i.depth h u))
+    (λ after r h stand. records_stand t u c.args.edit.now i.depth i.inverses.items new.inverses.items h after r stand) c.record.ensures.made c.record.ensures.keeps)
+
+pub returns-clause-cost : goal.returns-clause-cost
+returns-clause-cost g c =
+    subst (λ (v : Undoable). OnOk c.record.result (CountsAtMost (IsEditCost v.network c.args.edit.now (topology_of c.record.new.cache.graph)) c.args.steps.now c.record.new.steps)) c.self.view_is
+    c.record.ensures.cost
