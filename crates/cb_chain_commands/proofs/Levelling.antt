@@ -1,9 +1,10 @@
 -- What `levels` gives, by the number of a problem.
-use Rattle.std.proofs.Common.{◌≡◌, ℕ, List, ap, subst, inl}
+use Rattle.std.proofs.Common.{◌≡◌, ℕ, List, ap, subst, inl, arith}
 use Rattle.cb_text.specs.Names.{IsNodeText}
 use Rattle.cb_text.proofs.Cuts.{node_read_once}
 use Rattle.cb_model.specs.declared.node.NodeName.{NodeName}
-use Rattle.cb_network.specs.Nodes.{IsNodeOf, IsProblem}
+use Rattle.cb_network.specs.Causes.{Causes}
+use Rattle.cb_network.specs.Nodes.{IsNodeOf, IsProblem, IsCount}
 use Rattle.cb_nodes.specs.declared.id.NodeId.{NodeId}
 use Rattle.cb_validity.proofs.Canonicals.{problem_is_node}
 use Rattle.cb_topo.specs.Numbered.{Numbered, topology_of}
@@ -11,8 +12,10 @@ use Rattle.cb_topo.proofs.Naming.{one_name}
 use Rattle.cb_levels.specs.declared.levels.Levels.{Levels}
 use Rattle.cb_levels.specs.Canonical.{AreCanonicalLevels}
 use Rattle.cb_levels.specs.Text.{levels_text}
+use Rattle.cb_explain.specs.Explained.{CountsCaused}
 use Rattle.cb_explain.specs.Levelled.{AreLevelsAt}
 use Rattle.cb_request.specs.NodeWords.{IsNodeWord}
+use Rattle.cb_outcome.specs.Costs.{CountsNamed}
 use Rattle.cb_outcome.specs.Jobs.{NamesNode, LevelsGives}
 use Rattle.cb_outcome.specs.Outcome.{done}
 use Rattle.cb_chain_commands.specs.Named.{IsProblemNamed, NamesNoProblem}
@@ -46,3 +49,16 @@ module _ (n : Numbered) (word : List ℕ) where
 
     pub no_problem : (¬ IsProblem (topology_of n) node) → NamesNoProblem (topology_of n) word
     no_problem none = λ problem named is. none (subst (IsProblem (topology_of n)) (is_named problem named) is)
+
+-- the steps of `levels`
+pub counts_none : (n : Numbered) (word : List ℕ) (steps steps' : ℕ) → steps' ≡ steps → CountsNamed (topology_of n) word steps steps'
+counts_none n word steps steps' same = record { most = λ problem named is count counted. omega (arith, same); none = λ not. same }
+
+pub counts_named : (n : Numbered) (word : List ℕ) (id : NodeId) → IsProblemNamed n word id → (steps steps' : ℕ) → CountsCaused n id steps steps'
+    → CountsNamed (topology_of n) word steps steps'
+counts_named n word id is steps steps' counts = record {
+  most = λ problem named there count counted.
+      let same = is_named n word is.name is.spelled problem named in
+      counts is.name count is.named (subst (λ (p : NodeName). IsCount (Causes (topology_of n) p) count) same counted);
+  none = λ not. absurd (not is.name is.spelled is.problem);
+}

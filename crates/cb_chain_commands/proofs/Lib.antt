@@ -1,4 +1,5 @@
 pub mod Adding
+pub mod Counting
 pub mod Explainable
 pub mod Finding
 pub mod Levelling

@@ -1,5 +1,5 @@
 -- Lines of chains, as they are added to a text.
-use Rattle.std.specs.Prelude.{◌≡◌, ℕ, List, ◌++◌, Option, true}
+use Rattle.std.specs.Prelude.{◌≡◌, ℕ, ◌≤◌, ◌+◌, List, ◌++◌, Option, true}
 use Rattle.std.specs.List.{All, Contains, flat_map}
 use Rattle.cb_model.specs.declared.node.NamedGroup.{NamedGroup}
 use Rattle.cb_model.specs.declared.node.NodeName.{NodeName}
@@ -10,6 +10,7 @@ use Rattle.cb_network.specs.Topology.{Topology}
 use Rattle.cb_topo.specs.Numbered.{Numbered, topology_of, AreNamed}
 use Rattle.cb_explain.specs.Explained.{IsExplainerOf}
 use Rattle.cb_report.specs.ChainTexts.{chain_line, explained_group, explained_groups, explained_text}
+use Rattle.cb_outcome.specs.Costs.{IsTotalCaused}
 use Rattle.cb_outcome.specs.Explained.{ExplainsColumns, chains_in, ExplainsMembers, ExplainsGroups}
 use Rattle.cb_chain_commands.specs.declared.explanation.Explanation.{Explanation}
 
@@ -45,6 +46,10 @@ AddsGroup t columns group old new =
 abbrev pub AddsGroups : Topology → List NodeName → List NamedGroup → List ℕ → List ℕ → Type 0
 AddsGroups t columns groups old new =
     (chains : List (List (List NodeName))) × ExplainsGroups t columns groups chains × (new ≡ old ++ explained_groups groups chains)
+
+-- no more steps are counted than these problems cause nodes, those of each counted for itself
+abbrev pub CountsFrom : Topology → List NodeName → ℕ → ℕ → Type 0
+CountsFrom t problems old new = (total : ℕ) → IsTotalCaused t problems total → new ≤ old + total
 
 -- the members are problems, and no member of the quiet group causes a column
 pub record CanBeExplained (t : Topology) (columns : List NodeName) (group : NamedGroup) : Type 0 where

@@ -20,7 +20,8 @@ pub fn explain<'w, F: Files, L: Ledger>(
     symptoms: FileName<'w>,
     steps: &mut Steps<L>,
 ) -> Result<Output<'w>, Fault<'w>>
-    ensures { Comes (command model.entry topology.entry symptoms.entry) (F.tells files.old) (F.tells files.new) result }
+    ensures comes { Comes (command model.entry topology.entry symptoms.entry) (F.tells files.old) (F.tells files.new) result }
+    ensures steps { (command model.entry topology.entry symptoms.entry).counts (F.tells files.old) (F.tells files.new) steps.old steps.new }
 {
     let topology = read_network(alloc, files, model, topology)?;
     let kind = SymptomFile {

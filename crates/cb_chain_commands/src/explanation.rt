@@ -7,7 +7,7 @@ ghost use Rattle.cb_topo.specs.Numbered.{topology_of, AreNamed, IsNodeNamed};
 ghost use Rattle.cb_explain.specs.Explained.{HasSearched};
 ghost use Rattle.cb_outcome.specs.Explained.{chains_in};
 ghost use Rattle.cb_report.specs.ChainTexts.{chain_line};
-ghost use Rattle.cb_chain_commands.specs.Explaining.{IsExplanation, IsSameNetwork, AddsChains, AddsMemberChains};
+ghost use Rattle.cb_chain_commands.specs.Explaining.{IsExplanation, IsSameNetwork, AddsChains, AddsMemberChains, CountsFrom};
 
 use cb_explain::Explainer;
 use cb_graph::Graph;
@@ -56,6 +56,7 @@ impl Explanation {
         ensures same { OnOk result (IsSameNetwork self.old self.new) }
         ensures lines { OnOk result ((columns : List Name) → AreNamed self.old.graph self.old.columns columns
             → AddsMemberChains (topology_of self.old.graph) columns members.now out.old.items out.new.items) }
+        ensures cost { CountsFrom (topology_of self.old.graph) members.now steps.old steps.new }
     {
         for at in 0..members.len() {
             self.push_chains(alloc, members.at(at), out, steps)?;
@@ -77,6 +78,7 @@ impl Explanation {
         ensures same { OnOk result (IsSameNetwork self.old self.new) }
         ensures lines { OnOk result ((columns : List Name) → AreNamed self.old.graph self.old.columns columns
             → AddsChains (topology_of self.old.graph) columns problem.now out.old.items out.new.items) }
+        ensures cost { CountsFrom (topology_of self.old.graph) (problem.now ∷ []) steps.old steps.new }
     {
         let node = number_of(self.graph.topology(), problem);
         self.explainer.search(alloc, &mut self.graph, node, steps)?;

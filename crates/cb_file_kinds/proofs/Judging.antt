@@ -2,7 +2,9 @@
 use Rattle.std.proofs.Common.{◌≡◌, ◌≤◌, ◌<◌, ℕ, List, length, refl, sym, subst, inl, inr, arith, length-append}
 use Rattle.std.specs.Prelude.{Option, None, Some, IfSome, Err}
 use Rattle.std.specs.Io.KnownBytes.{Consumes}
-use Rattle.cb_io.specs.Outside.{FilesReport, left_of, TakesAll, ReadsAll, ReadsMoreThan}
+use Rattle.cb_io.specs.Outside.{FilesReport, left_of, TakesAll, ReadsAll, ReadsMoreThan, ReadFailed}
+use Rattle.cb_io.specs.declared.whole.ReadStop.{ReadStop}
+use Rattle.cb_io.specs.declared.whole.ReadStop.TheVariants as stops
 use Rattle.cb_model.specs.declared.node.NodeName.{NodeName}
 use Rattle.cb_model.specs.declared.tables.Tables.{Tables}
 use Rattle.cb_grammar.specs.declared.tree.Tree.{Tree}
@@ -29,7 +31,7 @@ use Rattle.cb_report.specs.declared.fault.Fault.TheVariants as faults
 use Rattle.cb_report.specs.FaultSources.{fault_of_syntax, fault_of_types}
 use Rattle.cb_outcome.specs.Judged.{Known, nothing, parsed, network, raised, Says, IsModelFault, RefusesFile}
 use Rattle.cb_file_kinds.specs.Kinds.{file_in_role, SaysAfter, RefusesAfter, StopsJudging, StopsReading, IsTextOf}
-use Rattle.cb_file_kinds.specs.Faults.{fault_of_topology, fault_of_symptoms}
+use Rattle.cb_file_kinds.specs.Faults.{fault_of_stop, fault_of_topology, fault_of_symptoms}
 
 -- ---- a text that was read
 
@@ -144,3 +146,17 @@ pub stops_reading : (role : Role) (name : List ℕ) (Before : Known → Type 0) 
 stops_reading role name Before old new text fault read (inl want) = inl want
 stops_reading role name Before old new text fault read (inr refuses) =
     inr (inr (record { text = text; text_is = text_of_read old new name text read; refuses = refuses }))
+
+-- a file that isn't read whole stops the run
+pub unread_stops : (role : Role) (name : List ℕ) (Before : Known → Type 0) (most : ℕ) → most ≡ byte_limit role → (old new : FilesReport) (stop : ReadStop)
+    → (stop ≡ stops.TooMuch → ReadsMoreThan old new name most) → (stop ≡ stops.ReadFault → ReadFailed old new name)
+    → StopsReading role name Before old new (fault_of_stop name stop)
+unread_stops role name Before most same old new stops.TooMuch much failed =
+    let (text, is, long) = too_much old new name most (much refl) in
+    inr (inr (record {
+      text = text;
+      text_is = is;
+      refuses = λ known before. inl (record { bytes = subst (λ (n : ℕ). n < length text) same long; is = refl });
+    }))
+unread_stops role name Before most same old new stops.ReadFault much failed = inr (inl (record { is = refl; failed = failed refl }))
+unread_stops role name Before most same old new stops.NoMemory much failed = inl refl

@@ -15,7 +15,8 @@ use Rattle.cb_report.specs.declared.fault.Fault.{Fault}
 use Rattle.cb_report.specs.declared.fault.Fault.TheVariants as faults
 use Rattle.cb_report.specs.declared.status.Status.TheVariants.{Memory}
 use Rattle.cb_report.specs.Faults.{status_of}
-use Rattle.cb_outcome.specs.Judged.{File, Known, Says, RefusesFile}
+use Rattle.cb_outcome.specs.Judged.{File, Known, levelled, Says, RefusesFile}
+use Rattle.cb_file_kinds.specs.declared.levels_file.ProvedLevels.{ProvedLevels}
 
 -- a file of this role and name, with this text
 abbrev pub file_in_role : Role → List ℕ → List ℕ → File
@@ -77,3 +78,7 @@ pub record IsCertificateAccepted (t : Topology) (c : Certificate) (accepted : Ac
 pub record AreProved (t : Topology) (levels : Levels) (proved : Proved) : Type 0 where
   pub valid : AreLevelsOf t proved.root levels
   pub shows : ShowsReach t levels proved
+
+-- the levels that a file of them states, by what is known
+abbrev pub IsLevelled : Topology → ProvedLevels → Known → Type 0
+IsLevelled t value known = (known ≡ levelled t value.levels) × AreProved t value.levels value.proved

@@ -2,6 +2,7 @@
 ghost use Rattle.std.specs.Prelude.{◌≡◌, ◌≤◌, length, IfOk, IfErr};
 ghost use Rattle.cb_outcome.specs.Roles.{Role, byte_limit};
 ghost use Rattle.cb_outcome.specs.Judged.{Known};
+ghost use Rattle.cb_file_kinds.specs.Faults.{fault_of_stop};
 ghost use Rattle.cb_file_kinds.specs.Kinds.{file_in_role, SaysAfter, StopsJudging, ReadsOnly, ReadsSaying, StopsReading};
 
 use cb_io::{Files, ReadStop, read_whole};
@@ -54,8 +55,17 @@ pub fn read_as<'w, F: Files, K: FileKind>(
 {
     match read_whole(alloc, files, name.as_str(), kind.most_bytes()) {
         Ok(text) => kind.judge(alloc, name, &text),
-        Err(ReadStop::TooMuch) => Err(Fault::LimitBytes { name }),
-        Err(ReadStop::ReadFault) => Err(Fault::ReadFault { name }),
-        Err(ReadStop::NoMemory) => Err(Fault::Memory),
+        Err(stop) => Err(unread(name, stop)),
+    }
+}
+
+/// The fault of a file that isn't read whole.
+pub(crate) fn unread(name: FileName<'_>, stop: ReadStop) -> Fault<'_>
+    ensures { result ≡ fault_of_stop name.entry stop }
+{
+    match stop {
+        ReadStop::TooMuch => Fault::LimitBytes { name },
+        ReadStop::ReadFault => Fault::ReadFault { name },
+        ReadStop::NoMemory => Fault::Memory,
     }
 }

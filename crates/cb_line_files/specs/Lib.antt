@@ -1,3 +1,4 @@
 pub mod Topologies
 pub mod Symptoms
+pub mod Scripts
 pub mod Steps

@@ -2,6 +2,7 @@
 ghost use Rattle.std.specs.Prelude.{◌≡◌, ◌≤◌, ◌+◌, ℕ, IfOk};
 ghost use Rattle.cb_model.specs.Order.{Rises};
 ghost use Rattle.cb_model.specs.NodeOrder.{node_cmp};
+ghost use Rattle.cb_burst.specs.Found.{IsSmallMatrix};
 ghost use Rattle.cb_change.specs.Costs.{IsOpenCost};
 ghost use Rattle.cb_finding.specs.declared.finding.Finding.{Finding};
 ghost use Rattle.cb_finding.specs.Finding.{IsBurst};
@@ -9,8 +10,10 @@ ghost use Rattle.cb_topo.specs.Numbered.{topology_of};
 ghost use Rattle.cb_report.specs.Lines.{burst_text as text_of_burst};
 ghost use Rattle.cb_outcome.specs.Jobs.{MatrixGives};
 ghost use Rattle.cb_outcome.specs.Outcome.{done};
+ghost use Rattle.cb_network_commands.specs.Written.{IsMatrixText};
 
 use cb_burst::{found_in, matrix_of};
+use cb_matrix::Matrix;
 use cb_model::{List, NodeName};
 use cb_reduce::least;
 use cb_report::{MatrixLines, burst_text};
@@ -45,6 +48,14 @@ pub(crate) fn lines_of_matrix<L: Ledger>(
     ensures cost { (cost : ℕ) → IsOpenCost (topology_of topology) cost → steps.new ≤ steps.old + cost }
 {
     let matrix = matrix_of(alloc, topology, steps)?;
+    matrix_lines(alloc, matrix)
+}
+
+/// The lines of a matrix that there is, to be written.
+pub(crate) fn matrix_lines(alloc: Global, matrix: Matrix) -> Result<MatrixLines, AllocError>
+    requires { IsSmallMatrix matrix }
+    ensures { IfOk result (IsMatrixText matrix.columns matrix.groups) }
+{
     let least = least(matrix.codes());
     let (columns, groups) = matrix.into_parts();
     MatrixLines::of(alloc, columns, groups, least)

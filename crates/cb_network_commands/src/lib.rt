@@ -8,4 +8,6 @@ mod judge;
 pub mod matrix;
 pub mod model;
 pub mod pairs;
+pub mod rewind;
+mod rewinding;
 pub mod verify;

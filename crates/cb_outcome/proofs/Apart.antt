@@ -26,7 +26,7 @@ use Rattle.cb_log.specs.Events.{IsNetwork}
 use Rattle.cb_log.specs.Whole.{KeepsApart}
 use Rattle.cb_log.proofs.Alone.{wanted_keeps_apart}
 use Rattle.cb_outcome.specs.Roles.{Wanted, Role}
-use Rattle.cb_outcome.specs.Judged.{Known, nothing, parsed, network, raised, certified, levelled, Means}
+use Rattle.cb_outcome.specs.Judged.{Known, nothing, parsed, network, raised, certified, levelled, scripted, Means}
 use Rattle.cb_outcome.specs.LogJobs.{States, StatesColumns}
 
 -- over any codebook by which a log is followed the groups are far enough apart
@@ -86,6 +86,7 @@ known_is_valid (parsed tree) text next t c means e = absurd means
 known_is_valid (raised u nodes) text next t c means e = absurd means
 known_is_valid (certified u d) text next t c means e = absurd means
 known_is_valid (levelled u ls) text next t c means e = absurd means
+known_is_valid (scripted u script) text next t c means e = absurd means
 known_is_valid (network u) text next t c (d, is, kind, next_is) e =
     let same : u ≡ t = cc in
     let one : d ≡ c = cc in

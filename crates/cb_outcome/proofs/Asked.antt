@@ -2,7 +2,7 @@
 use Rattle.std.proofs.Common.{refl}
 use Rattle.std.specs.Prelude.{Option, None, Some}
 use Rattle.cb_request.specs.declared.request.Request.{Request}
-use Rattle.cb_request.specs.declared.request.Request.TheVariants.{Burst, Model, Matrix, Codebook, Verify, Decode, Correlate, Grow, Pairs, Explain, Levels, Prove}
+use Rattle.cb_request.specs.declared.request.Request.TheVariants.{Burst, Model, Matrix, Codebook, Verify, Decode, Correlate, Grow, Pairs, Explain, Levels, Prove, Rewind}
 use Rattle.cb_outcome.specs.Asked.{command_of, command_for}
 use Rattle.cb_outcome.proofs.Lawful.{IsLawful}
 use Rattle.cb_outcome.proofs.Commands.Burst as burst
@@ -17,6 +17,7 @@ use Rattle.cb_outcome.proofs.Commands.Pairs as pairs
 use Rattle.cb_outcome.proofs.Commands.Explain as explain
 use Rattle.cb_outcome.proofs.Commands.Levels as levels
 use Rattle.cb_outcome.proofs.Commands.Prove as prove
+use Rattle.cb_outcome.proofs.Commands.Rewind as rewind
 
 pub request_lawful : (request : Request) → IsLawful (command_of request)
 request_lawful (Burst one two three) = burst.lawful one two three
@@ -31,6 +32,7 @@ request_lawful (Pairs one two three) = pairs.lawful one two three
 request_lawful (Explain one two three) = explain.lawful one two three
 request_lawful (Levels one two node) = levels.lawful one two node
 request_lawful (Prove one two three) = prove.lawful one two three
+request_lawful (Rewind one two three depth) = rewind.lawful one two three depth
 
 pub lawful : (asked : Option Request) → IsLawful (command_for asked)
 lawful None = (refl, refl)

@@ -24,12 +24,12 @@ use Rattle.cb_line_files.specs.Topologies.{LineMakes, LinesMake, MakesTopology, 
 use Rattle.cb_line_files.specs.Symptoms.{IsSymptomLine, ListsNodes, IsFirstBad}
 
 -- what holds of all items holds of one among them
-of_all : {X : Type 0} (P : X → Type 0) (xs before : List X) (x : X) (after : List X) → xs ≡ before ++ x ∷ after → All P xs → P x
+pub of_all : {X : Type 0} (P : X → Type 0) (xs before : List X) (x : X) (after : List X) → xs ≡ before ++ x ∷ after → All P xs → P x
 of_all {X} P xs before x after cut all =
     All-contains P (before ++ x ∷ after) x (subst (λ (ys : List X). All P ys) cut all) (Contains-append_right before (x ∷ after) x (contains_head x after))
 
 -- the first item of which something doesn't hold has one place
-one_first : {X : Type 0} (P : X → Type 0) (before before' : List X) (x x' : X) (after after' : List X) → before ++ x ∷ after ≡ before' ++ x' ∷ after'
+pub one_first : {X : Type 0} (P : X → Type 0) (before before' : List X) (x x' : X) (after after' : List X) → before ++ x ∷ after ≡ before' ++ x' ∷ after'
     → All P before → ¬ P x → All P before' → ¬ P x' → length before ≡ length before'
 one_first P [] [] x x' after after' e all none all' none' = refl
 one_first P [] (y ∷ ys) x x' after after' e all none all' none' =
@@ -78,7 +78,7 @@ nodes_are_one text xs ys a b =
     (λ n c. let (line, in_lines, spells) = b.each n c in a.all n line in_lines spells)
 
 -- a line whose first word begins with another byte than `#` isn't ignored
-not_passed : (line word : List ℕ) (words : List (List ℕ)) (b : ℕ) → words_of line ≡ word ∷ words → slice_get word 0 ≡ Some b → b ≢ 35 → ¬ IsPassedOver line
+pub not_passed : (line word : List ℕ) (words : List (List ℕ)) (b : ℕ) → words_of line ≡ word ∷ words → slice_get word 0 ≡ Some b → b ≢ 35 → ¬ IsPassedOver line
 not_passed line word words b is first other passed =
     let hash : slice_get word 0 ≡ Some 35 = subst (λ (ws : List (List ℕ)). MatchOption (slice_get ws 0) ⊤ (λ w. slice_get w 0 ≡ Some 35)) is passed in
     other (same_Some b 35 (sym first ∙ hash))
@@ -87,7 +87,7 @@ not_passed line word words b is first other passed =
     same_Some x y e = cc
 
 -- a line that is ignored spells no edit
-passed_is_no_edit : (line : List ℕ) (edit : Edit) → IsPassedOver line → ¬ SpellsEdit line edit
+pub passed_is_no_edit : (line : List ℕ) (edit : Edit) → IsPassedOver line → ¬ SpellsEdit line edit
 passed_is_no_edit line (Create name class) passed spells = not_passed line _ _ 99 spells.says refl (λ e. omega arith) passed
 passed_is_no_edit line (Delete name) passed spells = not_passed line _ _ 100 spells.says refl (λ e. omega arith) passed
 passed_is_no_edit line (Link a rel b) passed spells = not_passed line _ _ 108 spells.says refl (λ e. omega arith) passed

@@ -1,8 +1,10 @@
 pub mod FirstLines
+pub mod ScriptLines
 pub mod Once
 pub mod FitsOne
 pub mod JobsOne
 pub mod ChainsOne
+pub mod RewindOne
 pub mod LevelTexts
 pub mod LevelsAccepted
 pub mod LogPrefixes

@@ -19,6 +19,8 @@ use Rattle.cb_line_files.specs.declared.topology.LineFault.{LineFault}
 use Rattle.cb_line_files.specs.declared.topology.LineFault.TheVariants.{BadWords, Refused}
 use Rattle.cb_line_files.specs.Topologies.{IsFirstWrong, MakesTopology}
 use Rattle.cb_line_files.specs.Symptoms.{ListsNodes, IsFirstBad}
+use Rattle.cb_line_files.specs.Scripts.{ReadsScript, IsFirstBadLine}
+use Rattle.cb_history.specs.declared.script.ScriptLine.{ScriptLine}
 use Rattle.cb_cert.specs.declared.certificate.Certificate.{Certificate}
 use Rattle.cb_cert.specs.declared.fault.CertText.{CertText}
 use Rattle.cb_cert.specs.Format.{SpellsCertificate}
@@ -39,8 +41,9 @@ use Rattle.cb_report.specs.declared.fault.Fault.{Fault}
 use Rattle.cb_report.specs.declared.fault.Fault.TheVariants as faults
 use Rattle.cb_report.specs.FaultSources.{fault_of_syntax, fault_of_text, fault_of_rejected, fault_of_level_text, fault_of_levels}
 use Rattle.cb_outcome.specs.Texts.{IsTreeText, IsTopologyText, IsValidText, IsWantedKind, IsLevelText}
-use Rattle.cb_outcome.specs.Judged.{File, Known, nothing, parsed, network, raised, certified, levelled, Means, Says, IsModelFault, IsWrongLine, IsTopologyFault, IsSymptomFault, IsCertificateFault, IsFaultFor, AreLevelsFaulty, HasFault, RefusesFile, PassFrom}
+use Rattle.cb_outcome.specs.Judged.{File, Known, nothing, parsed, network, raised, certified, levelled, scripted, Means, Says, IsModelFault, IsWrongLine, IsTopologyFault, IsSymptomFault, IsScriptFault, IsCertificateFault, IsFaultFor, AreLevelsFaulty, HasFault, RefusesFile, PassFrom}
 use Rattle.cb_outcome.proofs.FirstLines.{long_is_one, long_or_short, bad_is_one, bad_or_listed, nodes_are_one, topology_is_one, made_of, wrong_is_one, wrong_or_makes}
+use Rattle.cb_outcome.proofs.ScriptLines.{script_is_one, bad_script_line_is_one, bad_or_script}
 use Rattle.cb_network.proofs.Typed.{typed_is_regular}
 
 -- ---- a model
@@ -135,6 +138,21 @@ one_bad_line text f g a b =
 bad_or_nodes : (text : List ℕ) (fault : Fault) (nodes : List NodeName) → IsSymptomFault text fault → ListsNodes text nodes → ⊥
 bad_or_nodes text fault nodes f lists = let (line, bad, e) = bad_line text fault f in bad_or_listed text line nodes bad lists
 
+-- ---- a script
+
+bad_script_line : (text : List ℕ) (fault : Fault) → IsScriptFault text fault → (line : ℕ) × IsFirstBadLine text line × (fault ≡ faults.ScriptWords line)
+bad_script_line text (faults.ScriptWords line) f = (line, f, refl)
+bad_script_line text fault f = absurd f
+
+one_bad_script_line : (text : List ℕ) (f g : Fault) → IsScriptFault text f → IsScriptFault text g → f ≡ g
+one_bad_script_line text f g a b =
+    let (m, bad, e) = bad_script_line text f a in
+    let (n, bad', h) = bad_script_line text g b in
+    e ∙ (ap (λ (line : ℕ). faults.ScriptWords line) (bad_script_line_is_one text m n bad bad') ∙ sym h)
+
+faulty_or_script : (text : List ℕ) (fault : Fault) (script : List ScriptLine) → IsScriptFault text fault → ReadsScript text script → ⊥
+faulty_or_script text fault script f reads = let (line, bad, e) = bad_script_line text fault f in bad_or_script text line script bad reads
+
 -- ---- a certificate
 
 -- a text spells one certificate
@@ -214,6 +232,7 @@ IsSound (network t) = IsRegular t.model
 IsSound (raised t nodes) = IsRegular t.model
 IsSound (certified t c) = IsRegular t.model
 IsSound (levelled t levels) = IsRegular t.model
+IsSound (scripted t script) = IsRegular t.model
 
 pub means_one : (role : Role) (known : Known) (text : List ℕ) → IsSound known → (a b : Known) → Means role known text a → Means role known text b → a ≡ b
 means_one Role.model nothing text sound a b (t, is, e) (u, is', h) = e ∙ (ap (λ (x : Tree). parsed x) (same_tree text t u is.spelled is'.spelled) ∙ sym h)
@@ -225,6 +244,8 @@ means_one (Role.certificate wanted) (network t) text sound a b (c, is, kind, e) 
     e ∙ (ap (λ (x : Certificate). certified t x) (same_certificate text c d is.spelled is'.spelled) ∙ sym h)
 means_one Role.levels (network t) text sound a b (xs, is, e) (ys, is', h) =
     e ∙ (ap (λ (x : Levels). levelled t x) (same_levels text xs ys is.spelled is'.spelled) ∙ sym h)
+means_one Role.script (network t) text sound a b (xs, is, e) (ys, is', h) =
+    e ∙ (ap (λ (x : List ScriptLine). scripted t x) (script_is_one text xs ys is is') ∙ sym h)
 means_one role known text sound a b p q = absurd p
 
 pub fault_one : (role : Role) (known : Known) (text : List ℕ) → IsSound known → (f g : Fault) → HasFault role known text f → HasFault role known text g → f ≡ g
@@ -234,6 +255,7 @@ fault_one Role.topology (parsed tree) text (from, says) f g a b =
 fault_one Role.symptoms (network t) text sound f g a b = one_bad_line text f g a b
 fault_one (Role.certificate wanted) (network t) text sound f g a b = one_for t text wanted f g a b
 fault_one Role.levels (network t) text sound f g a b = one_level_fault t text f g a b
+fault_one Role.script (network t) text sound f g a b = one_bad_script_line text f g a b
 fault_one role known text sound f g a b = absurd a
 
 pub means_or_fault : (role : Role) (known : Known) (text : List ℕ) → IsSound known → (a : Known) (f : Fault) → Means role known text a → HasFault role known text f → ⊥
@@ -242,6 +264,7 @@ means_or_fault Role.topology (parsed tree) text (from, says) a f (t, is, e) h = 
 means_or_fault Role.symptoms (network t) text sound a f (xs, is, e) h = bad_or_nodes text f xs h is
 means_or_fault (Role.certificate wanted) (network t) text sound a f (c, is, kind, e) h = for_or_valid t text wanted f c h is kind
 means_or_fault Role.levels (network t) text sound a f (levels, is, e) h = faulty_or_valid t text f levels h is
+means_or_fault Role.script (network t) text sound a f (script, is, e) h = faulty_or_script text f script h is
 means_or_fault role known text sound a f p h = p
 
 pub means_sound : (role : Role) (known : Known) (text : List ℕ) (next : Known) → IsSound known → Means role known text next → IsSound next
@@ -250,6 +273,7 @@ means_sound Role.topology (parsed tree) text next (from, says) (t, is, e) = subs
 means_sound Role.symptoms (network t) text next sound (xs, is, e) = subst IsSound (sym e) sound
 means_sound (Role.certificate wanted) (network t) text next sound (c, is, kind, e) = subst IsSound (sym e) sound
 means_sound Role.levels (network t) text next sound (levels, is, e) = subst IsSound (sym e) sound
+means_sound Role.script (network t) text next sound (script, is, e) = subst IsSound (sym e) sound
 means_sound role known text next sound p = absurd p
 
 -- what a file says is sound

@@ -55,6 +55,7 @@ IsStatusFor Role.topology status = status ≡ statuses.Topology
 IsStatusFor Role.symptoms status = status ≡ statuses.Topology
 IsStatusFor (Role.certificate wanted) status = status ≡ statuses.Certificate
 IsStatusFor Role.levels status = status ≡ statuses.Certificate
+IsStatusFor Role.script status = status ≡ statuses.Topology
 
 pub record IsTextFault (role : Role) (fault : Fault) : Type 0 where
   pub nameless : NamesNoFile fault
@@ -139,6 +140,8 @@ text_fault (Role.certificate wanted) (network t) text fault (inr a) =
 text_fault Role.levels (network t) text fault (inl a) = same_fault Role.levels fault (fault_of_level_text a.why) a.is (of_level_form text a.why a.has)
 text_fault Role.levels (network t) text fault (inr (levels, spells, a)) =
     same_fault Role.levels fault (fault_of_levels a.why) a.is (of_level_check t levels a.why a.fails)
+text_fault Role.script (network t) text (faults.ScriptWords line) h = record { nameless = tt; status = refl }
+text_fault Role.script (network t) text fault h = absurd h
 text_fault role known text fault h = absurd h
 
 own_status : (role : Role) (status : Status) → IsStatusFor role status → IsOwnStatus status
@@ -147,6 +150,7 @@ own_status Role.topology status e = subst IsOwnStatus (sym e) tt
 own_status Role.symptoms status e = subst IsOwnStatus (sym e) tt
 own_status (Role.certificate wanted) status e = subst IsOwnStatus (sym e) tt
 own_status Role.levels status e = subst IsOwnStatus (sym e) tt
+own_status Role.script status e = subst IsOwnStatus (sym e) tt
 
 pub has_own : (role : Role) (known : Known) (text : List ℕ) (fault : Fault) → HasFault role known text fault → IsOwnFault fault
 has_own role known text fault has =

@@ -6,9 +6,9 @@ use Rattle.std.specs.Option.{option_map, option_and_then}
 use Rattle.cb_io.specs.Pairs.{look_up}
 use Rattle.cb_model.specs.declared.wish.Wish.{Wish}
 use Rattle.cb_model.specs.declared.wish.Wish.TheVariants.{Plain, Cap}
-use Rattle.cb_request.specs.Commands.{burst_of, model_of, matrix_of, codebook_of, verify_of, decode_of, correlate_of, grow_of, pairs_of, explain_of, levels_of, prove_of, commands, request_of}
+use Rattle.cb_request.specs.Commands.{burst_of, model_of, matrix_of, codebook_of, verify_of, decode_of, correlate_of, grow_of, pairs_of, explain_of, levels_of, prove_of, rewind_of, commands, request_of}
 use Rattle.cb_request.specs.NodeWords.{node_in}
-use Rattle.cb_request.specs.Numbers.{number_in, window_in, sites_in, start_in, wish_in}
+use Rattle.cb_request.specs.Numbers.{number_in, depth_in, window_in, sites_in, start_in, wish_in}
 use Rattle.cb_request.specs.declared.request.Request.{Request}
 use Rattle.cb_request.specs.declared.request.Request.TheVariants as requests
 use Rattle.cb_request.proofs.NumberWords.{number_is_read}
@@ -136,6 +136,16 @@ prove_keeps (one ∷ two ∷ []) request e = cc
 prove_keeps (one ∷ two ∷ three ∷ []) request e = let same : requests.Prove one two three ≡ request = cc in subst IsInRange same tt
 prove_keeps (one ∷ two ∷ three ∷ more ∷ rest) request e = cc
 
+rewind_keeps : Keeps rewind_of
+rewind_keeps [] request e = cc
+rewind_keeps (one ∷ []) request e = cc
+rewind_keeps (one ∷ two ∷ []) request e = cc
+rewind_keeps (one ∷ two ∷ three ∷ []) request e = cc
+rewind_keeps (one ∷ two ∷ three ∷ four ∷ []) request e =
+    mapped (requests.Rewind one two three) (IsWithin 1 1024) (λ depth is. is) (depth_in four)
+    (λ depth is. number_within 1 1024 four depth (omega arith) is) request e
+rewind_keeps (one ∷ two ∷ three ∷ four ∷ more ∷ rest) request e = cc
+
 -- a command of a table whose commands all keep their ranges keeps them
 abbrev KeepsAll : List (List ℕ × (List (List ℕ) → Option Request)) → Type 0
 KeepsAll [] = Unit {0}
@@ -154,7 +164,7 @@ request_in_range : (words : List (List ℕ)) (request : Request) → request_of 
 request_in_range [] request e = cc
 request_in_range (command ∷ words) request e =
     found_keeps commands
-    (burst_keeps, (model_keeps, (matrix_keeps, (codebook_keeps, (verify_keeps, (decode_keeps, (correlate_keeps, (grow_keeps, (pairs_keeps, (explain_keeps, (levels_keeps, (prove_keeps, tt))))))))))))
+    (burst_keeps, (model_keeps, (matrix_keeps, (codebook_keeps, (verify_keeps, (decode_keeps, (correlate_keeps, (grow_keeps, (pairs_keeps, (explain_keeps, (levels_keeps, (prove_keeps, (rewind_keeps, tt)))))))))))))
     command words request e
 
 pub asked_is_in_range : AskedIsInRange

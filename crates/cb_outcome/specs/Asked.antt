@@ -3,7 +3,7 @@ use Rattle.std.specs.Prelude.{List, Option, None, Some, String}
 use Rattle.std.specs.declared.alloc.Global.{Global}
 use Rattle.cb_request.specs.Commands.{request_of_arguments}
 use Rattle.cb_request.specs.declared.request.Request.{Request}
-use Rattle.cb_request.specs.declared.request.Request.TheVariants.{Burst, Model, Matrix, Codebook, Verify, Decode, Correlate, Grow, Pairs, Explain, Levels, Prove}
+use Rattle.cb_request.specs.declared.request.Request.TheVariants.{Burst, Model, Matrix, Codebook, Verify, Decode, Correlate, Grow, Pairs, Explain, Levels, Prove, Rewind}
 use Rattle.cb_outcome.specs.Command.{Command}
 use Rattle.cb_outcome.specs.Commands.Burst.{burst}
 use Rattle.cb_outcome.specs.Commands.Model.{model}
@@ -17,6 +17,7 @@ use Rattle.cb_outcome.specs.Commands.Pairs.{pairs}
 use Rattle.cb_outcome.specs.Commands.Explain.{explain}
 use Rattle.cb_outcome.specs.Commands.Levels.{levels}
 use Rattle.cb_outcome.specs.Commands.Prove.{prove}
+use Rattle.cb_outcome.specs.Commands.Rewind.{rewind}
 use Rattle.cb_outcome.specs.Commands.Usage.{usage}
 
 -- the command of a request
@@ -33,6 +34,7 @@ command_of (Pairs one two three) = pairs one two three
 command_of (Explain one two three) = explain one two three
 command_of (Levels one two node) = levels one two node
 command_of (Prove one two three) = prove one two three
+command_of (Rewind one two three depth) = rewind one two three depth
 
 -- of what words ask for, if they ask for something
 abbrev pub command_for : Option Request → Command

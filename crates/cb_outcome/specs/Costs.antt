@@ -1,16 +1,26 @@
 -- Bounds on steps. `after` is what the files say after the run.
-use Rattle.std.specs.Prelude.{◌≡◌, ℕ, ◌+◌, ◌≤◌, List, [], ◌∷◌}
+use Rattle.std.specs.Prelude.{◌≡◌, ℕ, ◌+◌, ◌≤◌, List, [], ◌∷◌, length, sum, slice_get, Bool, true, false, Some}
+use Rattle.std.specs.List.{AllZip, flat_map}
+use Rattle.cb_model.specs.declared.node.NamedGroup.{NamedGroup}
+use Rattle.cb_model.specs.declared.node.NodeName.{NodeName}
 use Rattle.cb_change.specs.Costs.{IsOpenCost}
 use Rattle.cb_change.specs.InTurn.{IsCostInTurn}
 use Rattle.cb_gen.specs.Log.{log_text}
 use Rattle.cb_io.specs.Outside.{FilesReport, left_of}
+use Rattle.cb_finding.specs.declared.finding.Finding.{Finding}
+use Rattle.cb_finding.specs.Finding.{IsBurst}
+use Rattle.cb_network.specs.Causes.{Causes}
+use Rattle.cb_network.specs.Nodes.{IsCount, IsProblem}
 use Rattle.cb_network.specs.Topology.{Topology}
+use Rattle.cb_levels.specs.declared.levels.Levels.{Levels}
+use Rattle.cb_levels.specs.Format.{SpellsLevels}
 use Rattle.cb_log.specs.Entries.{LogEntry, records_of}
 use Rattle.cb_log.specs.Network.{edits_of}
 use Rattle.cb_alarm.specs.Lines.{NumberedLine, ended_lines, log_lines, ComeTo}
 use Rattle.cb_outcome.specs.Contents.{Left, Reads, files_before, files_from, log_from}
 use Rattle.cb_outcome.specs.Grown.{MakesUp}
-use Rattle.cb_outcome.specs.Judged.{nothing, network, PassFrom}
+use Rattle.cb_outcome.specs.Jobs.{NamesNode}
+use Rattle.cb_outcome.specs.Judged.{File, nothing, network, raised, PassFrom}
 use Rattle.cb_outcome.specs.Reading.{LeavesRest}
 
 -- what the edits in these lines cost together, each made of the topology that those before it leave
@@ -52,3 +62,56 @@ pub record CountsCorrelate (left : Left) (reads : Reads) (log : List ℕ) (after
 pub record CountsGrow (sites start old new : ℕ) : Type 0 where
   pub most : (t : Topology) → MakesUp sites t → CountsLog t (log_text sites start) old new
   pub none : ((t : Topology) → ¬ MakesUp sites t) → new ≡ old
+
+-- ---- chains of causes
+
+-- the problems that `explain` searches from: the members of each group, but of the quiet one
+abbrev pub members_but_of_quiet : Bool → List NodeName → List NodeName
+members_but_of_quiet true members = []
+members_but_of_quiet false members = members
+
+abbrev pub problems_explained : List NamedGroup → List NodeName
+problems_explained groups = flat_map (λ group. members_but_of_quiet group.quiet group.members) groups
+
+-- the total, over these problems, of the numbers of nodes that each causes
+pub record IsTotalCaused (t : Topology) (problems : List NodeName) (total : ℕ) : Type 0 where
+  pub sizes : List ℕ
+  pub sized : AllZip (λ p n. IsCount (Causes t p) n) problems sizes
+  pub total_is : total ≡ sum sizes
+
+-- the search of the topology, and then one search from each problem of a listed group, which costs as much as the problem causes nodes
+pub record IsExplainCost (t : Topology) (nodes : List NodeName) (cost : ℕ) : Type 0 where
+  pub searched : ℕ
+  pub is_searched : IsOpenCost t searched
+  pub finding : Finding
+  pub burst : IsBurst t nodes finding
+  pub explained : ℕ
+  pub is_explained : IsTotalCaused t (problems_explained finding.groups) explained
+  pub cost_is : cost ≡ searched + explained
+
+-- `explain`: no more steps are counted than that costs, for the topology and the raised nodes that the three files give. Where they give none, no
+-- step is counted.
+pub record CountsExplain (left : Left) (reads : Reads) (old new : ℕ) : Type 0 where
+  pub most : (t : Topology) (nodes : List NodeName) → PassFrom nothing (files_from left reads) (raised t nodes) → (cost : ℕ) → IsExplainCost t nodes cost
+      → new ≤ old + cost
+  pub none : ((t : Topology) (nodes : List NodeName) → ¬ PassFrom nothing (files_from left reads) (raised t nodes)) → new ≡ old
+
+-- no more steps are counted than the problem that the word names causes nodes; where it names none, no step is counted
+pub record CountsNamed (t : Topology) (word : List ℕ) (old new : ℕ) : Type 0 where
+  pub most : (problem : NodeName) → NamesNode word problem → IsProblem t problem → (count : ℕ) → IsCount (Causes t problem) count → new ≤ old + count
+  pub none : ((problem : NodeName) → NamesNode word problem → ¬ IsProblem t problem) → new ≡ old
+
+-- `levels`: so it is for the topology that the model and the topology file give. Where they give none, no step is counted.
+pub record CountsLevels (left : Left) (reads : Reads) (word : List ℕ) (old new : ℕ) : Type 0 where
+  pub most : (t : Topology) → PassFrom nothing (files_before 2 left reads) (network t) → CountsNamed t word old new
+  pub none : ((t : Topology) → ¬ PassFrom nothing (files_before 2 left reads) (network t)) → new ≡ old
+
+-- no more steps are counted than the levels that the text spells have entries; where it spells none, no step is counted
+pub record CountsEntries (text : List ℕ) (old new : ℕ) : Type 0 where
+  pub most : (levels : Levels) → SpellsLevels text levels → new ≤ old + length levels.entries
+  pub none : ((levels : Levels) → ¬ SpellsLevels text levels) → new ≡ old
+
+-- `prove`: so it is for the text of the third file. Where the first two give no topology, no step is counted.
+pub record CountsProve (left : Left) (reads : Reads) (old new : ℕ) : Type 0 where
+  pub most : (levels : File) → slice_get (files_from left reads) 2 ≡ Some levels → CountsEntries levels.text old new
+  pub none : ((t : Topology) → ¬ PassFrom nothing (files_before 2 left reads) (network t)) → new ≡ old

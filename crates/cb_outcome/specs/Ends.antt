@@ -13,7 +13,7 @@ abbrev pub FilesMayEnd : Reads → Status → Type 0
 FilesMayEnd reads statuses.Done = Unit {0}
 FilesMayEnd reads statuses.Usage = ⊥
 FilesMayEnd reads statuses.Model = HasRole reads Role.model
-FilesMayEnd reads statuses.Topology = HasRole reads Role.topology ⊎ HasRole reads Role.symptoms
+FilesMayEnd reads statuses.Topology = HasRole reads Role.topology ⊎ (HasRole reads Role.symptoms ⊎ HasRole reads Role.script)
 FilesMayEnd reads statuses.Certificate = ((wanted : Wanted) × HasRole reads (Role.certificate wanted)) ⊎ HasRole reads Role.levels
 FilesMayEnd reads statuses.Distance = ⊥
 FilesMayEnd reads statuses.Limit = names_of reads ≢ []

@@ -30,6 +30,10 @@ use Rattle.cb_levels.specs.Format.{IsLevels}
 use Rattle.cb_levels.specs.Text.{levels_text}
 use Rattle.cb_levels.specs.Valid.{AreLevelsOf}
 use Rattle.cb_network.specs.Nodes.{IsProblem}
+use Rattle.cb_history.specs.Histories.{History, new_history}
+use Rattle.cb_history.specs.Scripts.{Rewinds}
+use Rattle.cb_history.specs.declared.script.LineReport.{LineReport}
+use Rattle.cb_history.specs.declared.script.ScriptLine.{ScriptLine}
 use Rattle.cb_text.specs.Names.{IsNodeText}
 use Rattle.cb_report.specs.declared.fits.FoundFits.{FoundFits}
 use Rattle.cb_report.specs.declared.fault.Fault.TheVariants as faults
@@ -39,6 +43,7 @@ use Rattle.cb_report.specs.Lines.{burst_text}
 use Rattle.cb_report.specs.ChainTexts.{explained_text}
 use Rattle.cb_report.specs.LevelTexts.{proved_text}
 use Rattle.cb_report.specs.MatrixText.{matrix_text}
+use Rattle.cb_report.specs.RewoundText.{rewound_text}
 use Rattle.cb_outcome.specs.Explained.{ExplainsGroups}
 use Rattle.cb_outcome.specs.Fits.{IsFoundFor}
 use Rattle.cb_outcome.specs.Outcome.{Outcome, done, done_with, refused}
@@ -152,3 +157,22 @@ pub record ProveGives (t : Topology) (levels : Levels) (whole : ℕ) (outcome : 
   pub valid : AreLevelsOf t proved.root levels
   pub shows : ShowsReach t levels proved
   pub gives : outcome ≡ done (proved_text proved) whole
+
+-- the history that a script leaves of a topology, with what is reported of its lines, and the matrix of the history's topology
+pub record RewoundMatrix (t : Topology) (script : List ScriptLine) (depth : ℕ) : Type 0 where
+  pub reports : List LineReport
+  pub last : History
+  pub rewinds : Rewinds depth (new_history t) script reports last
+  pub columns : List NodeName
+  pub groups : List Group
+  pub matrix : IsMatrix last.now columns groups
+  pub least : Option Pair
+  pub least_is : IsClosestPair (length columns) (codes_of groups) least
+
+-- what is reported, and then the lines of the matrix
+abbrev pub text_of_rewound : {t : Topology} {script : List ScriptLine} {depth : ℕ} → RewoundMatrix t script depth → List ℕ
+text_of_rewound r = rewound_text r.reports r.columns r.groups r.least
+
+-- `rewind`: what is reported of the script's lines, and the matrix of the topology that they leave
+abbrev pub RewindGives : Topology → List ScriptLine → ℕ → ℕ → Outcome → Type 0
+RewindGives t script depth whole outcome = (rewound : RewoundMatrix t script depth) × (outcome ≡ done (text_of_rewound rewound) whole)

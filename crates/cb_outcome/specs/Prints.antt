@@ -1,5 +1,5 @@
 -- What outputs say of causes.
-use Rattle.std.specs.Prelude.{◌≡◌, ◌↔◌, ℕ, ◌<◌, ◌≤◌, ◌++◌, List, [], ◌∷◌, length, Bool, Some, IsTrue}
+use Rattle.std.specs.Prelude.{◌≡◌, ◌↔◌, ℕ, ◌<◌, ◌≤◌, ◌++◌, List, [], ◌∷◌, length, map, Bool, Some, IsTrue}
 use Rattle.std.specs.List.{Contains}
 use Rattle.std.specs.List.Sorted.{IsStrictlyIncreasing}
 use Rattle.cb_io.specs.Outside.{SinkReport, WritesAll}
@@ -20,6 +20,8 @@ use Rattle.cb_levels.specs.declared.verdict.Proved.{Proved}
 use Rattle.cb_levels.specs.Canonical.{ListsLevels}
 use Rattle.cb_levels.specs.Checks.{ShowsReach}
 use Rattle.cb_network.specs.Nodes.{IsProblem}
+use Rattle.cb_history.specs.Histories.{new_history, IsAfterMoves}
+use Rattle.cb_history.specs.declared.script.ScriptLine.{ScriptLine}
 use Rattle.cb_pairs.specs.declared.guess.Guess.{Guess}
 use Rattle.cb_pairs.specs.Fits.{from_guess}
 use Rattle.cb_pairs.specs.Guesses.{IsGuess, guess_code}
@@ -43,7 +45,7 @@ use Rattle.cb_outcome.specs.Roles.{Wanted, Role}
 use Rattle.cb_outcome.specs.Texts.{IsValidText, IsLevelText}
 use Rattle.cb_outcome.specs.Explained.{ExplainsGroups}
 use Rattle.cb_outcome.specs.Fits.{IsFoundFor}
-use Rattle.cb_outcome.specs.Jobs.{NamesNode}
+use Rattle.cb_outcome.specs.Jobs.{NamesNode, RewoundMatrix, text_of_rewound}
 use Rattle.cb_outcome.specs.Judged.{IsShortFor}
 use Rattle.cb_outcome.specs.LogJobs.{Watch}
 use Rattle.cb_outcome.specs.Seen.{Seen, SaysFault}
@@ -153,3 +155,11 @@ pub record PrintsProof (t : Topology) (levels : Levels) (out out' : SinkReport) 
   pub lists : ListsLevels t proved.root levels
   pub shows : ShowsReach t levels proved
   pub printed : WritesAll out out' (proved_text proved)
+
+-- `rewind` printed what is reported of the script, and the matrix of the topology that its edits and undos in order lead to, each edit accepted or
+-- refused and each undo by the history as it was then; no more earlier topologies were kept than the depth
+pub record PrintsRewound (t : Topology) (script : List ScriptLine) (depth : ℕ) (out out' : SinkReport) : Type 0 where
+  pub rewound : RewoundMatrix t script depth
+  pub moves : IsAfterMoves depth (new_history t) (map (λ line. line.what) script) rewound.last
+  pub few : length rewound.last.before ≤ depth
+  pub printed : WritesAll out out' (text_of_rewound rewound)

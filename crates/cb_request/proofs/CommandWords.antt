@@ -4,7 +4,7 @@ use Rattle.std.proofs.lemmas.List.{length-map}
 use Rattle.std.proofs.lemmas.Slice.Eq.{bytes_eq-Decides}
 use Rattle.std.specs.Prelude.{◌∷◌, codes, None, string_bytes}
 use Rattle.std.specs.Str.{bytes_eq}
-use Rattle.cb_request.specs.Commands.{request_of, codebook_of, correlate_of, levels_of, texts}
+use Rattle.cb_request.specs.Commands.{request_of, codebook_of, correlate_of, levels_of, rewind_of, texts}
 
 differs : (one other : List ℕ) → other ≢ one → bytes_eq one other ≡ false
 differs one other ne = by_test (bytes_eq one other) refl
@@ -27,6 +27,7 @@ pub record IsOther (command : List ℕ) : Type 0 where
   pub explain : command ≢ codes "explain"
   pub levels : command ≢ codes "levels"
   pub prove : command ≢ codes "prove"
+  pub rewind : command ≢ codes "rewind"
 
 pub other_asks_for_nothing : (command : List ℕ) (words : List (List ℕ)) → IsOther command → None ≡ request_of (command ∷ words)
 other_asks_for_nothing command words is =
@@ -43,6 +44,7 @@ other_asks_for_nothing command words is =
       differs (codes "explain") command is.explain,
       differs (codes "levels") command is.levels,
       differs (codes "prove") command is.prove,
+      differs (codes "rewind") command is.rewind,
     ) refl
 
 -- `correlate` has five words after it
@@ -79,3 +81,15 @@ not_three (one ∷ two ∷ node ∷ more ∷ words) other = refl
 
 pub other_number_of_words : (words : List (String Global)) → length words ≢ 3 → None ≡ levels_of (texts words)
 other_number_of_words words other = not_three (texts words) (λ e. other (sym (length-map words string_bytes) ∙ e))
+
+-- and `rewind` four
+not_four : (words : List (List ℕ)) → length words ≢ 4 → None ≡ rewind_of words
+not_four [] other = refl
+not_four (one ∷ []) other = refl
+not_four (one ∷ two ∷ []) other = refl
+not_four (one ∷ two ∷ three ∷ []) other = refl
+not_four (one ∷ two ∷ three ∷ depth ∷ []) other = absurd (other refl)
+not_four (one ∷ two ∷ three ∷ depth ∷ more ∷ words) other = refl
+
+pub more_or_fewer_than_four : (words : List (String Global)) → length words ≢ 4 → None ≡ rewind_of (texts words)
+more_or_fewer_than_four words other = not_four (texts words) (λ e. other (sym (length-map words string_bytes) ∙ e))

@@ -4,7 +4,7 @@ use Rattle.std.specs.declared.alloc.Global.{Global}
 use Rattle.std.specs.Option.{option_map, option_and_then}
 use Rattle.cb_io.specs.Pairs.{look_up}
 use Rattle.cb_request.specs.NodeWords.{node_in}
-use Rattle.cb_request.specs.Numbers.{window_in, sites_in, start_in, wish_in}
+use Rattle.cb_request.specs.Numbers.{depth_in, window_in, sites_in, start_in, wish_in}
 use Rattle.cb_request.specs.declared.request.Request.{Request}
 use Rattle.cb_request.specs.declared.request.Request.TheVariants as requests
 
@@ -62,12 +62,17 @@ abbrev pub prove_of : List (List ℕ) → Option Request
 prove_of (one ∷ two ∷ three ∷ []) = Some (requests.Prove one two three)
 prove_of words = None
 
+abbrev pub rewind_of : List (List ℕ) → Option Request
+rewind_of (one ∷ two ∷ three ∷ depth ∷ []) = option_map (requests.Rewind one two three) (depth_in depth)
+rewind_of words = None
+
 -- the commands, each with what the words after it ask for
 abbrev pub commands : List (List ℕ × (List (List ℕ) → Option Request))
 commands =
     (codes "burst", burst_of) ∷ (codes "model", model_of) ∷ (codes "matrix", matrix_of) ∷ (codes "codebook", codebook_of)
     ∷ (codes "verify", verify_of) ∷ (codes "decode", decode_of) ∷ (codes "correlate", correlate_of) ∷ (codes "grow", grow_of)
-    ∷ (codes "pairs", pairs_of) ∷ (codes "explain", explain_of) ∷ (codes "levels", levels_of) ∷ (codes "prove", prove_of) ∷ []
+    ∷ (codes "pairs", pairs_of) ∷ (codes "explain", explain_of) ∷ (codes "levels", levels_of) ∷ (codes "prove", prove_of)
+    ∷ (codes "rewind", rewind_of) ∷ []
 
 -- what the words of the command line ask for, if they ask for something
 abbrev pub request_of : List (List ℕ) → Option Request

@@ -1,6 +1,6 @@
 //! Words that are numbers.
 ghost use Rattle.std.specs.Prelude.{◌≡◌};
-ghost use Rattle.cb_request.specs.Numbers.{number_in as number_of, distance_in as distance_of, window_in as window_of, sites_in as sites_of, start_in as start_of, wish_in as wish_of};
+ghost use Rattle.cb_request.specs.Numbers.{number_in as number_of, distance_in as distance_of, depth_in as depth_of, window_in as window_of, sites_in as sites_of, start_in as start_of, wish_in as wish_of};
 
 use cb_model::Wish;
 use cb_text::decimal_of;
@@ -17,6 +17,13 @@ pub(crate) fn window_in(word: &str) -> Option<u64>
     ensures { result ≡ window_of word.now }
 {
     number_in(1, 1_000_000_000_000, word)
+}
+
+/// How many edits can be taken back.
+pub(crate) fn depth_in(word: &str) -> Option<u64>
+    ensures { result ≡ depth_of word.now }
+{
+    number_in(1, 1_024, word)
 }
 
 /// A number of sites.

@@ -73,6 +73,13 @@ pub enum Request<'w> {
         topology: FileName<'w>,
         levels: FileName<'w>,
     },
+    /// The matrix after the edits and undos of a script, of which at most so many edits can be taken back.
+    Rewind {
+        model: FileName<'w>,
+        topology: FileName<'w>,
+        script: FileName<'w>,
+        depth: u64,
+    },
     /// A summary of a generated log.
     Grow {
         sites: u64,

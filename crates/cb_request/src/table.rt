@@ -1,10 +1,10 @@
 //! The table of commands.
 ghost use Rattle.std.specs.Prelude.{◌≡◌, ◌∷◌};
-ghost use Rattle.cb_request.specs.Commands.{request_of_arguments, texts, request_of, burst_of, model_of, matrix_of, codebook_of, verify_of, decode_of, correlate_of, grow_of, pairs_of, explain_of, levels_of, prove_of};
+ghost use Rattle.cb_request.specs.Commands.{request_of_arguments, texts, request_of, burst_of, model_of, matrix_of, codebook_of, verify_of, decode_of, correlate_of, grow_of, pairs_of, explain_of, levels_of, prove_of, rewind_of};
 
 use crate::file_name::FileName;
 use crate::node_word::NodeWord;
-use crate::numbers::{sites_in, start_in, window_in, wish_in};
+use crate::numbers::{depth_in, sites_in, start_in, window_in, wish_in};
 use crate::request::Request;
 
 impl<'w> Request<'w> {
@@ -36,6 +36,7 @@ fn read<'w>(command: &str, words: &'w [String]) -> Option<Request<'w>>
         "explain" => explain(words),
         "levels" => levels(words),
         "prove" => prove(words),
+        "rewind" => rewind(words),
         _ => None,
     }
 }
@@ -191,6 +192,20 @@ fn prove<'w>(words: &'w [String]) -> Option<Request<'w>>
             model: FileName(model.as_str()),
             topology: FileName(topology.as_str()),
             levels: FileName(levels.as_str()),
+        }),
+        _ => None,
+    }
+}
+
+fn rewind<'w>(words: &'w [String]) -> Option<Request<'w>>
+    ensures { result ≡ rewind_of (texts words.now) }
+{
+    match words {
+        [model, topology, script, depth] => Some(Request::Rewind {
+            model: FileName(model.as_str()),
+            topology: FileName(topology.as_str()),
+            script: FileName(script.as_str()),
+            depth: depth_in(depth.as_str())?,
         }),
         _ => None,
     }

@@ -20,4 +20,6 @@ mod pairs;
 #[cfg(test)]
 mod report;
 #[cfg(test)]
+mod rewound;
+#[cfg(test)]
 mod top;

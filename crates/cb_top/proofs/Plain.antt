@@ -36,9 +36,10 @@ pub record IsPlain (c : Command) (fault : Option Fault) (s : Seen) : Type 0 wher
 role_ends : (reads : Reads) (role : Role) (status : Status) → HasRole reads role → IsStatusFor role status → FilesMayEnd reads status
 role_ends reads Role.model status has e = subst (FilesMayEnd reads) (sym e) has
 role_ends reads Role.topology status has e = subst (FilesMayEnd reads) (sym e) (inl has)
-role_ends reads Role.symptoms status has e = subst (FilesMayEnd reads) (sym e) (inr has)
+role_ends reads Role.symptoms status has e = subst (FilesMayEnd reads) (sym e) (inr (inl has))
 role_ends reads (Role.certificate wanted) status has e = subst (FilesMayEnd reads) (sym e) (inl (wanted, has))
 role_ends reads Role.levels status has e = subst (FilesMayEnd reads) (sym e) (inr has)
+role_ends reads Role.script status has e = subst (FilesMayEnd reads) (sym e) (inr (inr has))
 
 module _ (c : Command) (s : Seen) where
   nameless : (fault : Fault) → NamesNoFile fault → NamesFileWord c (Some fault)

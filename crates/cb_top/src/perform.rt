@@ -18,6 +18,7 @@ use cb_network_commands::codebook::codebook;
 use cb_network_commands::matrix::matrix;
 use cb_network_commands::model::model;
 use cb_network_commands::pairs::pairs;
+use cb_network_commands::rewind::{RewindFiles, rewind};
 use cb_network_commands::verify::verify;
 use cb_report::Fault;
 use cb_request::Request;
@@ -106,6 +107,19 @@ pub(crate) fn perform<'w, F: Files, O: Sink, L: Ledger>(
             topology,
             levels: name,
         } => deliver(prove(alloc, files, model, topology, name, steps), out),
+        Request::Rewind {
+            model,
+            topology,
+            script,
+            depth,
+        } => {
+            let names = RewindFiles {
+                model,
+                topology,
+                script,
+            };
+            deliver(rewind(alloc, files, names, depth, steps), out)
+        }
         Request::Grow { sites, start } => deliver(grow(alloc, sites, start, steps), out),
     }
 }

@@ -59,10 +59,13 @@ pub fn run<F: Files, O: Sink, E: Sink, L: Ledger>(
     // distance. What `pairs` prints at 0 are exactly the nearest guesses, of one group or of two, and within the radius of one exactly those with
     // its code. What `explain` prints at 0 are the groups as those of `burst`, and of each exactly the short chains from its members to the
     // columns that they cause. What `levels` prints at 0 spells valid levels, and those that `prove` accepts are valid: they list exactly what their
-    // problem causes, each node with its least number of edges. Of each window of a log that `correlate` or `decode` follows to 0 the same as of
+    // problem causes, each node with its least number of edges. What `rewind` prints at 0 is the matrix of the topology to which the edits and
+    // undos of the script lead in order, after what is reported of its lines. Of each window of a log that `correlate` or `decode` follows to 0 the same as of
     // `burst` is said, over the codebook in use and by the radius of each group, and each thin line names two groups that are closer than wanted, too.
     // No distance of 1 is refused so, nor a cap.
     ensures finds { Finds (command_in words.now) result (seen_from F.tells O.tells E.tells files.old files.new out.old out.new err.old err.new) }
+    // How many steps are counted. By `explain` no more than by `burst`, and then from each problem of a listed group but `quiet` as many as it causes
+    // nodes; by `levels` no more than its problem causes nodes; by `prove` no more than the levels have entries.
     // No step is counted by `model`, nor where no topology results from the files; by `burst`, `matrix` and `pairs` no more than it costs to search
     // from each problem of the topology; by `correlate` and `grow` no more than that, and again after each edit of the log for the problems that it makes dirty or new, of
     // `correlate` as far as the log was read. Of the others nothing is said.

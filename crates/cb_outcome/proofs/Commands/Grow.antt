@@ -42,6 +42,7 @@ module _ (sites start : ℕ) where
   shows_none Role.symptoms known status s e = subst (λ (x : Status). OnOutput x (FindsNothing known x s)) (sym e) tt
   shows_none (Role.certificate wanted) known status s e = subst (λ (x : Status). OnOutput x (FindsNothing known x s)) (sym e) tt
   shows_none Role.levels known status s e = subst (λ (x : Status). OnOutput x (FindsNothing known x s)) (sym e) tt
+  shows_none Role.script known status s e = subst (λ (x : Status). OnOutput x (FindsNothing known x s)) (sym e) tt
 
   no_output : (known : Known) (fault : Fault) (s : Seen) → HasMadeUpFault sites fault
       → OnOutput (status_of fault) (FindsNothing known (status_of fault) s)

@@ -6,6 +6,8 @@ use Rattle.cb_outcome.specs.Outcome.{Outcome}
 use Rattle.cb_outcome.specs.Judged.{Known, raised}
 use Rattle.cb_outcome.specs.Jobs.{ExplainGives}
 use Rattle.cb_outcome.specs.Prints.{PrintsChains}
+use Rattle.cb_outcome.specs.Costs.{CountsExplain}
+use Rattle.cb_outcome.specs.Reading.{WhereReported}
 use Rattle.cb_outcome.specs.Seen.{Seen}
 use Rattle.cb_outcome.specs.Command.{Command, Making, makes}
 use Rattle.cb_outcome.specs.Commands.Burst.{burst_reads}
@@ -24,11 +26,12 @@ ExplainFinds known status s = ⊥
 abbrev pub explain_making : Making
 explain_making = record { gives = ExplainAfter; faults = λ fault. ⊥; finds = ExplainFinds }
 
--- the whole command, with the files of `burst`; nothing is said of its steps
+-- the whole command, with the files of `burst`; no more steps are counted than the search of the topology costs, and then one search from each
+-- problem of a listed group
 abbrev pub explain : List ℕ → List ℕ → List ℕ → Command
 explain model topology symptoms = record {
   files = (burst_reads model topology symptoms).judged;
   task = makes explain_making;
   range = Unit {0};
-  counts = λ files after old new. Unit {0};
+  counts = λ files after old new. WhereReported files (λ left. CountsExplain left (burst_reads model topology symptoms) old new);
 }

@@ -8,6 +8,8 @@ use Rattle.cb_outcome.specs.Outcome.{Outcome}
 use Rattle.cb_outcome.specs.Judged.{Known, network}
 use Rattle.cb_outcome.specs.Jobs.{LevelsGives}
 use Rattle.cb_outcome.specs.Prints.{PrintsLevels}
+use Rattle.cb_outcome.specs.Costs.{CountsLevels}
+use Rattle.cb_outcome.specs.Reading.{WhereReported}
 use Rattle.cb_outcome.specs.Seen.{Seen}
 use Rattle.cb_outcome.specs.Command.{Command, Making, makes}
 use Rattle.cb_outcome.specs.Commands.Matrix.{matrix_reads}
@@ -30,11 +32,11 @@ LevelsFinds word known status s = ⊥
 abbrev pub levels_making : List ℕ → Making
 levels_making word = record { gives = LevelsAfter word; faults = LevelsFaults word; finds = LevelsFinds word }
 
--- the whole command, with the files of `matrix` and the word of a node; nothing is said of its steps
+-- the whole command, with the files of `matrix` and the word of a node; no more steps are counted than the problem that the word names causes nodes
 abbrev pub levels : List ℕ → List ℕ → List ℕ → Command
 levels model topology word = record {
   files = (matrix_reads model topology).judged;
   task = makes (levels_making word);
   range = Unit {0};
-  counts = λ files after old new. Unit {0};
+  counts = λ files after old new. WhereReported files (λ left. CountsLevels left (matrix_reads model topology) word old new);
 }

@@ -7,6 +7,9 @@ use Rattle.cb_outcome.specs.Outcome.{Outcome}
 use Rattle.cb_outcome.specs.Judged.{Known, levelled}
 use Rattle.cb_outcome.specs.Jobs.{ProveGives}
 use Rattle.cb_outcome.specs.Prints.{PrintsProof}
+use Rattle.cb_outcome.specs.Contents.{Reads}
+use Rattle.cb_outcome.specs.Costs.{CountsProve}
+use Rattle.cb_outcome.specs.Reading.{WhereReported}
 use Rattle.cb_outcome.specs.Seen.{Seen}
 use Rattle.cb_outcome.specs.Command.{Command, Making, makes}
 
@@ -24,11 +27,16 @@ ProveFinds known status s = ⊥
 abbrev pub prove_making : Making
 prove_making = record { gives = ProveAfter; faults = λ fault. ⊥; finds = ProveFinds }
 
--- the whole command; nothing is said of its steps
+-- its three files
+abbrev pub prove_reads : List ℕ → List ℕ → List ℕ → Reads
+prove_reads model topology levels =
+    record { judged = (Role.model, model) ∷ (Role.topology, topology) ∷ (Role.levels, levels) ∷ []; logs = [] }
+
+-- the whole command; no more steps are counted than the levels have entries
 abbrev pub prove : List ℕ → List ℕ → List ℕ → Command
 prove model topology levels = record {
-  files = (Role.model, model) ∷ (Role.topology, topology) ∷ (Role.levels, levels) ∷ [];
+  files = (prove_reads model topology levels).judged;
   task = makes prove_making;
   range = Unit {0};
-  counts = λ files after old new. Unit {0};
+  counts = λ files after old new. WhereReported files (λ left. CountsProve left (prove_reads model topology levels) old new);
 }

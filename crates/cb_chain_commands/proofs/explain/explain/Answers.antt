@@ -8,16 +8,17 @@ use Rattle.cb_outcome.specs.Commands.Explain.{explain}
 use Rattle.cb_report.specs.declared.fault.Fault.TheVariants.{Memory}
 use Rattle.cb_outcome.specs.Judged.{Known, network, raised}
 use Rattle.cb_file_kinds.specs.Ending.{Passed, network_files}
+use Rattle.cb_file_kinds.proofs.Counted.{explain_none, explain_counts}
 use Rattle.cb_file_kinds.proofs.Chain.{passed_next, stops_there, err_is, makes, wants}
 use Rattle.cb_chain_commands.proofs.explain.explain.Goals as goal
 
-pub returns-in_err-topology : goal.returns-in_err-topology
-returns-in_err-topology g c =
+pub returns-in_err-topology-clause-comes : goal.returns-in_err-topology-clause-comes
+returns-in_err-topology-clause-comes g c =
     rw (err_is _ _ c.from_residual.ensures.1)
     (c.in_err-topology.ensures.stops (burst_reads c.args.model c.args.topology c.args.symptoms) ((Role.symptoms, c.args.symptoms) ∷ []) refl)
 
-pub returns-in_err-raised : goal.returns-in_err-raised
-returns-in_err-raised g c =
+pub returns-in_err-raised-clause-comes : goal.returns-in_err-raised-clause-comes
+returns-in_err-raised-clause-comes g c =
     let old = g.F.Files.tells c.args.files.now in
     let two = g.F.Files.tells c.read_network.new.files in
     let three = g.F.Files.tells c.read_as.new.files in
@@ -33,8 +34,8 @@ lines_of_explain-requires g c =
     let (nodes, nodes_are, says) = c.in_ok-raised.ensures.value.says _ refl in
     nodes_are.1
 
-pub returns-in_err-lines_of_explain : goal.returns-in_err-lines_of_explain
-returns-in_err-lines_of_explain g c =
+pub returns-in_err-lines_of_explain-clause-comes : goal.returns-in_err-lines_of_explain-clause-comes
+returns-in_err-lines_of_explain-clause-comes g c =
     let old = g.F.Files.tells c.args.files.now in
     let two = g.F.Files.tells c.read_network.new.files in
     let three = g.F.Files.tells c.read_as.new.files in
@@ -48,8 +49,8 @@ returns-in_err-lines_of_explain g c =
     rw (err_is c.from_residual-in_err-lines_of_explain.result Memory c.from_residual-in_err-lines_of_explain.ensures.1)
     (inl (wants (explain m t s) ((Role.model, m) ∷ (Role.topology, t) ∷ (Role.symptoms, s) ∷ []) nodes old three after refl refl Memory refl))
 
-pub returns : goal.returns
-returns g c =
+pub returns-clause-comes : goal.returns-clause-comes
+returns-clause-comes g c =
     let old = g.F.Files.tells c.args.files.now in
     let two = g.F.Files.tells c.read_network.new.files in
     let three = g.F.Files.tells c.read_as.new.files in
@@ -63,4 +64,46 @@ returns g c =
     let files = (Role.model, m) ∷ (Role.topology, t) ∷ (Role.symptoms, s) ∷ [] in
     makes (explain m t s) files (raised (topology_of c.in_ok-topology.topology) c.in_ok-raised.raised) old three
     (subst (λ (k : Known). Passed files k old three) nodes_are.0 after) refl refl _ None
-    (λ left whole. c.in_ok-lines_of_explain.ensures whole)
+    (λ left whole. c.in_ok-lines_of_explain.ensures.lines whole)
+
+pub returns-in_err-topology-clause-steps : goal.returns-in_err-topology-clause-steps
+returns-in_err-topology-clause-steps g c =
+    explain_none (burst_reads c.args.model c.args.topology c.args.symptoms) (g.F.Files.tells c.args.files.now) c.args.steps.now c.args.steps.now refl
+
+pub returns-in_err-raised-clause-steps : goal.returns-in_err-raised-clause-steps
+returns-in_err-raised-clause-steps g c =
+    explain_none (burst_reads c.args.model c.args.topology c.args.symptoms) (g.F.Files.tells c.args.files.now) c.args.steps.now c.args.steps.now refl
+
+pub returns-in_err-lines_of_explain-clause-steps : goal.returns-in_err-lines_of_explain-clause-steps
+returns-in_err-lines_of_explain-clause-steps g c =
+    let old = g.F.Files.tells c.args.files.now in
+    let two = g.F.Files.tells c.read_network.new.files in
+    let three = g.F.Files.tells c.read_as.new.files in
+    let m = c.args.model in
+    let t = c.args.topology in
+    let s = c.args.symptoms in
+    let net = network (topology_of c.in_ok-topology.topology) in
+    let third = c.in_ok-raised.ensures.value in
+    let (nodes, nodes_are, says) = third.says net refl in
+    let after = passed_next (network_files m t) Role.symptoms s net old two three c.in_ok-topology.ensures.passed c.in_ok-raised.ensures.only third.text nodes third.read says in
+    let files = (Role.model, m) ∷ (Role.topology, t) ∷ (Role.symptoms, s) ∷ [] in
+    let passed = subst (λ (k : Known). Passed files k old three) nodes_are.0 after in
+    explain_counts (burst_reads m t s) old (topology_of c.in_ok-topology.topology) c.in_ok-raised.raised c.args.steps.now c.lines_of_explain.new.steps passed.said
+    c.lines_of_explain.ensures.cost
+
+pub returns-clause-steps : goal.returns-clause-steps
+returns-clause-steps g c =
+    let old = g.F.Files.tells c.args.files.now in
+    let two = g.F.Files.tells c.read_network.new.files in
+    let three = g.F.Files.tells c.read_as.new.files in
+    let m = c.args.model in
+    let t = c.args.topology in
+    let s = c.args.symptoms in
+    let net = network (topology_of c.in_ok-topology.topology) in
+    let third = c.in_ok-raised.ensures.value in
+    let (nodes, nodes_are, says) = third.says net refl in
+    let after = passed_next (network_files m t) Role.symptoms s net old two three c.in_ok-topology.ensures.passed c.in_ok-raised.ensures.only third.text nodes third.read says in
+    let files = (Role.model, m) ∷ (Role.topology, t) ∷ (Role.symptoms, s) ∷ [] in
+    let passed = subst (λ (k : Known). Passed files k old three) nodes_are.0 after in
+    explain_counts (burst_reads m t s) old (topology_of c.in_ok-topology.topology) c.in_ok-raised.raised c.args.steps.now c.lines_of_explain.new.steps passed.said
+    c.lines_of_explain.ensures.cost

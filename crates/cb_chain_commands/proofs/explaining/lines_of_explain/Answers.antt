@@ -1,28 +1,43 @@
-use Rattle.std.proofs.Common.{◌∙◌, List, ℕ, subst, ap}
-use Rattle.std.proofs.lemmas.Result.{IfOk-weaker}
+use Rattle.std.proofs.Common.{List, ℕ, subst, sym, ap}
 use Rattle.cb_finding.specs.Finding.{IsBurst}
 use Rattle.cb_topo.specs.Numbered.{Numbered, topology_of}
+use Rattle.cb_file_kinds.proofs.Chain.{if_ok_more}
+use Rattle.cb_outcome.specs.Costs.{problems_explained}
 use Rattle.cb_outcome.specs.Outcome.{done}
-use Rattle.cb_chain_commands.specs.Explaining.{IsExplainedBy}
+use Rattle.cb_chain_commands.specs.Explaining.{IsExplainedBy, CountsFrom}
+use Rattle.cb_chain_commands.proofs.Counting.{opening_cost, whole_cost}
 use Rattle.cb_chain_commands.proofs.explaining.lines_of_explain.Goals as goal
 
-pub explained-requires : goal.explained-requires
-explained-requires g c =
-    let finding = c.in_ok-finding.finding in
-    let raised = c.args.raised.now in
-    (raised, rw c.into_graph.ensures c.in_ok-finding.ensures)
+pub returns-in_err-found-clause-cost : goal.returns-in_err-found-clause-cost
+returns-in_err-found-clause-cost g c = λ cost is.
+    opening_cost (topology_of c.args.topology) c.args.raised.now c.args.steps.now c.search_all.new.steps cost c.search_all.ensures.cost is
 
-pub returns : goal.returns
-returns g c =
-    let finding = c.in_ok-finding.finding in
+pub explained-lines-requires : goal.explained-lines-requires
+explained-lines-requires g c =
+    let found = c.in_ok-found.found in (
+      c.args.raised.now,
+      subst (λ (n : Numbered). IsBurst (topology_of n) c.args.raised.now found.finding) (sym c.in_ok-found.ensures.graph) c.in_ok-found.ensures.finding,
+    )
+
+pub returns-clause-lines : goal.returns-clause-lines
+returns-clause-lines g c =
+    let found = c.in_ok-found.found in
+    let finding = found.finding in
     let raised = c.args.raised.now in
-    let same = c.in_ok-cache.ensures.graph ∙ c.in_ok-graph.ensures in
-    let burst : IsBurst (topology_of c.in_ok-cache.cache.graph) raised finding = c.in_ok-finding.ensures in
-    let here : IsBurst (topology_of c.args.topology) raised finding = subst (λ (n : Numbered). IsBurst (topology_of n) raised finding) same burst in
-    IfOk-weaker c.explained.result _ _ (λ bytes explained. λ whole.
+    let burst = c.in_ok-found.ensures.finding in
+    if_ok_more c.explained-lines.result _ _ (λ bytes explained. λ whole.
     let all : (burst : IsBurst (topology_of c.args.topology) raised finding) → IsExplainedBy (topology_of c.args.topology) burst.columns finding bytes.items =
     subst (λ (n : Numbered). (burst : IsBurst (topology_of n) raised finding) → IsExplainedBy (topology_of n) burst.columns finding bytes.items)
-    (c.into_graph.ensures ∙ same) (explained raised)
+    c.in_ok-found.ensures.graph (explained raised)
     in
-    let (chains, explains, text) = all here in
-    record { finding = finding; burst = here; chains = chains; explains = explains; gives = ap (λ (out : List ℕ). done out whole) text }) c.explained.ensures
+    let (chains, explains, text) = all burst in
+    record { finding = finding; burst = burst; chains = chains; explains = explains; gives = ap (λ (out : List ℕ). done out whole) text }) c.explained-lines.ensures.lines
+
+pub returns-clause-cost : goal.returns-clause-cost
+returns-clause-cost g c = λ cost is.
+    let found = c.in_ok-found.found in
+    let more = subst (λ (n : Numbered). CountsFrom (topology_of n) (problems_explained found.finding.groups) c.search_all.new.steps c.explained-lines.new.steps)
+    c.in_ok-found.ensures.graph c.explained-lines.ensures.cost
+    in
+    whole_cost (topology_of c.args.topology) c.args.raised.now found.finding c.args.steps.now c.search_all.new.steps c.explained-lines.new.steps cost
+    c.in_ok-found.ensures.finding c.search_all.ensures.cost more is

@@ -9,19 +9,20 @@ use Rattle.cb_report.specs.declared.fault.Fault.TheVariants.{Memory}
 use Rattle.cb_outcome.specs.Outcome.{done}
 use Rattle.cb_outcome.specs.Judged.{Known, network, levelled}
 use Rattle.cb_file_kinds.specs.Ending.{Passed, network_files}
+use Rattle.cb_file_kinds.proofs.Counted.{prove_none, prove_counts}
 use Rattle.cb_file_kinds.proofs.Chain.{passed_next, stops_there, err_is, makes, wants}
 use Rattle.cb_chain_commands.proofs.prove.prove.Goals as goal
 
-pub returns-in_err-topology : goal.returns-in_err-topology
-returns-in_err-topology g c =
+pub returns-in_err-topology-clause-comes : goal.returns-in_err-topology-clause-comes
+returns-in_err-topology-clause-comes g c =
     rw (err_is _ _ c.from_residual.ensures.1)
     (c.in_err-topology.ensures.stops (reads_of (prove c.args.model c.args.topology c.args.levels)) ((Role.levels, c.args.levels) ∷ []) refl)
 
-pub returns-in_err-valid : goal.returns-in_err-valid
-returns-in_err-valid g c =
+pub returns-in_err-valid-clause-comes : goal.returns-in_err-valid-clause-comes
+returns-in_err-valid-clause-comes g c =
     let old = g.F.Files.tells c.args.files.now in
     let two = g.F.Files.tells c.read_network.new.files in
-    let three = g.F.Files.tells c.read_as.new.files in
+    let three = g.F.Files.tells c.read_proved.new.files in
     let m = c.args.model in
     let t = c.args.topology in
     let s = c.args.levels in
@@ -29,11 +30,11 @@ returns-in_err-valid g c =
     (stops_there (network_files m t) Role.levels s (network (topology_of c.in_ok-topology.topology)) old two three c.in_ok-topology.ensures.passed
     c.in_err-valid.ensures.only (reads_of (prove m t s)) [] refl _ _ refl c.in_err-valid.ensures.stops)
 
-pub returns-in_err-proved_text : goal.returns-in_err-proved_text
-returns-in_err-proved_text g c =
+pub returns-in_err-proved_text-clause-comes : goal.returns-in_err-proved_text-clause-comes
+returns-in_err-proved_text-clause-comes g c =
     let old = g.F.Files.tells c.args.files.now in
     let two = g.F.Files.tells c.read_network.new.files in
-    let three = g.F.Files.tells c.read_as.new.files in
+    let three = g.F.Files.tells c.read_proved.new.files in
     let m = c.args.model in
     let t = c.args.topology in
     let s = c.args.levels in
@@ -44,11 +45,11 @@ returns-in_err-proved_text g c =
     rw (err_is c.from_residual-in_err-proved_text.result Memory c.from_residual-in_err-proved_text.ensures.1)
     (inl (wants (prove m t s) ((Role.model, m) ∷ (Role.topology, t) ∷ (Role.levels, s) ∷ []) known old three after refl refl Memory refl))
 
-pub returns : goal.returns
-returns g c =
+pub returns-clause-comes : goal.returns-clause-comes
+returns-clause-comes g c =
     let old = g.F.Files.tells c.args.files.now in
     let two = g.F.Files.tells c.read_network.new.files in
-    let three = g.F.Files.tells c.read_as.new.files in
+    let three = g.F.Files.tells c.read_proved.new.files in
     let m = c.args.model in
     let t = c.args.topology in
     let s = c.args.levels in
@@ -66,3 +67,21 @@ returns g c =
       shows = known_is.1.shows;
       gives = ap (λ (bytes : List ℕ). done bytes whole) c.in_ok-proved_text.ensures;
     })
+
+pub returns-in_err-topology-clause-steps : goal.returns-in_err-topology-clause-steps
+returns-in_err-topology-clause-steps g c = prove_none c.args.model c.args.topology c.args.levels (g.F.Files.tells c.args.files.now) c.args.steps.now
+
+pub returns-in_err-valid-clause-steps : goal.returns-in_err-valid-clause-steps
+returns-in_err-valid-clause-steps g c =
+    prove_counts c.args.model c.args.topology c.args.levels (g.F.Files.tells c.args.files.now) (topology_of c.in_ok-topology.topology)
+    (g.F.Files.tells c.read_network.new.files) c.args.steps.now c.read_proved.new.steps c.in_ok-topology.ensures.passed c.read_proved.ensures.steps
+
+pub returns-in_err-proved_text-clause-steps : goal.returns-in_err-proved_text-clause-steps
+returns-in_err-proved_text-clause-steps g c =
+    prove_counts c.args.model c.args.topology c.args.levels (g.F.Files.tells c.args.files.now) (topology_of c.in_ok-topology.topology)
+    (g.F.Files.tells c.read_network.new.files) c.args.steps.now c.read_proved.new.steps c.in_ok-topology.ensures.passed c.read_proved.ensures.steps
+
+pub returns-clause-steps : goal.returns-clause-steps
+returns-clause-steps g c =
+    prove_counts c.args.model c.args.topology c.args.levels (g.F.Files.tells c.args.files.now) (topology_of c.in_ok-topology.topology)
+    (g.F.Files.tells c.read_network.new.files) c.args.steps.now c.read_proved.new.steps c.in_ok-topology.ensures.passed c.read_proved.ensures.steps

@@ -1,5 +1,4 @@
 use Rattle.cb_topo.specs.Numbered.{topology_of}
-use Rattle.cb_outcome.specs.Roles.{Wanted}
 use Rattle.cb_file_kinds.proofs.Certified.{certificate_long, certificate_bad, certificate_refused}
 use Rattle.cb_file_kinds.proofs.Chain.{err_is}
 use Rattle.cb_file_kinds.proofs.certificate_file.read_valid.Goals as goal

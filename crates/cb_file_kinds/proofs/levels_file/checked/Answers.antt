@@ -1,7 +1,7 @@
 use Rattle.cb_topo.specs.Numbered.{topology_of}
 use Rattle.cb_levels.proofs.Spelling.{format_is_small}
 use Rattle.cb_file_kinds.proofs.Chain.{err_is}
-use Rattle.cb_file_kinds.proofs.Levelled.{level_rejection, proved_of}
+use Rattle.cb_file_kinds.proofs.Levelled.{level_rejection}
 use Rattle.cb_file_kinds.proofs.levels_file.checked.Goals as goal
 
 pub check_levels-requires : goal.check_levels-requires

@@ -18,4 +18,5 @@ returns-in_default c =
       explain = is.not-explain;
       levels = is.not-levels;
       prove = is.not-prove;
+      rewind = is.not-rewind;
     })

@@ -5,6 +5,7 @@ use Rattle.cb_validity.proofs.Canonicals.{problem_is_node}
 use Rattle.cb_topo.specs.Numbered.{Numbered, topology_of, IsNodeNamed, AreNamed}
 use Rattle.cb_explain.specs.Explained.{HasSearched}
 use Rattle.cb_chain_commands.specs.Explaining.{AddsChains}
+use Rattle.cb_chain_commands.proofs.Counting.{counts_one}
 use Rattle.cb_chain_commands.proofs.explanation.Explanation.push_chains.Goals as goal
 
 pub number_of-node-requires : goal.number_of-node-requires
@@ -30,3 +31,15 @@ returns-clause-lines g c =
     subst (λ (n : Numbered). AddsChains (topology_of n) columns problem c.args.out.now.items c.push_columns.new.out.items) same
     (all problem columns (subst (λ (n : Numbered). HasSearched n problem c.search.new.self) (sym same) searched)
     (subst (λ (n : Numbered). AreNamed n c.args.self.now.columns columns) (sym same) names))) c.push_columns.ensures
+
+pub returns-in_err-search-clause-cost : goal.returns-in_err-search-clause-cost
+returns-in_err-search-clause-cost g c =
+    let problem = c.args.problem.now in
+    let named = subst (λ (n : Numbered). IsNodeNamed n c.number_of-node.result problem) c.topology.ensures c.number_of-node.ensures in
+    counts_one (topology_of c.args.self.now.graph) problem c.args.steps.now c.search.new.steps (λ count is. c.search.ensures.asked problem count named is)
+
+pub returns-clause-cost : goal.returns-clause-cost
+returns-clause-cost g c =
+    let problem = c.args.problem.now in
+    let named = subst (λ (n : Numbered). IsNodeNamed n c.number_of-node.result problem) c.topology.ensures c.number_of-node.ensures in
+    counts_one (topology_of c.args.self.now.graph) problem c.args.steps.now c.search.new.steps (λ count is. c.search.ensures.asked problem count named is)
