@@ -66,6 +66,9 @@ LOGS = (
 # Networks of which one alarm is followed at a distance or a cap: of chains each problem causes all that follows, so with a cap past the distances each column is kept.
 CAPPED = (("chain", 8192, "1"), ("chain", 8192, "cap500"), ("chain", 8192, "cap9999"), ("ring", 2048, "3"), ("ring", 2048, "cap3"), ("ring", 2048, "cap9999"))
 
+# How many sites a ring has, and how many lines a script over it, at which depth.
+REWOUND = ((500, 100_000, 1_024),)
+
 # How many sites `grow` makes up, and from which number on its numbers are drawn.
 GROWN = ((200, 7), (256, 1))
 
@@ -123,6 +126,24 @@ def paired(words, folder, causes, signs, share):
     (folder / "t").write_text("".join(made))
     (folder / "s").write_text("".join(f"Up@s{k}\n" for k in sorted({*shown[3], *shown[5]})))
     line(words, ["pairs", "m", "t", "s"], f"{causes} problems, {share} of 1,000 of {signs:,} symptoms", folder)
+
+
+def rewound(words, folder, sites, lines, depth):
+    """A script over a ring: edits of every kind, each taken back."""
+    make(words, folder, "ring", sites)
+    rng = random.Random(sites + lines)
+    names = [text.split()[1] for text in (folder / "t").read_text().splitlines() if text.startswith("create ")]
+    links = [text.split() for text in (folder / "t").read_text().splitlines() if text.startswith("link ")]
+    script = []
+    for k in range(lines // 2):
+        script += [rng.choice((f"delete {rng.choice(names)}", "unlink " + " ".join(rng.choice(links)[1:]), f"create x{k} {first_class(folder)}")), "undo"]
+    (folder / "r").write_text("".join(f"{text}\n" for text in script))
+    line(words, ["rewind", "m", "t", "r", str(depth)], f"ring {sites:,}, {lines:,} lines, depth {depth:,}", folder)
+
+
+def first_class(folder):
+    """The name of the first class of the model."""
+    return (folder / "m").read_text().split()[1]
 
 
 def problem_levels(words, folder, node):
@@ -189,7 +210,7 @@ def main():
         return
     models = (("1,024 classes", full_model()), ("16 MiB of classes", long_model(False)))
     print("| Command | Network | Seconds | Other | Ratio | MiB | Other | Ratio | Million instructions | Other | Ratio |\n|---|---|---|---|---|---|---|---|---|---|---|")
-    for measured, inputs in ((answered, ANSWERED), (paired, PAIRED), (explained, EXPLAINED), (levelled, LEVELLED), (repeated, RUNS), (certified, CERTIFIED), (followed, LOGS), (capped, CAPPED), (grown, GROWN), (checked, models)):
+    for measured, inputs in ((answered, ANSWERED), (paired, PAIRED), (explained, EXPLAINED), (levelled, LEVELLED), (rewound, REWOUND), (repeated, RUNS), (certified, CERTIFIED), (followed, LOGS), (capped, CAPPED), (grown, GROWN), (checked, models)):
         for asked in inputs:
             with tempfile.TemporaryDirectory() as name:
                 measured(words, pathlib.Path(name), *asked)

@@ -310,6 +310,8 @@ def words_of(rng, network):
                 ["explain", "m", "t"],
                 ["levels", "m", "t"],
                 ["prove", "m", "t"],
+                ["rewind", "m", "t", "r"],
+                ["rewind", "m", "t", "r", rng.choice(("0", "01", "1025", "", "x"))],
                 ["matrix", "m"],
                 ["nothing", "m"],
                 ["codebook", "m", "t", "0"],
@@ -345,8 +347,20 @@ def words_of(rng, network):
             ["prove", "m", "t", "v"],
             ["prove", "m", "t", "v"],
             ["prove", "m", "t", "v"],
+            ["rewind", "m", "t", "r", str(rng.choice((1, 1, 2, 3, 8, 1024)))],
+            ["rewind", "m", "t", "r", str(rng.choice((1, 1, 2, 3, 8, 1024)))],
         )
     )
+
+
+def script_text(rng, network, faulty):
+    """Edits, of which many are refused, with undos among them, often several in turn; now and then a line that is neither."""
+    lines = []
+    for _ in range(rng.randrange(24)):
+        lines += ["undo"] * rng.choice((1, 1, 2, 5)) if rng.random() < 0.4 else [network.line()]
+    if faulty:
+        lines.insert(rng.randrange(len(lines) + 1), rng.choice((spoiled_line(rng), "undo now", "Undo", "undo undo", "#undo", "undo #", "redo")))
+    return rng.choice(("\n", "\n", "\r\n", " \n\t")).join(lines) + rng.choice(("", "\n"))
 
 
 def damaged(rng, text):
@@ -427,6 +441,7 @@ def compare(program, peer, rng, folder, words):
     if rng.random() < 0.2:
         (folder / "t").write_text(edited_since(rng, network, peer, folder, topology), newline="")
     (folder / "l").write_bytes(log_text(rng, network).encode("latin-1"))
+    (folder / "r").write_bytes(script_text(rng, network, rng.random() < 0.15).encode("latin-1"))
     for _ in range(words.lines):
         command = words_of(rng, network)
         while words.only and command[:1] != [words.only]:

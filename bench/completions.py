@@ -23,7 +23,7 @@ import termios
 import time
 
 ROOT = pathlib.Path(__file__).resolve().parent.parent
-COMMANDS = "burst codebook correlate decode explain grow levels matrix model pairs prove verify".split()
+COMMANDS = "burst codebook correlate decode explain grow levels matrix model pairs prove rewind verify".split()
 FILES = ["a:b.model", "folder", "ring.model", "ring.topology", "two words.log"]
 RING = ["ring.model", "ring.topology"]
 CASES = (
@@ -52,6 +52,11 @@ CASES = (
     ("jeknaule prove ring.model ring.topology ri", RING),
     ("jeknaule prove ring.model - ", FILES),
     ("jeknaule prove ring.model ring.topology - ", []),
+    ("jeknaule rewind ring.model ring.topology ri", RING),
+    ("jeknaule rewind ring.model ring.topology ", [*FILES, "-"]),
+    ("jeknaule rewind ring.model - ", FILES),
+    ("jeknaule rewind ring.model ring.topology - ", []),
+    ("jeknaule rewind ring.model ring.topology - 9 ", []),
     ("jeknaule matrix ring.model ring.topology ", []),
     ("jeknaule codebook ring.model ", [*FILES, "-"]),
     ("jeknaule codebook ring.model ring.topology ", []),

@@ -7,7 +7,7 @@ Over all commands, on networks of examples/, on small ones of its own and on som
 again for the n-th allocation, read and write of the run, with that one call failing, and with all calls from it on failing. Of a command that makes
 more than --most calls of a kind only some are tried, evenly spread (`grow`). Among the commands are logs that change their network: one that creates
 an instance and has a link refused, one that deletes what the alarms of an open window speak of, one that links the second place of a path, and one
-with an edit of each kind. ANSWERS has what they print undisturbed. With a call failing, wanted is
+with an edit of each kind; and scripts that take edits back. ANSWERS has what they print undisturbed. With a call failing, wanted is
 
     allocation   status 10 with the line on memory (or none, where there was none for it), or the undisturbed answer
     read         status 8 with a line that names a file of the command
@@ -49,6 +49,11 @@ COMMANDS = [
     ["levels", "link.model", "link.topology", "Loss@L1"],
     ["prove", "link.model", "link.topology", "link.levels"],
     ["prove", "link.model", "link.topology", "fixed.log"],
+    ["rewind", "link.model", "link.topology", "deleted.script", "4"],
+    ["rewind", "link.model", "link.topology", "forgotten.script", "1"],
+    ["rewind", "link.model", "link.topology", "each-edit.script", "8"],
+    ["rewind", "link.model", "link.topology", "link.model", "4"],
+    ["rewind", "node.model", "node.topology", "near.script", "4"],
     ["codebook", "link.model", "link.topology", "1"],
     ["codebook", "link.model", "link.topology", "2"],
     ["codebook", "link.model", "link.topology", "cap3"],
@@ -157,6 +162,15 @@ FILES = {
     "row.symptoms": ["Dark@s2", "Dark@s3"],
     # The run of links is closed to a cycle, and cut.
     "row.log": [record(1, "link s3 feeds s1"), record(2, "unlink s2 feeds s3"), record(3, "c1", "Dark@s2"), record(9, "tick")],
+    "deleted.script": ["delete L1", "undo"],
+    # At depth 1 the first of two edits is forgotten.
+    "forgotten.script": ["mute NoSignal@a", "delete a", "undo", "undo"],
+    "each-edit.script": ["create L2 Link", "create c Port", "link L2 ends c", "mute NoSignal@c", "link a on L2", "unlink L1 ends a", "unmute NoSignal@c", "delete c"]
+    + ["undo"] * 8 + ["delete L1", "delete b"],
+    "node.model": ["class Node {", "  problem symptom Sick;", "  relation near to Node many inverse near;", "  rule spread: Sick => near.Sick;", "}"],
+    "node.topology": ["create n1 Node", "link n1 near n1"],
+    # A link of an instance to itself.
+    "near.script": ["delete n1", "undo", "unlink n1 near n1"],
     "fixed.log": [record(1, "mute NoSignal@a"), record(2, "c1", "NoSignal@a"), record(2, "c1", "NoSignal@b")],
 }
 
@@ -165,7 +179,13 @@ WRITTEN = {
     "link.certificate": ("codebook", "1"), "thin.certificate": ("codebook", "2"), "capped.certificate": ("codebook", "cap3"), "link.levels": ("levels", "Cut@L1"),
 }
 
-# What `correlate` is to print for some of the logs.
+# The matrix of link.topology.
+LINK_MATRIX = [
+    "columns 3", "  column Loss@L1", "  column NoSignal@a", "  column NoSignal@b",
+    "groups 4", "  group 000 quiet", "  group 111 Cut@L1", "  group 010 Fail@a", "  group 001 Fail@b", "distance 1",
+]
+
+# What `correlate` is to print for some of the logs, and `rewind` for some of the scripts.
 ANSWERS = {
     "refused-link.log": [
         "refused 2 occupied",
@@ -191,6 +211,12 @@ ANSWERS = {
         "diagnosis s1 2 2 raised 1 unknown 0 distance 0 radius 0 sure groups 1",
         "  group P@a1",
     ],
+    "deleted.script": LINK_MATRIX,
+    "forgotten.script": [
+        "refused 4 nothing", "columns 2", "  column Loss@L1", "  column NoSignal@b",
+        "groups 3", "  group 00 quiet Fail@a", "  group 11 Cut@L1", "  group 01 Fail@b", "distance 1",
+    ],
+    "near.script": ["columns 1", "  column Sick@n1", "groups 2", "  group 0 quiet", "  group 1 Sick@n1", "distance 1"],
 }
 
 # Which of a command's words is its log.
@@ -236,7 +262,7 @@ class Runs:
 
     def is_wanted(self):
         """Whether the undisturbed output is that of ANSWERS, if it is there."""
-        wanted = ANSWERS.get(self.log)
+        wanted = ANSWERS.get(self.log or self.command[-2])
         return wanted is None or self.out == "".join(f"{line}\n" for line in wanted).encode()
 
     def may_be(self, out, name):

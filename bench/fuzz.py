@@ -33,7 +33,7 @@ STATUSES = (0, 2, 3, 4, 5, 6, 7, 8, 12, 13)
 CHUNK = 100
 
 # The words of each command. A word of one letter in KINDS is a file of that kind, and NODE is a problem of the network.
-KINDS = {"m": "model", "t": "topology", "s": "symptoms", "c": "certificate", "v": "levels", "l": "log"}
+KINDS = {"m": "model", "t": "topology", "s": "symptoms", "c": "certificate", "v": "levels", "r": "script", "l": "log"}
 COMMANDS = (
     ("model", "m"),
     ("burst", "m", "t", "s"),
@@ -42,14 +42,16 @@ COMMANDS = (
     ("explain", "m", "t", "s"),
     ("levels", "m", "t", "NODE"),
     ("prove", "m", "t", "v"),
+    ("rewind", "m", "t", "r", "DEPTH"),
     ("codebook", "m", "t", "WISH"),
     ("verify", "m", "t", "c"),
     ("correlate", "m", "t", "l", "WISH", "WINDOW"),
     ("decode", "m", "t", "c", "l", "WINDOW"),
 )
 WISHES = ("1", "1", "1", "2", "3", "9999", "cap1", "cap2", "cap3", "cap9999")
+DEPTHS = ("1", "1", "2", "3", "8", "1024")
 WINDOWS = ("10", "10", "60", "1", "1000000000000")
-ODD_FILES = ("m", "t", "s", "c", "v", "l", "./m", "./t", "-", ".", "nothing", "")
+ODD_FILES = ("m", "t", "s", "c", "v", "r", "l", "./m", "./t", "-", ".", "nothing", "")
 ODD_NODES = ("", "@", "e@", "@i", "e@i", "e@i@i", "class@i", "e @i", "-", "m", "e" * 64 + "@i", "e" * 63 + "@" + "i" * 63)
 ODD_WORDS = ("0", "01", "", "-1", "+1", "1 ", "10000", "1000000000001", "18446744073709551616", "\N{DIGIT ONE}\N{COMBINING ENCLOSING KEYCAP}", "x", "cap", "cap0",
              "cap01", "cap10000", "Cap1", "cap 1")
@@ -251,6 +253,19 @@ def log_of(topology, symptoms):
     return lines_of(json.dumps(line, separators=(",", ":")) for line in lines)
 
 
+def script_of(topology):
+    """Each link cut and each instance deleted, with an undo after most of them, and some more at the end."""
+    lines = []
+    for words in (line.split() for line in topology.splitlines()):
+        if words[:1] == [b"link"]:
+            lines.append(b" ".join([b"unlink", *words[1:]]))
+        elif words[:1] == [b"create"]:
+            lines.append(b"delete " + words[1])
+        if lines and len(lines) % 4 != 3:
+            lines.append(b"undo")
+    return b"\n".join([*lines[:200], *[b"undo"] * 5]) + b"\n"
+
+
 def networks():
     """The valid files: for each network and each kind of file a list of them."""
     found = []
@@ -262,12 +277,14 @@ def networks():
         files = {kind: [lines_of(FILES[f"{name}.{word}"])] if f"{name}.{word}" in FILES else [] for kind, word in KINDS.items()}
         found.append(files)
     logs = [lines_of(lines) for name, lines in FILES.items() if name.endswith(".log")]
+    found[-3]["r"] += [lines_of(lines) for name, lines in FILES.items() if name.endswith(".script")]
     found[-3]["l"] += logs
     found[-2]["l"] += logs
     for files in found:
         files["t"] = files["t"] or [b""]
         files["s"] = files["s"] or [b""]
         files["l"].append(log_of(files["t"][0], files["s"][0]))
+        files["r"].append(script_of(files["t"][0]))
     return found
 
 
@@ -307,7 +324,7 @@ class Fuzzer:
         if rng.random() < 0.005:
             return ["grow", rng.choice(("1", "2", "3", *ODD_WORDS, "257")), rng.choice((str(rng.randrange(1 << 64)), *ODD_WORDS))]
         words = rng.choice(COMMANDS)
-        numbers = {"WISH": WISHES, "WINDOW": WINDOWS}
+        numbers = {"WISH": WISHES, "WINDOW": WINDOWS, "DEPTH": DEPTHS}
         odd = rng.random() < 0.01
         words = [rng.choice(ODD_WORDS if odd else numbers[word]) if word in numbers else word for word in words]
         if rng.random() < 0.01:

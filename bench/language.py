@@ -111,11 +111,12 @@ SKIPPED = (
     ('{"at":1,"edit":"remove uplink"}', "bad-edit"), ("x" * 65537, "long"),
     (" \t\r", None), ('{"at":1,"tick":true,"other":[1]}', None), ('{"at":"x","at":1,"tick":true}', None),
 )
-WORDS = (["burst", "m", "t"], ["pairs", "m", "t"], ["explain", "m", "t"], ["levels", "m", "t"], ["prove", "m", "t"], ["levels", "m", "t", "-"],
+WORDS = (["burst", "m", "t"], ["pairs", "m", "t"], ["explain", "m", "t"], ["levels", "m", "t"], ["prove", "m", "t"], ["rewind", "m", "t", "empty"], ["levels", "m", "t", "-"],
          ["levels", "missing", "t", "Cut"], ["levels", "m", "t", "one@uplink"], ["codebook", "m", "t", "0"], ["codebook", "m", "t", "03"], ["codebook", "m", "t", "10000"],
          ["codebook", "missing", "t", "0"], ["correlate", "m", "t", "empty", "1", str(10**12 + 1)], ["grow", "257", "1"],
          *(["correlate", "m", "t", "empty", word, "10"] for word in ("cap", "cap0", "cap03", "cap10000", "cap 3", "cap-3", "Cap3", "3cap", "capcap3")),
          ["correlate", "m", "t", "empty", "3", "cap10"], *(["codebook", "m", "t", word] for word in ("cap", "cap0", "cap03", "cap10000", "Cap3")),
+         *(["rewind", "m", "t", "empty", word] for word in ("0", "1025", "01", "-", "cap3")), ["rewind", "missing", "t", "empty", "0"],
          ["grow", "1", str(2**64)], ["--help"], [])
 
 
@@ -307,6 +308,29 @@ def try_certificates(trial):
     trial.gives(["decode", "m", "t", "capped", "empty", "5"], "", ["accepted book cap 3 radius 0 to 0 groups 4 columns 3"])
 
 
+def try_scripts(trial):
+    """What `rewind` does and reports, and what is wrong with a script."""
+    matrix = trial.run(["matrix", "m", "t"])[1].splitlines()
+    for script, depth, reported in (
+        ("", "1", []), ("# undo\n\n \t\r\n", "1024", []), ("delete uplink\r\n undo\t\r\n", "1", []), ("undo", "1", ["refused 1 nothing"]),
+        ("delete uplink\nmute NoSignal@port-a\nundo\nundo\n", "2", []),
+        # A refused edit isn't kept: the undo takes back the edit before it.
+        ("mute NoSignal@port-a\nmute NoSignal@port-a\nundo\nundo\n", "9", ["refused 2 already-muted", "refused 4 nothing"]),
+        # What takes a deleted instance back makes its links and mutes again.
+        ("mute NoSignal@port-a\ndelete port-a\nundo\nundo\n", "2", []),
+    ):
+        trial.gives(["rewind", "m", "t", "-", depth], script, reported + matrix)
+    trial.gives(["rewind", "m", "t", "-", "1"], "mute NoSignal@port-a\ndelete port-a\nundo\nundo\n",
+                ["refused 4 nothing", "columns 2", "  column NoSignal@port-b", "  column Loss@uplink", "groups 3",
+                 "  group 00 quiet Fail@port-a", "  group 10 Fail@port-b", "  group 11 Cut@uplink", "distance 1"])
+    # The first line that is neither ignored, nor an edit, nor an undo, before any edit is made.
+    for line in ("undo now", "undo undo", "Undo", "#undo\nundone", "create x", "delete uplink # x", "link uplink ends"):
+        trial.fails(["rewind", "m", "t", "-", "1"], f"delete gone\n\n{line}\nundo now\n", 4, f"script line {3 + line.count(chr(10))} bad-words")
+    trial.fails(["rewind", "m", "-", "missing", "1"], "undo\n", 4, "topology line 1 bad-words")
+    trial.fails(["rewind", "m", "t", "-", "1"], "undo now\n#" + "x" * 4096 + "\n", 7, "limit line - 2")
+    trial.fails(["rewind", "m", "t", "missing", "1"], "", 8, "read missing")
+
+
 def try_chains(trial):
     """What `explain` prints below its groups."""
     trial.gives(["explain", "m", "t", "-"], "Loss@uplink\nNoSignal@port-a\nNoSignal@port-b\n",
@@ -450,7 +474,7 @@ def main():
         trial = Trial(program, pathlib.Path(folder))
         for name, text in (("m", MODEL), ("t", TOPOLOGY), ("empty", "")):
             trial.write(name, text)
-        for part in (try_texts, try_statuses, try_certificates, try_chains, try_levels, try_logs):
+        for part in (try_texts, try_statuses, try_certificates, try_scripts, try_chains, try_levels, try_logs):
             part(trial)
     page, printed = (ROOT / "docs" / "language.md").read_text(), "\n".join(trial.printed)
     patterns = dict(lines_of(page))

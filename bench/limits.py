@@ -81,6 +81,14 @@ def cases():
         yield f"{word} with a line of 4,096 bytes", burst, {**alive, name: alive[name] + "#" * 4096 + "\n"}, 0, ""
         at = alive[name].count("\n") + 1
         yield f"{word} with a line of 4,097 bytes", burst, {**alive, name: alive[name] + "#" * 4097 + "\n"}, 7, f"error 7 limit line {name} {at}"
+    rewind = ["rewind", "m", "t", "r", "1"]
+    yield "script of 16 MiB", rewind, {**alive, "r": filled("undo\n", 16 * MEBI, comment)}, 0, "refused 1 nothing"
+    yield "script of a byte more", rewind, {**alive, "r": filled("undo\n", 16 * MEBI + 1, comment)}, 7, "error 7 limit bytes r"
+    yield "script with a line of 4,096 bytes", rewind, {**alive, "r": "undo\n#" + "#" * 4095 + "\n"}, 0, "refused 1 nothing"
+    yield "script with a line of 4,097 bytes", rewind, {**alive, "r": "undo\n#" + "#" * 4096 + "\n"}, 7, "error 7 limit line r 2"
+    script = "".join(f"create x{k} Alive\n" for k in range(1_024)) + "undo\n" * 1_024
+    yield "1,024 edits taken back", ["rewind", "m", "t", "r", "1024"], {**alive, "r": script}, 0, "columns 1"
+    yield "1,025 edits, of which one is forgotten", ["rewind", "m", "t", "r", "1024"], {**alive, "r": "create y Alive\n" + script + "undo\n"}, 0, "refused 2050 nothing"
     yield "certificate of 32 MiB", verify, {**alive, "c": "x\n" * (16 * MEBI)}, 5, "error 5 certificate bad-header"
     yield "certificate of a byte more", verify, {**alive, "c": "x\n" * (16 * MEBI) + "x"}, 7, "error 7 limit bytes c"
     yield "certificate with a line of 4,097 bytes", verify, {**alive, "c": "x" * 4097 + "\n"}, 7, "error 7 limit line c 1"
@@ -120,6 +128,7 @@ def cases():
         ("distance of 10,000", ["codebook", "m", "t", "10000"]),
         ("cap of 10,000", ["correlate", "m", "t", "s", "cap10000", "1"]),
         ("cap of 10,000, certified", ["codebook", "m", "t", "cap10000"]),
+        ("depth of 1,025", ["rewind", "m", "t", "s", "1025"]),
         ("window of 10^12 + 1", ["correlate", "m", "t", "s", "1", str(10**12 + 1)]),
     ):
         yield what, words, alive, 2, "error 2 usage"

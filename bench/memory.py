@@ -38,6 +38,7 @@ COMMANDS = [
     ["explain", "m", "t", "s"],
     ["levels", "m", "t", "Cut@L0"],
     ["prove", "m", "t", "v"],
+    ["rewind", "m", "t", "r", "64"],
     ["codebook", "m", "t", "1"],
     ["codebook", "m", "t", "2"],
     ["codebook", "m", "t", "cap9999"],
@@ -67,6 +68,15 @@ def log(links):
         lines += [record(at, "c1", f"NoSignal@a{k}"), record(at + 1, "c1", f"NoSignal@b{k}")]
         if k % (links // 10) == 0:
             lines += [record(at + 2, f"create n{k} Link"), record(at + 3, f"delete L{k}"), record(at + 4, f"link n{k} ends a{k}")]
+    return lines
+
+
+def script(links):
+    """Edits of all links, each taken back but every tenth."""
+    lines = []
+    for k in range(links):
+        lines.append((f"unlink L{k} ends a{k}", f"mute Loss@L{k}", f"delete L{k}", f"create n{k} Link")[k % 4])
+        lines += ["undo"] * (k % 10 > 0)
     return lines
 
 
@@ -147,6 +157,7 @@ def main():
         write(folder, "t", topology(words.size))
         write(folder, "s", [f"NoSignal@a{k}" for k in range(0, words.size, 3)])
         write(folder, "l", log(words.size))
+        write(folder, "r", script(words.size))
         (folder / "c").write_bytes(run(program, ["codebook", "m", "t", "1"], folder).out)
         (folder / "v").write_bytes(run(program, ["levels", "m", "t", "Cut@L0"], folder).out)
         least = least_limit(program, folder)
