@@ -262,7 +262,7 @@ class Runs:
 
     def is_wanted(self):
         """Whether the undisturbed output is that of ANSWERS, if it is there."""
-        wanted = ANSWERS.get(self.log or self.command[-2])
+        wanted = ANSWERS.get(self.log or next(iter(self.command[-2:]), None))
         return wanted is None or self.out == "".join(f"{line}\n" for line in wanted).encode()
 
     def may_be(self, out, name):
