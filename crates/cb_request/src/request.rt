@@ -73,7 +73,7 @@ pub enum Request<'w> {
         topology: FileName<'w>,
         levels: FileName<'w>,
     },
-    /// The matrix after the edits and undos of a script, of which at most so many edits can be taken back.
+    /// The matrix after the edits and undos of a script, of which at most `depth` edits can be taken back.
     Rewind {
         model: FileName<'w>,
         topology: FileName<'w>,

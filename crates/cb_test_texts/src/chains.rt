@@ -3,7 +3,6 @@ ghost use Rattle.std.specs.Prelude.{◌≢◌, IfOk};
 ghost use Rattle.cb_levels.specs.declared.fault.LevelText.TheVariants.{NoMemory as NoTextMemory};
 ghost use Rattle.cb_levels.specs.declared.verdict.LevelFault.TheVariants.{NoMemory};
 
-use crate::top::words_of;
 use cb_finding::Finding;
 use cb_io::MemSink;
 use cb_levels::{LevelFault, LevelText, Proved};
@@ -198,9 +197,13 @@ fn each_failed_check_of_levels_has_its_line(rt: HostRuntime) -> Result<(), Fail>
     Ok(())
 }
 
-// The line for words whose node is no problem; none if they ask for nothing.
-fn no_problem_line(alloc: Global, words: &[String]) -> Result<Vec<u8>, AllocError> {
-    match Request::of(words) {
+// The line for the levels of a word that names no problem; none if the words ask for nothing.
+fn no_problem_line(alloc: Global, name: &str) -> Result<Vec<u8>, AllocError> {
+    let mut words = Vec::new(alloc);
+    for word in ["levels", "m", "t", name] {
+        words.push(String::from_str(alloc, word)?)?;
+    }
+    match Request::of(&words) {
         Some(Request::Levels { node, .. }) => said(alloc, &Fault::NoProblem { node }),
         _ => Ok(Vec::new(alloc)),
     }
@@ -220,8 +223,7 @@ fn a_word_is_a_node_or_words_ask_for_nothing(rt: HostRuntime) -> Result<(), Fail
         ("9@n9", ""),
     ];
     for (word, line) in cases {
-        let words = words_of(alloc, &["levels", "m", "t", word])?;
-        let said = no_problem_line(alloc, &words)?;
+        let said = no_problem_line(alloc, word)?;
         assert_eq!(rt; said.as_slice(), line.as_bytes(), "{word}");
     }
     Ok(())
