@@ -1,6 +1,7 @@
 pub mod FirstLines
 pub mod ScriptLines
 pub mod Once
+pub mod SoundTopologies
 pub mod FitsOne
 pub mod JobsOne
 pub mod ChainsOne

@@ -81,7 +81,7 @@ module _ (model_text : List ℕ) (tree : Tree) (is : IsTreeText model_text tree)
   one_tables : (a b : Tables) → Stands tree a → Stands tree b → a ≡ b
   one_tables a b s s' = one_model tree a b is.keeps s s'
 
-  regular : (tables : Tables) → Stands tree tables → IsRegular tables
+  pub regular : (tables : Tables) → Stands tree tables → IsRegular tables
   regular tables s = typed_is_regular tables (stands_is_typed tree tables is.keeps s (names_fit model_text (Ok tree) is.spelled))
 
   one_topology : (text : List ℕ) (t u : Topology) → IsTopologyText tree text t → IsTopologyText tree text u → t ≡ u

@@ -4,6 +4,7 @@ use Rattle.std.specs.List.{Contains}
 use Rattle.cb_io.specs.Outside.{bytes_left_of, contents}
 use Rattle.cb_model.specs.declared.wish.Wish.{Wish}
 use Rattle.cb_network.specs.Regular.{IsRegular}
+use Rattle.cb_network.specs.Sound.{Sound}
 use Rattle.cb_network.specs.Topology.{Topology}
 use Rattle.cb_log.specs.declared.event.Event.{Event}
 use Rattle.cb_log.specs.declared.record.Record.{Record}
@@ -16,7 +17,7 @@ use Rattle.cb_report.specs.declared.fault.Fault.{Fault}
 use Rattle.cb_request.specs.Commands.{request_of}
 use Rattle.cb_request.specs.declared.request.Request.{Request}
 use Rattle.cb_outcome.specs.Outcome.{Outcome}
-use Rattle.cb_outcome.specs.Judged.{Known, nothing, PassFrom}
+use Rattle.cb_outcome.specs.Judged.{File, Known, nothing, parsed, network, raised, certified, levelled, scripted, PassFrom}
 use Rattle.cb_outcome.specs.Contents.{Left, Reads, files_from, log_from}
 use Rattle.cb_outcome.specs.Command.{Command, reads_of, file_words, TaskFaults, JobGives}
 use Rattle.cb_outcome.specs.Commands.Codebook.{codebook}
@@ -67,6 +68,20 @@ PrefixThinsAreClose = (watch : Watch) (prefix out : List ℕ) (tells : PrefixTel
 abbrev pub SummedThinsAreClose : Type 0
 SummedThinsAreClose = (t : Topology) (mode : Mode) (w : ℕ) (log : List ℕ) (summary : Summary) (sums : SumsUpLog t mode w log summary) (event : Event)
     → Contains sums.events event → IsTrue (is_thin event) → TellsThin t mode w (records_of sums.gives.entries) event
+
+-- the topology that is known, if one is, is sound, and its model regular
+abbrev pub HasSoundTopology : Known → Type 0
+HasSoundTopology nothing = Unit {0}
+HasSoundTopology (parsed tree) = Unit {0}
+HasSoundTopology (network t) = Sound t × IsRegular t.model
+HasSoundTopology (raised t nodes) = Sound t × IsRegular t.model
+HasSoundTopology (certified t c) = Sound t × IsRegular t.model
+HasSoundTopology (levelled t levels) = Sound t × IsRegular t.model
+HasSoundTopology (scripted t script) = Sound t × IsRegular t.model
+
+-- so is what is known once files pass: what it costs to search such a topology, and to follow a log over it, exists
+abbrev pub PassedAreSound : Type 0
+PassedAreSound = (files : List File) (known : Known) → PassFrom nothing files known → HasSoundTopology known
 
 -- where all judged files pass, the outcome is what the task gives: no file is refused
 abbrev pub PassedGoToJob : Type 0

@@ -1,5 +1,5 @@
 //! What holds of outcomes.
-ghost use Rattle.cb_outcome.specs.Laws.{OutcomeIsOne, OutcomeGoesByBytes, PrefixGivesPrefix, DueIsPrefix, PrefixThinsAreClose, SummedThinsAreClose, PassedGoToJob, PassedEndWell, DoneReadsAll, AskedIsInRange, FileWordsAreRead, WrittenIsAccepted, LevelsAreAccepted};
+ghost use Rattle.cb_outcome.specs.Laws.{OutcomeIsOne, OutcomeGoesByBytes, PrefixGivesPrefix, DueIsPrefix, PrefixThinsAreClose, SummedThinsAreClose, PassedAreSound, PassedGoToJob, PassedEndWell, DoneReadsAll, AskedIsInRange, FileWordsAreRead, WrittenIsAccepted, LevelsAreAccepted};
 
 /// The words of the command line and the bytes of the files have one outcome: in how large pieces the files give their
 /// bytes makes no difference.
@@ -31,6 +31,12 @@ pub fn prefix_thins_are_close()
 /// So does each thin event of a log that is summed up, as `grow` does.
 pub fn summed_thins_are_close()
     ensures { SummedThinsAreClose }
+{}
+
+/// Where files pass, the topology that they give is sound, and its model regular. So what it costs to search it exists, and so does what results
+/// from a log over it (cb_existence).
+pub fn passed_are_sound()
+    ensures { PassedAreSound }
 {}
 
 /// Where all judged files pass, the outcome is what the task gives.
