@@ -1,5 +1,4 @@
 pub mod Named
-pub mod Places
 pub mod Coded
 pub mod Adding
 pub mod Treed

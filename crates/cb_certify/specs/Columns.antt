@@ -1,15 +1,10 @@
 -- Columns by their positions among all columns.
-use Rattle.std.specs.Prelude.{◌≡◌, ℕ, List, Some, length, slice_get}
-use Rattle.std.specs.List.{All, AllZip, Contains}
+use Rattle.std.specs.Prelude.{◌≡◌, ℕ, List, Some, slice_get}
+use Rattle.std.specs.List.{AllZip}
 use Rattle.cb_model.specs.declared.node.NodeName.{NodeName}
-use Rattle.cb_network.specs.Topology.{Topology}
-use Rattle.cb_network.specs.Nodes.{AreColumns}
 use Rattle.cb_validity.specs.Laws.{HavePlaces}
-use Rattle.cb_validity.specs.Reading.{ArePlaces}
-use Rattle.cb_validity.specs.Spans.{StandsFor}
 use Rattle.cb_nodes.specs.declared.id.NodeId.{NodeId}
-use Rattle.cb_topo.specs.Columns.{AreAllColumns}
-use Rattle.cb_topo.specs.Numbered.{Numbered, topology_of, AreNamed}
+use Rattle.cb_topo.specs.Numbered.{Numbered, AreNamed}
 
 -- the numbers at these positions
 abbrev pub AreAt : List NodeId → List ℕ → List NodeId → Type 0
@@ -18,7 +13,3 @@ AreAt all places ids = AllZip (λ place id. slice_get all place ≡ Some id) pla
 -- the columns of these numbers have these positions
 abbrev pub HaveColumnPlaces : Numbered → List NodeName → List ℕ → List NodeId → Type 0
 HaveColumnPlaces n all places ids = (columns : List NodeName) × AreNamed n ids columns × HavePlaces all columns places
-
--- among all columns of the topology, the columns of these numbers have these positions
-abbrev pub ArePlacesFor : Topology → List NodeName → List ℕ → List ℕ → Type 0
-ArePlacesFor t nodes numbers places = (all : List NodeName) → AreColumns t all → ArePlaces nodes all numbers places

@@ -5,7 +5,5 @@ mod codebook;
 mod columns;
 mod groups;
 mod shortfall;
-mod stated;
 
 pub use codebook::{Codebook, codebook_of};
-pub use stated::stated_columns;

@@ -8,20 +8,18 @@ ghost use Rattle.cb_outcome.specs.LogJobs.{Watch};
 ghost use Rattle.cb_topo.specs.Numbered.{topology_of};
 ghost use Rattle.cb_log_commands.specs.Following.{EndsLog};
 ghost use Rattle.cb_file_kinds.specs.Given.{IsGivenBy, IsGivenBySome};
-ghost use Rattle.cb_log_commands.specs.Fixed.{StandsFixed};
+ghost use Rattle.cb_log_commands.specs.Fixed.{StandsFixed, stated_of};
 ghost use Rattle.cb_log_commands.specs.Telling.{OpensAfter};
 ghost use Rattle.cb_log_commands.specs.Ways.{Ends};
 ghost use Rattle.cb_file_kinds.specs.Ending.{wrong};
 
 use crate::follow::follow;
 use cb_cache::Cache;
-use cb_certify::stated_columns;
-use cb_coding::{Book, CapBook};
 use cb_file_kinds::{BookFile, GivenBook, GivenWish, ShownBook, read_as, read_network};
 use cb_io::{Files, Sink, write_all};
 use cb_report::Fault;
 use cb_request::FileName;
-use cb_session::Session;
+use cb_session::{Session, StatedBook, StatedWish};
 use cb_steps::Steps;
 use std::alloc::{AllocError, Global};
 use std::sync::ledger::Ledger;
@@ -74,25 +72,26 @@ fn session_over<L: Ledger>(
     let GivenBook {
         wish,
         nodes,
-        columns: numbers,
-        graph: checked,
+        columns,
+        graph,
     } = given;
-    let cache = Cache::open(alloc, checked, steps)?;
-    let topology = cache.graph().topology();
-    let _typed = topology.model();
-    let columns = stated_columns(alloc, topology, &nodes, &numbers)?;
+    let cache = Cache::open(alloc, graph, steps)?;
+    let _typed = cache.graph().topology().model();
+    let stated = StatedBook {
+        wish: to_stated(wish),
+        nodes,
+        columns,
+    };
+    Session::by_stated(alloc, cache, stated, window)
+}
+
+// What a given codebook keeps, as a session asks for it.
+fn to_stated(wish: GivenWish) -> StatedWish
+    ensures { result ≡ stated_of wish }
+{
     match wish {
-        GivenWish::Plain(distance) => {
-            Session::by_book(alloc, cache, Book { columns, distance }, window)
-        }
-        GivenWish::Cap { cap, radii } => {
-            let book = CapBook {
-                columns,
-                cap,
-                radii,
-            };
-            Session::by_cap_book(alloc, cache, book, window)
-        }
+        GivenWish::Plain(distance) => StatedWish::Plain(distance),
+        GivenWish::Cap { cap, radii } => StatedWish::Cap { cap, radii },
     }
 }
 

@@ -1,15 +1,11 @@
 -- From numbers to names, and what that makes of coded problems.
-use Rattle.std.proofs.Common.{◌≡◌, ◌↔◌, ℕ, zero, suc, ◌+◌, ◌<◌, ◌≤◌, List, [], ◌∷◌, ◌++◌, Bool, length, map, take, Some, slice_get, refl, sym, ap, subst, ◌∙◌, inl, inr, arith}
+use Rattle.std.proofs.Common.{◌≡◌, ◌↔◌, ℕ, zero, suc, ◌+◌, ◌<◌, ◌≤◌, List, [], ◌∷◌, ◌++◌, Bool, length, map, take, Some, slice_get, refl, sym, ap, subst, ◌∙◌, arith}
 use Rattle.std.specs.List.{All, AllZip, Contains, slice_index_or}
-use Rattle.std.specs.declared.cmp.Ordering.TheVariants.{Less}
-use Rattle.std.proofs.lemmas.Bool.{cases_eq, cases_lt}
 use Rattle.std.proofs.lemmas.List.{length-map}
-use Rattle.std.proofs.lemmas.Option.{slice_get-get_or, slice_get_within, get_or_from_slice_get}
+use Rattle.std.proofs.lemmas.Option.{slice_get-get_or}
 use Rattle.cb_model.proofs.Numbers.{take_more, zip_push}
 use Rattle.cb_model.specs.declared.node.NodeName.{NodeName}
-use Rattle.cb_model.specs.NodeOrder.{node_cmp}
-use Rattle.cb_model.specs.Order.{Rises}
-use Rattle.cb_model.proofs.Rising.{node_strict, contains_head, contains_tail}
+use Rattle.cb_model.proofs.Rising.{contains_head, contains_tail}
 use Rattle.cb_coding.specs.declared.group.Problem.{Problem}
 use Rattle.cb_network.specs.Topology.{Topology}
 use Rattle.cb_network.specs.Nodes.{IsColumn, IsProblem, IsSymptomNode, AreColumns, AreProblems}

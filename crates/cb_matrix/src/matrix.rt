@@ -4,6 +4,7 @@ ghost use Rattle.cb_coding.specs.Groups.{codes_of};
 ghost use Rattle.cb_codes.specs.Groups.{named_of};
 ghost use Rattle.cb_network.specs.Sound.{problem_limit, symptom_limit};
 ghost use Rattle.cb_finding.specs.Matrix.{AreCoded, IsMatrix};
+ghost use Rattle.cb_topo.specs.Columns.{AreAllColumns};
 ghost use Rattle.cb_topo.specs.Numbered.{topology_of};
 ghost use Rattle.cb_codes.specs.Grouped.{FitsTogether, groups_in};
 ghost use Rattle.cb_matrix.specs.Parts.{problems_with, HaveCodePlaces};
@@ -13,6 +14,7 @@ use cb_cache::Cache;
 use cb_codes::{Codes, Grouping, Groups};
 use cb_compact::CompactRow;
 use cb_model::{List, NamedGroup, NodeName};
+use cb_topo::ColumnIndex;
 use std::alloc::{AllocError, Global};
 use std::marker::Model;
 
@@ -47,7 +49,19 @@ impl Matrix {
         ensures few_columns { IfOk result (λ matrix. length matrix.columns ≤ symptom_limit) }
         ensures few_groups { IfOk result (λ matrix. length matrix.groups ≤ problem_limit + 1) }
     {
-        let GroupedProblems { columns, grouping } = GroupedProblems::of(alloc, cache)?;
+        let index = cache.graph().topology().column_index(alloc)?;
+        Matrix::over(alloc, cache, &index)
+    }
+
+    /// As `of`, by an index of the topology's columns that was made before.
+    pub fn over(alloc: Global, cache: &Cache, index: &ColumnIndex) -> Result<Matrix, AllocError>
+        requires { AreAllColumns cache.now.graph index.now }
+        ensures matrix { IfOk result (λ matrix. IsMatrix (topology_of cache.now.graph) matrix.columns matrix.groups) }
+        ensures problems { IfOk result (λ matrix. AreCoded (topology_of cache.now.graph) matrix.columns matrix.problems) }
+        ensures few_columns { IfOk result (λ matrix. length matrix.columns ≤ symptom_limit) }
+        ensures few_groups { IfOk result (λ matrix. length matrix.groups ≤ problem_limit + 1) }
+    {
+        let GroupedProblems { columns, grouping } = GroupedProblems::of(alloc, cache, index)?;
         Ok(matrix_of(columns, grouping))
     }
 

@@ -10,3 +10,4 @@ pub mod ByOne
 pub mod Sessions
 pub mod Counting
 pub mod Numbers
+pub mod Places

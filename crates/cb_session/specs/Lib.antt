@@ -2,6 +2,7 @@ pub mod Extremes
 pub mod InUse
 pub mod State
 pub mod Encoding
+pub mod Stated
 pub mod Taken
 pub mod Ready
 pub mod Course

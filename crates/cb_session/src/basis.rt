@@ -16,11 +16,15 @@ ghost use Rattle.cb_model.specs.declared.node.NodeName.{NodeName as NodeOf};
 ghost use Rattle.cb_model.specs.NodeOrder.{node_cmp};
 ghost use Rattle.cb_model.specs.Order.{Rises};
 ghost use Rattle.cb_network.specs.Topology.{Topology};
+ghost use Rattle.cb_session.specs.Course.{mode_by};
 ghost use Rattle.cb_session.specs.InUse.{IsInUseFor, HasRadiiOf, in_use_of};
 ghost use Rattle.cb_session.specs.Ready.{IsReady, IsReadyFor, IsSomewhereReady, HasBasis, NamesGroupPair};
+ghost use Rattle.cb_session.specs.Stated.{IsModeStated, StatesRadiiOf};
 ghost use Rattle.cb_topo.specs.Numbered.{topology_of};
+ghost use Rattle.cb_validity.specs.Valid.{AreColumnNumbers};
 
 use crate::book::{BookInUse, capped_event, plain_event};
+use crate::stated::{StatedBook, matrix_and_places};
 use cb_cache::Cache;
 use cb_codes::{Codes, Groups};
 use cb_coding::Pair;
@@ -69,6 +73,24 @@ impl Ready {
         ensures book { IfOk result (λ ready. ready.book ≡ book) }
     {
         let matrix = Matrix::of(alloc, cache)?;
+        let decoder = Decoder::of(alloc, matrix.codes(), book.columns())?;
+        Ok(Ready {
+            matrix,
+            book,
+            decoder,
+        })
+    }
+
+    /// Of the topology of a cache, by the codebook that a certificate states.
+    pub fn by_stated(alloc: Global, cache: &Cache, stated: StatedBook) -> Result<Ready, AllocError>
+        requires columns { AreColumnNumbers (topology_of cache.now.graph) stated.nodes stated.columns }
+        requires radii { (columns : Items NodeOf) (groups : Items Group) → IsMatrix (topology_of cache.now.graph) columns groups
+            → StatesRadiiOf (length columns) (codes_of groups) stated.wish }
+        ensures ready { IfOk result (λ ready. IsReady (topology_of cache.now.graph) (mode_by ready) ready) }
+        ensures stated { IfOk result (λ ready. IsModeStated (topology_of cache.now.graph) stated (mode_by ready)) }
+    {
+        let (matrix, places) = matrix_and_places(alloc, cache, &stated)?;
+        let book = stated.wish.book_of(places);
         let decoder = Decoder::of(alloc, matrix.codes(), book.columns())?;
         Ok(Ready {
             matrix,

@@ -11,7 +11,9 @@ mod fixed;
 mod line;
 mod reported;
 mod session;
+mod stated;
 mod wanted;
 
 pub use line::LogLine;
 pub use session::Session;
+pub use stated::{StatedBook, StatedWish};

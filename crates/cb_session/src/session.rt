@@ -17,12 +17,16 @@ ghost use Rattle.cb_log.specs.Events.{EntryGives, EndGives};
 ghost use Rattle.cb_network.specs.Regular.{IsRegular};
 ghost use Rattle.cb_network.specs.Topology.{Topology};
 ghost use Rattle.cb_topo.specs.Numbered.{topology_of};
+ghost use Rattle.cb_validity.specs.Valid.{AreColumnNumbers};
 ghost use Rattle.cb_session.specs.Acts.{IsWellNamed};
 ghost use Rattle.cb_session.specs.Counted.{CountsEntry};
+ghost use Rattle.cb_session.specs.Course.{mode_by};
 ghost use Rattle.cb_session.specs.Sources.{StandsAlone, EndsAlone};
 ghost use Rattle.cb_session.specs.InUse.{HasRadiiOf, in_use_of};
 ghost use Rattle.cb_session.specs.Numbers.{KeepsNumbers};
+ghost use Rattle.cb_session.specs.Ready.{IsReady};
 ghost use Rattle.cb_session.specs.State.{State, StandsForEntries, StandsForLines, log_line_of, network_of, IsFitting};
+ghost use Rattle.cb_session.specs.Stated.{IsModeStated, StatesRadiiOf};
 ghost use Rattle.cb_session.specs.Steps.{EntryTells, EntryStands, ClosesAtEnd, TellsAtEnd};
 ghost use Rattle.cb_session.specs.Taken.{entry_of_taken};
 
@@ -33,6 +37,7 @@ use crate::entry::{Taken, entry_of};
 use crate::fixed::go_on_fixed;
 use crate::line::LogLine;
 use crate::reported::{closing_report, reported_in_use};
+use crate::stated::StatedBook;
 use crate::wanted::go_on_wanted;
 use cb_alarm::Scratch;
 use cb_cache::Cache;
@@ -162,6 +167,27 @@ impl Session {
         Session::by_given(alloc, cache, BookInUse::Capped(book), length)
     }
 
+    /// As `by_book` and `by_cap_book`, by the codebook that a certificate states. One index of the topology's columns gives the positions of
+    /// those that are stated, and the matrix.
+    pub fn by_stated(
+        alloc: Global,
+        cache: Cache,
+        stated: StatedBook,
+        length: u64,
+    ) -> Result<Session, AllocError>
+        requires columns { AreColumnNumbers (topology_of cache.graph) stated.nodes stated.columns }
+        requires radii { (columns : Items NodeName) (groups : Items Group) → IsMatrix (topology_of cache.graph) columns groups
+            → StatesRadiiOf (length_of columns) (codes_of groups) stated.wish }
+        requires length { 1 ≤ length }
+        ensures mode { IfOk result (λ s. IsModeStated (topology_of cache.graph) stated s.mode) }
+        ensures length { IfOk result (λ s. s.windows.length ≡ length) }
+        ensures cache { IfOk result (λ s. s.cache ≡ cache) }
+        ensures stands { IfOk result (λ s. StandsForEntries s (topology_of cache.graph) []) }
+    {
+        let ready = Ready::by_stated(alloc, &cache, stated)?;
+        Ok(Session::by_ready(alloc, cache, ready, length))
+    }
+
     // A session at the beginning of a log, by a codebook that is given.
     fn by_given(
         alloc: Global,
@@ -179,12 +205,24 @@ impl Session {
         ensures stands { IfOk result (λ s. StandsForEntries s (topology_of cache.graph) []) }
     {
         let ready = Ready::by(alloc, &cache, book)?;
-        Ok(Session {
+        Ok(Session::by_ready(alloc, cache, ready, length))
+    }
+
+    // A session at the beginning of a log, by one codebook, for which all is ready.
+    fn by_ready(alloc: Global, cache: Cache, ready: Ready, length: u64) -> Session
+        requires ready { IsReady (topology_of cache.graph) (mode_by ready) ready }
+        requires length { 1 ≤ length }
+        ensures mode { result.mode ≡ mode_by ready }
+        ensures length { result.windows.length ≡ length }
+        ensures cache { result.cache ≡ cache }
+        ensures stands { StandsForEntries result (topology_of cache.graph) [] }
+    {
+        Session {
             cache,
             windows: Windows::new(alloc, length),
             course: Course::Fixed { ready },
             scratch: Scratch::new(alloc),
-        })
+        }
     }
 
     /// What results from the next line: the diagnoses of the windows that it closes, and then what results from its body. An edit is made after

@@ -1,10 +1,10 @@
 use Rattle.std.proofs.Common.{◌≤◌, List, length, sym, subst, ◌∙◌}
 use Rattle.std.specs.List.{All}
-use Rattle.cb_network.specs.Nodes.{AreColumns, AreProblems}
+use Rattle.cb_network.specs.Nodes.{AreProblems}
 use Rattle.cb_network.specs.Sound.{Sound, node_limit}
 use Rattle.cb_nodes.specs.declared.id.NodeId.{NodeId}
-use Rattle.cb_topo.specs.Columns.{AreIdsBelow}
 use Rattle.cb_topo.specs.Numbered.{Numbered, topology_of, IsLiveNode, AreNamed, IsWhole}
+use Rattle.cb_topo.proofs.Positions.{named_below}
 use Rattle.cb_cache.specs.Numbers.{IsProblemNumber}
 use Rattle.cb_matrix.proofs.Matched.{all_live, all_problem_numbers, all_coded}
 use Rattle.cb_matrix.proofs.Held.{all_in_groups}
@@ -12,13 +12,14 @@ use Rattle.cb_matrix.proofs.problems.GroupedProblems.of.Goals as goal
 
 pub names_of-requires : goal.names_of-requires
 names_of-requires c =
-    let n = c.topology-topology.result.now in
-    let columns = c.in_ok-index.ensures.columns in
-    subst (λ (ids : List NodeId). All (IsLiveNode n) ids) (sym c.nodes.ensures) (all_live n c.in_ok-index.index columns.names columns.named)
+    let n = c.args.cache.now.graph in
+    let columns = c.requires in
+    let live = all_live n c.args.index.now columns.names columns.named in
+    subst (λ (m : Numbered). All (IsLiveNode m) c.nodes.result.now) (sym (c.topology-topology.ensures ∙ c.graph.ensures))
+    (subst (λ (ids : List NodeId). All (IsLiveNode n) ids) (sym c.nodes.ensures) live)
 
 pub grouping_of-requires-clause-columns : goal.grouping_of-requires-clause-columns
-grouping_of-requires-clause-columns c =
-    subst (λ (n : Numbered). AreIdsBelow (length n.nodes) c.in_ok-index.index) (c.topology-topology.ensures ∙ c.graph.ensures) c.in_ok-index.ensures.below
+grouping_of-requires-clause-columns c = named_below c.args.cache.now.graph c.args.index.now c.requires.names c.requires.named
 
 pub grouping_of-requires-clause-few : goal.grouping_of-requires-clause-few
 grouping_of-requires-clause-few c =
@@ -35,9 +36,9 @@ grouping_of-requires-clause-problems c =
 pub returns : goal.returns
 returns c =
     let n = c.args.cache.now.graph in
-    let nodes = c.in_ok-index.index in
+    let nodes = c.args.index.now in
     let ids = c.in_ok-problem_nodes.problem_nodes in
-    let columns = c.in_ok-index.ensures.columns in
+    let columns = c.requires in
     let problems = c.in_ok-problem_nodes.ensures in
     let here = c.topology-topology.ensures ∙ c.graph.ensures in
     let grouping = c.in_ok-grouping.grouping in
@@ -48,10 +49,7 @@ returns c =
     (all_coded n
     (subst IsWhole here c.node_capacity-capacity.ensures.whole)
     (subst (λ (m : Numbered). Sound (topology_of m)) here c.node_capacity-capacity.ensures.sound)
-    nodes ids c.in_ok-columns.columns grouped.problems columns.names problems.0
-    (subst (λ (m : Numbered). AreColumns (topology_of m) columns.names) here columns.are)
-    (subst (λ (m : Numbered). AreNamed m nodes columns.names) here columns.named)
-    named
+    nodes ids c.in_ok-columns.columns grouped.problems columns.names problems.0 columns.are columns.named named
     (subst (λ (m : Numbered). AreProblems (topology_of m) problems.0) here problems.1)
     (subst (λ (m : Numbered). AreNamed m ids problems.0) here problems.2)
     grouped.coded)

@@ -1,6 +1,6 @@
 use Rattle.cb_topo.proofs.Positions.{has_position}
-use Rattle.cb_certify.proofs.Places.{is_node, column_there, place_is}
-use Rattle.cb_certify.proofs.stated.place_of.Goals as goal
+use Rattle.cb_session.proofs.Places.{is_node, column_there, place_is}
+use Rattle.cb_session.proofs.stated.place_of.Goals as goal
 
 pub id_of-id-requires : goal.id_of-id-requires
 id_of-id-requires c = is_node c.args.topology.now c.model-model.ensures.whole c.args.columns.now c.requires.all c.args.column.now c.requires.is

@@ -1,10 +1,13 @@
 -- The positions of a certificate's columns among all.
-use Rattle.std.proofs.Common.{◌≡◌, ℕ, ◌+◌, ◌-◌, ◌<◌, List, [], ◌∷◌, ◌++◌, Option, Some, take, length, get_or, sym, subst, ◌∙◌, arith}
+use Rattle.std.proofs.Common.{◌≡◌, ℕ, ◌+◌, ◌-◌, ◌<◌, ◌≤◌, List, [], ◌∷◌, ◌++◌, Option, Some, take, length, get_or, sym, ap, subst, ◌∙◌, arith}
 use Rattle.std.specs.Prelude.{slice_get}
-use Rattle.std.proofs.lemmas.Option.{same_Some, slice_get_within, get_or_from_slice_get}
+use Rattle.std.specs.List.{Contains}
+use Rattle.std.proofs.lemmas.List.Elements.{All-contains}
+use Rattle.std.proofs.lemmas.Option.{same_Some, slice_get_within, slice_get-get_or, get_or_from_slice_get}
 use Rattle.cb_model.specs.declared.node.NodeName.{NodeName}
 use Rattle.cb_model.proofs.Numbers.{take_more, zip_push}
-use Rattle.cb_network.specs.Nodes.{IsNodeOf, IsColumn, AreColumns}
+use Rattle.cb_network.specs.Nodes.{IsNodeOf, IsColumn, IsSymptomNode, AreColumns}
+use Rattle.cb_network.specs.Sound.{Sound, symptom_limit}
 use Rattle.cb_network.specs.Topology.{Topology}
 use Rattle.cb_network.proofs.One.{columns_are_one}
 use Rattle.cb_validity.specs.Reading.{ArePlaces, IsColumnPlace}
@@ -16,8 +19,8 @@ use Rattle.cb_topo.specs.Columns.{AreAllColumns, IsPositionOf}
 use Rattle.cb_topo.specs.Numbered.{Numbered, topology_of, IsNodeNamed, IsWhole}
 use Rattle.cb_topo.specs.declared.kind.NodeKind.TheVariants.{Column}
 use Rattle.cb_topo.proofs.Listing.{of_topology}
-use Rattle.cb_span.proofs.Zips.{place_of, zip_left}
-use Rattle.cb_certify.specs.Columns.{ArePlacesFor}
+use Rattle.cb_cache.proofs.Opened.{few_of_rising}
+use Rattle.cb_session.specs.Stated.{ArePlacesFor}
 
 -- a number of the certificate is that of a column
 module _ (t : Topology) (nodes : List NodeName) (numbers : List ℕ) (are : AreColumnNumbers t nodes numbers) (k number : ℕ)
@@ -50,6 +53,19 @@ module _ (t : Topology) (nodes : List NodeName) (numbers : List ℕ) (are : AreC
         subst (λ (ns : List ℕ). ArePlaces nodes all ns (places ++ place ∷ [])) (sym (take_more numbers k number at))
         (zip_push (IsColumnPlace nodes all) (take k numbers) places number place (so_far all columns) one)
 
+-- there are no more places than there can be columns
+pub few_places : (t : Topology) → Sound t → (nodes all : List NodeName) → AreColumns t all → (numbers places : List ℕ) → AreColumnNumbers t nodes numbers
+    → ArePlacesFor t nodes numbers places → length places ≤ symptom_limit
+few_places t sound nodes all are numbers places stated places_are =
+    let columns = stated.columns in
+    let few : length columns ≤ symptom_limit =
+    few_of_rising (IsSymptomNode t) (Contains columns) columns symptom_limit stated.rise (λ q. (λ has. has, λ has. has))
+    (λ q has. (let column : IsColumn t q = All-contains (IsColumn t) columns q stated.each has in column.symptom)) sound.few_symptoms
+    in
+    let named = zip_lengths (StandsFor nodes) numbers columns stated.names in
+    let placed = zip_lengths (IsColumnPlace nodes all) numbers places (places_are all are) in
+    omega arith
+
 -- where a column is, by its number
 module _ (n : Numbered) (whole : IsWhole n) (ids : List NodeId) (all : AreAllColumns n ids) (column : NodeName) (is : IsColumn (topology_of n) column) where
   pub is_node : IsNodeOf (topology_of n) column
@@ -58,9 +74,16 @@ module _ (n : Numbered) (whole : IsWhole n) (ids : List NodeId) (all : AreAllCol
   module _ (id : NodeId) (named : IsNodeNamed n id column) where
     pub column_there : (i : ℕ) × (slice_get ids i ≡ Some id) × (slice_get all.names i ≡ Some column)
     column_there =
-        let (i, at) = place_of all.names column (all.are.all column is) in
-        let other = zip_left (IsNodeNamed n) ids all.names all.named i column at in
-        (i, subst (λ (z : NodeId). slice_get ids i ≡ Some z) (whole.one other.0 id column other.2 named) other.1, at)
+        let (i, low, there) = all.are.all column is in
+        let as_many = zip_lengths (IsNodeNamed n) ids all.names all.named in
+        let lower : i < length ids = omega arith in
+        let own : IsNodeNamed n (get_or ids i id) column =
+        subst (IsNodeNamed n (get_or ids i id)) there (zip_at (IsNodeNamed n) ids all.names i id column all.named lower)
+        in (
+          i,
+          slice_get-get_or ids i id lower ∙ ap Some (whole.one (get_or ids i id) id column own named),
+          slice_get-get_or all.names i column low ∙ ap Some there,
+        )
 
     pub place_is : (found : Option ℕ) (place : ℕ) → IsPositionOf ids id found → found ≡ Some place → (names : List NodeName) → AreColumns (topology_of n) names
         → slice_get names place ≡ Some column
