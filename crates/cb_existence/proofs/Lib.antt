@@ -17,3 +17,4 @@ pub mod EditWords
 pub mod SmallTimes
 pub mod LineEntries
 pub mod LineCosts
+pub mod Moves

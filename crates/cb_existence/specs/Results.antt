@@ -1,8 +1,12 @@
 -- What edits come to, and what they cost, exists.
 use Rattle.std.specs.Prelude.{ℕ, List, Result}
 use Rattle.std.specs.List.{Contains}
+use Rattle.cb_change.specs.Costs.{IsOpenCost}
 use Rattle.cb_change.specs.InTurn.{IsCostInTurn}
 use Rattle.cb_change.specs.Laws.{IsStep}
+use Rattle.cb_history.specs.Histories.{History, new_history, IsAfterMoves}
+use Rattle.cb_history.specs.declared.moves.Move.{Move}
+use Rattle.cb_history.specs.declared.moves.Move.TheVariants.{Make}
 use Rattle.cb_network.specs.declared.edit.Edit.{Edit}
 use Rattle.cb_network.specs.declared.edit.EditRefusal.{EditRefusal}
 use Rattle.cb_network.specs.Edits.{IsAccepted, IsAfter, IsAfterAll}
@@ -33,3 +37,13 @@ StepExists = (t : Topology) (edit : Edit) → IsRegular t.model → HasGoodName 
 abbrev pub CostInTurnExists : Type 0
 CostInTurnExists = (t : Topology) (edits : List Edit) → IsRegular t.model → Sound t → ((edit : Edit) → Contains edits edit → HasGoodName edit)
     → (cost : ℕ) × IsCostInTurn t edits cost
+
+-- edits and undos lead to a history
+abbrev pub MovesLead : Type 0
+MovesLead = (depth : ℕ) (t : Topology) (moves : List Move) → IsRegular t.model → (last : History) × IsAfterMoves depth (new_history t) moves last
+
+-- the search of the topology to which they lead has a cost
+abbrev pub LastCostExists : Type 0
+LastCostExists = (depth : ℕ) (t : Topology) (moves : List Move) → IsRegular t.model → Sound t
+    → ((edit : Edit) → Contains moves (Make edit) → HasGoodName edit)
+    → (last : History) × (cost : ℕ) × IsAfterMoves depth (new_history t) moves last × IsOpenCost last.now cost

@@ -1,6 +1,6 @@
 //! What exists, whatever the program does. Each law is the contract of a function that does nothing.
 ghost use Rattle.cb_existence.specs.Windows.{WindowNodesExist, ClosingExists};
-ghost use Rattle.cb_existence.specs.Results.{ResultExists, AfterAllExists, NowExists, StepExists, CostInTurnExists};
+ghost use Rattle.cb_existence.specs.Results.{ResultExists, AfterAllExists, NowExists, StepExists, CostInTurnExists, MovesLead, LastCostExists};
 ghost use Rattle.cb_existence.specs.Matrices.{ColumnsExist, ProblemsExist, CountsExist, ReachedExists, GroupsExist, MatrixExists};
 ghost use Rattle.cb_existence.specs.Choices.{ClosestPairExists, GoodOrFirstClose, ChoiceExists, ChoiceInUseExists};
 ghost use Rattle.cb_existence.specs.Choices.{BookInUseExists, RadiiExist, CapBookExists};
@@ -41,6 +41,16 @@ pub fn step_exists()
 /// From a sound topology edits that are made in turn have a cost.
 pub fn cost_in_turn_exists()
     ensures { CostInTurnExists }
+{}
+
+/// Over a regular model edits and undos lead to a history.
+pub fn moves_lead()
+    ensures { MovesLead }
+{}
+
+/// From a sound topology they lead to one whose search has a cost.
+pub fn last_cost_exists()
+    ensures { LastCostExists }
 {}
 
 /// Over a regular model a topology has columns, perhaps none.

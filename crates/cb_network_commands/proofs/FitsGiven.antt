@@ -1,6 +1,6 @@
 -- What fits, over the matrix of a topology.
-use Rattle.std.proofs.Common.{◌≡◌, ◌<◌, ◌≤◌, ℕ, List, [], length, refl, sym, ap, subst, ◌∙◌, inl, inr, arith}
-use Rattle.std.specs.Prelude.{Option, None, Some}
+use Rattle.std.proofs.Common.{◌≡◌, ℕ, List, length, ap, subst, ◌∙◌, inl, inr}
+use Rattle.std.specs.Prelude.{Option}
 use Rattle.std.specs.List.{AllZip}
 use Rattle.std.proofs.lemmas.List.{length-map}
 use Rattle.cb_model.specs.declared.node.NodeName.{NodeName}
@@ -13,15 +13,13 @@ use Rattle.cb_finding.specs.Finding.{unknown_of, word_of}
 use Rattle.cb_finding.specs.Matrix.{IsMatrix}
 use Rattle.cb_network.specs.Topology.{Topology}
 use Rattle.cb_pairs.specs.declared.guess.Fits.{Fits}
-use Rattle.cb_pairs.specs.Fits.{AreFits, group_limit}
+use Rattle.cb_pairs.specs.Fits.{AreFits}
 use Rattle.cb_pairs.specs.Separation.{IsSeparation}
 use Rattle.cb_pairs.proofs.Apart.{separation_is_one}
 use Rattle.cb_report.specs.declared.fault.Fault.{Fault}
-use Rattle.cb_report.specs.declared.fits.FitLine.{FitLine}
 use Rattle.cb_report.specs.declared.fits.FoundFits.{FoundFits}
 use Rattle.cb_outcome.specs.Fits.{IsFoundFor, NamesGuess}
 use Rattle.cb_outcome.specs.Jobs.{PairsGives}
-use Rattle.cb_outcome.specs.Outcome.{Outcome}
 use Rattle.cb_network_commands.specs.Fitted.{AreFitted, HaveNames, IsFittedOutput, IsGroupsRefusal}
 
 pub as_many_codes : (groups : List Group) → length (codes_of groups) ≡ length groups

@@ -1,3 +1,4 @@
 pub mod Writing
 pub mod FitsGiven
 mod Moving
+mod Rewound

@@ -1,5 +1,5 @@
 -- What is written of a codebook is what the command gives.
-use Rattle.std.proofs.Common.{◌≡◌, ℕ, List, inl, inr, sym, subst}
+use Rattle.std.proofs.Common.{ℕ, List, inl, inr, sym, subst}
 use Rattle.std.specs.Prelude.{Option}
 use Rattle.cb_model.specs.declared.wish.Wish.{Wish}
 use Rattle.cb_model.specs.declared.wish.Wish.TheVariants.{Plain, Cap}

@@ -12,10 +12,7 @@ use Rattle.cb_report.specs.declared.fault.Fault.{Fault}
 use Rattle.cb_report.specs.declared.fault.Fault.TheVariants as faults
 use Rattle.cb_report.specs.declared.fits.FoundFits.{FoundFits}
 use Rattle.cb_report.specs.FitsText.{fits_text}
-use Rattle.cb_report.specs.Text.{bytes_of_text}
-use Rattle.cb_file_kinds.specs.declared.output.Output.{Output}
 use Rattle.cb_outcome.specs.Fits.{IsFoundFor}
-use Rattle.cb_outcome.specs.Outcome.{Outcome}
 
 -- each group is called by something
 abbrev pub HaveNames : List Group → Type 0

@@ -1,9 +1,6 @@
 -- A history that a script goes on from.
-use Rattle.std.specs.Prelude.{◌≡◌, ◌≤◌, ◌+◌, ◌++◌, ℕ, List, [], ◌∷◌, length, Option, None, Some}
+use Rattle.std.specs.Prelude.{◌≡◌, ◌++◌, ℕ, List, [], ◌∷◌, Option, None, Some}
 use Rattle.std.specs.List.{flat_map}
-use Rattle.cb_model.specs.declared.node.NodeName.{NodeName}
-use Rattle.cb_coding.specs.declared.group.Group.{Group}
-use Rattle.cb_finding.specs.Matrix.{IsMatrix}
 use Rattle.cb_history.specs.Histories.{History}
 use Rattle.cb_history.specs.Records.{StandFor}
 use Rattle.cb_history.specs.Scripts.{RunsLine, Rewinds}
@@ -11,7 +8,6 @@ use Rattle.cb_history.specs.declared.moves.Move.{Move}
 use Rattle.cb_history.specs.declared.script.LineReport.{LineReport}
 use Rattle.cb_history.specs.declared.script.ScriptLine.{ScriptLine}
 use Rattle.cb_network.specs.declared.edit.Edit.{Edit}
-use Rattle.cb_network.specs.Sound.{problem_limit, symptom_limit}
 use Rattle.cb_network.specs.Topology.{Topology}
 use Rattle.cb_report.specs.RewoundText.{report_text}
 
@@ -34,12 +30,10 @@ pub record RunsOn (depth : ℕ) (h : History) (script : List ScriptLine) (before
   pub stands : StandFor network records last
   pub text : after ≡ before ++ flat_map report_text reports
 
--- what is reported of a script, and the matrix of the topology that it leaves
-pub record IsLastMatrix (depth : ℕ) (h : History) (script : List ScriptLine) (text : List ℕ) (columns : List NodeName) (groups : List Group) : Type 0 where
+-- what is reported of a script, and the topology that it leaves
+pub record IsRewound (depth : ℕ) (h : History) (script : List ScriptLine) (text : List ℕ) (t : Topology) : Type 0 where
   pub reports : List LineReport
   pub last : History
   pub rewinds : Rewinds depth h script reports last
+  pub now : t ≡ last.now
   pub text_is : text ≡ flat_map report_text reports
-  pub matrix : IsMatrix last.now columns groups
-  pub few_columns : length columns ≤ symptom_limit
-  pub few_groups : length groups ≤ problem_limit + 1

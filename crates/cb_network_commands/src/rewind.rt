@@ -28,7 +28,8 @@ pub fn rewind<'w, F: Files, L: Ledger>(
     steps: &mut Steps<L>,
 ) -> Result<Output<'w>, Fault<'w>>
     requires { (command names.model names.topology names.script depth).range }
-    ensures { Comes (command names.entry.model names.entry.topology names.entry.script depth) (F.tells files.old) (F.tells files.new) result }
+    ensures comes { Comes (command names.entry.model names.entry.topology names.entry.script depth) (F.tells files.old) (F.tells files.new) result }
+    ensures steps { (command names.entry.model names.entry.topology names.entry.script depth).counts (F.tells files.old) (F.tells files.new) steps.old steps.new }
 {
     let topology = read_network(alloc, files, names.model, names.topology)?;
     let kind = ScriptFile {

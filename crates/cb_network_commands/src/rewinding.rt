@@ -1,20 +1,19 @@
 //! A script over a topology: what is reported of its lines, and the matrix of the topology that they leave.
-ghost use Rattle.std.specs.Prelude.{◌≡◌, ◌≤◌, ◌∷◌, [], IfOk, OnOk};
+ghost use Rattle.std.specs.Prelude.{◌≡◌, ◌≤◌, ◌+◌, ◌∷◌, [], ℕ, IfOk, OnOk};
 ghost use Rattle.cb_history.specs.Histories.{History as Past, new_history};
 ghost use Rattle.cb_history.specs.Records.{StandFor};
 ghost use Rattle.cb_history.specs.declared.moves.Move.TheVariants.{Make as MakeMove, Undo as UndoMove};
 ghost use Rattle.cb_line_files.specs.Scripts.{HasGoodMove, HaveGoodNames};
 ghost use Rattle.cb_network.specs.Laws.{HasGoodName};
+ghost use Rattle.cb_outcome.specs.Costs.{IsRewindCost};
 ghost use Rattle.cb_outcome.specs.Jobs.{RewoundMatrix, text_of_rewound};
 ghost use Rattle.cb_report.specs.Text.{bytes_of_text};
 ghost use Rattle.cb_topo.specs.Numbered.{topology_of};
-ghost use Rattle.cb_network_commands.specs.Rewinding.{MovesOn, RunsOn, IsLastMatrix};
+ghost use Rattle.cb_network_commands.specs.Rewinding.{MovesOn, RunsOn, IsRewound};
 
 use crate::judge::matrix_lines;
-use cb_cache::Cache;
-use cb_graph::Graph;
+use cb_burst::matrix_of;
 use cb_history::{LineReport, Move, ScriptLine};
-use cb_matrix::Matrix;
 use cb_network::Edit;
 use cb_report::{Text, push_report};
 use cb_steps::Steps;
@@ -23,14 +22,14 @@ use cb_undo::{History, UndoFault};
 use std::alloc::{AllocError, Global};
 use std::sync::ledger::Ledger;
 
-/// The lines of what is reported of a script, and the matrix of the topology that it leaves.
+// What is reported of a script, and the topology that it leaves.
 #[derive(Drop)]
-pub(crate) struct LastMatrix {
+struct Rewound {
     reports: Vec<u8>,
-    matrix: Matrix,
+    topology: Topology,
 }
 
-/// What `rewind` prints, to be written.
+/// What `rewind` prints, to be written. The topology that the script leaves is the only one that is searched.
 pub(crate) fn lines_of_rewind<L: Ledger>(
     alloc: Global,
     topology: Topology,
@@ -41,59 +40,55 @@ pub(crate) fn lines_of_rewind<L: Ledger>(
     requires some { 1 ≤ depth }
     requires few { depth ≤ 1024 }
     requires names { HaveGoodNames script.now }
-    ensures { IfOk result (λ text. (rewound : RewoundMatrix (topology_of topology) script.now depth) × (bytes_of_text text ≡ text_of_rewound rewound)) }
+    ensures text { IfOk result (λ text. (rewound : RewoundMatrix (topology_of topology) script.now depth) × (bytes_of_text text ≡ text_of_rewound rewound)) }
+    ensures cost { (cost : ℕ) → IsRewindCost (topology_of topology) script.now depth cost → steps.new ≤ steps.old + cost }
 {
-    let mut history = history_of(alloc, topology, depth, steps)?;
-    let made = last_matrix(alloc, &mut history, script, steps);
-    drop(history);
-    let LastMatrix { reports, matrix } = made?;
+    // Its model is regular, so the script leads to one history.
+    let _model = topology.model();
+    let Rewound { reports, topology } = rewind_topology(alloc, topology, script, depth, steps)?;
+    let matrix = matrix_of(alloc, topology, steps)?;
     Ok(Text::Rewound {
         reports,
         matrix: matrix_lines(alloc, matrix)?,
     })
 }
 
-// The topology, with nothing to take back.
-fn history_of<L: Ledger>(
+// What is reported of the script, and the topology after it.
+fn rewind_topology<L: Ledger>(
     alloc: Global,
     topology: Topology,
+    script: &[ScriptLine],
     depth: usize,
     steps: &mut Steps<L>,
-) -> Result<History, AllocError>
+) -> Result<Rewound, AllocError>
     requires some { 1 ≤ depth }
     requires few { depth ≤ 1024 }
-    ensures depth { IfOk result (λ history. history.depth ≡ depth) }
-    ensures stands { IfOk result (λ history. StandFor history.network history.records (new_history (topology_of topology))) }
+    requires names { HaveGoodNames script.now }
+    ensures rewound { IfOk result (λ rewound. IsRewound depth (new_history (topology_of topology)) script.now rewound.reports.items (topology_of rewound.topology)) }
+    ensures steps { steps.new ≡ steps.old }
 {
-    let graph = Graph::new(alloc, topology)?;
-    let cache = Cache::open(alloc, graph, steps)?;
-    History::new(alloc, cache, depth)
-}
-
-// What is reported of the script, and the matrix after it.
-fn last_matrix<L: Ledger>(
-    alloc: Global,
-    history: &mut History,
-    script: &[ScriptLine],
-    steps: &mut Steps<L>,
-) -> Result<LastMatrix, AllocError>
-    requires { HaveGoodNames script.now }
-    ensures { IfOk result (λ made. (h : Past) → StandFor history.old.network history.old.records h → IsLastMatrix history.old.depth h script.now made.reports.items made.matrix.columns made.matrix.groups) }
-{
-    let reports = run_script(alloc, history, script, steps)?;
-    let matrix = Matrix::of(alloc, history.cache())?;
-    Ok(LastMatrix { reports, matrix })
+    let mut history = History::new(alloc, topology, depth)?;
+    let reports = run_script(alloc, &mut history, script, steps);
+    let topology = history.into_network();
+    match reports {
+        Ok(reports) => Ok(Rewound { reports, topology }),
+        Err(out_of_memory) => {
+            drop(topology);
+            Err(out_of_memory)
+        }
+    }
 }
 
 // Makes and takes back edits as the lines say. Gives the lines of what is reported.
 fn run_script<L: Ledger>(
     alloc: Global,
-    history: &mut History,
+    history: &mut History<Topology>,
     script: &[ScriptLine],
     steps: &mut Steps<L>,
 ) -> Result<Vec<u8>, AllocError>
     requires { HaveGoodNames script.now }
-    ensures { IfOk result (λ reports. (h : Past) → StandFor history.old.network history.old.records h → RunsOn history.old.depth h script.now [] reports.items history.new.network history.new.records) }
+    ensures runs { IfOk result (λ reports. (h : Past) → StandFor history.old.network history.old.records h → RunsOn history.old.depth h script.now [] reports.items history.new.network history.new.records) }
+    ensures steps { steps.new ≡ steps.old }
 {
     let mut reports = Vec::new(alloc);
     for line in script {
@@ -105,13 +100,14 @@ fn run_script<L: Ledger>(
 // Does what a line says, and adds what is reported of it.
 fn run_line<L: Ledger>(
     alloc: Global,
-    history: &mut History,
+    history: &mut History<Topology>,
     line: &ScriptLine,
     reports: &mut Vec<u8>,
     steps: &mut Steps<L>,
 ) -> Result<(), AllocError>
     requires { HasGoodMove line.now.what }
     ensures depth { history.new.depth ≡ history.old.depth }
+    ensures steps { steps.new ≡ steps.old }
     ensures runs { OnOk result ((h : Past) → StandFor history.old.network history.old.records h → RunsOn history.old.depth h (line.now ∷ []) reports.old.items reports.new.items history.new.network history.new.records) }
 {
     match report_of(alloc, history, line, steps)? {
@@ -123,12 +119,13 @@ fn run_line<L: Ledger>(
 // Does what a line says. What is reported of it, if something is.
 fn report_of<L: Ledger>(
     alloc: Global,
-    history: &mut History,
+    history: &mut History<Topology>,
     line: &ScriptLine,
     steps: &mut Steps<L>,
 ) -> Result<Option<LineReport>, AllocError>
     requires { HasGoodMove line.now.what }
     ensures depth { history.new.depth ≡ history.old.depth }
+    ensures steps { steps.new ≡ steps.old }
     ensures moves { IfOk result (λ report. (h : Past) → StandFor history.old.network history.old.records h → MovesOn history.old.depth h line.now.line line.now.what report history.new.network history.new.records) }
 {
     match &line.what {
@@ -140,13 +137,14 @@ fn report_of<L: Ledger>(
 // Makes the edit of a line, or reports why it is refused.
 fn make<L: Ledger>(
     alloc: Global,
-    history: &mut History,
+    history: &mut History<Topology>,
     edit: &Edit,
     line: u64,
     steps: &mut Steps<L>,
 ) -> Result<Option<LineReport>, AllocError>
     requires { HasGoodName edit.now }
     ensures depth { history.new.depth ≡ history.old.depth }
+    ensures steps { steps.new ≡ steps.old }
     ensures moves { IfOk result (λ report. (h : Past) → StandFor history.old.network history.old.records h → MovesOn history.old.depth h line (MakeMove edit.now) report history.new.network history.new.records) }
 {
     match history.edit(alloc, edit, steps) {
@@ -159,11 +157,12 @@ fn make<L: Ledger>(
 // Takes the last edit back, or reports that there is none.
 fn undo<L: Ledger>(
     alloc: Global,
-    history: &mut History,
+    history: &mut History<Topology>,
     line: u64,
     steps: &mut Steps<L>,
 ) -> Result<Option<LineReport>, AllocError>
     ensures depth { history.new.depth ≡ history.old.depth }
+    ensures steps { steps.new ≡ steps.old }
     ensures moves { IfOk result (λ report. (h : Past) → StandFor history.old.network history.old.records h → MovesOn history.old.depth h line UndoMove report history.new.network history.new.records) }
 {
     match history.undo(alloc, steps) {

@@ -1,11 +1,13 @@
 -- Bounds on steps. `after` is what the files say after the run.
-use Rattle.std.specs.Prelude.{◌≡◌, ℕ, ◌+◌, ◌≤◌, List, [], ◌∷◌, length, sum, slice_get, Bool, true, false, Some}
+use Rattle.std.specs.Prelude.{◌≡◌, ℕ, ◌+◌, ◌≤◌, List, [], ◌∷◌, length, map, sum, slice_get, Bool, true, false, Some}
 use Rattle.std.specs.List.{AllZip, flat_map}
 use Rattle.cb_model.specs.declared.node.NamedGroup.{NamedGroup}
 use Rattle.cb_model.specs.declared.node.NodeName.{NodeName}
 use Rattle.cb_change.specs.Costs.{IsOpenCost}
 use Rattle.cb_change.specs.InTurn.{IsCostInTurn}
 use Rattle.cb_gen.specs.Log.{log_text}
+use Rattle.cb_history.specs.Histories.{History, new_history, IsAfterMoves}
+use Rattle.cb_history.specs.declared.script.ScriptLine.{ScriptLine}
 use Rattle.cb_io.specs.Outside.{FilesReport, left_of}
 use Rattle.cb_finding.specs.declared.finding.Finding.{Finding}
 use Rattle.cb_finding.specs.Finding.{IsBurst}
@@ -20,7 +22,7 @@ use Rattle.cb_alarm.specs.Lines.{NumberedLine, ended_lines, log_lines, ComeTo}
 use Rattle.cb_outcome.specs.Contents.{Left, Reads, files_before, files_from, log_from}
 use Rattle.cb_outcome.specs.Grown.{MakesUp}
 use Rattle.cb_outcome.specs.Jobs.{NamesNode}
-use Rattle.cb_outcome.specs.Judged.{File, nothing, network, raised, PassFrom}
+use Rattle.cb_outcome.specs.Judged.{File, nothing, network, raised, scripted, PassFrom}
 use Rattle.cb_outcome.specs.Reading.{LeavesRest}
 
 -- what the edits in these lines cost together, each made of the topology that those before it leave
@@ -115,3 +117,18 @@ pub record CountsEntries (text : List ℕ) (old new : ℕ) : Type 0 where
 pub record CountsProve (left : Left) (reads : Reads) (old new : ℕ) : Type 0 where
   pub most : (levels : File) → slice_get (files_from left reads) 2 ≡ Some levels → CountsEntries levels.text old new
   pub none : ((t : Topology) → ¬ PassFrom nothing (files_before 2 left reads) (network t)) → new ≡ old
+
+-- ---- scripts
+
+-- the search of the topology to which the edits and undos of the script lead
+pub record IsRewindCost (t : Topology) (script : List ScriptLine) (depth cost : ℕ) : Type 0 where
+  pub last : History
+  pub leads : IsAfterMoves depth (new_history t) (map (λ line. line.what) script) last
+  pub searched : IsOpenCost last.now cost
+
+-- `rewind`: no more steps are counted than that costs, for the topology and the script that the three files give. Where they give none, no step is
+-- counted.
+pub record CountsRewind (left : Left) (reads : Reads) (depth old new : ℕ) : Type 0 where
+  pub most : (t : Topology) (script : List ScriptLine) → PassFrom nothing (files_from left reads) (scripted t script) → (cost : ℕ)
+      → IsRewindCost t script depth cost → new ≤ old + cost
+  pub none : ((t : Topology) (script : List ScriptLine) → ¬ PassFrom nothing (files_from left reads) (scripted t script)) → new ≡ old

@@ -1,13 +1,13 @@
 //! Edits and undos in turn, at several depths: what the last topology has, how many edits can still be undone, and how many lines changed nothing.
 ghost use Rattle.std.specs.Prelude.{◌≡◌, ◌<◌};
 
-use crate::worked::{CYCLE, LINK, SITES, TWO_PORTS, edit_of, graph_of, has_good_name};
+use crate::worked::{CYCLE, LINK, SITES, TWO_PORTS, edit_of, has_good_name, model_of};
 use cb_cache::Cache;
 use cb_graph::Graph;
 use cb_model::RelId;
 use cb_steps::{MayCount, Steps};
 use cb_topo::Topology;
-use cb_undo::History;
+use cb_undo::{EditedTopology, History};
 use std::alloc::{AllocError, Global};
 use std::marker::Brand;
 use std::process::Abort;
@@ -163,9 +163,9 @@ const CASES: [Case; 8] = [
 const NAMES: [&[u8]; 6] = [b"L1", b"a", b"b", b"c", b"n1", b"s1"];
 
 // Whether the line changes something.
-fn changes<L: Ledger>(
+fn changes<N: EditedTopology, L: Ledger>(
     alloc: Global,
-    history: &mut History,
+    history: &mut History<N>,
     line: &[u8],
     steps: &mut Steps<L>,
 ) -> Result<bool, AllocError> {
@@ -181,9 +181,9 @@ fn changes<L: Ledger>(
 }
 
 // How many of the lines change nothing.
-fn unchanged_after<L: Ledger>(
+fn unchanged_after<N: EditedTopology, L: Ledger>(
     alloc: Global,
-    history: &mut History,
+    history: &mut History<N>,
     lines: &[&[u8]],
     steps: &mut Steps<L>,
 ) -> Result<usize, AllocError> {
@@ -215,8 +215,8 @@ fn is_muted(topology: &Topology, event: &[u8], name: &[u8]) -> bool {
 }
 
 // What the history has now.
-fn outcome_of(history: &History, unchanged: usize) -> Outcome {
-    let topology = history.cache().graph().topology();
+fn outcome_of<N: EditedTopology>(history: &History<N>, unchanged: usize) -> Outcome {
+    let topology = history.network().topology();
     let mut outcome = Outcome {
         unchanged,
         kept: history.kept(),
@@ -233,12 +233,48 @@ fn outcome_of(history: &History, unchanged: usize) -> Outcome {
     outcome
 }
 
-// Runs the lines of a case on its network.
+// Runs the lines of a case over its network.
+fn run_over<N: EditedTopology, L: Ledger>(
+    rt: &impl Abort,
+    alloc: Global,
+    network: N,
+    case: &Case,
+    steps: &mut Steps<L>,
+) -> Result<(), AllocError> {
+    let mut history = History::new(alloc, network, case.depth.clamp(1, 1024))?;
+    let unchanged = unchanged_after(alloc, &mut history, case.lines, steps);
+    let outcome = outcome_of(&history, unchanged.unwrap_or(usize::MAX));
+    drop(history);
+    assert_eq!(rt; outcome, case.last);
+    Ok(())
+}
+
+// The topology that the first edits of a case make.
+fn first_topology<L: Ledger>(
+    alloc: Global,
+    case: &Case,
+    steps: &mut Steps<L>,
+) -> Result<Topology, AllocError> {
+    let Some(model) = model_of(alloc, case.model)? else {
+        return Err(AllocError);
+    };
+    let mut history = History::new(alloc, Topology::new(alloc, model), 1)?;
+    let unchanged = unchanged_after(alloc, &mut history, case.first, steps);
+    let topology = history.into_network();
+    match unchanged {
+        Ok(0) => Ok(topology),
+        _ => {
+            drop(topology);
+            Err(AllocError)
+        }
+    }
+}
+
+// Runs a case over a topology alone, which counts no step, and over a cache.
 fn run_case<L: Ledger>(
     rt: &(impl Abort + MayCount),
     alloc: Global,
     blank: Blank,
-    graph: Graph,
     case: &Case,
 ) -> Result<(), AllocError>
     requires name { blank.name ≡ L.name }
@@ -246,21 +282,19 @@ fn run_case<L: Ledger>(
     requires some { 0 < L.parts }
 {
     let mut steps = Steps::<L>::new(rt, blank);
+    let topology = first_topology(alloc, case, &mut steps)?;
+    run_over(rt, alloc, topology, case, &mut steps)?;
+    assert_eq!(rt; steps.count(), 0);
+    let graph = Graph::new(alloc, first_topology(alloc, case, &mut steps)?)?;
     let cache = Cache::open(alloc, graph, &mut steps)?;
-    let mut history = History::new(alloc, cache, case.depth.clamp(1, 1024))?;
-    let unchanged = unchanged_after(alloc, &mut history, case.lines, &mut steps);
-    let outcome = outcome_of(&history, unchanged.unwrap_or(usize::MAX));
-    drop(history);
-    assert_eq!(rt; outcome, case.last);
-    Ok(())
+    run_over(rt, alloc, cache, case, &mut steps)
 }
 
 #[test]
 fn topologies_after_edits_and_undos(rt: HostRuntime) -> Result<(), AllocError> {
     let alloc = rt.alloc();
     for case in &CASES {
-        let graph = graph_of(&rt, alloc, case.model, case.first)?;
-        run_case::<Brand>(&rt, alloc, Blank::new(1), graph, case)?;
+        run_case::<Brand>(&rt, alloc, Blank::new(1), case)?;
     }
     Ok(())
 }

@@ -126,8 +126,8 @@ const CASES: [Case; 4] = [
     },
 ];
 
-// The model of a text, where it has no fault.
-fn model_of(alloc: Global, text: &[u8]) -> Result<Option<Model>, AllocError> {
+/// The model of a text, where it has no fault.
+pub(crate) fn model_of(alloc: Global, text: &[u8]) -> Result<Option<Model>, AllocError> {
     // None is longer.
     if 1_000 < text.len() {
         return Ok(None);

@@ -65,7 +65,8 @@ pub fn run<F: Files, O: Sink, E: Sink, L: Ledger>(
     // No distance of 1 is refused so, nor a cap.
     ensures finds { Finds (command_in words.now) result (seen_from F.tells O.tells E.tells files.old files.new out.old out.new err.old err.new) }
     // How many steps are counted. By `explain` no more than by `burst`, and then from each problem of a listed group but `quiet` as many as it causes
-    // nodes; by `levels` no more than its problem causes nodes; by `prove` no more than the levels have entries.
+    // nodes; by `levels` no more than its problem causes nodes; by `prove` no more than the levels have entries; by `rewind` no more than it costs to
+    // search from each problem of the topology that the script leaves.
     // No step is counted by `model`, nor where no topology results from the files; by `burst`, `matrix` and `pairs` no more than it costs to search
     // from each problem of the topology; by `correlate` and `grow` no more than that, and again after each edit of the log for the problems that it makes dirty or new, of
     // `correlate` as far as the log was read. Of the others nothing is said.

@@ -1,5 +1,5 @@
 //! A topology whose last edits can be undone.
-ghost use Rattle.std.specs.Prelude.{◌≡◌, ◌≤◌, Ok, length, IfOk, IfErr, OnOk, OnErr};
+ghost use Rattle.std.specs.Prelude.{◌≡◌, ◌≤◌, false, Ok, length, IfOk, IfErr, OnOk, OnErr};
 ghost use Rattle.cb_change.specs.Costs.{CountsAtMost, IsEditCost};
 ghost use Rattle.cb_network.specs.Edits.{IsAfter};
 ghost use Rattle.cb_network.specs.Laws.{HasGoodName};
@@ -9,10 +9,10 @@ ghost use Rattle.cb_topo.specs.Numbered.{topology_of};
 ghost use Rattle.cb_undo.specs.Recorded.{StopsEdit};
 ghost use Rattle.cb_undo.specs.Undone.{CountsUndo, CountsFailedUndo, StopsUndo};
 
+use crate::edited::EditedTopology;
 use crate::fault::UndoFault;
 use crate::record::record;
 use crate::undo::undo_last;
-use cb_cache::Cache;
 use cb_inverse::Inverse;
 use cb_network::Edit;
 use cb_steps::Steps;
@@ -22,16 +22,16 @@ use std::collections::VecDeque;
 use std::marker::Model;
 use std::sync::ledger::Ledger;
 
-/// A cache, and the inverses of its last edits.
+/// A network, and the inverses of its last edits.
 #[derive(Drop)]
-pub struct History {
-    cache: Cache,
+pub struct History<N: EditedTopology> {
+    network: N,
     depth: usize,
     // That of the last edit first. There is capacity for one more than the depth.
     inverses: VecDeque<Inverse>,
 }
 
-impl Model for History {
+impl<N: EditedTopology> Model for History<N> {
     ghost use Rattle.std.specs.VecDeque.{deque_len, deque_capacity};
     ghost use Rattle.cb_topo.specs.Numbered.{topology_of};
     ghost use Rattle.cb_undo.specs.Encoding.{undoable_encoding};
@@ -42,33 +42,41 @@ impl Model for History {
 
     ghost coded = { undoable_encoding };
 
-    ghost view = { λ h. undoable_of (topology_of h.cache.graph) h.depth h.inverses.items };
+    ghost view = { λ h. undoable_of (topology_of (N.numbered h.network)) h.depth h.inverses.items };
 
-    ghost invariant = { λ h. AreInverses (topology_of h.cache.graph) h.depth h.inverses.items (deque_len h.inverses) (deque_capacity h.inverses) };
+    ghost invariant = { λ h. AreInverses (topology_of (N.numbered h.network)) h.depth h.inverses.items (deque_len h.inverses) (deque_capacity h.inverses) };
 }
 
-impl History {
-    /// The cache's topology, with no edit to undo. Memory for the list of `depth` inverses is taken here. Where it runs out, the cache is
-    /// dropped.
-    pub fn new(alloc: Global, cache: Cache, depth: usize) -> Result<History, AllocError>
+impl<N: EditedTopology> History<N> {
+    /// The network's topology, with no edit to undo. Memory for the list of `depth` inverses is taken here. Where it runs out, the network
+    /// is dropped.
+    pub fn new(alloc: Global, network: N, depth: usize) -> Result<History<N>, AllocError>
         requires some { 1 ≤ depth }
         requires few { depth ≤ 1024 }
         ensures depth { IfOk result (λ h. h.depth ≡ depth) }
-        ensures stands { IfOk result (λ h. StandFor h.network h.records (new_history (topology_of cache.graph))) }
+        ensures stands { IfOk result (λ h. StandFor h.network h.records (new_history (topology_of (N.numbered network)))) }
     {
         let inverses = VecDeque::with_capacity(alloc, depth + 1)?;
         Ok(History {
-            cache,
+            network,
             depth,
             inverses,
         })
     }
 
-    /// The topology, with a row for each of its problems.
-    pub fn cache(&self) -> &Cache
-        ensures { topology_of result.now.graph ≡ self.now.network }
+    /// The network, to be read. What it keeps up to date is right by its own invariant: the rows of a cache are those of this topology.
+    pub fn network(&self) -> &N
+        ensures { topology_of (N.numbered result.now) ≡ self.now.network }
     {
-        &self.cache
+        &self.network
+    }
+
+    /// The network alone.
+    pub fn into_network(self) -> N
+        ensures { topology_of (N.numbered result) ≡ self.network }
+    {
+        let History { network, .. } = self;
+        network
     }
 
     /// How many edits can be undone.
@@ -93,11 +101,12 @@ impl History {
         ensures fault { IfErr result (StopsEdit self.old.network edit.now) }
         ensures same { OnErr result (self.new ≡ self.old) }
         ensures cost { OnOk result (CountsAtMost (IsEditCost self.old.network edit.now self.new.network) steps.old steps.new) }
+        ensures none { N.counts_steps ≡ false → steps.new ≡ steps.old }
         ensures steps { OnErr result (steps.new ≡ steps.old) }
     {
         record(
             alloc,
-            &mut self.cache,
+            &mut self.network,
             &mut self.inverses,
             self.depth,
             edit,
@@ -113,8 +122,9 @@ impl History {
         ensures fault { IfErr result (StopsUndo self.old.records) }
         ensures same { OnErr result (self.new ≡ self.old) }
         ensures cost { OnOk result (CountsUndo self.old.network self.old.records steps.old steps.new) }
+        ensures none { N.counts_steps ≡ false → steps.new ≡ steps.old }
         ensures failed { OnErr result (CountsFailedUndo self.old.network self.old.records steps.old steps.new) }
     {
-        undo_last(alloc, &mut self.cache, &mut self.inverses, steps)
+        undo_last(alloc, &mut self.network, &mut self.inverses, steps)
     }
 }

@@ -1,5 +1,5 @@
 //! The edits of an inverse, made in turn.
-ghost use Rattle.std.specs.Prelude.{◌≡◌, [], ◌∷◌, OnOk, OnErr};
+ghost use Rattle.std.specs.Prelude.{◌≡◌, [], ◌∷◌, false, OnOk, OnErr};
 ghost use Rattle.cb_network.specs.Edits.{IsAccepted};
 ghost use Rattle.cb_network.specs.Laws.{HasGoodName};
 ghost use Rattle.cb_network.specs.Regular.{IsRegular};
@@ -10,7 +10,7 @@ ghost use Rattle.cb_inverse.specs.Inverses.{inverse_edits, rest_of};
 ghost use Rattle.cb_undo.specs.Kept.{IsInverseOf};
 ghost use Rattle.cb_undo.specs.Made.{CanAllBeMade, MakesAll, MakesPrefix, CountsPart};
 
-use cb_cache::Cache;
+use crate::edited::{EditedTopology, apply};
 use cb_inverse::Inverse;
 use cb_network::Edit;
 use cb_steps::Steps;
@@ -18,86 +18,96 @@ use std::alloc::{AllocError, Global};
 use std::sync::ledger::Ledger;
 
 /// Makes all edits of an inverse. Where memory runs out in the middle, the undone edit is made again.
-pub fn make_inverse<L: Ledger>(
+pub fn make_inverse<N: EditedTopology, L: Ledger>(
     alloc: Global,
-    cache: &mut Cache,
+    network: &mut N,
     inverse: &Inverse,
     steps: &mut Steps<L>,
 ) -> Result<(), AllocError>
-    requires { (before : Topology) × IsInverseOf before (topology_of cache.old.graph) inverse.now }
-    ensures made { OnOk result (MakesAll (topology_of cache.old.graph) (inverse_edits inverse.now) (topology_of cache.new.graph) steps.old steps.new) }
-    ensures same { OnErr result (topology_of cache.new.graph ≡ topology_of cache.old.graph) }
-    ensures counts { OnErr result (CountsPart (topology_of cache.old.graph) (inverse_edits inverse.now) steps.old steps.new) }
+    requires { (before : Topology) × IsInverseOf before (topology_of (N.numbered network.old)) inverse.now }
+    ensures made { OnOk result (MakesAll (topology_of (N.numbered network.old)) (inverse_edits inverse.now) (topology_of (N.numbered network.new)) steps.old steps.new) }
+    ensures same { OnErr result (topology_of (N.numbered network.new) ≡ topology_of (N.numbered network.old)) }
+    ensures none { N.counts_steps ≡ false → steps.new ≡ steps.old }
+    ensures counts { OnErr result (CountsPart (topology_of (N.numbered network.old)) (inverse_edits inverse.now) steps.old steps.new) }
 {
-    make(alloc, cache, &inverse.first, steps)?;
-    match make_rest(alloc, cache, inverse, steps) {
+    make(alloc, network, &inverse.first, steps)?;
+    match make_rest(alloc, network, inverse, steps) {
         Ok(()) => Ok(()),
         Err(error) => {
-            make_again(alloc, cache, &inverse.again, steps);
+            make_again(alloc, network, &inverse.again, steps);
             Err(error)
         }
     }
 }
 
 // Makes all edits but the first.
-fn make_rest<L: Ledger>(
+fn make_rest<N: EditedTopology, L: Ledger>(
     alloc: Global,
-    cache: &mut Cache,
+    network: &mut N,
     inverse: &Inverse,
     steps: &mut Steps<L>,
 ) -> Result<(), AllocError>
-    requires { CanAllBeMade (topology_of cache.old.graph) (rest_of inverse.now) }
-    ensures made { OnOk result (MakesAll (topology_of cache.old.graph) (rest_of inverse.now) (topology_of cache.new.graph) steps.old steps.new) }
-    ensures part { OnErr result (MakesPrefix (topology_of cache.old.graph) (rest_of inverse.now) (topology_of cache.new.graph) steps.old steps.new) }
+    requires { CanAllBeMade (topology_of (N.numbered network.old)) (rest_of inverse.now) }
+    ensures made { OnOk result (MakesAll (topology_of (N.numbered network.old)) (rest_of inverse.now) (topology_of (N.numbered network.new)) steps.old steps.new) }
+    ensures part { OnErr result (MakesPrefix (topology_of (N.numbered network.old)) (rest_of inverse.now) (topology_of (N.numbered network.new)) steps.old steps.new) }
+    ensures none { N.counts_steps ≡ false → steps.new ≡ steps.old }
 {
-    make_each(alloc, cache, &inverse.links, steps)?;
-    make_each(alloc, cache, &inverse.mutes, steps)
+    make_each(alloc, network, &inverse.links, steps)?;
+    make_each(alloc, network, &inverse.mutes, steps)
 }
 
 // Makes these edits in turn, as long as there is memory.
-fn make_each<L: Ledger>(
+fn make_each<N: EditedTopology, L: Ledger>(
     alloc: Global,
-    cache: &mut Cache,
+    network: &mut N,
     edits: &[Edit],
     steps: &mut Steps<L>,
 ) -> Result<(), AllocError>
-    requires { CanAllBeMade (topology_of cache.old.graph) edits.now }
-    ensures made { OnOk result (MakesAll (topology_of cache.old.graph) edits.now (topology_of cache.new.graph) steps.old steps.new) }
-    ensures part { OnErr result (MakesPrefix (topology_of cache.old.graph) edits.now (topology_of cache.new.graph) steps.old steps.new) }
+    requires { CanAllBeMade (topology_of (N.numbered network.old)) edits.now }
+    ensures made { OnOk result (MakesAll (topology_of (N.numbered network.old)) edits.now (topology_of (N.numbered network.new)) steps.old steps.new) }
+    ensures part { OnErr result (MakesPrefix (topology_of (N.numbered network.old)) edits.now (topology_of (N.numbered network.new)) steps.old steps.new) }
+    ensures none { N.counts_steps ≡ false → steps.new ≡ steps.old }
 {
     for edit in edits {
-        make(alloc, cache, edit, steps)?;
+        make(alloc, network, edit, steps)?;
     }
     Ok(())
 }
 
 // Makes an accepted edit. Where memory runs out, nothing is changed.
-fn make<L: Ledger>(
+fn make<N: EditedTopology, L: Ledger>(
     alloc: Global,
-    cache: &mut Cache,
+    network: &mut N,
     edit: &Edit,
     steps: &mut Steps<L>,
 ) -> Result<(), AllocError>
-    requires regular { IsRegular (topology_of cache.old.graph).model }
+    requires regular { IsRegular (topology_of (N.numbered network.old)).model }
     requires name { HasGoodName edit.now }
-    requires accepted { IsAccepted (topology_of cache.old.graph) edit.now }
-    ensures made { OnOk result (MakesAll (topology_of cache.old.graph) (edit.now ∷ []) (topology_of cache.new.graph) steps.old steps.new) }
-    ensures same { OnErr result (cache.new ≡ cache.old) }
+    requires accepted { IsAccepted (topology_of (N.numbered network.old)) edit.now }
+    ensures made { OnOk result (MakesAll (topology_of (N.numbered network.old)) (edit.now ∷ []) (topology_of (N.numbered network.new)) steps.old steps.new) }
+    ensures same { OnErr result (network.new ≡ network.old) }
+    ensures none { N.counts_steps ≡ false → steps.new ≡ steps.old }
     ensures steps { OnErr result (steps.new ≡ steps.old) }
 {
-    match cache.apply(alloc, edit, steps) {
+    match apply(alloc, network, edit, steps) {
         Ok(()) => Ok(()),
         Err(_) => Err(AllocError),
     }
 }
 
 // Makes an accepted edit that needs no memory.
-fn make_again<L: Ledger>(alloc: Global, cache: &mut Cache, edit: &Edit, steps: &mut Steps<L>)
-    requires regular { IsRegular (topology_of cache.old.graph).model }
+fn make_again<N: EditedTopology, L: Ledger>(
+    alloc: Global,
+    network: &mut N,
+    edit: &Edit,
+    steps: &mut Steps<L>,
+)
+    requires regular { IsRegular (topology_of (N.numbered network.old)).model }
     requires name { HasGoodName edit.now }
-    requires accepted { IsAccepted (topology_of cache.old.graph) edit.now }
+    requires accepted { IsAccepted (topology_of (N.numbered network.old)) edit.now }
     requires no_memory { ¬ MayGrow edit.now }
-    ensures { MakesAll (topology_of cache.old.graph) (edit.now ∷ []) (topology_of cache.new.graph) steps.old steps.new }
+    ensures made { MakesAll (topology_of (N.numbered network.old)) (edit.now ∷ []) (topology_of (N.numbered network.new)) steps.old steps.new }
+    ensures none { N.counts_steps ≡ false → steps.new ≡ steps.old }
 {
-    let _made = cache.apply(alloc, edit, steps);
+    let _made = apply(alloc, network, edit, steps);
 }

@@ -1,13 +1,13 @@
 //! The undo of the last edit.
-ghost use Rattle.std.specs.Prelude.{◌≡◌, ◌<◌, ◌+◌, ℕ, drop, OnOk, OnErr, IfErr};
+ghost use Rattle.std.specs.Prelude.{◌≡◌, ◌<◌, ◌+◌, ℕ, false, drop, OnOk, OnErr, IfErr};
 ghost use Rattle.std.specs.VecDeque.{deque_len, deque_capacity};
 ghost use Rattle.cb_topo.specs.Numbered.{topology_of};
 ghost use Rattle.cb_undo.specs.Kept.{AreInverses};
 ghost use Rattle.cb_undo.specs.Undone.{MakesFirst, CountsFailure, StopsUndo};
 
+use crate::edited::EditedTopology;
 use crate::fault::UndoFault;
 use crate::make::make_inverse;
-use cb_cache::Cache;
 use cb_inverse::Inverse;
 use cb_steps::Steps;
 use std::alloc::Global;
@@ -15,25 +15,26 @@ use std::collections::VecDeque;
 use std::sync::ledger::Ledger;
 
 /// Makes the edits of the first inverse, which is dropped once all are made.
-pub fn undo_last<L: Ledger>(
+pub fn undo_last<N: EditedTopology, L: Ledger>(
     alloc: Global,
-    cache: &mut Cache,
+    network: &mut N,
     inverses: &mut VecDeque<Inverse>,
     steps: &mut Steps<L>,
 ) -> Result<(), UndoFault>
-    requires { (depth : ℕ) × AreInverses (topology_of cache.old.graph) depth inverses.old.items (deque_len inverses.old) (deque_capacity inverses.old) }
-    ensures kept { (depth : ℕ) → AreInverses (topology_of cache.old.graph) depth inverses.old.items (deque_len inverses.old) (deque_capacity inverses.old)
-        → AreInverses (topology_of cache.new.graph) depth inverses.new.items (deque_len inverses.new) (deque_capacity inverses.new) }
-    ensures makes { OnOk result (MakesFirst (topology_of cache.old.graph) inverses.old.items (topology_of cache.new.graph) inverses.new.items steps.old steps.new) }
+    requires { (depth : ℕ) × AreInverses (topology_of (N.numbered network.old)) depth inverses.old.items (deque_len inverses.old) (deque_capacity inverses.old) }
+    ensures kept { (depth : ℕ) → AreInverses (topology_of (N.numbered network.old)) depth inverses.old.items (deque_len inverses.old) (deque_capacity inverses.old)
+        → AreInverses (topology_of (N.numbered network.new)) depth inverses.new.items (deque_len inverses.new) (deque_capacity inverses.new) }
+    ensures makes { OnOk result (MakesFirst (topology_of (N.numbered network.old)) inverses.old.items (topology_of (N.numbered network.new)) inverses.new.items steps.old steps.new) }
     ensures fault { IfErr result (StopsUndo inverses.old.items) }
-    ensures same { OnErr result (topology_of cache.new.graph ≡ topology_of cache.old.graph) }
+    ensures same { OnErr result (topology_of (N.numbered network.new) ≡ topology_of (N.numbered network.old)) }
     ensures inverses { OnErr result (inverses.new.items ≡ inverses.old.items) }
-    ensures counts { OnErr result (CountsFailure (topology_of cache.old.graph) inverses.old.items steps.old steps.new) }
+    ensures none { N.counts_steps ≡ false → steps.new ≡ steps.old }
+    ensures counts { OnErr result (CountsFailure (topology_of (N.numbered network.old)) inverses.old.items steps.old steps.new) }
 {
     let Some(inverse) = inverses.front() else {
         return Err(UndoFault::Nothing);
     };
-    make_inverse(alloc, cache, inverse, steps)?;
+    make_inverse(alloc, network, inverse, steps)?;
     drop_first(inverses);
     Ok(())
 }

@@ -7,6 +7,9 @@ use Rattle.cb_outcome.specs.Outcome.{Outcome}
 use Rattle.cb_outcome.specs.Judged.{Known, scripted}
 use Rattle.cb_outcome.specs.Jobs.{RewindGives}
 use Rattle.cb_outcome.specs.Prints.{PrintsRewound}
+use Rattle.cb_outcome.specs.Contents.{Reads}
+use Rattle.cb_outcome.specs.Costs.{CountsRewind}
+use Rattle.cb_outcome.specs.Reading.{WhereReported}
 use Rattle.cb_outcome.specs.Seen.{Seen}
 use Rattle.cb_outcome.specs.Command.{IsWithin, Command, Making, makes}
 
@@ -24,11 +27,16 @@ RewindFinds depth known status s = ⊥
 abbrev pub rewind_making : ℕ → Making
 rewind_making depth = record { gives = RewindAfter depth; faults = λ fault. ⊥; finds = RewindFinds depth }
 
--- the whole command; nothing is said of its steps
+-- its three files
+abbrev pub rewind_reads : List ℕ → List ℕ → List ℕ → Reads
+rewind_reads model topology script =
+    record { judged = (Role.model, model) ∷ (Role.topology, topology) ∷ (Role.script, script) ∷ []; logs = [] }
+
+-- the whole command; no more steps are counted than the search of the topology costs to which the edits and undos lead
 abbrev pub rewind : List ℕ → List ℕ → List ℕ → ℕ → Command
 rewind model topology script depth = record {
-  files = (Role.model, model) ∷ (Role.topology, topology) ∷ (Role.script, script) ∷ [];
+  files = (rewind_reads model topology script).judged;
   task = makes (rewind_making depth);
   range = IsWithin 1 1024 depth;
-  counts = λ files after old new. Unit {0};
+  counts = λ files after old new. WhereReported files (λ left. CountsRewind left (rewind_reads model topology script) depth old new);
 }

@@ -1,5 +1,4 @@
-use Rattle.std.proofs.Common.{◌≡◌, ◌<◌, ◌≤◌, ℕ, List, length, sym, ap, subst, ◌∙◌, arith}
-use Rattle.std.specs.Prelude.{Option}
+use Rattle.std.proofs.Common.{◌≡◌, length, ap, subst, ◌∙◌, arith}
 use Rattle.cb_codes.specs.Codes.{Coded}
 use Rattle.cb_topo.specs.Numbered.{topology_of}
 use Rattle.cb_pairs.specs.Fits.{ArePairsRefused}

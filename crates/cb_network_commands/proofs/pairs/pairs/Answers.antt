@@ -1,6 +1,5 @@
 -- What each way out of `pairs` shows.
-use Rattle.std.proofs.Common.{List, ℕ, [], ◌∷◌, refl, ap, inl, subst}
-use Rattle.std.specs.Prelude.{None}
+use Rattle.std.proofs.Common.{[], ◌∷◌, refl, inl, subst}
 use Rattle.cb_topo.specs.Numbered.{topology_of}
 use Rattle.cb_outcome.specs.Roles.{Role}
 use Rattle.cb_outcome.specs.Commands.Burst.{burst_reads}

@@ -1,4 +1,4 @@
-use Rattle.std.proofs.Common.{sym, subst}
+use Rattle.std.proofs.Common.{refl, sym, subst}
 use Rattle.std.specs.Prelude.{Some}
 use Rattle.cb_history.specs.declared.moves.Move.TheVariants.{Make}
 use Rattle.cb_history.specs.declared.script.LineReport.TheVariants.{Refused}
@@ -21,3 +21,6 @@ returns-in-Err-Refused-clause-moves g c = λ h stands.
     let refused = subst (StopsEdit old.network edit) c.in-Err-Refused.field-0-is c.in-Err-Refused.ensures.fault in
     subst (λ (u : Undoable). MovesOn old.depth h c.args.line (Make edit) (Some (Refused c.args.line why)) u.network u.records) (sym c.in-Err-Refused.ensures.same)
     (refused_moves old.depth h c.args.line edit why old.network old.records refused stands)
+
+pub returns-in-Ok-clause-steps : goal.returns-in-Ok-clause-steps
+returns-in-Ok-clause-steps g c = c.in-Ok.ensures.none refl

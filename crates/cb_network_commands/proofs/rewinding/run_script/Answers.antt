@@ -11,7 +11,11 @@ pub loop-line-init : goal.loop-line-init
 loop-line-init g c =
     let old = c.args.history.now in
     let empty : c.new-reports.result.items ≡ [] = search rules in
-    (refl, λ h stands. subst (λ (text : List ℕ). RunsOn old.depth h [] [] text old.network old.records) (sym empty) (runs_none old.depth h [] old.network old.records stands))
+    record {
+      depth = refl;
+      steps = refl;
+      runs = λ h stands. subst (λ (text : List ℕ). RunsOn old.depth h [] [] text old.network old.records) (sym empty) (runs_none old.depth h [] old.network old.records stands);
+    }
 
 pub run_line-requires : goal.run_line-requires
 run_line-requires g c =
@@ -24,15 +28,17 @@ loop-line-preserved g c =
     let i = c.loop-line.line-index in
     let line = c.line-item.result in
     let depth = c.args.history.now.depth in
-    let same = c.loop-line.invariant.0 in
+    let same = c.loop-line.invariant.depth in
     let done : take i script ++ line ∷ [] ≡ take (i + 1) script =
-    ap (λ (l : ScriptLine). take i script ++ l ∷ []) c.line-item.is ∙ sym (take_more script i _ c.loop-line-test.true) in (
-      c.in_ok-run_line.ensures.depth ∙ same,
-      λ h stands.
-          let ran = c.loop-line.invariant.1 h stands in
+    ap (λ (l : ScriptLine). take i script ++ l ∷ []) c.line-item.is ∙ sym (take_more script i _ c.loop-line-test.true) in
+    record {
+      depth = c.in_ok-run_line.ensures.depth ∙ same;
+      steps = c.in_ok-run_line.ensures.steps ∙ c.loop-line.invariant.steps;
+      runs = λ h stands.
+          let ran = c.loop-line.invariant.runs h stands in
           let next = subst (λ (d : ℕ). RunsOn d ran.last (line ∷ []) c.loop-line.reports.items c.run_line.new.reports.items c.run_line.new.history.network c.run_line.new.history.records) same
           (c.in_ok-run_line.ensures.runs ran.last ran.stands) in
           subst (λ (lines : List ScriptLine). RunsOn depth h lines [] c.run_line.new.reports.items c.run_line.new.history.network c.run_line.new.history.records) done
           (runs_more depth h (take i script) (line ∷ []) [] c.loop-line.reports.items c.run_line.new.reports.items c.loop-line.history.network c.run_line.new.history.network
-          c.loop-line.history.records c.run_line.new.history.records ran next),
-    )
+          c.loop-line.history.records c.run_line.new.history.records ran next);
+    }

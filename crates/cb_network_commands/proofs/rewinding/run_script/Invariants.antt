@@ -5,7 +5,9 @@ use Rattle.cb_network_commands.specs.Rewinding.{RunsOn}
 use Rattle.cb_network_commands.proofs.rewinding.run_script.Given as goal
 
 abbrev pub invariant-loop-line : goal.invariant-loop-line
-invariant-loop-line g l =
-    (l.history.depth ≡ l.fn.history.depth)
-    × ((h : History) → StandFor l.fn.history.network l.fn.history.records h
-    → RunsOn l.fn.history.depth h (take l.line-index l.script) [] l.reports.items l.history.network l.history.records)
+invariant-loop-line g l = record {
+  depth : l.history.depth ≡ l.fn.history.depth;
+  steps : l.steps ≡ l.fn.steps;
+  runs : (h : History) → StandFor l.fn.history.network l.fn.history.records h
+      → RunsOn l.fn.history.depth h (take l.line-index l.script) [] l.reports.items l.history.network l.history.records;
+}

@@ -1,4 +1,4 @@
-use Rattle.std.proofs.Common.{sym, subst}
+use Rattle.std.proofs.Common.{refl, sym, subst}
 use Rattle.std.specs.Prelude.{Some}
 use Rattle.cb_history.specs.declared.moves.Move.TheVariants.{Undo}
 use Rattle.cb_history.specs.declared.script.LineReport.TheVariants.{Nothing}
@@ -20,3 +20,12 @@ returns-in-Err-Nothing-clause-moves g c = λ h stands.
     let none = subst (StopsUndo old.records) c.in-Err-Nothing.field-0-is c.in-Err-Nothing.ensures.fault in
     subst (λ (u : Undoable). MovesOn old.depth h c.args.line Undo (Some (Nothing c.args.line)) u.network u.records) (sym c.in-Err-Nothing.ensures.same)
     (nothing_moves old.depth c.args.line h old.network old.records none stands)
+
+pub returns-in-Ok-clause-steps : goal.returns-in-Ok-clause-steps
+returns-in-Ok-clause-steps g c = c.in-Ok.ensures.none refl
+
+pub returns-in-Err-Nothing-clause-steps : goal.returns-in-Err-Nothing-clause-steps
+returns-in-Err-Nothing-clause-steps g c = c.in-Err-Nothing.ensures.none refl
+
+pub returns-in-Err-NoMemory-clause-steps : goal.returns-in-Err-NoMemory-clause-steps
+returns-in-Err-NoMemory-clause-steps g c = c.in-Err-NoMemory.ensures.none refl

@@ -4,4 +4,4 @@ use Rattle.cb_undo.proofs.make.make.Goals as goal
 
 pub returns-in-Ok-clause-made : goal.returns-in-Ok-clause-made
 returns-in-Ok-clause-made g c =
-    makes_one (topology_of c.args.cache.now.graph) (topology_of c.apply.new.self.graph) c.args.edit.now c.args.steps.now c.apply.new.steps c.in-Ok.ensures.made.after c.in-Ok.ensures.cost
+    makes_one (topology_of (g.N.EditedTopology.numbered c.args.network.now)) (topology_of (g.N.EditedTopology.numbered c.apply.new.network)) c.args.edit.now c.args.steps.now c.apply.new.steps c.in-Ok.ensures.made.after c.in-Ok.ensures.cost

@@ -1,4 +1,4 @@
-use Rattle.std.proofs.Common.{List, sym, subst}
+use Rattle.std.proofs.Common.{List, sym, subst, ◌∙◌}
 use Rattle.std.proofs.lemmas.Result.{on_ok_weaker, on_err_weaker}
 use Rattle.cb_network.specs.declared.edit.Edit.{Edit}
 use Rattle.cb_topo.specs.Numbered.{topology_of}
@@ -8,14 +8,14 @@ use Rattle.cb_undo.proofs.make.make_rest.Goals as goal
 
 pub make_each-requires : goal.make_each-requires
 make_each-requires g c =
-    let t = topology_of c.args.cache.now.graph in
+    let t = topology_of (g.N.EditedTopology.numbered c.args.network.now) in
     let i = c.args.inverse.now in
     subst (CanAllBeMade t) (sym c.deref.ensures.value) (can_prefix t i.links.items i.mutes.items c.requires)
 
 pub make_each-requires-2 : goal.make_each-requires-2
 make_each-requires-2 g c =
-    let t = topology_of c.args.cache.now.graph in
-    let mid = topology_of c.make_each.new.cache.graph in
+    let t = topology_of (g.N.EditedTopology.numbered c.args.network.now) in
+    let mid = topology_of (g.N.EditedTopology.numbered c.make_each.new.network) in
     let i = c.args.inverse.now in
     let made : MakesAll t i.links.items mid c.args.steps.now c.make_each.new.steps =
     subst (λ (es : List Edit). MakesAll t es mid c.args.steps.now c.make_each.new.steps) c.deref.ensures.value c.in_ok-make_each.ensures.made in
@@ -23,9 +23,9 @@ make_each-requires-2 g c =
 
 pub returns-clause-made : goal.returns-clause-made
 returns-clause-made g c =
-    let t = topology_of c.args.cache.now.graph in
-    let mid = topology_of c.make_each.new.cache.graph in
-    let u = topology_of c.make_each-2.new.cache.graph in
+    let t = topology_of (g.N.EditedTopology.numbered c.args.network.now) in
+    let mid = topology_of (g.N.EditedTopology.numbered c.make_each.new.network) in
+    let u = topology_of (g.N.EditedTopology.numbered c.make_each-2.new.network) in
     let i = c.args.inverse.now in
     let made : MakesAll t i.links.items mid c.args.steps.now c.make_each.new.steps =
     subst (λ (es : List Edit). MakesAll t es mid c.args.steps.now c.make_each.new.steps) c.deref.ensures.value c.in_ok-make_each.ensures.made in
@@ -35,12 +35,15 @@ returns-clause-made g c =
 
 pub returns-clause-part : goal.returns-clause-part
 returns-clause-part g c =
-    let t = topology_of c.args.cache.now.graph in
-    let mid = topology_of c.make_each.new.cache.graph in
-    let u = topology_of c.make_each-2.new.cache.graph in
+    let t = topology_of (g.N.EditedTopology.numbered c.args.network.now) in
+    let mid = topology_of (g.N.EditedTopology.numbered c.make_each.new.network) in
+    let u = topology_of (g.N.EditedTopology.numbered c.make_each-2.new.network) in
     let i = c.args.inverse.now in
     let made : MakesAll t i.links.items mid c.args.steps.now c.make_each.new.steps =
     subst (λ (es : List Edit). MakesAll t es mid c.args.steps.now c.make_each.new.steps) c.deref.ensures.value c.in_ok-make_each.ensures.made in
     on_err_weaker c.make_each-2.result (λ (f : MakesPrefix mid c.deref-2.result.now u c.make_each.new.steps c.make_each-2.new.steps).
     prefix_of_second t i.links.items i.mutes.items mid u c.args.steps.now c.make_each.new.steps c.make_each-2.new.steps c.requires.regular made
     (subst (λ (es : List Edit). MakesPrefix mid es u c.make_each.new.steps c.make_each-2.new.steps) c.deref-2.ensures.value f)) c.make_each-2.ensures.part
+
+pub returns-clause-none : goal.returns-clause-none
+returns-clause-none g c = λ free. c.make_each-2.ensures.none free ∙ c.in_ok-make_each.ensures.none free

@@ -13,19 +13,19 @@ record_accepted-requires-clause-name g c = subst HasGoodName (sym c.in_ok-accept
 
 pub record_accepted-requires-clause-decided : goal.record_accepted-requires-clause-decided
 record_accepted-requires-clause-decided g c =
-    let path : c.topology.result.now ≡ c.args.cache.now.graph = c.topology.ensures ∙ c.graph.ensures in
+    let path : c.topology.result.now ≡ g.N.EditedTopology.numbered c.args.network.now = c.topology.ensures in
     subst (λ (m : Numbered). IsDecided m c.in_ok-accepted.accepted) path c.in_ok-accepted.ensures.decided
 
 pub returns-clause-made : goal.returns-clause-made
 returns-clause-made g c =
-    subst (λ (e : Edit). IsAfter (topology_of c.args.cache.now.graph) e (Ok (topology_of c.record_accepted.new.cache.graph))) c.in_ok-accepted.ensures.edit c.in_ok-record_accepted.ensures.made
+    subst (λ (e : Edit). IsAfter (topology_of (g.N.EditedTopology.numbered c.args.network.now)) e (Ok (topology_of (g.N.EditedTopology.numbered c.record_accepted.new.network)))) c.in_ok-accepted.ensures.edit c.in_ok-record_accepted.ensures.made
 
 pub returns-clause-keeps : goal.returns-clause-keeps
 returns-clause-keeps g c =
-    subst (λ (e : Edit). KeepsInverse (topology_of c.args.cache.now.graph) e c.args.depth c.args.inverses.now.items c.record_accepted.new.inverses.items)
+    subst (λ (e : Edit). KeepsInverse (topology_of (g.N.EditedTopology.numbered c.args.network.now)) e c.args.depth c.args.inverses.now.items c.record_accepted.new.inverses.items)
     c.in_ok-accepted.ensures.edit c.in_ok-record_accepted.ensures.keeps
 
 pub returns-clause-cost : goal.returns-clause-cost
 returns-clause-cost g c =
-    subst (λ (e : Edit). CountsAtMost (IsEditCost (topology_of c.args.cache.now.graph) e (topology_of c.record_accepted.new.cache.graph)) c.args.steps.now c.record_accepted.new.steps)
+    subst (λ (e : Edit). CountsAtMost (IsEditCost (topology_of (g.N.EditedTopology.numbered c.args.network.now)) e (topology_of (g.N.EditedTopology.numbered c.record_accepted.new.network))) c.args.steps.now c.record_accepted.new.steps)
     c.in_ok-accepted.ensures.edit c.in_ok-record_accepted.ensures.cost

@@ -14,9 +14,9 @@ use Rattle.cb_undo.proofs.history.History.edit.Goals as goal
 pub returns-clause-stands : goal.returns-clause-stands
 returns-clause-stands g c =
     let i = c.self.inside in
-    let t = topology_of i.cache.graph in
+    let t = topology_of (g.N.EditedTopology.numbered i.network) in
     let new = c.record.new in
-    let u = topology_of new.cache.graph in
+    let u = topology_of (g.N.EditedTopology.numbered new.network) in
     subst (λ (v : Undoable). OnOk c.record.result ((h : Past) → StandFor v.network v.records h → StandFor u (map inverse_edits new.inverses.items) (edited v.depth h u))) c.self.view_is
     (on_ok_both c.record.result (IsAfter t c.args.edit.now (Ok u)) (KeepsInverse t c.args.edit.now i.depth i.inverses.items new.inverses.items)
     ((h : Past) → StandFor t (map inverse_edits i.inverses.items) h → StandFor u (map inverse_edits new.inverses.items) (edited i.depth h u))
@@ -24,5 +24,5 @@ returns-clause-stands g c =
 
 pub returns-clause-cost : goal.returns-clause-cost
 returns-clause-cost g c =
-    subst (λ (v : Undoable). OnOk c.record.result (CountsAtMost (IsEditCost v.network c.args.edit.now (topology_of c.record.new.cache.graph)) c.args.steps.now c.record.new.steps)) c.self.view_is
+    subst (λ (v : Undoable). OnOk c.record.result (CountsAtMost (IsEditCost v.network c.args.edit.now (topology_of (g.N.EditedTopology.numbered c.record.new.network))) c.args.steps.now c.record.new.steps)) c.self.view_is
     c.record.ensures.cost
