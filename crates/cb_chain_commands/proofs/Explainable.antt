@@ -1,5 +1,5 @@
 -- The groups of a matrix can be explained.
-use Rattle.std.proofs.Common.{◌≡◌, ℕ, zero, suc, List, [], ◌∷◌, ◌++◌, map, length, true, false, refl, sym, ap, subst, ◌∙◌, inl, inr, Some}
+use Rattle.std.proofs.Common.{◌≡◌, ℕ, zero, suc, List, [], ◌∷◌, ◌++◌, map, length, refl, sym, ap, subst, ◌∙◌, inl, inr, Some}
 use Rattle.std.specs.Prelude.{Option, None, slice_index_or}
 use Rattle.std.specs.List.{All, Contains, flat_map, slice_get}
 use Rattle.std.proofs.lemmas.Bool.{eqb-true, false≢true}
@@ -16,7 +16,8 @@ use Rattle.cb_finding.specs.Matrix.{IsCode, IsMatrix}
 use Rattle.cb_network.specs.Causes.{Causes}
 use Rattle.cb_network.specs.Nodes.{IsProblem}
 use Rattle.cb_network.specs.Topology.{Topology}
-use Rattle.cb_outcome.specs.Explained.{ExplainsColumns, chains_in, ExplainsMembers}
+use Rattle.cb_chains.specs.Explained.{ExplainsColumns, chains_in}
+use Rattle.cb_outcome.specs.Explained.{ExplainsMembers}
 use Rattle.cb_chain_commands.specs.Explaining.{CanBeExplained}
 
 -- ---- a group whose members cause no column

@@ -1,6 +1,6 @@
--- Lines of chains, as they are added to a text.
-use Rattle.std.specs.Prelude.{◌≡◌, ℕ, ◌≤◌, ◌+◌, List, ◌++◌, Option, true}
-use Rattle.std.specs.List.{All, Contains, flat_map}
+-- Chains, as they are found for one problem after the other.
+use Rattle.std.specs.Prelude.{◌≡◌, ℕ, ◌≤◌, ◌+◌, List, Option, Some, true, slice_get}
+use Rattle.std.specs.List.{All, AllZip, Contains, flat_map}
 use Rattle.cb_model.specs.declared.node.NamedGroup.{NamedGroup}
 use Rattle.cb_model.specs.declared.node.NodeName.{NodeName}
 use Rattle.cb_finding.specs.declared.finding.Finding.{Finding}
@@ -8,10 +8,11 @@ use Rattle.cb_network.specs.Causes.{Causes}
 use Rattle.cb_network.specs.Nodes.{IsProblem, AreColumns}
 use Rattle.cb_network.specs.Topology.{Topology}
 use Rattle.cb_topo.specs.Numbered.{Numbered, topology_of, AreNamed}
-use Rattle.cb_explain.specs.Explained.{IsExplainerOf}
-use Rattle.cb_report.specs.ChainTexts.{chain_line, explained_group, explained_groups, explained_text}
+use Rattle.cb_explain.specs.declared.explainer.Explainer.{Explainer}
+use Rattle.cb_explain.specs.Explained.{IsExplainerOf, IsNameOnChain, KeepsNodesOnChains}
+use Rattle.cb_report.specs.ChainTexts.{explained_text}
 use Rattle.cb_outcome.specs.Costs.{IsTotalCaused}
-use Rattle.cb_outcome.specs.Explained.{ExplainsColumns, chains_in, ExplainsMembers, ExplainsGroups}
+use Rattle.cb_outcome.specs.Explained.{ExplainsMembers, ExplainsGroups}
 use Rattle.cb_chain_commands.specs.declared.explanation.Explanation.{Explanation}
 
 -- the explanation is of this network: its columns are numbered, and it can be searched
@@ -22,30 +23,28 @@ pub record IsExplanation (n : Numbered) (e : Explanation) : Type 0 where
   pub named : AreNamed n e.columns names
   pub explainer : IsExplainerOf n e.explainer
 
--- it is of the same network as before, with the same columns
-pub record IsSameNetwork (old new : Explanation) : Type 0 where
+-- it is of the same network as before, with the same columns, and the nodes on the chains that were found keep their numbers
+pub record KeepsNetwork (old new : Explanation) : Type 0 where
   pub graph : new.graph ≡ old.graph
   pub columns : new.columns ≡ old.columns
+  pub nodes : KeepsNodesOnChains old.explainer new.explainer
 
--- the lines of the chains from the problem to the columns were added
-abbrev pub AddsChains : Topology → List NodeName → NodeName → List ℕ → List ℕ → Type 0
-AddsChains t columns problem old new =
-    (found : List (Option (List NodeName))) × ExplainsColumns t columns problem found × (new ≡ old ++ flat_map chain_line (chains_in found))
+-- the trees, one for each member, have chains that explain the members
+pub record HaveMemberChains (n : Numbered) (e : Explainer) (columns members : List NodeName) (trees : List (List (List ℕ))) : Type 0 where
+  pub chains : List (List NodeName)
+  pub explains : ExplainsMembers (topology_of n) columns members chains
+  pub named : AllZip (AllZip (IsNameOnChain n e)) (flat_map (λ tree. tree) trees) chains
 
--- the lines of the chains from each member were added
-abbrev pub AddsMemberChains : Topology → List NodeName → List NodeName → List ℕ → List ℕ → Type 0
-AddsMemberChains t columns members old new =
-    (chains : List (List NodeName)) × ExplainsMembers t columns members chains × (new ≡ old ++ flat_map chain_line chains)
+-- the lists of trees, one for each group, have chains that explain the groups
+pub record HaveGroupChains (n : Numbered) (e : Explainer) (columns : List NodeName) (groups : List NamedGroup) (trees : List (List (List (List ℕ)))) : Type 0
+  where
+    pub chains : List (List (List NodeName))
+    pub explains : ExplainsGroups (topology_of n) columns groups chains
+    pub named : AllZip (λ (ts : List (List (List ℕ))). AllZip (AllZip (IsNameOnChain n e)) (flat_map (λ tree. tree) ts)) trees chains
 
--- the group was added, with its chains
-abbrev pub AddsGroup : Topology → List NodeName → NamedGroup → List ℕ → List ℕ → Type 0
-AddsGroup t columns group old new =
-    (chains : List (List NodeName)) × ExplainsMembers t columns group.members chains × (new ≡ old ++ explained_group (group, chains))
-
--- the groups were added, each with its chains
-abbrev pub AddsGroups : Topology → List NodeName → List NamedGroup → List ℕ → List ℕ → Type 0
-AddsGroups t columns groups old new =
-    (chains : List (List (List NodeName))) × ExplainsGroups t columns groups chains × (new ≡ old ++ explained_groups groups chains)
+-- these are the names of the nodes on the chains that were found
+abbrev pub AreNamesOf : Explanation → List (Option NodeName) → Type 0
+AreNamesOf e names = (node : ℕ) (name : NodeName) → IsNameOnChain e.graph e.explainer node name → slice_get names node ≡ Some (Some name)
 
 -- no more steps are counted than these problems cause nodes, those of each counted for itself
 abbrev pub CountsFrom : Topology → List NodeName → ℕ → ℕ → Type 0

@@ -29,7 +29,7 @@ pub fn explain<'w, F: Files, L: Ledger>(
     };
     let raised = read_as(alloc, files, symptoms, kind)?;
     Ok(Output {
-        text: Text::Bytes(lines_of_explain(alloc, topology, &raised, steps)?),
+        text: Text::Explained(lines_of_explain(alloc, topology, &raised, steps)?),
         fault: None,
     })
 }

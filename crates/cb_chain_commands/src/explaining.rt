@@ -1,25 +1,29 @@
 //! From a topology and raised nodes to the groups that fit them, each with its chains.
-ghost use Rattle.std.specs.Prelude.{◌≡◌, ◌≤◌, ◌+◌, List, ℕ, IfOk, OnOk};
+ghost use Rattle.std.specs.Prelude.{◌≡◌, ◌≤◌, ◌+◌, List, ℕ, map, IfOk, OnOk};
 ghost use Rattle.std.specs.List.{All};
 ghost use Rattle.cb_model.specs.declared.node.NodeName.{NodeName as Name};
 ghost use Rattle.cb_model.specs.Order.{Rises};
 ghost use Rattle.cb_model.specs.NodeOrder.{node_cmp};
+ghost use Rattle.cb_network.specs.Nodes.{AreColumns};
+ghost use Rattle.cb_chains.specs.Names.{IsNamedNumber, named_chains};
 ghost use Rattle.cb_change.specs.Costs.{IsOpenCost};
 ghost use Rattle.cb_finding.specs.Finding.{IsBurst};
 ghost use Rattle.cb_topo.specs.Numbered.{topology_of, AreNamed};
 ghost use Rattle.cb_outcome.specs.Costs.{IsExplainCost, members_but_of_quiet, problems_explained};
+ghost use Rattle.cb_outcome.specs.Explained.{ExplainsGroups};
 ghost use Rattle.cb_outcome.specs.Jobs.{ExplainGives};
 ghost use Rattle.cb_outcome.specs.Outcome.{done};
-ghost use Rattle.cb_chain_commands.specs.Explaining.{IsExplanation, IsSameNetwork, CanBeExplained, AddsGroup, AddsGroups, IsExplainedBy, CountsFrom};
+ghost use Rattle.cb_chain_commands.specs.Explaining.{IsExplanation, KeepsNetwork, CanBeExplained, HaveMemberChains, HaveGroupChains, AreNamesOf, IsExplainedBy, CountsFrom};
 
 use crate::explanation::Explanation;
 use cb_burst::found_in;
 use cb_cache::Cache;
+use cb_chains::{ChainTree, NodeNames};
 use cb_finding::Finding;
 use cb_graph::Graph;
 use cb_matrix::Matrix;
 use cb_model::{List as Items, NamedGroup, NodeName};
-use cb_report::{explain_start, push_group};
+use cb_report::ChainLines;
 use cb_steps::Steps;
 use cb_topo::Topology;
 use std::alloc::{AllocError, Global};
@@ -31,16 +35,14 @@ pub(crate) fn lines_of_explain<L: Ledger>(
     topology: Topology,
     raised: &Items<NodeName>,
     steps: &mut Steps<L>,
-) -> Result<Vec<u8>, AllocError>
+) -> Result<ChainLines, AllocError>
     requires { Rises node_cmp raised.now }
-    ensures lines { IfOk result (λ bytes. (whole : ℕ) → ExplainGives (topology_of topology) raised.now whole (done bytes.items whole)) }
+    ensures lines { IfOk result (λ lines. (whole : ℕ) → ExplainGives (topology_of topology) raised.now whole (done lines whole)) }
     ensures cost { (cost : ℕ) → IsExplainCost (topology_of topology) raised.now cost → steps.new ≤ steps.old + cost }
 {
     let found = search_all(alloc, topology, raised, steps)?;
     let Found { graph, finding } = found;
-    let lines = explained(alloc, graph, &finding, steps);
-    drop(finding);
-    lines
+    explained(alloc, graph, finding, steps)
 }
 
 // What is found for raised nodes, and the graph in which it was searched.
@@ -88,79 +90,117 @@ fn finding_of(alloc: Global, cache: &Cache, raised: &Items<NodeName>) -> Result<
 fn explained<L: Ledger>(
     alloc: Global,
     graph: Graph,
-    finding: &Finding,
+    finding: Finding,
     steps: &mut Steps<L>,
-) -> Result<Vec<u8>, AllocError>
-    requires { (raised : List Name) × IsBurst (topology_of graph) raised finding.now }
-    ensures lines { IfOk result (λ bytes. (raised : List Name) (burst : IsBurst (topology_of graph) raised finding.now)
-        → IsExplainedBy (topology_of graph) burst.columns finding.now bytes.items) }
-    ensures cost { CountsFrom (topology_of graph) (problems_explained finding.now.groups) steps.old steps.new }
+) -> Result<ChainLines, AllocError>
+    requires { (raised : List Name) × IsBurst (topology_of graph) raised finding }
+    ensures lines { IfOk result (λ lines. (raised : List Name) (burst : IsBurst (topology_of graph) raised finding)
+        → IsExplainedBy (topology_of graph) burst.columns finding lines) }
+    ensures cost { CountsFrom (topology_of graph) (problems_explained finding.groups) steps.old steps.new }
+{
+    match chains_of(alloc, graph, &finding.groups, steps) {
+        Ok(chains) => {
+            let Chains { names, trees } = chains;
+            ChainLines::of(alloc, finding, names, trees)
+        }
+        Err(out_of_memory) => {
+            drop(finding);
+            Err(out_of_memory)
+        }
+    }
+}
+
+// The chains of each group, with the names of their nodes.
+#[derive(Drop)]
+struct Chains {
+    names: NodeNames,
+    trees: Items<Items<ChainTree>>,
+}
+
+// Searches the chains of groups. The memory of the network and of the searches is given back.
+fn chains_of<L: Ledger>(
+    alloc: Global,
+    graph: Graph,
+    groups: &Items<NamedGroup>,
+    steps: &mut Steps<L>,
+) -> Result<Chains, AllocError>
+    requires { (columns : List Name) → AreColumns (topology_of graph) columns → All (CanBeExplained (topology_of graph) columns) groups.now }
+    ensures chains { IfOk result (λ made. (columns : List Name) → AreColumns (topology_of graph) columns
+        → ExplainsGroups (topology_of graph) columns groups.now (map (named_chains made.names) made.trees)) }
+    ensures named { IfOk result (λ made. All (All (All (All (IsNamedNumber made.names)))) made.trees) }
+    ensures cost { CountsFrom (topology_of graph) (problems_explained groups.now) steps.old steps.new }
 {
     let mut explanation = Explanation::of(alloc, graph)?;
-    let lines = lines_by(alloc, &mut explanation, finding, steps);
-    drop(explanation);
-    lines
+    match trees_of_groups(alloc, &mut explanation, groups, steps) {
+        Ok(trees) => with_names(alloc, explanation, trees),
+        Err(out_of_memory) => {
+            drop(explanation);
+            Err(out_of_memory)
+        }
+    }
 }
 
-// The lines of a finding, by the explanation of its network.
-fn lines_by<L: Ledger>(
+// Chains with the names of their nodes.
+fn with_names(
     alloc: Global,
-    explanation: &mut Explanation,
-    finding: &Finding,
-    steps: &mut Steps<L>,
-) -> Result<Vec<u8>, AllocError>
-    requires network { IsExplanation explanation.old.graph explanation.old }
-    requires found { (raised : List Name) × IsBurst (topology_of explanation.old.graph) raised finding.now }
-    ensures lines { IfOk result (λ bytes. (raised : List Name) (burst : IsBurst (topology_of explanation.old.graph) raised finding.now)
-        → IsExplainedBy (topology_of explanation.old.graph) burst.columns finding.now bytes.items) }
-    ensures cost { CountsFrom (topology_of explanation.old.graph) (problems_explained finding.now.groups) steps.old steps.new }
+    explanation: Explanation,
+    trees: Items<Items<ChainTree>>,
+) -> Result<Chains, AllocError>
+    requires { IsExplanation explanation.graph explanation }
+    ensures names { IfOk result (λ made. AreNamesOf explanation made.names) }
+    ensures trees { IfOk result (λ made. made.trees ≡ trees) }
 {
-    let mut out = explain_start(alloc, finding)?;
-    push_groups(alloc, explanation, &finding.groups, &mut out, steps)?;
-    Ok(out)
+    match explanation.into_names(alloc) {
+        Ok(names) => Ok(Chains { names, trees }),
+        Err(out_of_memory) => {
+            drop(trees);
+            Err(out_of_memory)
+        }
+    }
 }
 
-// Adds the groups with their chains.
-fn push_groups<L: Ledger>(
+// The chains of each group.
+fn trees_of_groups<L: Ledger>(
     alloc: Global,
     explanation: &mut Explanation,
     groups: &Items<NamedGroup>,
-    out: &mut Vec<u8>,
     steps: &mut Steps<L>,
-) -> Result<(), AllocError>
+) -> Result<Items<Items<ChainTree>>, AllocError>
     requires network { IsExplanation explanation.old.graph explanation.old }
     requires groups { (columns : List Name) → AreNamed explanation.old.graph explanation.old.columns columns
         → All (CanBeExplained (topology_of explanation.old.graph) columns) groups.now }
-    ensures lines { OnOk result ((columns : List Name) → AreNamed explanation.old.graph explanation.old.columns columns
-        → AddsGroups (topology_of explanation.old.graph) columns groups.now out.old.items out.new.items) }
+    ensures network { OnOk result (IsExplanation explanation.old.graph explanation.new) }
+    ensures same { OnOk result (KeepsNetwork explanation.old explanation.new) }
+    ensures chains { IfOk result (λ trees. (columns : List Name) → AreNamed explanation.old.graph explanation.old.columns columns
+        → HaveGroupChains explanation.old.graph explanation.new.explainer columns groups.now trees) }
     ensures cost { CountsFrom (topology_of explanation.old.graph) (problems_explained groups.now) steps.old steps.new }
 {
+    let mut all = Vec::with_capacity(alloc, groups.len())?;
     for at in 0..groups.len() {
-        push_explained(alloc, explanation, groups.at(at), out, steps)?;
+        let trees = trees_of_group(alloc, explanation, groups.at(at), steps)?;
+        all.push(trees)?;
     }
-    Ok(())
+    Ok(Items::of(all))
 }
 
-// Adds a group with its chains. No problem of the quiet group causes a column.
-fn push_explained<L: Ledger>(
+// The chains of a group. No problem of the quiet group causes a column.
+fn trees_of_group<L: Ledger>(
     alloc: Global,
     explanation: &mut Explanation,
     group: &NamedGroup,
-    out: &mut Vec<u8>,
     steps: &mut Steps<L>,
-) -> Result<(), AllocError>
+) -> Result<Items<ChainTree>, AllocError>
     requires network { IsExplanation explanation.old.graph explanation.old }
     requires group { (columns : List Name) → AreNamed explanation.old.graph explanation.old.columns columns
         → CanBeExplained (topology_of explanation.old.graph) columns group.now }
     ensures network { OnOk result (IsExplanation explanation.old.graph explanation.new) }
-    ensures same { OnOk result (IsSameNetwork explanation.old explanation.new) }
-    ensures lines { OnOk result ((columns : List Name) → AreNamed explanation.old.graph explanation.old.columns columns
-        → AddsGroup (topology_of explanation.old.graph) columns group.now out.old.items out.new.items) }
+    ensures same { OnOk result (KeepsNetwork explanation.old explanation.new) }
+    ensures chains { IfOk result (λ trees. (columns : List Name) → AreNamed explanation.old.graph explanation.old.columns columns
+        → HaveMemberChains explanation.old.graph explanation.new.explainer columns group.now.members trees) }
     ensures cost { CountsFrom (topology_of explanation.old.graph) (members_but_of_quiet group.now.quiet group.now.members) steps.old steps.new }
 {
-    push_group(out, group)?;
     if group.quiet {
-        return Ok(());
+        return Ok(Items::new(alloc));
     }
-    explanation.push_members(alloc, &group.members, out, steps)
+    explanation.trees_of(alloc, &group.members, steps)
 }

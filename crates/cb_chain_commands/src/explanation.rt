@@ -1,19 +1,17 @@
-//! What explains raised nodes by chains: lines of chains, one problem after the other.
-ghost use Rattle.std.specs.Prelude.{◌≡◌, [], ◌∷◌, ◌++◌, List, IfOk, OnOk};
-ghost use Rattle.std.specs.List.{All, flat_map};
+//! What explains raised nodes by chains: searches, one problem after the other.
+ghost use Rattle.std.specs.Prelude.{◌≡◌, [], ◌∷◌, ℕ, List, Some, IfOk, OnOk, slice_get};
+ghost use Rattle.std.specs.List.{All};
 ghost use Rattle.cb_model.specs.declared.node.NodeName.{NodeName as Name};
 ghost use Rattle.cb_network.specs.Nodes.{IsNodeOf, IsProblem};
 ghost use Rattle.cb_topo.specs.Numbered.{topology_of, AreNamed, IsNodeNamed};
-ghost use Rattle.cb_explain.specs.Explained.{HasSearched};
-ghost use Rattle.cb_outcome.specs.Explained.{chains_in};
-ghost use Rattle.cb_report.specs.ChainTexts.{chain_line};
-ghost use Rattle.cb_chain_commands.specs.Explaining.{IsExplanation, IsSameNetwork, AddsChains, AddsMemberChains, CountsFrom};
+ghost use Rattle.cb_explain.specs.Explained.{HasChainsTo, IsNameOnChain};
+ghost use Rattle.cb_chain_commands.specs.Explaining.{IsExplanation, KeepsNetwork, HaveMemberChains, CountsFrom};
 
+use cb_chains::{ChainTree, NodeNames};
 use cb_explain::Explainer;
 use cb_graph::Graph;
 use cb_model::{List as Items, NodeName};
 use cb_nodes::NodeId;
-use cb_report::push_chain;
 use cb_steps::Steps;
 use cb_topo::Topology;
 use std::alloc::{AllocError, Global};
@@ -42,83 +40,63 @@ impl Explanation {
         })
     }
 
-    /// Adds the lines of the chains from each member to the columns that it causes.
-    pub(crate) fn push_members<L: Ledger>(
+    /// The chains from each member to the columns that it causes.
+    pub(crate) fn trees_of<L: Ledger>(
         &mut self,
         alloc: Global,
         members: &Items<NodeName>,
-        out: &mut Vec<u8>,
         steps: &mut Steps<L>,
-    ) -> Result<(), AllocError>
+    ) -> Result<Items<ChainTree>, AllocError>
         requires network { IsExplanation self.old.graph self.old }
         requires problems { All (IsProblem (topology_of self.old.graph)) members.now }
         ensures network { OnOk result (IsExplanation self.old.graph self.new) }
-        ensures same { OnOk result (IsSameNetwork self.old self.new) }
-        ensures lines { OnOk result ((columns : List Name) → AreNamed self.old.graph self.old.columns columns
-            → AddsMemberChains (topology_of self.old.graph) columns members.now out.old.items out.new.items) }
+        ensures same { OnOk result (KeepsNetwork self.old self.new) }
+        ensures chains { IfOk result (λ trees. (columns : List Name) → AreNamed self.old.graph self.old.columns columns
+            → HaveMemberChains self.old.graph self.new.explainer columns members.now trees) }
         ensures cost { CountsFrom (topology_of self.old.graph) members.now steps.old steps.new }
     {
+        let mut trees = Vec::with_capacity(alloc, members.len())?;
         for at in 0..members.len() {
-            self.push_chains(alloc, members.at(at), out, steps)?;
+            let tree = self.tree_of(alloc, members.at(at), steps)?;
+            trees.push(tree)?;
         }
-        Ok(())
+        Ok(Items::of(trees))
     }
 
-    // Adds the lines of the chains from a problem to the columns that it causes.
-    fn push_chains<L: Ledger>(
+    // The chains from a problem to the columns that it causes.
+    fn tree_of<L: Ledger>(
         &mut self,
         alloc: Global,
         problem: &NodeName,
-        out: &mut Vec<u8>,
         steps: &mut Steps<L>,
-    ) -> Result<(), AllocError>
+    ) -> Result<ChainTree, AllocError>
         requires network { IsExplanation self.old.graph self.old }
         requires problem { IsProblem (topology_of self.old.graph) problem.now }
         ensures network { OnOk result (IsExplanation self.old.graph self.new) }
-        ensures same { OnOk result (IsSameNetwork self.old self.new) }
-        ensures lines { OnOk result ((columns : List Name) → AreNamed self.old.graph self.old.columns columns
-            → AddsChains (topology_of self.old.graph) columns problem.now out.old.items out.new.items) }
+        ensures same { OnOk result (KeepsNetwork self.old self.new) }
+        ensures chains { IfOk result (λ tree. (columns : List Name) → AreNamed self.old.graph self.old.columns columns
+            → HasChainsTo self.old.graph self.new.explainer problem.now columns tree) }
         ensures cost { CountsFrom (topology_of self.old.graph) (problem.now ∷ []) steps.old steps.new }
     {
         let node = number_of(self.graph.topology(), problem);
-        self.explainer.search(alloc, &mut self.graph, node, steps)?;
-        push_columns(
-            alloc,
-            self.graph.topology(),
-            &self.explainer,
-            &self.columns,
-            out,
-        )
+        self.explainer
+            .chains_to(alloc, &mut self.graph, node, &self.columns, steps)
     }
-}
 
-// Adds the lines of the chains from the problem that was searched last to those of these columns that it causes.
-fn push_columns(
-    alloc: Global,
-    topology: &Topology,
-    explainer: &Explainer,
-    columns: &Items<NodeId>,
-    out: &mut Vec<u8>,
-) -> Result<(), AllocError>
-    requires searched { (problem : Name) × HasSearched topology.now problem explainer.now }
-    requires columns { (names : List Name) × AreNamed topology.now columns.now names }
-    ensures { OnOk result ((problem : Name) (names : List Name) → HasSearched topology.now problem explainer.now → AreNamed topology.now columns.now names
-        → AddsChains (topology_of topology.now) names problem out.old.items out.new.items) }
-{
-    for at in 0..columns.len() {
-        let found = explainer.chain_to(alloc, topology, *columns.at(at))?;
-        push_found(out, &found)?;
-    }
-    Ok(())
-}
-
-// Adds the line of the chain, if there is one.
-fn push_found(out: &mut Vec<u8>, found: &Option<Items<NodeName>>) -> Result<(), AllocError>
-    ensures { OnOk result (out.new.items ≡ out.old.items ++ flat_map chain_line (chains_in (found.now ∷ []))) }
-{
-    match found {
-        Some(chain) => push_chain(out, chain),
-        None => Ok(()),
+    /// The names of the nodes on all chains that were found.
+    pub(crate) fn into_names(self, alloc: Global) -> Result<NodeNames, AllocError>
+        requires { IsExplanation self.graph self }
+        ensures { IfOk result (λ names. (node : ℕ) (name : Name) → IsNameOnChain self.graph self.explainer node name → slice_get names node ≡ Some (Some name)) }
+    {
+        let Explanation {
+            graph,
+            columns,
+            explainer,
+        } = self;
+        drop(columns);
+        let names = explainer.into_names(alloc, graph.topology());
+        drop(graph);
+        names
     }
 }
 

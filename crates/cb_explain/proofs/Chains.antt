@@ -1,22 +1,35 @@
--- Following parents in the visits of a search by levels gives the short chain, and what isn't visited isn't caused.
-use Rattle.std.proofs.Common.{◌≡◌, ℕ, zero, suc, ◌+◌, ◌-◌, ◌<◌, ◌≤◌, List, [], ◌∷◌, true, false, length, reverse, get_or, refl, sym, ap, subst, ◌∙◌, inl, inr, arith, Some}
+-- The chains in the visits of a search by levels are short chains, and what isn't visited isn't caused.
+use Rattle.std.proofs.Common.{◌≡◌, ℕ, zero, suc, ◌+◌, ◌-◌, ◌<◌, ◌≤◌, List, [], ◌∷◌, ◌++◌, true, false, length, get_or, refl, sym, ap, subst, ◌∙◌, inl, inr, arith, Some}
 use Rattle.std.specs.Prelude.{slice_get}
 use Rattle.std.specs.FinSet as set
+use Rattle.std.specs.List.{AllZip}
+use Rattle.std.proofs.lemmas.List.{reverse-append}
 use Rattle.std.proofs.lemmas.Option.{same_Some, slice_get-get_or}
 use Rattle.cb_model.specs.declared.node.NodeName.{NodeName}
 use Rattle.cb_model.specs.NodeOrder.{node_cmp}
+use Rattle.cb_model.proofs.Numbers.{zip_push}
+use Rattle.cb_model.proofs.Spread.{map_at, map_there}
 use Rattle.cb_model.proofs.Rising.{node_cmp_total, node_cmp_exact}
 use Rattle.cb_network.specs.Topology.{Topology}
 use Rattle.cb_network.specs.Causes.{Edge, Causes}
 use Rattle.cb_network.specs.Nodes.{IsCount}
 use Rattle.cb_network.proofs.Sets.{in_insert, len_of_part}
 use Rattle.cb_breadth.specs.declared.visit.LevelVisit.{LevelVisit}
+use Rattle.cb_breadth.specs.declared.visit.Visit.{Visit}
+use Rattle.cb_breadth.specs.Trees.{visit}
 use Rattle.cb_breadth.specs.Levels.{IsLevelTree, IsLevelTreePart, CountsVisits, level_visit}
-use Rattle.cb_levels.specs.Level.{IsPrevious, LeadBack, IsShortChain}
+use Rattle.cb_levels.specs.Level.{IsPrevious, IsShortChain}
+use Rattle.cb_chains.specs.Trees.{without_levels, ComeAfterParents, chain_at}
+use Rattle.cb_chains.proofs.Ways.{chain_next}
 use Rattle.cb_explain.specs.Made.{AreRanks}
 use Rattle.cb_explain.specs.Levelled.{IsRankVisited}
-use Rattle.cb_explain.specs.Chained.{IsVisitAt, ParentsLead, IsVisitTrail}
 use Rattle.cb_explain.proofs.Made.{one_rank, chain_below, from_root, previous_at}
+
+-- the visit at a position is that of the node
+record IsVisitAt (At : ℕ → NodeName → Type 0) (visits : List LevelVisit) (position : ℕ) (node : NodeName) : Type 0 where
+  visit : LevelVisit
+  is : slice_get visits position ≡ Some visit
+  at : At visit.node node
 
 grown : (s : set.FinSet node_cmp) (x : NodeName) (k : ℕ) → (set.contains s x ≡ true → ⊥) → set.len s ≡ k → set.len (set.insert s x) ≡ suc k
 grown s x k fresh len =
@@ -28,39 +41,60 @@ grown s x k fresh len =
 
 module _ (t : Topology) (edge : ℕ → ℕ → Type 0) (At : ℕ → NodeName → Type 0) (ranks : AreRanks t edge At) (root : ℕ) (p : NodeName) (at_root : At root p)
     (visits : List LevelVisit) (tree : IsLevelTree edge root visits) where
-  -- the nodes of the parents lead back
-  leads_back : (back : List NodeName) (position : ℕ) (v : LevelVisit) (s : NodeName) → slice_get visits position ≡ Some v → At v.node s
-      → ParentsLead At visits position back 0 → LeadBack t p s back
-  leads_back [] position v s is at end =
-      let same : level_visit root 0 0 ≡ v = same_Some (level_visit root 0 0) v (sym tree.begins ∙ subst (λ k. slice_get visits k ≡ Some v) end is) in
-      let rank : root ≡ v.node = ap (λ (x : LevelVisit). x.node) same in
-      ranks.one v.node s p at (subst (λ k. At k p) rank at_root)
-  leads_back (q ∷ rest) position v s is at leads =
-      let parent = leads.0 in
-      let has = leads.1 in
-      let from = leads.2 in
-      let same : has.visit ≡ v = same_Some has.visit v (sym has.is ∙ is) in
-      let parents = ap (λ (x : LevelVisit). x.parent) same in
-      let counted = has.parent_is in
-      let at_parent : v.parent - 1 ≡ parent = omega arith in
-      let below = tree.edges position v has.later is in
-      let one : from.visit ≡ below.from = same_Some from.visit below.from (sym from.is ∙ subst (λ k. slice_get visits k ≡ Some below.from) at_parent below.from_is) in
-      let at_q : At below.from.node q = subst (λ (x : LevelVisit). At x.node q) one from.at in
-      let way = ranks.leads below.from.node v.node below.leads in
-      let source : way.from ≡ q = ranks.one below.from.node way.from q way.from_is at_q in
-      let target : way.to ≡ s = ranks.one v.node way.to s way.to_is at in
-      let to_s : Edge t q s = subst (λ x. Edge t x s) source (subst (Edge t way.from) target way.edge) in
-      let previous : IsPrevious t p s q = previous_at t edge At ranks root p at_root visits tree position v s has.later is at below q at_q to_s in
-      (previous, leads_back rest parent from.visit q from.is from.at leads.3)
+  -- the same visits without their levels
+  abbrev plain : List Visit
+  plain = without_levels visits
 
-  -- the trail from a visit of a node is its short chain
-  pub trail_is_short : (position : ℕ) (v : LevelVisit) (s : NodeName) (nodes : List NodeName) → slice_get visits position ≡ Some v → At v.node s
-      → IsVisitTrail At visits position nodes → IsShortChain t p s nodes
-  trail_is_short position v s nodes is at trail =
-      let here = trail.here in
-      let visit : here.visit ≡ v = same_Some here.visit v (sym here.is ∙ is) in
-      let node : trail.node ≡ s = ranks.one v.node trail.node s (subst (λ (x : LevelVisit). At x.node trail.node) visit here.at) at in
-      record { back = trail.back; lead = leads_back trail.back position v s is at trail.leads; is = trail.is ∙ ap (λ x. reverse (x ∷ trail.back)) node }
+  pub after_parents : ComeAfterParents plain
+  after_parents zero w at =
+      let m = map_at (λ (v : LevelVisit). visit v.node v.parent) visits 0 w at in
+      let same : level_visit root 0 0 ≡ m.0 = same_Some (level_visit root 0 0) m.0 (sym tree.begins ∙ m.1) in
+      let none : 0 ≡ m.0.parent = ap (λ (x : LevelVisit). x.parent) same in
+      let one : m.0.parent ≡ w.parent = ap (λ (x : Visit). x.parent) m.2 in
+      omega arith
+  after_parents (suc i) w at =
+      let m = map_at (λ (v : LevelVisit). visit v.node v.parent) visits (suc i) w at in
+      let one : m.0.parent ≡ w.parent = ap (λ (x : Visit). x.parent) m.2 in
+      let early = (tree.earlier (suc i) m.0 (omega arith) m.1).1 in
+      omega arith
+
+  next_chain : (i : ℕ) (v : LevelVisit) → slice_get visits i ≡ Some v → chain_at plain (i + 1) ≡ chain_at plain v.parent ++ v.node ∷ []
+  next_chain i v at = chain_next plain after_parents i (visit v.node v.parent) (map_there (λ (w : LevelVisit). visit w.node w.parent) visits i v at)
+
+  -- the names of a chain
+  abbrev HasShortChain : ℕ → NodeName → Type 0
+  HasShortChain end s = (nodes : List NodeName) × AllZip At (chain_at plain end) nodes × IsShortChain t p s nodes
+
+  -- the chain that ends at a visit is the short chain of its node
+  pub short_at : (bound i : ℕ) (v : LevelVisit) (s : NodeName) → i < bound → slice_get visits i ≡ Some v → At v.node s → HasShortChain (i + 1) s
+  short_at zero i v s low is at = absurd (omega arith)
+  short_at (suc bound) zero v s low is at =
+      let same : level_visit root 0 0 ≡ v = same_Some (level_visit root 0 0) v (sym tree.begins ∙ is) in
+      let none : 0 ≡ v.parent = ap (λ (x : LevelVisit). x.parent) same in
+      let first : root ≡ v.node = ap (λ (x : LevelVisit). x.node) same in
+      let chain : chain_at plain (0 + 1) ≡ v.node ∷ [] = next_chain 0 v is ∙ ap (λ k. chain_at plain k ++ v.node ∷ []) (sym none) in (
+        s ∷ [],
+        subst (λ (l : List ℕ). AllZip At l (s ∷ [])) (sym chain) (at, tt),
+        record { back = []; lead = ranks.one v.node s p at (subst (λ k. At k p) first at_root); is = refl },
+      )
+  short_at (suc bound) (suc j) v s low is at =
+      let below = tree.edges (suc j) v (omega arith) is in
+      let way = ranks.leads below.from.node v.node below.leads in
+      let target : way.to ≡ s = ranks.one v.node way.to s way.to_is at in
+      let to_s : Edge t way.from s = subst (Edge t way.from) target way.edge in
+      let previous : IsPrevious t p s way.from = previous_at t edge At ranks root p at_root visits tree (suc j) v s (omega arith) is at below way.from way.from_is to_s in
+      let early = tree.earlier (suc j) v (omega arith) is in
+      let (nodes, zip, short) = short_at bound (v.parent - 1) below.from way.from (omega (arith, early.0, early.1)) below.from_is way.from_is in
+      let one : v.parent - 1 + 1 ≡ v.parent = omega (arith, early.0) in
+      let chain : chain_at plain (v.parent - 1 + 1) ++ v.node ∷ [] ≡ chain_at plain (suc j + 1) = ap (λ k. chain_at plain k ++ v.node ∷ []) one ∙ sym (next_chain (suc j) v is) in (
+        nodes ++ s ∷ [],
+        subst (λ (l : List ℕ). AllZip At l (nodes ++ s ∷ [])) chain (zip_push At (chain_at plain (v.parent - 1 + 1)) nodes v.node s zip at),
+        record {
+          back = way.from ∷ short.back;
+          lead = (previous, short.lead);
+          is = ap (λ (l : List NodeName). l ++ s ∷ []) short.is ∙ sym (reverse-append (s ∷ []) (way.from ∷ short.back));
+        },
+      )
 
   -- a node that isn't visited isn't caused
   pub uncaused : (rank : ℕ) (s : NodeName) → At rank s → ¬ IsRankVisited visits rank → ¬ Causes t p s

@@ -2,8 +2,8 @@ pub mod Made
 pub mod Using
 pub mod Levelling
 pub mod Chains
-pub mod Trailing
 pub mod Positions
+pub mod Ending
 pub mod Explaining
 pub mod Rejecting
 pub mod Listing

@@ -1,7 +1,11 @@
--- Visits by levels, and the chains of nodes that following parents gives.
-use Rattle.std.specs.Prelude.{◌≡◌, ℕ, ◌+◌, ◌<◌, ◌≤◌, List, [], ◌∷◌, reverse, Some, slice_get}
-use Rattle.cb_model.specs.declared.node.NodeName.{NodeName}
+-- Visits by levels, and where the chains to nodes end among them.
+use Rattle.std.specs.Prelude.{◌≡◌, ℕ, ◌+◌, List, Option, None, Some, slice_get}
+use Rattle.std.specs.List.{AllZip, filter_map}
 use Rattle.cb_breadth.specs.declared.visit.LevelVisit.{LevelVisit}
+use Rattle.cb_breadth.specs.declared.visit.Order.{Order}
+use Rattle.cb_nodes.specs.declared.id.NodeId.{NodeId}
+use Rattle.cb_span.specs.Orders.{IsRank}
+use Rattle.cb_explain.specs.Levelled.{IsRankVisited}
 
 -- for the rank of each visited node the position of its visit
 abbrev pub HavePositions : List LevelVisit → List ℕ → Type 0
@@ -11,32 +15,25 @@ HavePositions visits positions = (i : ℕ) (v : LevelVisit) → slice_get visits
 abbrev pub AreVisitedOnce : List LevelVisit → Type 0
 AreVisitedOnce visits = (i j : ℕ) (v w : LevelVisit) → slice_get visits i ≡ Some v → slice_get visits j ≡ Some w → v.node ≡ w.node → i ≡ j
 
--- the parent of each visit but the first is an earlier one
-abbrev pub HaveEarlierParents : List LevelVisit → Type 0
-HaveEarlierParents visits = (i : ℕ) (v : LevelVisit) → 0 < i → slice_get visits i ≡ Some v → (0 < v.parent) × (v.parent ≤ i)
-
--- the parent of the visit at a position, which isn't the first, is at the other position
-pub record IsParentAt (visits : List LevelVisit) (position parent : ℕ) : Type 0 where
+-- the visit of the rank's node has this position, counted from 1
+pub record IsEndOf (visits : List LevelVisit) (rank end : ℕ) : Type 0 where
+  pub position : ℕ
   pub visit : LevelVisit
+  pub end_is : end ≡ position + 1
   pub is : slice_get visits position ≡ Some visit
-  pub later : 0 < position
-  pub parent_is : visit.parent ≡ parent + 1
+  pub of : visit.node ≡ rank
 
--- the visit at a position is that of the node
-pub record IsVisitAt (At : ℕ → NodeName → Type 0) (visits : List LevelVisit) (position : ℕ) (node : NodeName) : Type 0 where
-  pub visit : LevelVisit
-  pub is : slice_get visits position ≡ Some visit
-  pub at : At visit.node node
+-- where the node of this number is visited, or that it isn't
+abbrev pub IsEndIfVisited : Order → List LevelVisit → NodeId → Option ℕ → Type 0
+IsEndIfVisited order visits id (Some end) = (rank : ℕ) × IsRank order id rank × IsEndOf visits rank end
+IsEndIfVisited order visits id None = (rank : ℕ) × IsRank order id rank × (¬ IsRankVisited visits rank)
 
--- parents lead from the visit at a position, over the visits of these nodes, to the one at the other position
-abbrev pub ParentsLead : (ℕ → NodeName → Type 0) → List LevelVisit → ℕ → List NodeName → ℕ → Type 0
-ParentsLead At visits position [] end = position ≡ end
-ParentsLead At visits position (node ∷ rest) end = (parent : ℕ) × IsParentAt visits position parent × IsVisitAt At visits parent node × ParentsLead At visits parent rest end
+-- the ends that there are
+abbrev pub ends_in : List (Option ℕ) → List ℕ
+ends_in found = filter_map (λ end. end) found
 
--- the nodes that following parents from a visit gives, that of the first visit first
-pub record IsVisitTrail (At : ℕ → NodeName → Type 0) (visits : List LevelVisit) (position : ℕ) (nodes : List NodeName) : Type 0 where
-  pub node : NodeName
-  pub back : List NodeName
-  pub here : IsVisitAt At visits position node
-  pub leads : ParentsLead At visits position back 0
-  pub is : nodes ≡ reverse (node ∷ back)
+-- where those of these nodes that are visited end, in their order
+pub record AreEndsOf (order : Order) (visits : List LevelVisit) (ids : List NodeId) (ends : List ℕ) : Type 0 where
+  pub found : List (Option ℕ)
+  pub each : AllZip (IsEndIfVisited order visits) ids found
+  pub are : ends ≡ ends_in found

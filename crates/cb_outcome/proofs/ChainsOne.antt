@@ -23,7 +23,8 @@ use Rattle.cb_levels.proofs.One.{short_chain_is_one, short_chain_is_shortest}
 use Rattle.cb_levels.proofs.Uniques.{canonical_is_one}
 use Rattle.cb_report.specs.ChainTexts.{explained_text}
 use Rattle.cb_report.specs.LevelTexts.{proved_text}
-use Rattle.cb_outcome.specs.Explained.{ExplainsColumn, ExplainsColumns, chains_in, ExplainsMembers, ExplainsGroups}
+use Rattle.cb_chains.specs.Explained.{ExplainsColumn, ExplainsColumns, chains_in}
+use Rattle.cb_outcome.specs.Explained.{ExplainsMembers, ExplainsGroups}
 use Rattle.cb_outcome.specs.Outcome.{Outcome, done}
 use Rattle.cb_outcome.specs.Jobs.{ExplainGives, NamesNode, WritesLevels, RefusesProblem, LevelsGives, ProveGives}
 

@@ -114,3 +114,11 @@ three_finish r a b c d e s t u v w x y z text first second third last is =
     let two = gathers_more a b c s t u x y first second in
     let three = gathers_more a c d s u v (x ++ y) z two third in
     finished r a e s w text (gathers_same a e s w ((x ++ y ++ z) ++ []) text (append-nil (x ++ y ++ z) ∙ is) (gathers_more a d e s v w (x ++ y ++ z) [] three last))
+
+-- two texts, one after the other, and the end
+pub two_finish : {T E : Type 0} (r : Result T E) (a b c e : SinkReport) (s t u w : Gathered) (x y text : List ℕ) → Gathers a b s t x → Gathers b c t u y
+    → Gathers c e u w [] → x ++ y ≡ text → s.waiting ≡ [] → s.failed ≡ false → (w.failed ≡ false → w.waiting ≡ []) → IsErr r ↔ (w.failed ≡ true)
+    → Finishes r a e text
+two_finish r a b c e s t u w x y text first second last is =
+    finished r a e s w text (gathers_same a e s w ((x ++ y) ++ []) text (append-nil (x ++ y) ∙ is)
+    (gathers_more a c e s u w (x ++ y) [] (gathers_more a b c s t u x y first second) last))

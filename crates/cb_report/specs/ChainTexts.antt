@@ -1,8 +1,9 @@
 -- What `explain` prints.
-use Rattle.std.specs.Prelude.{ℕ, ◌-◌, List, ◌++◌, length, codes, decimal}
-use Rattle.std.specs.List.{flat_map, zip}
+use Rattle.std.specs.Prelude.{ℕ, ◌-◌, ◌≤◌, List, Option, ◌++◌, length, codes, decimal}
+use Rattle.std.specs.List.{All, flat_map, zip}
 use Rattle.cb_model.specs.declared.node.NamedGroup.{NamedGroup}
 use Rattle.cb_model.specs.declared.node.NodeName.{NodeName}
+use Rattle.cb_chains.specs.Names.{IsNamedNumber}
 use Rattle.cb_finding.specs.declared.finding.Finding.{Finding}
 use Rattle.cb_report.specs.Lines.{group_line, numbers_line, spaced_text}
 
@@ -24,3 +25,8 @@ explained_groups groups chains = flat_map explained_group (zip groups chains)
 -- the numbers of a finding, and then the groups with their chains
 abbrev pub explained_text : Finding → List (List (List NodeName)) → List ℕ
 explained_text f chains = codes "explain " ++ (numbers_line f ++ explained_groups f.groups chains)
+
+-- the chain fits into a path of this length, and each of its nodes has a name
+pub record FitsPath (names : List (Option NodeName)) (capacity : ℕ) (chain : List ℕ) : Type 0 where
+  pub fits : length chain ≤ capacity
+  pub named : All (IsNamedNumber names) chain

@@ -3,6 +3,7 @@ ghost use Rattle.std.specs.Prelude.{◌≤◌, ◌++◌, OnOk, OnErr};
 ghost use Rattle.cb_io.specs.Outside.{WritesAll, WritesPrefix, WriteFailed};
 ghost use Rattle.cb_report.specs.Text.{bytes_of_text};
 
+use crate::chain_lines::ChainLines;
 use crate::matrix::MatrixLines;
 use cb_io::{Failed, Sink, write_all};
 
@@ -11,6 +12,7 @@ use cb_io::{Failed, Sink, write_all};
 pub enum Text {
     Bytes(Vec<u8>),
     Matrix(MatrixLines),
+    Explained(ChainLines),
     Rewound {
         reports: Vec<u8>,
         matrix: MatrixLines,
@@ -28,6 +30,7 @@ impl Text {
         match self {
             Text::Bytes(bytes) => write_all(out, &bytes),
             Text::Matrix(lines) => lines.write(out),
+            Text::Explained(lines) => lines.write(out),
             Text::Rewound { reports, matrix } => write_both(out, &reports, matrix),
         }
     }

@@ -1,15 +1,14 @@
 //! The shortest chains from problems of one network, one after the other, by one explainer.
-ghost use Rattle.std.specs.Prelude.{◌≡◌, ◌<◌, OnOk};
-ghost use Rattle.cb_model.specs.declared.node.NodeName.{NodeName as Name};
-ghost use Rattle.cb_explain.specs.Explained.{IsExplainerOf, HasSearched};
+ghost use Rattle.std.specs.Prelude.{◌≡◌, ◌<◌, ◌≤◌, length, OnOk};
+ghost use Rattle.std.specs.List.{All};
+ghost use Rattle.cb_explain.specs.Explained.{IsExplainerOf};
 
 use crate::span::problem_named;
 use crate::worked::graph_of;
+use cb_chains::ChainTree;
 use cb_explain::Explainer;
 use cb_graph::Graph;
-use cb_model::{List, NodeName};
 use cb_steps::{MayCount, Steps};
-use cb_topo::Topology;
 use std::alloc::{AllocError, Global};
 use std::marker::Brand;
 use std::process::Abort;
@@ -35,85 +34,51 @@ const NETWORK: [&[u8]; 13] = [
     b"link n6 next n5",
 ];
 
-// An instance, and those of the chain to it, with a space after each, if it is caused.
-type Chain = (&'static [u8], Option<&'static [u8]>);
-
-// A problem's instance, the chains from it, and how many nodes are asked, which are those that no problem before it caused.
+// A problem's instance; the chains from it, to the nodes in order, each by the places of its nodes in that order; and how many nodes are asked, which are
+// those that no problem before it caused.
 struct Case {
     problem: &'static [u8],
-    chains: &'static [Chain],
+    chains: &'static [&'static [u32]],
     steps: u64,
 }
 
 const CASES: [Case; 3] = [
     Case {
         problem: b"n1",
-        chains: &[
-            (b"n1", Some(b"n1 ")),
-            (b"n2", Some(b"n1 n2 ")),
-            (b"n3", Some(b"n1 n3 ")),
-            // Of the two, n2 is the least.
-            (b"n4", Some(b"n1 n2 n4 ")),
-            (b"n5", Some(b"n1 n2 n4 n5 ")),
-            (b"n6", None),
-        ],
+        // From n4 it is n2 that is the least of two before it. Nothing leads to n6.
+        chains: &[&[0], &[0, 1], &[0, 2], &[0, 1, 3], &[0, 1, 3, 4]],
         steps: 5,
     },
     Case {
         problem: b"n6",
-        chains: &[
-            (b"n1", None),
-            (b"n2", Some(b"n6 n5 n2 ")),
-            (b"n3", None),
-            (b"n4", Some(b"n6 n5 n2 n4 ")),
-            (b"n5", Some(b"n6 n5 ")),
-            (b"n6", Some(b"n6 ")),
-        ],
+        chains: &[&[5, 4, 1], &[5, 4, 1, 3], &[5, 4], &[5]],
         steps: 1,
     },
     Case {
         problem: b"n2",
-        chains: &[
-            (b"n1", None),
-            (b"n2", Some(b"n2 ")),
-            (b"n3", None),
-            (b"n4", Some(b"n2 n4 ")),
-            (b"n5", Some(b"n2 n4 n5 ")),
-            (b"n6", None),
-        ],
+        chains: &[&[1], &[1, 3], &[1, 3, 4]],
         steps: 0,
     },
 ];
 
-// The instances of the nodes, with a space after each.
-fn instances_of(alloc: Global, nodes: &List<NodeName>) -> Result<Vec<u8>, AllocError> {
-    let mut text = Vec::new(alloc);
-    for position in 0..nodes.len() {
-        text.extend_from_slice(nodes.at(position).instance.bytes())?;
-        text.push(b' ')?;
-    }
-    Ok(text)
+// Whether a chain of a tree is the one that is wanted.
+fn is_chain(tree: &ChainTree, at: usize, path: &mut Vec<u32>, wanted: &[u32]) -> bool
+    requires at { at < length tree.now }
+    requires fits { All (λ chain. length chain ≤ length path.old.items) tree.now }
+    ensures { length path.new.items ≡ length path.old.items }
+{
+    let start = tree.write_chain(at, path);
+    &path[start..] == wanted
 }
 
-// Whether the chain to the node at an instance is the one that is wanted.
-fn is_right(
-    alloc: Global,
-    explainer: &Explainer,
-    topology: &Topology,
-    instance: &[u8],
-    wanted: Option<&[u8]>,
-) -> Result<bool, AllocError>
-    requires { (p : Name) × HasSearched topology.now p explainer.now }
-{
-    let Some(node) = topology.node_named(b"Sick", instance) else {
-        return Ok(false);
-    };
-    let Some(nodes) = explainer.chain_to(alloc, topology, node)? else {
-        return Ok(wanted.is_none());
-    };
-    let text = instances_of(alloc, &nodes);
-    drop(nodes);
-    Ok(wanted == Some(text?.as_slice()))
+// Whether the chains of a tree are those that are wanted.
+fn are_chains(alloc: Global, tree: &ChainTree, wanted: &[&[u32]]) -> Result<bool, AllocError> {
+    let mut path = vec![in alloc; 0_u32; tree.node_count()]?;
+    let mut right = tree.len() == wanted.len();
+    for at in 0..tree.len().min(wanted.len()) {
+        right &= is_chain(tree, at, &mut path, wanted[at]);
+    }
+    Ok(right)
 }
 
 // Searches from the problem of a case, and compares its chains.
@@ -132,18 +97,18 @@ fn explain_case<L: Ledger>(
     let Some(problem) = problem_named(graph.topology(), b"Sick", case.problem) else {
         return Err(AllocError);
     };
+    let columns = graph.topology().columns(alloc)?;
     let before = steps.count();
-    explainer.search(alloc, graph, problem, steps)?;
+    let tree = explainer.chains_to(alloc, graph, problem, &columns, steps)?;
+    let right = are_chains(alloc, &tree, case.chains);
+    drop(tree);
+    assert!(rt; right?, "{:?}", case.problem);
     assert_eq!(rt;
         steps.count().wrapping_sub(before),
         case.steps,
         "{:?}",
         case.problem
     );
-    for (instance, wanted) in case.chains {
-        let right = is_right(alloc, explainer, graph.topology(), instance, *wanted)?;
-        assert!(rt; right, "{:?} {instance:?}", case.problem);
-    }
     Ok(())
 }
 

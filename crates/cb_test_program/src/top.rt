@@ -11,7 +11,8 @@ use std::str::from_utf8;
 use std::sync::ledger::{Blank, Ledger};
 use std::test::Fail;
 
-pub(crate) const QUIET: &str = "burst raised 0 unknown 0 distance 0 radius 0 sure groups 1\n  group quiet\n";
+pub(crate) const QUIET: &str =
+    "burst raised 0 unknown 0 distance 0 radius 0 sure groups 1\n  group quiet\n";
 
 // A worn pump makes noise and heat, and one that runs dry makes heat and low flow.
 const PUMP: &str =

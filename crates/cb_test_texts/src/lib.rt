@@ -6,7 +6,7 @@
 #[cfg(test)]
 mod cert;
 #[cfg(test)]
-mod chains;
+mod levels;
 #[cfg(test)]
 mod made_up;
 #[cfg(test)]

@@ -1,34 +1,30 @@
-use Rattle.std.proofs.Common.{refl, subst, sym, List}
-use Rattle.cb_model.specs.declared.node.NodeName.{NodeName}
-use Rattle.cb_finding.specs.Finding.{IsBurst}
-use Rattle.cb_topo.specs.Numbered.{Numbered, topology_of}
-use Rattle.cb_file_kinds.proofs.Chain.{if_ok_more}
-use Rattle.cb_outcome.specs.Costs.{problems_explained}
-use Rattle.cb_chain_commands.specs.Explaining.{IsExplanation, IsExplainedBy, CountsFrom}
-use Rattle.cb_chain_commands.proofs.Counting.{counts_same}
+use Rattle.std.proofs.Common.{map, arith}
+use Rattle.std.proofs.lemmas.List.{length-map}
+use Rattle.std.proofs.lemmas.Result.{IfOk-weaker}
+use Rattle.std.proofs.lemmas.Slice.Zip.{AllZip-long}
+use Rattle.cb_model.specs.declared.node.NamedGroup.{NamedGroup}
+use Rattle.cb_topo.specs.Numbered.{topology_of}
+use Rattle.cb_chains.specs.Names.{named_chains}
+use Rattle.cb_outcome.specs.Explained.{ExplainsMembers}
+use Rattle.cb_chain_commands.proofs.Finding.{explainable_groups}
 use Rattle.cb_chain_commands.proofs.explaining.explained.Goals as goal
 
-pub returns-in_err-explanation-clause-cost : goal.returns-in_err-explanation-clause-cost
-returns-in_err-explanation-clause-cost g c =
-    counts_same (topology_of c.args.graph) (problems_explained c.args.finding.now.groups) c.args.steps.now c.args.steps.now refl
+pub chains_of-requires : goal.chains_of-requires
+chains_of-requires g c = λ columns all.
+    explainable_groups (topology_of c.args.graph) c.requires.0 c.args.finding c.requires.1 columns all
 
-pub lines_by-lines-requires-clause-network : goal.lines_by-lines-requires-clause-network
-lines_by-lines-requires-clause-network g c =
-    let made = c.in_ok-explanation.explanation in
-    subst (λ (n : Numbered). IsExplanation n made) (sym c.in_ok-explanation.ensures.graph) c.in_ok-explanation.ensures
+pub of-requires-clause-groups : goal.of-requires-clause-groups
+of-requires-clause-groups g c =
+    let burst = c.requires.1 in
+    let chains = c.in-Ok.chains in
+    let named = map (named_chains chains.names) chains.trees in
+    let explains = c.in-Ok.ensures.chains burst.columns burst.matrix.columns_are in
+    let long = AllZip-long (λ (group : NamedGroup). ExplainsMembers (topology_of c.args.graph) burst.columns group.members) c.args.finding.groups named explains in
+    let same = length-map chains.trees (named_chains chains.names) in
+    omega arith
 
-pub lines_by-lines-requires-clause-found : goal.lines_by-lines-requires-clause-found
-lines_by-lines-requires-clause-found g c =
-    let (raised, burst) = c.requires in
-    (raised, subst (λ (n : Numbered). IsBurst (topology_of n) raised c.args.finding.now) (sym c.in_ok-explanation.ensures.graph) burst)
-
-pub returns-clause-lines : goal.returns-clause-lines
-returns-clause-lines g c =
-    if_ok_more c.lines_by-lines.result _ _ (λ bytes all.
-    subst (λ (n : Numbered). (raised : List NodeName) (burst : IsBurst (topology_of n) raised c.args.finding.now)
-    → IsExplainedBy (topology_of n) burst.columns c.args.finding.now bytes.items) c.in_ok-explanation.ensures.graph all) c.lines_by-lines.ensures.lines
-
-pub returns-clause-cost : goal.returns-clause-cost
-returns-clause-cost g c =
-    subst (λ (n : Numbered). CountsFrom (topology_of n) (problems_explained c.args.finding.now.groups) c.args.steps.now c.lines_by-lines.new.steps)
-    c.in_ok-explanation.ensures.graph c.lines_by-lines.ensures.cost
+pub returns-in-Ok-clause-lines : goal.returns-in-Ok-clause-lines
+returns-in-Ok-clause-lines g c =
+    let chains = c.in-Ok.chains in
+    IfOk-weaker c.of.result _ _ (λ lines is. λ raised burst.
+    (map (named_chains chains.names) chains.trees, c.in-Ok.ensures.chains burst.columns burst.matrix.columns_are, is)) c.of.ensures

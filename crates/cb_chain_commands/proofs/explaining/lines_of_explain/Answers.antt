@@ -12,8 +12,8 @@ pub returns-in_err-found-clause-cost : goal.returns-in_err-found-clause-cost
 returns-in_err-found-clause-cost g c = λ cost is.
     opening_cost (topology_of c.args.topology) c.args.raised.now c.args.steps.now c.search_all.new.steps cost c.search_all.ensures.cost is
 
-pub explained-lines-requires : goal.explained-lines-requires
-explained-lines-requires g c =
+pub explained-requires : goal.explained-requires
+explained-requires g c =
     let found = c.in_ok-found.found in (
       c.args.raised.now,
       subst (λ (n : Numbered). IsBurst (topology_of n) c.args.raised.now found.finding) (sym c.in_ok-found.ensures.graph) c.in_ok-found.ensures.finding,
@@ -25,19 +25,19 @@ returns-clause-lines g c =
     let finding = found.finding in
     let raised = c.args.raised.now in
     let burst = c.in_ok-found.ensures.finding in
-    if_ok_more c.explained-lines.result _ _ (λ bytes explained. λ whole.
-    let all : (burst : IsBurst (topology_of c.args.topology) raised finding) → IsExplainedBy (topology_of c.args.topology) burst.columns finding bytes.items =
-    subst (λ (n : Numbered). (burst : IsBurst (topology_of n) raised finding) → IsExplainedBy (topology_of n) burst.columns finding bytes.items)
+    if_ok_more c.explained.result _ _ (λ lines explained. λ whole.
+    let all : (burst : IsBurst (topology_of c.args.topology) raised finding) → IsExplainedBy (topology_of c.args.topology) burst.columns finding lines =
+    subst (λ (n : Numbered). (burst : IsBurst (topology_of n) raised finding) → IsExplainedBy (topology_of n) burst.columns finding lines)
     c.in_ok-found.ensures.graph (explained raised)
     in
     let (chains, explains, text) = all burst in
-    record { finding = finding; burst = burst; chains = chains; explains = explains; gives = ap (λ (out : List ℕ). done out whole) text }) c.explained-lines.ensures.lines
+    record { finding = finding; burst = burst; chains = chains; explains = explains; gives = ap (λ (out : List ℕ). done out whole) text }) c.explained.ensures.lines
 
 pub returns-clause-cost : goal.returns-clause-cost
 returns-clause-cost g c = λ cost is.
     let found = c.in_ok-found.found in
-    let more = subst (λ (n : Numbered). CountsFrom (topology_of n) (problems_explained found.finding.groups) c.search_all.new.steps c.explained-lines.new.steps)
-    c.in_ok-found.ensures.graph c.explained-lines.ensures.cost
+    let more = subst (λ (n : Numbered). CountsFrom (topology_of n) (problems_explained found.finding.groups) c.search_all.new.steps c.explained.new.steps)
+    c.in_ok-found.ensures.graph c.explained.ensures.cost
     in
-    whole_cost (topology_of c.args.topology) c.args.raised.now found.finding c.args.steps.now c.search_all.new.steps c.explained-lines.new.steps cost
+    whole_cost (topology_of c.args.topology) c.args.raised.now found.finding c.args.steps.now c.search_all.new.steps c.explained.new.steps cost
     c.in_ok-found.ensures.finding c.search_all.ensures.cost more is
