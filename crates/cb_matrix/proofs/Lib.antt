@@ -1,5 +1,4 @@
 pub mod Passed
-pub mod ByColumn
 pub mod Matched
 pub mod WordBits
 pub mod Held

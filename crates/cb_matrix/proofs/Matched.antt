@@ -1,5 +1,5 @@
 -- From numbers to names, and what that makes of coded problems.
-use Rattle.std.proofs.Common.{◌≡◌, ◌↔◌, ℕ, zero, suc, ◌+◌, ◌<◌, ◌≤◌, List, [], ◌∷◌, ◌++◌, Bool, length, map, take, Some, slice_get, refl, sym, ap, subst, ◌∙◌, arith}
+use Rattle.std.proofs.Common.{◌≡◌, ◌↔◌, ℕ, zero, suc, ◌+◌, ◌<◌, ◌≤◌, List, [], ◌∷◌, ◌++◌, Bool, false, Option, length, map, replicate, take, None, Some, slice_get, refl, sym, ap, subst, ◌∙◌, arith}
 use Rattle.std.specs.List.{All, AllZip, Contains, slice_index_or}
 use Rattle.std.proofs.lemmas.List.{length-map}
 use Rattle.std.proofs.lemmas.Option.{slice_get-get_or}
@@ -20,7 +20,8 @@ use Rattle.cb_graph.proofs.Chains.{named_once, lead_to_caused}
 use Rattle.cb_cache.specs.Numbers.{IsProblemNumber}
 use Rattle.cb_cache.proofs.Opened.{few_of_rising}
 use Rattle.cb_matrix.specs.Codes.{IsCodeOf}
-use Rattle.cb_matrix.specs.Coded.{IsCodeFrom, AreProblemsAt}
+use Rattle.cb_matrix.specs.declared.last.LastCode.{LastCode}
+use Rattle.cb_matrix.specs.Coded.{IsCodeFrom, IsCodeOfLast, IsLastCode, AreProblemsAt}
 
 -- a set's code is a search's, where the set is what was found
 pub code_from : (n : Numbered) (columns : List NodeId) (id : NodeId) (reached code : List Bool) → ((k : ℕ) → Has reached k ↔ LeadsTo (EdgeAt n) id.0 k)
@@ -29,6 +30,18 @@ code_from n columns id reached code found coded = record {
   width = coded.width;
   each = λ place node is. (λ has. (found node).0 ((coded.each place node is).0 has), λ leads. (coded.each place node is).1 ((found node).1 leads));
 }
+
+-- a search's code is that of the set that was found
+pub code_over : (n : Numbered) (columns : List NodeId) (id : NodeId) (reached code : List Bool) → ((k : ℕ) → Has reached k ↔ LeadsTo (EdgeAt n) id.0 k)
+    → IsCodeFrom n columns id code → IsCodeOf columns reached code
+code_over n columns id reached code found coded = record {
+  width = coded.width;
+  each = λ place node is. (λ has. (found node).1 ((coded.each place node is).0 has), λ has. (coded.each place node is).1 ((found node).0 has));
+}
+
+-- no problem yet
+pub none_last : (n : Numbered) (columns : List NodeId) (last : LastCode) → last.problem ≡ None → last.code ≡ replicate (length columns) false → IsLastCode n columns last
+none_last n columns last none code = subst (λ (problem : Option NodeId). IsCodeOfLast n columns problem last.code) (sym none) code
 
 -- one more pair, at the place after the first ones
 pub zip_more : {X Y : Type 0} (R : X → Y → Type 0) (xs : List X) (ys : List Y) (i : ℕ) (d : X) (y : Y) → i < length xs → AllZip R (take i xs) ys

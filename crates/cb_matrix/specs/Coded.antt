@@ -1,5 +1,5 @@
 -- Problems with their codes.
-use Rattle.std.specs.Prelude.{◌≡◌, ◌↔◌, ◌+◌, ◌≤◌, ℕ, List, Bool, Some, length, slice_get}
+use Rattle.std.specs.Prelude.{◌≡◌, ◌↔◌, ◌+◌, ◌≤◌, ℕ, List, Bool, false, Option, None, Some, length, replicate, slice_get}
 use Rattle.std.specs.List.{AllZip}
 use Rattle.cb_nodes.specs.declared.id.NodeId.{NodeId}
 use Rattle.cb_coding.specs.declared.group.Problem.{Problem}
@@ -8,13 +8,23 @@ use Rattle.cb_successors.specs.Rows.{Has}
 use Rattle.cb_successors.specs.Graphs.{LeadsTo}
 use Rattle.cb_topo.specs.Numbered.{Numbered, IsNodeNamed}
 use Rattle.cb_graph.specs.Edges.{EdgeAt, number}
+use Rattle.cb_cache.specs.Numbers.{IsProblemNumber}
 use Rattle.cb_codes.specs.declared.grouping.Grouping.{Grouping}
+use Rattle.cb_matrix.specs.declared.last.LastCode.{LastCode}
 use Rattle.cb_codes.specs.Grouped.{FitsTogether, HoldsProblems, groups_in}
 
 -- for each column, whether edges lead to it from the node of this number
 pub record IsCodeFrom (n : Numbered) (columns : List NodeId) (id : NodeId) (code : List Bool) : Type 0 where
   pub width : length code ≡ length columns
   pub each : (place node : ℕ) → slice_get columns place ≡ Some (number node) → Has code place ↔ LeadsTo (EdgeAt n) id.0 node
+
+-- this is the code of the last problem; without one it has no column
+abbrev pub IsCodeOfLast : Numbered → List NodeId → Option NodeId → List Bool → Type 0
+IsCodeOfLast n columns None code = code ≡ replicate (length columns) false
+IsCodeOfLast n columns (Some id) code = IsProblemNumber n id × IsCodeFrom n columns id code
+
+abbrev pub IsLastCode : Numbered → List NodeId → LastCode → Type 0
+IsLastCode n columns last = IsCodeOfLast n columns last.problem last.code
 
 -- the problem of this number, with its name and its code over the columns
 pub record IsProblemAt (n : Numbered) (columns : List NodeId) (id : NodeId) (problem : Problem) : Type 0 where

@@ -1,5 +1,5 @@
 -- Codes over numbers of nodes.
-use Rattle.std.specs.Prelude.{◌≡◌, ◌↔◌, ◌*◌, ℕ, List, Bool, Some, length, slice_get}
+use Rattle.std.specs.Prelude.{◌≡◌, ◌↔◌, ◌⊎◌, ◌*◌, ℕ, List, Bool, Some, length, slice_get}
 use Rattle.cb_bits.specs.Bits.{values}
 use Rattle.cb_nodes.specs.declared.id.NodeId.{NodeId}
 use Rattle.cb_successors.specs.Rows.{Has}
@@ -9,6 +9,11 @@ use Rattle.cb_graph.specs.Edges.{number}
 pub record IsCodeOf (columns : List NodeId) (reached code : List Bool) : Type 0 where
   pub width : length code ≡ length columns
   pub each : (place node : ℕ) → slice_get columns place ≡ Some (number node) → Has code place ↔ Has reached node
+
+-- for each column, whether one of two sets of nodes has it
+pub record IsCodeOfEither (columns : List NodeId) (one other code : List Bool) : Type 0 where
+  pub width : length code ≡ length columns
+  pub each : (place node : ℕ) → slice_get columns place ≡ Some (number node) → Has code place ↔ (Has one node ⊎ Has other node)
 
 -- the bits of words, one by one
 abbrev pub bits : List ℕ → List Bool

@@ -1,13 +1,13 @@
 //! The problems in their groups, each with its code from its row.
-ghost use Rattle.std.specs.Prelude.{◌≡◌, ◌≤◌, length, replicate, IfOk};
+ghost use Rattle.std.specs.Prelude.{◌≡◌, ◌≤◌, length, replicate, IfOk, OnOk};
 ghost use Rattle.std.specs.List.{All};
 ghost use Rattle.cb_lanes.specs.Words.{word_limit};
 ghost use Rattle.cb_network.specs.Sound.{node_limit};
 ghost use Rattle.cb_cache.specs.Numbers.{IsProblemNumber};
-ghost use Rattle.cb_topo.specs.Columns.{AreIdsBelow};
-ghost use Rattle.cb_matrix.specs.Coded.{IsProblemAt, AreGroupedAt};
+ghost use Rattle.cb_matrix.specs.Coded.{IsLastCode, IsProblemAt, AreGroupedAt};
 
-use crate::codes::code_of;
+use crate::codes::{code_by_nodes, has_fewer};
+use crate::last::LastCode;
 use cb_cache::Cache;
 use cb_codes::Grouping;
 use cb_coding::Problem;
@@ -23,36 +23,44 @@ pub(crate) fn grouping_of(
     columns: &ColumnIndex,
     nodes: &List<NodeId>,
 ) -> Result<Grouping, AllocError>
-    requires columns { AreIdsBelow (length cache.now.graph.nodes) columns.now }
     requires few { length cache.now.graph.nodes ≤ node_limit }
     requires problems { All (IsProblemNumber cache.now.graph) nodes.now }
     ensures { IfOk result (AreGroupedAt cache.now.graph columns.now nodes.now) }
 {
     let none = zeros(alloc, cache.pool().width())?;
+    let mut last = LastCode::none(alloc, columns)?;
     let mut grouping = Grouping::of_quiet(alloc, columns.len())?;
     for node in nodes.as_slice() {
-        let problem = coded_problem(alloc, cache, columns, *node, &none)?;
+        let problem = coded_problem(alloc, cache, columns, *node, &none, &mut last)?;
         grouping.add(alloc, problem)?;
     }
     Ok(grouping)
 }
 
-// The problem of this number with its code.
+// The problem of this number with its code. A row of few nodes is gone through node by node.
 fn coded_problem(
     alloc: Global,
     cache: &Cache,
     columns: &ColumnIndex,
     node: NodeId,
     none: &[u64],
+    last: &mut LastCode,
 ) -> Result<Problem, AllocError>
-    requires columns { AreIdsBelow (length cache.now.graph.nodes) columns.now }
     requires few { cache.now.pool.width ≤ word_limit }
     requires problem { IsProblemNumber cache.now.graph node }
     requires none { none.now ≡ replicate cache.now.pool.width 0 }
-    ensures { IfOk result (IsProblemAt cache.now.graph columns.now node) }
+    requires last { IsLastCode cache.now.graph columns.now last.old }
+    ensures problem { IfOk result (IsProblemAt cache.now.graph columns.now node) }
+    ensures last { OnOk result (IsLastCode cache.now.graph columns.now last.new) }
 {
     let name = cache.graph().topology().copy_name(alloc, node)?;
-    let code = code_of(alloc, columns, cache.row(node), none)?;
+    let row = cache.row(node);
+    let code = if has_fewer(row, row.len()) {
+        code_by_nodes(alloc, columns, row, none)?
+    } else {
+        last.go_on(cache, columns, node, none);
+        last.code.copy(alloc)?
+    };
     Ok(Problem { name, code })
 }
 

@@ -3,6 +3,7 @@
 
 mod coded;
 mod codes;
+mod last;
 mod matrix;
 mod names;
 mod problems;

@@ -4,15 +4,18 @@ use Rattle.cb_nodes.specs.declared.id.NodeId.{NodeId}
 use Rattle.cb_cache.specs.Numbers.{IsProblemNumber}
 use Rattle.cb_codes.specs.Grouped.{FitsTogether}
 use Rattle.cb_matrix.specs.Coded.{IsProblemAt}
+use Rattle.cb_matrix.proofs.Matched.{none_last}
 use Rattle.cb_matrix.proofs.Held.{none_held, one_more_held, all_held}
 use Rattle.cb_matrix.proofs.coded.grouping_of.Goals as goal
 
 pub loop-node-init : goal.loop-node-init
 loop-node-init c =
     let made = c.in_ok-grouping.grouping in
-    let wide = c.len.ensures in
-    none_held c.args.cache.now.graph c.args.columns.now c.args.nodes.now made (subst (λ width. FitsTogether width made) wide c.in_ok-grouping.ensures.sound)
-    (rw wide at c.in_ok-grouping.ensures.quiet) c.in_ok-grouping.ensures.none
+    let wide = c.len.ensures in (
+      none_held c.args.cache.now.graph c.args.columns.now c.args.nodes.now made (subst (λ width. FitsTogether width made) wide c.in_ok-grouping.ensures.sound)
+          (rw wide at c.in_ok-grouping.ensures.quiet) c.in_ok-grouping.ensures.none,
+      none_last c.args.cache.now.graph c.args.columns.now c.in_ok-last.last c.in_ok-last.ensures.problem c.in_ok-last.ensures.code,
+    )
 
 pub coded_problem-requires-clause-problem : goal.coded_problem-requires-clause-problem
 coded_problem-requires-clause-problem c =
@@ -22,7 +25,7 @@ coded_problem-requires-clause-problem c =
     (c.requires.problems i zero (omega (arith, c.loop-node-test.true, ap length c.as_slice-node-items.ensures)))
 
 pub add-requires : goal.add-requires
-add-requires c = record { sound = subst (λ width. FitsTogether width c.loop-node.grouping) (sym c.in_ok-problem.ensures.coded.width) c.loop-node.invariant.sound }
+add-requires c = record { sound = subst (λ width. FitsTogether width c.loop-node.grouping) (sym c.in_ok-problem.ensures.problem.coded.width) c.loop-node.invariant.0.sound }
 
 pub loop-node-preserved : goal.loop-node-preserved
 loop-node-preserved c =
@@ -32,14 +35,16 @@ loop-node-preserved c =
     let nodes = c.args.nodes.now in
     let columns = c.args.columns.now in
     let p = c.in_ok-problem.problem in
-    let is = subst (λ items. IsProblemAt n columns (slice_index_or items i zero) p) c.as_slice-node-items.ensures c.in_ok-problem.ensures in
-    let low : i < length nodes = omega (arith, c.loop-node-test.true, ap length c.as_slice-node-items.ensures) in
-    one_more_held n columns nodes i (slice_index_or nodes i zero) p c.loop-node.grouping _ (slice_get-get_or nodes i zero low) is
-    c.in_ok-add.ensures.sound c.in_ok-add.ensures.added c.in_ok-add.ensures.holds c.loop-node.invariant
+    let is = subst (λ items. IsProblemAt n columns (slice_index_or items i zero) p) c.as_slice-node-items.ensures c.in_ok-problem.ensures.problem in
+    let low : i < length nodes = omega (arith, c.loop-node-test.true, ap length c.as_slice-node-items.ensures) in (
+      one_more_held n columns nodes i (slice_index_or nodes i zero) p c.loop-node.grouping _ (slice_get-get_or nodes i zero low) is
+          c.in_ok-add.ensures.sound c.in_ok-add.ensures.added c.in_ok-add.ensures.holds c.loop-node.invariant.0,
+      c.in_ok-problem.ensures.last,
+    )
 
 pub returns : goal.returns
 returns c =
     let i = c.loop-node.node-index in
     let end : i ≡ length c.args.nodes.now =
     (let past = c.loop-node-test.false in let within = c.loop-node.auto.node-index-end in let same = ap length c.as_slice-node-items.ensures in omega arith) in
-    all_held c.args.cache.now.graph c.args.columns.now c.args.nodes.now i c.loop-node.grouping end c.loop-node.invariant
+    all_held c.args.cache.now.graph c.args.columns.now c.args.nodes.now i c.loop-node.grouping end c.loop-node.invariant.0

@@ -1,23 +1,22 @@
-use Rattle.cb_matrix.specs.Codes.{bits}
-use Rattle.cb_matrix.proofs.Passed.{coded_here, coded_past, place_low}
+use Rattle.std.proofs.Common.{length, replicate, false, sym, subst, ap, ◌∙◌}
+use Rattle.std.proofs.lemmas.List.{length-replicate}
+use Rattle.cb_matrix.specs.Codes.{IsCodeOf, bits}
+use Rattle.cb_matrix.proofs.WordBits.{none_has}
+use Rattle.cb_matrix.proofs.Passed.{none_coded, alone_coded}
 use Rattle.cb_matrix.proofs.codes.code_by_nodes.Goals as goal
-use Rattle.cb_matrix.proofs.codes.code_by_nodes.Goals.{in-Some-position, in_default-position}
 
-pub set-requires : goal.set-requires
-set-requires c =
-    place_low c.args.columns.now (bits c.args.reached.now) c.loop-node.from c.loop-node.code c.in-Some.node c.loop-node.invariant c.in-Some.ensures.next
-    c.in-Some-position.place c.in-Some-position.ensures
-
-pub loop-node-preserved : goal.loop-node-preserved
-loop-node-preserved c =
+pub add_columns-requires : goal.add_columns-requires
+add_columns-requires c =
     let columns = c.args.columns.now in
-    let reached = bits c.args.reached.now in
-    let node = c.in-Some.node in
-    let next = c.in-Some.ensures.next in
-    elim c.match-position.branch [
-      | in-Some-position w ↦
-          rw (w.code-is, w.set.ensures)
-          (coded_here columns reached c.loop-node.from c.loop-node.code node c.loop-node.invariant next w.in-Some-position.place w.in-Some-position.ensures)
-      | in_default-position w ↦
-          rw (w.code-is) (coded_past columns reached c.loop-node.from c.loop-node.code node c.loop-node.invariant next w.in_default-position.ensures)
-    ]
+    let none = c.args.none.now in
+    record {
+      few = c.requires.few;
+      same = sym (ap length c.requires.none ∙ length-replicate (length c.args.reached.now) 0);
+      code = subst (IsCodeOf columns (bits none)) (sym (c.in_ok-code.ensures ∙ ap (λ n. replicate n false) c.len.ensures))
+          (none_coded columns (bits none) (none_has none (length c.args.reached.now) c.requires.none));
+    }
+
+pub returns : goal.returns
+returns c =
+    let none = c.args.none.now in
+    alone_coded c.args.columns.now (bits c.args.reached.now) (bits none) c.add_columns.new.code (none_has none (length c.args.reached.now) c.requires.none) c.add_columns.ensures

@@ -4,7 +4,6 @@ use Rattle.cb_network.specs.Nodes.{AreProblems}
 use Rattle.cb_network.specs.Sound.{Sound, node_limit}
 use Rattle.cb_nodes.specs.declared.id.NodeId.{NodeId}
 use Rattle.cb_topo.specs.Numbered.{Numbered, topology_of, IsLiveNode, AreNamed, IsWhole}
-use Rattle.cb_topo.proofs.Positions.{named_below}
 use Rattle.cb_cache.specs.Numbers.{IsProblemNumber}
 use Rattle.cb_matrix.proofs.Matched.{all_live, all_problem_numbers, all_coded}
 use Rattle.cb_matrix.proofs.Held.{all_in_groups}
@@ -17,9 +16,6 @@ names_of-requires c =
     let live = all_live n c.args.index.now columns.names columns.named in
     subst (λ (m : Numbered). All (IsLiveNode m) c.nodes.result.now) (sym (c.topology-topology.ensures ∙ c.graph.ensures))
     (subst (λ (ids : List NodeId). All (IsLiveNode n) ids) (sym c.nodes.ensures) live)
-
-pub grouping_of-requires-clause-columns : goal.grouping_of-requires-clause-columns
-grouping_of-requires-clause-columns c = named_below c.args.cache.now.graph c.args.index.now c.requires.names c.requires.named
 
 pub grouping_of-requires-clause-few : goal.grouping_of-requires-clause-few
 grouping_of-requires-clause-few c =
