@@ -1,6 +1,7 @@
 //! Codes of one width.
-ghost use Rattle.std.specs.Prelude.{◌≡◌, ◌<◌, [], ◌∷◌, ◌++◌, length, OnOk, OnErr, IfSome, SomeIff, slice_get, Some};
+ghost use Rattle.std.specs.Prelude.{◌≡◌, ◌<◌, ℕ, [], ◌∷◌, ◌++◌, length, IsTrue, OnOk, OnErr, IfSome, SomeIff, slice_get, Some};
 ghost use Rattle.cb_coding.specs.Distance.{HaveWidth, all_columns, apart};
+ghost use Rattle.cb_codes.specs.Codes.{AreDifferent};
 ghost use Rattle.cb_codes.specs.Holders.{holders_of};
 
 use crate::holders::{begin, hold};
@@ -18,18 +19,21 @@ pub struct Codes {
     rows: Vec<CompactRow>,
     holders: Vec<List<u32>>,
     ones: usize,
+    // Whether it is known that no code is there twice.
+    differ: bool,
 }
 
 impl Model for Codes {
     ghost use Rattle.cb_coding.specs.Distance.{HaveWidth};
-    ghost use Rattle.cb_codes.specs.Codes.{Coded};
+    ghost use Rattle.std.specs.Prelude.{◌≡◌, true};
+    ghost use Rattle.cb_codes.specs.Codes.{Coded, AreDifferent};
     ghost use Rattle.cb_codes.specs.Holders.{AreHoldersOrNone};
 
     ghost Value = { Coded };
 
     ghost view = { λ c. record { width = c.width; rows = c.rows.items } };
 
-    ghost invariant = { λ c. HaveWidth c.width c.rows.items × AreHoldersOrNone c.width c.rows.items c.holders.items };
+    ghost invariant = { λ c. HaveWidth c.width c.rows.items × AreHoldersOrNone c.width c.rows.items c.holders.items × (c.differ ≡ true → AreDifferent c.rows.items) };
 }
 
 impl Codes {
@@ -43,6 +47,7 @@ impl Codes {
             rows: Vec::new(alloc),
             holders: begin(alloc, width),
             ones: 0,
+            differ: true,
         }
     }
 
@@ -58,8 +63,30 @@ impl Codes {
         let ones = compact.ones();
         self.rows.push(compact)?;
         self.ones = self.ones.saturating_add(ones);
+        self.differ = false;
         hold(&mut self.holders, &self.rows[place], place, self.ones);
         Ok(())
+    }
+
+    /// As `push`, of a code that isn't there yet: where no code was there twice, none is afterwards, and this is known.
+    pub fn push_new(&mut self, alloc: Global, row: Row) -> Result<(), AllocError>
+        requires width { length row ≡ self.old.width }
+        requires new { (i : ℕ) → ¬ (slice_get self.old.rows i ≡ Some row) }
+        ensures width { self.new.width ≡ self.old.width }
+        ensures pushed { OnOk result (self.new.rows ≡ self.old.rows ++ row ∷ []) }
+        ensures err { OnErr result (self.new ≡ self.old) }
+    {
+        let differ = self.differ;
+        self.push(alloc, row)?;
+        self.differ = differ;
+        Ok(())
+    }
+
+    /// Whether it is known that no code is there twice. It takes no search.
+    pub fn differ(&self) -> bool
+        ensures { IsTrue result → AreDifferent self.now.rows }
+    {
+        self.differ
     }
 
     /// How many codes there are.

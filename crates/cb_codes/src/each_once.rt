@@ -41,7 +41,7 @@ impl EachOnce {
         let key = key_of(alloc, &code)?;
         let (place, is_new) = self.keys.insert_full(key)?;
         if is_new {
-            self.codes.push(alloc, code)?;
+            self.codes.push_new(alloc, code)?;
         }
         Ok(place)
     }

@@ -7,8 +7,9 @@ use Rattle.std.proofs.lemmas.List.FromFn.{length-range_with_len}
 use Rattle.std.proofs.lemmas.List.Sums.{sum_by-cons, count_by-le-length}
 use Rattle.cb_coding.specs.declared.book.Pair.{Pair}
 use Rattle.cb_coding.specs.Distance.{differ, bit, distance, all_columns, code_at, apart, HaveWidth}
-use Rattle.cb_coding.specs.Pairs.{IsPair, GoodFor, IsFirstShort}
-use Rattle.cb_codes.specs.Codes.{Coded}
+use Rattle.cb_coding.specs.Pairs.{IsPair, Good, GoodFor, IsFirstShort}
+use Rattle.cb_coding.proofs.Distances.{same_where_zero}
+use Rattle.cb_codes.specs.Codes.{Coded, AreDifferent}
 use Rattle.cb_distance.specs.Chosen.{IsOver, AreOver, AreChosen}
 use Rattle.cb_distance.specs.declared.needs.Needs.{Needs}
 use Rattle.cb_distance.specs.declared.needs.Needs.TheVariants.{Plain, Capped}
@@ -171,3 +172,10 @@ module _ (codes : Coded) (need : ℕ → ℕ → ℕ) where
         let there = subst (λ k. AreAllFar codes k need (length codes.rows)) same row in
         there j pair.0 pair.1
   ]
+
+-- codes that differ are at least one column apart
+pub differ_good : (codes : Coded) (wanted : ℕ) → HaveWidth codes.width codes.rows → AreDifferent codes.rows → wanted ≤ 1 → Good codes.rows (all_columns codes.width) wanted
+differ_good codes wanted wide different few i j pair =
+    let none : apart (all_columns codes.width) codes.rows i j ≡ 0 → ⊥ = λ zero.
+    different i j pair (same_where_zero codes.width (code_at codes.rows i) (code_at codes.rows j) (wide i [] (let lt = pair.0 in let within = pair.1 in omega arith)) (wide j [] pair.1) zero) in
+    omega arith

@@ -35,6 +35,11 @@ pub fn first_close_from(codes: &Codes, from: usize, wanted: usize) -> Option<Pai
     ensures pair { IfSome result (IsFirstClose (all_columns codes.now.width) codes.now.rows wanted) }
     ensures none { IfNone result (Good codes.now.rows (all_columns codes.now.width) wanted) }
 {
+    // All codes have one width, so two that differ are one apart at least.
+    let _width = codes.width();
+    if wanted <= 1 && codes.differ() {
+        return None;
+    }
     first_pair(codes, from, &Needs::Plain(wanted))
 }
 

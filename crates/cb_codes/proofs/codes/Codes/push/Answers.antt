@@ -21,4 +21,5 @@ invariant_of-self-2 c =
       subst (HaveWidth inside.width) (sym pushed) (All-push (λ code. length code ≡ inside.width) inside.rows.items c.args.row c.self.invariant.0 (c.requires ∙ sym (ap (λ (v : Coded). v.width) c.self.view_is))),
       subst (λ rows. AreHoldersOrNone inside.width rows c.hold.new.lists.items) (sym pushed)
           (held_on inside.width inside.rows.items c.args.row inside.holders.items c.hold.new.lists.items c.index.result.now c.len-place.result c.self.invariant.1 is place c.hold.ensures),
+      λ is_known. absurd (cc),
     )
