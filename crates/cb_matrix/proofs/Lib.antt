@@ -1,4 +1,5 @@
 pub mod Passed
+pub mod InOrder
 pub mod Matched
 pub mod WordBits
 pub mod Held

@@ -13,10 +13,14 @@ use Rattle.cb_graph.specs.Edges.{number}
 use Rattle.cb_topo.specs.Columns.{IsPositionOf}
 use Rattle.cb_matrix.specs.Codes.{IsCodeOf, IsCodeOfEither}
 
+-- of each column: it is among these exactly where its node is in the set
+abbrev pub Agrees : List NodeId → (ℕ → Type 0) → (ℕ → Type 0) → Type 0
+Agrees columns Among Set = (place node : ℕ) → slice_get columns place ≡ Some (number node) → Among place ↔ Set node
+
 -- for each column, whether its node is in the set
 pub record IsCodedBy (columns : List NodeId) (Set : ℕ → Type 0) (code : List Bool) : Type 0 where
   pub width : length code ≡ length columns
-  pub each : (place node : ℕ) → slice_get columns place ≡ Some (number node) → Has code place ↔ Set node
+  pub each : Agrees columns (Has code) Set
 
 pub still : (code : List Bool) (p k : ℕ) → p < length code → Has code k → Has (slice_set code p true) k
 still code p k low has = elim (cases_eq k p) [
@@ -24,42 +28,55 @@ still code p k low has = elim (cases_eq k p) [
   | inr other ↦ get_or-set_other code p k true false other ∙ has
 ]
 
+set_there : (code : List Bool) (place : ℕ) → place < length code → (k : ℕ) → Has (slice_set code place true) k ↔ (Has code k ⊎ (k ≡ place))
+set_there code place low k = (
+  λ has. elim (set_cases code place k has) [ | inl same ↦ inr same | inr had ↦ inl had ],
+  λ is. elim is [ | inl had ↦ still code place k low had | inr same ↦ subst (Has (slice_set code place true)) (sym same) (has_set code place low) ],
+)
+
 pub same_number : (columns : List NodeId) (place a b : ℕ) → slice_get columns place ≡ Some (number a) → slice_get columns place ≡ Some (number b) → a ≡ b
 same_number columns place a b is at =
     let both : Some (number a) ≡ Some (number b) = sym is ∙ at in
     let e : number a ≡ number b = cc in
     ap (λ (x : NodeId). x.0) e
 
+-- the node's column has this position, and no other node's has
+module _ (columns : List NodeId) (node place : ℕ) (at : IsPositionOf columns (number node) (Some place)) where
+  pub is_there : slice_get columns place ≡ Some (number node)
+  is_there = (at place).1 refl
+
+  this_one : (k m : ℕ) → slice_get columns k ≡ Some (number m) → (k ≡ place → m ≡ node) × (m ≡ node → k ≡ place)
+  this_one k m there = (
+    λ same. sym (same_number columns place node m is_there (subst (λ p. slice_get columns p ≡ Some (number m)) same there)),
+    λ same. (at k).0 (subst (λ n. slice_get columns k ≡ Some (number n)) same there),
+  )
+
+  -- it joins the set
+  pub joins : (Among After Old New : ℕ → Type 0) → Agrees columns Among Old → ((k : ℕ) → After k ↔ (Among k ⊎ (k ≡ place)))
+      → ((m : ℕ) → New m ↔ (Old m ⊎ (m ≡ node))) → Agrees columns After New
+  joins Among After Old New old one more k m there = (
+    λ is. (more m).1 (elim ((one k).0 is) [ | inl among ↦ inl ((old k m there).0 among) | inr same ↦ inr ((this_one k m there).0 same) ]),
+    λ is. (one k).1 (elim ((more m).0 is) [ | inl before ↦ inl ((old k m there).1 before) | inr same ↦ inr ((this_one k m there).1 same) ]),
+  )
+
+-- a node that is no column joins or leaves the set
+pub passes : (columns : List NodeId) (Among Old New : ℕ → Type 0) (node : ℕ) → IsPositionOf columns (number node) None
+    → Agrees columns Among Old → ((m : ℕ) → ¬ (m ≡ node) → New m ↔ Old m) → Agrees columns Among New
+passes columns Among Old New node none old same k m there =
+    let alike = same m (λ is. none k (subst (λ n. slice_get columns k ≡ Some (number n)) is there)) in
+    (λ has. alike.1 ((old k m there).0 has), λ is. (old k m there).1 (alike.0 is))
+
 -- one set, and another that differs at one node alone
 module _ (columns : List NodeId) (Old New : ℕ → Type 0) (code : List Bool) (node : ℕ) (old : IsCodedBy columns Old code) where
   module _ (place : ℕ) (at : IsPositionOf columns (number node) (Some place)) where
-    is_there : slice_get columns place ≡ Some (number node)
-    is_there = (at place).1 refl
-
-    -- the node at the position, and no other, is this one
-    this_one : (k m : ℕ) → slice_get columns k ≡ Some (number m) → (k ≡ place → m ≡ node) × (m ≡ node → k ≡ place)
-    this_one k m there = (
-      λ same. sym (same_number columns place node m is_there (subst (λ p. slice_get columns p ≡ Some (number m)) same there)),
-      λ same. (at k).0 (subst (λ n. slice_get columns k ≡ Some (number n)) same there),
-    )
-
     pub place_low : place < length code
-    place_low = let e = slice_get_within columns place (number node) is_there in let f = old.width in omega arith
+    place_low = let e = slice_get_within columns place (number node) (is_there columns node place at) in let f = old.width in omega arith
 
     -- it joins the set
     pub joined : ((m : ℕ) → New m ↔ (Old m ⊎ (m ≡ node))) → IsCodedBy columns New (slice_set code place true)
     joined more = record {
       width = length-set code place true ∙ old.width;
-      each = λ k m there. (
-        λ has. elim (set_cases code place k has) [
-          | inl same ↦ (more m).1 (inr ((this_one k m there).0 same))
-          | inr had ↦ (more m).1 (inl ((old.each k m there).0 had))
-        ],
-        λ is. elim ((more m).0 is) [
-          | inl before ↦ still code place k place_low ((old.each k m there).1 before)
-          | inr same ↦ subst (Has (slice_set code place true)) (sym ((this_one k m there).1 same)) (has_set code place place_low)
-        ],
-      );
+      each = joins columns node place at (Has code) (Has (slice_set code place true)) Old New old.each (set_there code place place_low) more;
     }
 
     -- it leaves the set
@@ -72,29 +89,25 @@ module _ (columns : List NodeId) (Old New : ℕ → Type 0) (code : List Bool) (
               let off : Has (slice_set code place false) place = subst (Has (slice_set code place false)) same has in
               let no = get_or-set_same code place false false place_low in
               absurd (cc)
-          | inr other ↦ (less m).1 ((old.each k m there).0 (sym (get_or-set_other code place k false false other) ∙ has), λ same. other ((this_one k m there).1 same))
+          | inr other ↦
+              (less m).1 ((old.each k m there).0 (sym (get_or-set_other code place k false false other) ∙ has), λ same. other ((this_one columns node place at k m there).1 same))
         ],
         λ is.
             let both = (less m).0 is in
-            get_or-set_other code place k false false (λ same. both.1 ((this_one k m there).0 same)) ∙ (old.each k m there).1 both.0,
+            get_or-set_other code place k false false (λ same. both.1 ((this_one columns node place at k m there).0 same)) ∙ (old.each k m there).1 both.0,
       );
     }
 
   -- it is no column
   pub no_column : IsPositionOf columns (number node) None → ((m : ℕ) → ¬ (m ≡ node) → New m ↔ Old m) → IsCodedBy columns New code
-  no_column none same = record {
-    width = old.width;
-    each = λ k m there.
-        let alike = same m (λ is. none k (subst (λ n. slice_get columns k ≡ Some (number n)) is there)) in
-        (λ has. alike.1 ((old.each k m there).0 has), λ is. (old.each k m there).1 (alike.0 is));
-  }
+  no_column none same = record { width = old.width; each = passes columns (Has code) Old New node none old.each same }
 
 both_of : (a b : Bool) → (a && not b) ≡ true → (a ≡ true) × (b ≡ false)
 both_of true true is = absurd (cc is)
 both_of true false is = (refl, refl)
 both_of false b is = absurd (cc is)
 
-then_other : (a b : Bool) → (a && not b) ≡ false → a ≡ true → b ≡ true
+pub then_other : (a b : Bool) → (a && not b) ≡ false → a ≡ true → b ≡ true
 then_other true true is on = refl
 then_other true false is on = absurd (cc is)
 then_other false b is on = absurd (cc on)

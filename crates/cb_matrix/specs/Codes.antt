@@ -1,6 +1,8 @@
 -- Codes over numbers of nodes.
-use Rattle.std.specs.Prelude.{◌≡◌, ◌↔◌, ◌⊎◌, ◌*◌, ℕ, List, Bool, Some, length, slice_get}
+use Rattle.std.specs.Prelude.{◌≡◌, ◌<◌, ◌↔◌, ◌⊎◌, ◌*◌, ℕ, List, Bool, Some, length, slice_get}
+use Rattle.std.specs.List.{All, Contains}
 use Rattle.cb_bits.specs.Bits.{values}
+use Rattle.cb_compact.specs.Compact.{AreRising}
 use Rattle.cb_nodes.specs.declared.id.NodeId.{NodeId}
 use Rattle.cb_successors.specs.Rows.{Has}
 use Rattle.cb_graph.specs.Edges.{number}
@@ -14,6 +16,12 @@ pub record IsCodeOf (columns : List NodeId) (reached code : List Bool) : Type 0 
 pub record IsCodeOfEither (columns : List NodeId) (one other code : List Bool) : Type 0 where
   pub width : length code ≡ length columns
   pub each : (place node : ℕ) → slice_get columns place ≡ Some (number node) → Has code place ↔ (Has one node ⊎ Has other node)
+
+-- the positions of the columns that the set of nodes has, in order
+pub record AreColumnsOf (columns : List NodeId) (reached : List Bool) (positions : List ℕ) : Type 0 where
+  pub rising : AreRising positions
+  pub within : All (λ place. place < length columns) positions
+  pub each : (place node : ℕ) → slice_get columns place ≡ Some (number node) → Contains positions place ↔ Has reached node
 
 -- the bits of words, one by one
 abbrev pub bits : List ℕ → List Bool

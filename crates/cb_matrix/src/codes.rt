@@ -95,8 +95,8 @@ fn take_columns(columns: &ColumnIndex, last: &[u64], row: &[u64], code: &mut Row
     }
 }
 
-// The first node, from a number on, that a row has and another lacks.
-fn next_left(row: &[u64], other: &[u64], from: usize) -> Option<usize>
+/// The first node, from a number on, that a row has and another lacks.
+pub(crate) fn next_left(row: &[u64], other: &[u64], from: usize) -> Option<usize>
     requires few { length row.now ≤ word_limit }
     requires same { length row.now ≡ length other.now }
     ensures next { IfSome result (IsNextOne (difference (bits row.now) (bits other.now)) from) }

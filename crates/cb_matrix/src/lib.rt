@@ -4,6 +4,7 @@
 mod coded;
 mod codes;
 mod last;
+mod listed;
 mod matrix;
 mod names;
 mod problems;
