@@ -47,7 +47,7 @@ pub(crate) fn groups_of(
         add_least(&mut least, group, *trees.problems.at(place))?;
     }
     Ok(CodedGroups {
-        codes: codes.into_codes(),
+        codes: codes.into_codes(alloc),
         least,
     })
 }

@@ -73,7 +73,7 @@ pub(crate) fn check_spans<L: Ledger>(
         };
         before += span.entries.len() as u32;
     }
-    Ok(grouping.into_groups())
+    Ok(grouping.into_groups(alloc))
 }
 
 // Adds the problem to the group of its code.

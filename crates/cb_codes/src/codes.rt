@@ -4,21 +4,19 @@ ghost use Rattle.cb_coding.specs.Distance.{HaveWidth, all_columns, apart};
 ghost use Rattle.cb_codes.specs.Codes.{AreDifferent};
 ghost use Rattle.cb_codes.specs.Holders.{holders_of};
 
-use crate::holders::{begin, hold};
+use crate::holders::Holders;
 use cb_bits::Row;
 use cb_compact::CompactRow;
-use cb_model::List;
 use std::alloc::{AllocError, Global};
 use std::marker::Model;
 
 /// Codes in order, each a row with one position a column, kept by its columns where these are few. Contracts see how many columns there
-/// are, and the rows. It keeps for each column which codes have it, as long as that takes little memory.
+/// are, and the rows. Once it is asked to, it keeps for each column which codes have it, if that takes little memory.
 #[derive(Drop)]
 pub struct Codes {
     width: usize,
     rows: Vec<CompactRow>,
-    holders: Vec<List<u32>>,
-    ones: usize,
+    holders: Holders,
     // Whether it is known that no code is there twice.
     differ: bool,
 }
@@ -33,7 +31,7 @@ impl Model for Codes {
 
     ghost view = { λ c. record { width = c.width; rows = c.rows.items } };
 
-    ghost invariant = { λ c. HaveWidth c.width c.rows.items × AreHoldersOrNone c.width c.rows.items c.holders.items × (c.differ ≡ true → AreDifferent c.rows.items) };
+    ghost invariant = { λ c. HaveWidth c.width c.rows.items × AreHoldersOrNone c.width c.rows.items c.holders × (c.differ ≡ true → AreDifferent c.rows.items) };
 }
 
 impl Codes {
@@ -45,8 +43,7 @@ impl Codes {
         Codes {
             width,
             rows: Vec::new(alloc),
-            holders: begin(alloc, width),
-            ones: 0,
+            holders: Holders::none(alloc),
             differ: true,
         }
     }
@@ -58,13 +55,9 @@ impl Codes {
         ensures pushed { OnOk result (self.new.rows ≡ self.old.rows ++ row ∷ []) }
         ensures err { OnErr result (self.new ≡ self.old) }
     {
-        let place = self.rows.len();
-        let compact = CompactRow::of(alloc, &row)?;
-        let ones = compact.ones();
-        self.rows.push(compact)?;
-        self.ones = self.ones.saturating_add(ones);
+        self.rows.push(CompactRow::of(alloc, &row)?)?;
+        self.holders.clear();
         self.differ = false;
-        hold(&mut self.holders, &self.rows[place], place, self.ones);
         Ok(())
     }
 
@@ -87,6 +80,13 @@ impl Codes {
         ensures { IsTrue result → AreDifferent self.now.rows }
     {
         self.differ
+    }
+
+    /// Lists which codes have each column, once all codes are there. The lists are given up if a code is added later.
+    pub fn list_holders(&mut self, alloc: Global)
+        ensures { self.new ≡ self.old }
+    {
+        self.holders = Holders::of(alloc, self.width, &self.rows);
     }
 
     /// How many codes there are.
@@ -122,10 +122,16 @@ impl Codes {
         self.rows[i].distance_below(&self.rows[j], limit)
     }
 
-    /// The positions of the codes that have a column, in order. It is none where such lists aren't kept.
-    pub fn holders(&self, column: usize) -> Option<&List<u32>>
+    /// The positions of the codes that have a column, in order. It is none if there are no such lists.
+    pub fn holders(&self, column: usize) -> Option<&[u32]>
         ensures { IfSome result (λ places. places.now ≡ holders_of self.now.rows column) }
     {
-        self.holders.get(column)
+        let starts = &self.holders.starts;
+        if starts.is_empty() || self.width <= column {
+            return None;
+        }
+        let start = starts[column] as usize;
+        let end = starts[column + 1] as usize;
+        Some(&self.holders.places[start..end])
     }
 }

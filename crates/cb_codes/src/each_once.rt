@@ -46,10 +46,12 @@ impl EachOnce {
         Ok(place)
     }
 
-    /// The codes alone.
-    pub fn into_codes(self) -> Codes
+    /// The codes alone, and which of them have each column.
+    pub fn into_codes(self, alloc: Global) -> Codes
         ensures { result ≡ self.codes }
     {
-        self.codes
+        let mut codes = self.codes;
+        codes.list_holders(alloc);
+        codes
     }
 }

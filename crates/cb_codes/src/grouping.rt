@@ -60,12 +60,12 @@ impl Grouping {
     }
 
     /// The groups alone.
-    pub fn into_groups(self) -> Groups
+    pub fn into_groups(self, alloc: Global) -> Groups
         requires { Fit self.codes.codes.rows self.named.items }
         ensures width { result.width ≡ self.codes.codes.width }
         ensures groups { result.groups ≡ groups_in self }
     {
-        Groups::of(self.codes.into_codes(), List::of(self.named))
+        Groups::of(self.codes.into_codes(alloc), List::of(self.named))
     }
 }
 

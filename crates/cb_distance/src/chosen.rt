@@ -9,7 +9,7 @@ use cb_compact::CompactRow;
 use cb_model::List;
 use std::alloc::{AllocError, Global};
 
-/// The codes over these columns alone.
+/// The codes over these columns alone, and which of them have each column.
 pub(crate) fn chosen(alloc: Global, codes: &Codes, columns: &[u32]) -> Result<Codes, AllocError>
     ensures { IfOk result (AreChosen columns.now codes.now.rows) }
 {
@@ -18,6 +18,7 @@ pub(crate) fn chosen(alloc: Global, codes: &Codes, columns: &[u32]) -> Result<Co
     for place in 0..codes.len() {
         chosen.push(alloc, over(alloc, codes.row(place), columns, &places)?)?;
     }
+    chosen.list_holders(alloc);
     Ok(chosen)
 }
 

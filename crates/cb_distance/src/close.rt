@@ -15,7 +15,7 @@ use crate::chosen::chosen;
 use crate::needs::Needs;
 use cb_codes::Codes;
 use cb_coding::Pair;
-use cb_model::{List, Wish};
+use cb_model::Wish;
 use std::alloc::{AllocError, Global};
 
 /// The first pair closer than wanted, by the first position and then the second; none where every two codes are as far
@@ -127,7 +127,7 @@ fn first_after(codes: &Codes, first: usize, needs: &Needs) -> usize
 }
 
 /// The codes that have a column, if such lists of `columns` columns together are no longer than the list of all codes.
-pub(crate) fn few_holders(codes: &Codes, column: usize, columns: usize) -> Option<&List<u32>>
+pub(crate) fn few_holders(codes: &Codes, column: usize, columns: usize) -> Option<&[u32]>
     requires { 0 < columns }
     ensures { IfSome result (λ places. places.now ≡ holders_of codes.now.rows column) }
 {
@@ -148,7 +148,7 @@ fn close_among(
     codes: &Codes,
     first: usize,
     needs: &Needs,
-    places: &List<u32>,
+    places: &[u32],
     mut end: usize,
 ) -> usize
     requires needs { AreNeedsFor codes.now needs.now }
@@ -159,7 +159,7 @@ fn close_among(
     ensures before { result ≤ end }
     ensures far { (j : ℕ) → Contains places.now j → first < j → j < result → need_by needs.now first j ≤ far codes.now first j }
 {
-    for place in places.as_slice() {
+    for place in places {
         end = nearer_end(codes, first, needs, *place as usize, end);
     }
     end

@@ -62,14 +62,14 @@ fn nearest_of_all(codes: &Codes, cap: u32, place: usize, mut best: u32) -> u32
 }
 
 // How near the nearest of these codes is, where that is less than what was found before.
-fn closest_among(codes: &Codes, place: usize, places: &List<u32>, mut best: u32) -> u32
+fn closest_among(codes: &Codes, place: usize, places: &[u32], mut best: u32) -> u32
     requires place { place < length codes.now.rows }
     requires places { All (λ other. other < length codes.now.rows) places.now }
     ensures low { result ≤ best }
     ensures far { (j : ℕ) → Contains places.now j → j ≢ place → result ≤ far codes.now place j }
     ensures reached { StaysCapOrNeed codes.now place best result }
 {
-    for other in places.as_slice() {
+    for other in places {
         best = closer(codes, place, *other as usize, best);
     }
     best

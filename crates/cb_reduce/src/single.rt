@@ -13,7 +13,6 @@ ghost use Rattle.cb_reduce.specs.Alone.{SomeAlone, NoneAlone, NoneAloneWith};
 use cb_bits::Row;
 use cb_codes::Codes;
 use cb_compact::CompactRow;
-use cb_model::List;
 use std::alloc::{AllocError, Global};
 
 // So many looks are made for each code.
@@ -81,7 +80,7 @@ fn is_needed(codes: &Codes, rest: &Row, column: usize) -> Option<bool>
 }
 
 // Whether one of these codes, which have a column, agrees over the columns of a mask with one that lacks it.
-fn some_told_alone(codes: &Codes, rest: &Row, column: usize, places: &List<u32>) -> Option<bool>
+fn some_told_alone(codes: &Codes, rest: &Row, column: usize, places: &[u32]) -> Option<bool>
     requires have_width { HaveWidth (length rest.now) codes.now.rows }
     requires zero { StartsWithZero codes.now.rows }
     requires within { All (λ i. i < length codes.now.rows) places.now }
@@ -89,7 +88,7 @@ fn some_told_alone(codes: &Codes, rest: &Row, column: usize, places: &List<u32>)
     ensures some { IfSome result (λ told. IsTrue told → SomeAlone codes.now.rows (kept_of rest.now) column) }
     ensures none { IfSome result (λ told. told ≡ false → (i : ℕ) → Contains places.now i → NoneAloneWith codes.now.rows (kept_of rest.now) column i) }
 {
-    for place in places.as_slice() {
+    for place in places {
         if is_told_alone(codes, rest, column, *place as usize)? {
             return Some(true);
         }
@@ -155,7 +154,7 @@ fn agrees_with_some(
     rest: &Row,
     column: usize,
     place: usize,
-    others: &List<u32>,
+    others: &[u32],
 ) -> bool
     requires have_width { HaveWidth (length rest.now) codes.now.rows }
     requires within { place < length codes.now.rows }
@@ -165,7 +164,7 @@ fn agrees_with_some(
     ensures none { result ≡ false → (i : ℕ) → Contains others.now i → bit (code_at codes.now.rows i) column ≡ false
         → 0 < apart (kept_of rest.now) codes.now.rows place i }
 {
-    for other in others.as_slice() {
+    for other in others {
         if agrees_without(codes, rest, column, place, *other as usize) {
             return true;
         }

@@ -79,7 +79,7 @@ fn three_groups(alloc: Global) -> Result<Groups, AllocError> {
         let code = code_of(alloc, 3, code)?;
         grouping.add(alloc, Problem { name, code })?;
     }
-    Ok(grouping.into_groups())
+    Ok(grouping.into_groups(alloc))
 }
 
 #[test]
@@ -125,6 +125,7 @@ fn four_codes(alloc: Global) -> Result<Codes, AllocError> {
     for text in ["00000", "11100", "00111", "11011"] {
         codes.push(alloc, code_of(alloc, 5, text)?)?;
     }
+    codes.list_holders(alloc);
     Ok(codes)
 }
 

@@ -140,6 +140,7 @@ pub(crate) fn drawn(
             codes.push(alloc, code)?;
         }
     }
+    codes.list_holders(alloc);
     Ok(codes)
 }
 
@@ -179,6 +180,7 @@ pub(crate) fn codes_of(alloc: Global, width: usize, texts: &[&str]) -> Result<Co
             codes.push(alloc, code)?;
         }
     }
+    codes.list_holders(alloc);
     Ok(codes)
 }
 

@@ -7,6 +7,6 @@ abbrev pub invariant-loop-place : goal.invariant-loop-place
 invariant-loop-place l = record {
   is : IsCloseOrEnd l.codes l.first (need_by l.needs) l.end;
   before : l.end ≤ l.fn.end;
-  looks : (k d : ℕ) → k < l.place-index → l.first < get_or l.place-items k d → get_or l.place-items k d < l.end
-      → need_by l.needs l.first (get_or l.place-items k d) ≤ far l.codes l.first (get_or l.place-items k d);
+  looks : (k d : ℕ) → k < l.place-index → l.first < get_or l.places k d → get_or l.places k d < l.end
+      → need_by l.needs l.first (get_or l.places k d) ≤ far l.codes l.first (get_or l.places k d);
 }
