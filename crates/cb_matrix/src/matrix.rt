@@ -62,7 +62,7 @@ impl Matrix {
         ensures few_groups { IfOk result (λ matrix. length matrix.groups ≤ problem_limit + 1) }
     {
         let GroupedProblems { columns, grouping } = GroupedProblems::of(alloc, cache, index)?;
-        Ok(matrix_of(columns, grouping))
+        Ok(matrix_of(alloc, columns, grouping))
     }
 
     /// The columns, in order.
@@ -126,7 +126,7 @@ impl Matrix {
 }
 
 // The matrix of these columns, with the problems in their groups.
-fn matrix_of(columns: List<NodeName>, grouping: Grouping) -> Matrix
+fn matrix_of(alloc: Global, columns: List<NodeName>, grouping: Grouping) -> Matrix
     requires sound { FitsTogether (length columns) grouping }
     requires places { HaveCodePlaces grouping }
     ensures columns { result.columns ≡ columns }
@@ -137,6 +137,6 @@ fn matrix_of(columns: List<NodeName>, grouping: Grouping) -> Matrix
         columns,
         problems: grouping.problems,
         places: grouping.places,
-        groups: Groups::of(grouping.codes.into_codes(), List::of(grouping.named)),
+        groups: Groups::of(grouping.codes.into_codes(alloc), List::of(grouping.named)),
     }
 }
