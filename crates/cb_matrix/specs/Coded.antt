@@ -10,7 +10,7 @@ use Rattle.cb_topo.specs.Numbered.{Numbered, IsNodeNamed}
 use Rattle.cb_graph.specs.Edges.{EdgeAt, number}
 use Rattle.cb_cache.specs.Numbers.{IsProblemNumber}
 use Rattle.cb_codes.specs.declared.grouping.Grouping.{Grouping}
-use Rattle.cb_matrix.specs.declared.last.LastCode.{LastCode}
+use Rattle.cb_matrix.specs.declared.coder.Coder.{Coder}
 use Rattle.cb_codes.specs.Grouped.{FitsTogether, HoldsProblems, groups_in}
 
 -- for each column, whether edges lead to it from the node of this number
@@ -23,8 +23,10 @@ abbrev pub IsCodeOfLast : Numbered → List NodeId → Option NodeId → List Bo
 IsCodeOfLast n columns None code = code ≡ replicate (length columns) false
 IsCodeOfLast n columns (Some id) code = IsProblemNumber n id × IsCodeFrom n columns id code
 
-abbrev pub IsLastCode : Numbered → List NodeId → LastCode → Type 0
-IsLastCode n columns last = IsCodeOfLast n columns last.problem last.code
+-- the buffers are right for codes over these columns, of rows with as many words
+pub record IsCoder (n : Numbered) (columns : List NodeId) (width : ℕ) (coder : Coder) : Type 0 where
+  pub none : coder.none.items ≡ replicate width 0
+  pub code : IsCodeOfLast n columns coder.last coder.code
 
 -- the problem of this number, with its name and its code over the columns
 pub record IsProblemAt (n : Numbered) (columns : List NodeId) (id : NodeId) (problem : Problem) : Type 0 where

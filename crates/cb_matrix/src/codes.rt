@@ -21,48 +21,6 @@ pub(crate) fn pass_code(columns: &ColumnIndex, last: &[u64], row: &[u64], code: 
     take_columns(columns, last, row, code);
 }
 
-/// Whether the row has fewer nodes than that, but for those of its last words, fewer than four. They are counted no further.
-pub(crate) fn has_fewer(reached: &[u64], limit: usize) -> bool {
-    let mut count: usize = 0;
-    for four in 0..reached.len() / 4 {
-        count = count.saturating_add(ones_of_four(reached, 4 * four));
-        if limit <= count {
-            return false;
-        }
-    }
-    true
-}
-
-// How many nodes four words have, from a position on. Most have none.
-fn ones_of_four(words: &[u64], at: usize) -> usize
-    requires { at + 4 ≤ length words.now }
-{
-    if words[at] | words[at + 1] | words[at + 2] | words[at + 3] == 0 {
-        return 0;
-    }
-    let mut count: usize = 0;
-    for place in at..at + 4 {
-        count = count.saturating_add(words[place].count_ones() as usize);
-    }
-    count
-}
-
-/// The code of a row, by the nodes that the row has. `none` has zeros alone.
-pub(crate) fn code_by_nodes(
-    alloc: Global,
-    columns: &ColumnIndex,
-    reached: &[u64],
-    none: &[u64],
-) -> Result<Row, AllocError>
-    requires few { length reached.now ≤ word_limit }
-    requires none { none.now ≡ replicate (length reached.now) 0 }
-    ensures { IfOk result (IsCodeOf columns.now (bits reached.now)) }
-{
-    let mut code = Row::zeroed(alloc, columns.len())?;
-    add_columns(columns, reached, none, &mut code);
-    Ok(code)
-}
-
 // Adds to the code of the last row the columns that a row has and the last one lacks.
 fn add_columns(columns: &ColumnIndex, row: &[u64], last: &[u64], code: &mut Row)
     requires few { length row.now ≤ word_limit }

@@ -2,8 +2,8 @@
 #![tactic(auto)]
 
 mod coded;
+mod coder;
 mod codes;
-mod last;
 mod listed;
 mod matrix;
 mod names;

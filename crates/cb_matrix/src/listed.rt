@@ -4,17 +4,17 @@ ghost use Rattle.cb_lanes.specs.Words.{word_limit};
 ghost use Rattle.cb_matrix.specs.Codes.{AreColumnsOf, bits};
 
 use crate::codes::next_left;
+use cb_compact::CompactRow;
 use cb_nodes::NodeId;
 use cb_topo::ColumnIndex;
 use std::alloc::AllocError;
 
-/// Makes the list that of the positions of the columns that a row has, in order. Where these are more than `most` it says so, and the list is
-/// unfinished. `none` has zeros alone.
+/// Makes the list that of the positions of the columns that a row has, in order. It is false if these are too many to be stored so; the list is
+/// unfinished then. `none` has zeros alone.
 pub(crate) fn list_columns(
     columns: &ColumnIndex,
     row: &[u64],
     none: &[u64],
-    most: usize,
     list: &mut Vec<u32>,
 ) -> Result<bool, AllocError>
     requires few { length row.now ≤ word_limit }
@@ -25,10 +25,10 @@ pub(crate) fn list_columns(
     let mut from = 0;
     while let Some(node) = next_left(row, none, from) {
         if let Some(place) = columns.position(NodeId(node as u32)) {
-            if most <= list.len() {
+            list.push(place)?;
+            if !CompactRow::is_sparse(columns.len(), list.len()) {
                 return Ok(false);
             }
-            list.push(place)?;
         }
         from = node + 1;
     }
