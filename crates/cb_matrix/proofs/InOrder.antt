@@ -1,10 +1,13 @@
 -- The columns of a set of nodes, listed node by node and then put in order.
-use Rattle.std.proofs.Common.{◌≡◌, ◌↔◌, ℕ, ◌+◌, ◌<◌, List, [], ◌∷◌, ◌++◌, Bool, length, None, Some, slice_get, get_or, refl, sym, ap, subst, ◌∙◌, ◌⊎◌, inl, inr, eqb, arith}
-use Rattle.std.specs.List.{All, Contains, dedup}
+use Rattle.std.proofs.Common.{◌≡◌, ◌==◌, ◌↔◌, ℕ, ◌+◌, ◌<◌, List, [], ◌∷◌, ◌++◌, Bool, false, length, None, Some, slice_get, slice_index_or, get_or, refl, sym, ap, subst, ◌∙◌, ◌⊎◌, inl, inr, eqb, arith}
+use Rattle.std.specs.List.{All, Contains, dedup, list_any}
 use Rattle.std.specs.List.Sorted.{IsPermutation, IsSorted}
 use Rattle.std.specs.Ordering.{nat_cmp}
-use Rattle.std.proofs.lemmas.Bool.{cases_lt}
+use Rattle.std.proofs.lemmas.Bool.{cases_lt, eqb-true, eq-eqb}
+use Rattle.std.proofs.lemmas.List.FromFn.{length-map-range_with_len, get_or-map-range_with_len}
+use Rattle.std.proofs.lemmas.Map.Views.{Contains-from_any}
 use Rattle.std.proofs.lemmas.List.Elements.{All-push, Contains-append_left, Contains-push, Contains-push_cases, Contains-get_or}
+use Rattle.std.proofs.lemmas.List.Folds.{list_any_at}
 use Rattle.std.proofs.lemmas.List.Kept.{Contains-dedup_nat, Contains-from_dedup, AllPairs-from_increasing}
 use Rattle.std.proofs.lemmas.List.Sorted.{Contains-permutation, IsPermutation-sym}
 use Rattle.std.proofs.lemmas.Map.Keys.{IsStrictlyIncreasing-dedup}
@@ -14,7 +17,8 @@ use Rattle.cb_bits.specs.Bits.{difference, HasNoneFrom}
 use Rattle.cb_successors.specs.Rows.{Has}
 use Rattle.cb_topo.specs.Columns.{IsPositionOf}
 use Rattle.cb_graph.specs.Edges.{number}
-use Rattle.cb_matrix.specs.Codes.{AreColumnsOf}
+use Rattle.cb_compact.specs.Compact.{with_ones}
+use Rattle.cb_matrix.specs.Codes.{AreColumnsOf, IsCodeOf}
 use Rattle.cb_matrix.proofs.Passed.{Agrees, AddedTo, is_there, joins, passes, then_other}
 use Rattle.cb_bits.proofs.NextOnes.{without_at}
 
@@ -68,4 +72,22 @@ all_listed columns row last size none to end items sorted listed moved ordered =
           | inr on ↦ inl (then_other _ _ (sym (without_at row last size m) ∙ end m on) has)
         ]))),
       );
+    }
+
+-- the row that has its ones at these positions is the code
+pub listed_code : (columns : List NodeId) (reached : List Bool) (positions : List ℕ) → AreColumnsOf columns reached positions
+    → IsCodeOf columns reached (with_ones positions (length columns))
+listed_code columns reached positions are =
+    let n = length columns in
+    let value : ℕ → Bool = λ k. list_any (λ place. k == place) positions in
+    record {
+      width = length-map-range_with_len value 0 n;
+      each = λ k m there.
+          let low : k < n = slice_get_within columns k (number m) there in
+          let at : slice_index_or (with_ones positions n) k false ≡ value k = get_or-map-range_with_len value 0 n k k false (omega arith) (omega arith) in (
+            λ has. (are.each k m there).0 (Contains-from_any (λ x y same. eqb-true x y same) k positions (sym at ∙ has)),
+            λ has.
+                let among = (are.each k m there).1 has in
+                at ∙ list_any_at (λ place. k == place) positions among.0 k among.1 (eq-eqb k (get_or positions among.0 k) (sym among.2)),
+          );
     }
