@@ -3,7 +3,6 @@ ghost use Rattle.std.specs.Prelude.{◌≡◌, ◌≤◌, ◌+◌, ℕ, [], IfOk
 ghost use Rattle.cb_change.specs.Costs.{IsOpenCost};
 ghost use Rattle.cb_log.specs.Basis.{wanted as for_wanted};
 ghost use Rattle.cb_network.specs.Regular.{IsRegular};
-ghost use Rattle.cb_outcome.specs.Command.{IsWishWithin};
 ghost use Rattle.cb_outcome.specs.Commands.Correlate.{correlate as command};
 ghost use Rattle.cb_session.specs.State.{StandsForEntries};
 ghost use Rattle.cb_topo.specs.Numbered.{topology_of};
@@ -62,7 +61,6 @@ pub fn open_session<L: Ledger>(
     asked: Correlation,
     steps: &mut Steps<L>,
 ) -> Result<Session, AllocError>
-    requires wish { IsWishWithin 1 9999 asked.wish }
     requires window { 1 ≤ asked.window }
     ensures mode { IfOk result (λ session. session.mode ≡ for_wanted asked.wish) }
     ensures length { IfOk result (λ session. session.windows.length ≡ asked.window) }
@@ -78,7 +76,6 @@ pub fn open_session<L: Ledger>(
 
 // A session at the beginning of a log, over the topology of a cache.
 fn session_for(alloc: Global, cache: Cache, asked: Correlation) -> Result<Session, AllocError>
-    requires wish { IsWishWithin 1 9999 asked.wish }
     requires window { 1 ≤ asked.window }
     ensures mode { IfOk result (λ session. session.mode ≡ for_wanted asked.wish) }
     ensures length { IfOk result (λ session. session.windows.length ≡ asked.window) }

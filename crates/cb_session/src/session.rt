@@ -2,7 +2,6 @@
 ghost use Rattle.std.specs.Prelude.{◌≡◌, ◌<◌, ◌≤◌, ◌++◌, ◌^◌, ℕ, List as Items, [], ◌∷◌, length as length_of, IfOk, IsOk, OnOk, OnErr};
 ghost use Rattle.std.specs.List.{All};
 ghost use Rattle.cb_alarm.specs.Lines.{NumberedLine, ComesTo};
-ghost use Rattle.cb_cert.specs.Format.{IsWanted};
 ghost use Rattle.cb_coding.specs.Groups.{codes_of};
 ghost use Rattle.cb_coding.specs.Radii.{AreRadii};
 ghost use Rattle.cb_coding.specs.declared.group.Group.{Group};
@@ -85,7 +84,6 @@ impl Session {
         wanted: u32,
         length: u64,
     ) -> Result<Session, AllocError>
-        requires wanted { IsWanted wanted }
         requires length { 1 ≤ length }
         ensures mode { IfOk result (λ s. s.mode ≡ for_wanted (Plain wanted)) }
         ensures length { IfOk result (λ s. s.windows.length ≡ length) }
@@ -103,7 +101,6 @@ impl Session {
         cap: u32,
         length: u64,
     ) -> Result<Session, AllocError>
-        requires cap { IsWanted cap }
         requires length { 1 ≤ length }
         ensures mode { IfOk result (λ s. s.mode ≡ for_wanted (Cap cap)) }
         ensures length { IfOk result (λ s. s.windows.length ≡ length) }
