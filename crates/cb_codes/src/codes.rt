@@ -4,7 +4,6 @@ ghost use Rattle.cb_coding.specs.Distance.{HaveWidth, all_columns, apart};
 ghost use Rattle.cb_codes.specs.Holders.{holders_of};
 
 use crate::holders::Holders;
-use cb_bits::Row;
 use cb_compact::CompactRow;
 use std::alloc::{AllocError, Global};
 use std::marker::Model;
@@ -44,13 +43,13 @@ impl Codes {
     }
 
     /// Adds a code after the others. Where memory runs out it is dropped.
-    pub fn push(&mut self, alloc: Global, row: Row) -> Result<(), AllocError>
-        requires { length row ≡ self.old.width }
+    pub fn push(&mut self, code: CompactRow) -> Result<(), AllocError>
+        requires { length code ≡ self.old.width }
         ensures width { self.new.width ≡ self.old.width }
-        ensures pushed { OnOk result (self.new.rows ≡ self.old.rows ++ row ∷ []) }
+        ensures pushed { OnOk result (self.new.rows ≡ self.old.rows ++ code ∷ []) }
         ensures err { OnErr result (self.new ≡ self.old) }
     {
-        self.rows.push(CompactRow::of(alloc, &row)?)?;
+        self.rows.push(code)?;
         self.holders.clear();
         Ok(())
     }
