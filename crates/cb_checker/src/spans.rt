@@ -13,7 +13,7 @@ use crate::marks::SpanNodes;
 use crate::span::check_span;
 use cb_cert::Span;
 use cb_codes::{Grouping, Groups};
-use cb_coding::Problem;
+use cb_compact::CompactRow;
 use cb_graph::Graph;
 use cb_model::List;
 use cb_nodes::NodeId;
@@ -92,7 +92,8 @@ fn add_problem(
 {
     let name = topology.copy_name(alloc, node)?;
     let code = code_of(alloc, columns, marks)?;
-    grouping.add(alloc, Problem { name, code })
+    let compact = CompactRow::of(alloc, &code)?;
+    grouping.add(alloc, name, compact)
 }
 
 /// Checks that there are as many spans as problems.

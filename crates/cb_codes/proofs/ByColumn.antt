@@ -13,7 +13,7 @@ use Rattle.cb_coding.specs.Distance.{bit, code_at, all_columns}
 use Rattle.cb_coding.proofs.Distances.{all_columns_more}
 use Rattle.cb_codes.specs.declared.holders.Holders.{Holders}
 use Rattle.cb_codes.specs.Holders.{first_holders, holders_of, holders_start, IsHolderList, HaveEntries, AreHolders, AreHoldersOrNone, AreCounted, AreStarts, AreHolderLists}
-use Rattle.cb_codes.proofs.Passing.{passing, passing_grow, one_more_passes, one_more_fails}
+use Rattle.cb_codes.proofs.Passing.{passing_grow, one_more_passes, one_more_fails}
 
 -- what a code has is below its width
 pub had_within : (code : List Bool) (column : ℕ) → bit code column ≡ true → column < length code
@@ -341,8 +341,8 @@ module _ (codes : List (List Bool)) (width : ℕ) (holders : Holders) (are : Are
       let dropped = length-drop (get_or starts column 0) places in
       let long : length (take n (drop (get_or starts column 0) places)) ≡ n = length-take-le n (drop (get_or starts column 0) places) (omega arith) in
       same_number_lists (take n (drop (get_or starts column 0) places)) (holders_of codes column) (long ∙ size) (λ k lt.
-          get_or-take n (drop (get_or starts column 0) places) k 0 (omega arith) ∙ get_or-drop (get_or starts column 0) places k 0
-          ∙ ap (λ j. get_or places (j + k) 0) (are.starts column (omega arith)) ∙ are.each column low k (omega arith))
+      get_or-take n (drop (get_or starts column 0) places) k 0 (omega arith) ∙ get_or-drop (get_or starts column 0) places k 0
+      ∙ ap (λ j. get_or places (j + k) 0) (are.starts column (omega arith)) ∙ are.each column low k (omega arith))
 
 -- the code that was read, and the entries that it has
 module _ (codes : List (List Bool)) (code : List Bool) (n : ℕ) (within : n < length codes) (is : code ≡ get_or codes n code) where

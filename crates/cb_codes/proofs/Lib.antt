@@ -5,4 +5,5 @@ pub mod Grouped
 pub mod Added
 pub mod Passing
 pub mod ByColumn
+pub mod Stored
 pub mod OneKey

@@ -14,7 +14,7 @@ use Rattle.cb_coding.proofs.Distances.{in_all_columns}
 use Rattle.cb_coding.proofs.BookLaws.{kept_by_filter, was_in_filtered}
 use Rattle.cb_codes.specs.Keys.{IsKey, columns_of, code_weight}
 use Rattle.cb_codes.proofs.ByColumn.{had_within}
-use Rattle.cb_codes.proofs.Passing.{passing, one_more_passes, none_further, passing_grow}
+use Rattle.cb_codes.proofs.Passing.{passing, one_more_passes, none_further}
 
 module _ (code : List Bool) where
   -- the next column comes after those before it
@@ -41,14 +41,6 @@ module _ (code : List Bool) where
   as_many =
       let digit : Bool → ℕ = λ b. cond b 1 0 in
       length-filter (bit code) (all_columns (length code)) ∙ sym (ap (count_by (λ value. value)) by_columns ∙ sum_by-map digit (bit code) (all_columns (length code)))
-
-  -- and no fewer than those before a place
-  pub no_fewer : (columns : List ℕ) (from : ℕ) → columns ≡ passing (bit code) from → from ≤ length code → length columns ≤ code_weight code
-  no_fewer columns from are within =
-      let some = ap length are in
-      let further = passing_grow (bit code) from (length code - from) (length code) (omega arith) in
-      let all = as_many in
-      omega arith
 
   -- as many words as it needs
   pub word_count : (words : List ℕ) → Packs code words → length words ≡ words_for (length code)

@@ -13,6 +13,10 @@ use Rattle.cb_codes.specs.EachOnce.{AreKeysOf}
 abbrev pub group : List Bool → List NodeName → Group
 group code members = record { code = code; members = members }
 
+-- the problem of this name and code
+abbrev pub problem_of : NodeName → List Bool → Problem
+problem_of name code = record { name = name; code = code }
+
 -- the problem joins the group at a position, which has its code
 pub record Joins (p : Problem) (old new : List Group) : Type 0 where
   pub place : ℕ

@@ -1,6 +1,5 @@
 -- What a code is found by.
-use Rattle.std.specs.Prelude.{◌≡◌, ℕ, ◌<◌, ◌≤◌, List, Option, None, Some, length, count_by, Bool}
-use Rattle.std.specs.Global.{Vec}
+use Rattle.std.specs.Prelude.{◌≡◌, ℕ, ◌<◌, ◌≤◌, List, length, count_by, Bool}
 use Rattle.std.specs.List.{filter}
 use Rattle.cb_bits.specs.Bits.{Packs, words_for}
 use Rattle.cb_coding.specs.Distance.{bit, all_columns}
@@ -17,8 +16,3 @@ code_weight code = count_by (λ value. value) code
 pub record IsKey (code : List Bool) (key : List ℕ) : Type 0 where
   pub sparse : code_weight code < words_for (length code) → key ≡ columns_of code
   pub dense : words_for (length code) ≤ code_weight code → Packs code key
-
--- the columns of a code, where these are fewer than the limit, and else nothing
-abbrev pub AreColumnsBelow : List Bool → ℕ → Option (Vec ℕ) → Type 0
-AreColumnsBelow code limit None = limit ≤ code_weight code
-AreColumnsBelow code limit (Some columns) = (code_weight code < limit) × (columns.items ≡ columns_of code)

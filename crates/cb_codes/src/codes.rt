@@ -5,7 +5,6 @@ ghost use Rattle.cb_codes.specs.Codes.{AreDifferent};
 ghost use Rattle.cb_codes.specs.Holders.{holders_of};
 
 use crate::holders::Holders;
-use cb_bits::Row;
 use cb_compact::CompactRow;
 use std::alloc::{AllocError, Global};
 use std::marker::Model;
@@ -49,28 +48,28 @@ impl Codes {
     }
 
     /// Adds a code after the others. Where memory runs out it is dropped.
-    pub fn push(&mut self, alloc: Global, row: Row) -> Result<(), AllocError>
-        requires { length row ≡ self.old.width }
+    pub fn push(&mut self, code: CompactRow) -> Result<(), AllocError>
+        requires { length code ≡ self.old.width }
         ensures width { self.new.width ≡ self.old.width }
-        ensures pushed { OnOk result (self.new.rows ≡ self.old.rows ++ row ∷ []) }
+        ensures pushed { OnOk result (self.new.rows ≡ self.old.rows ++ code ∷ []) }
         ensures err { OnErr result (self.new ≡ self.old) }
     {
-        self.rows.push(CompactRow::of(alloc, &row)?)?;
+        self.rows.push(code)?;
         self.holders.clear();
         self.differ = false;
         Ok(())
     }
 
     /// As `push`, of a code that isn't there yet: where no code was there twice, none is afterwards, and this is known.
-    pub fn push_new(&mut self, alloc: Global, row: Row) -> Result<(), AllocError>
-        requires width { length row ≡ self.old.width }
-        requires new { (i : ℕ) → ¬ (slice_get self.old.rows i ≡ Some row) }
+    pub fn push_new(&mut self, code: CompactRow) -> Result<(), AllocError>
+        requires width { length code ≡ self.old.width }
+        requires new { (i : ℕ) → ¬ (slice_get self.old.rows i ≡ Some code) }
         ensures width { self.new.width ≡ self.old.width }
-        ensures pushed { OnOk result (self.new.rows ≡ self.old.rows ++ row ∷ []) }
+        ensures pushed { OnOk result (self.new.rows ≡ self.old.rows ++ code ∷ []) }
         ensures err { OnErr result (self.new ≡ self.old) }
     {
         let differ = self.differ;
-        self.push(alloc, row)?;
+        self.push(code)?;
         self.differ = differ;
         Ok(())
     }

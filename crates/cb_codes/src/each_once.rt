@@ -4,7 +4,7 @@ ghost use Rattle.cb_codes.specs.EachOnce.{AreKeysOf, FindsPlace};
 
 use crate::codes::Codes;
 use crate::keys::key_of;
-use cb_bits::Row;
+use cb_compact::CompactRow;
 use indexmap::IndexSet;
 use std::alloc::{AllocError, Global};
 
@@ -29,7 +29,7 @@ impl EachOnce {
     }
 
     /// The position of a code, which goes after the others where it isn't among them.
-    pub fn place_of(&mut self, alloc: Global, code: Row) -> Result<usize, AllocError>
+    pub fn place_of(&mut self, alloc: Global, code: CompactRow) -> Result<usize, AllocError>
         requires keys { AreKeysOf self.old.codes.rows self.old.keys.keys }
         requires width { length code ≡ self.old.codes.width }
         ensures keys { OnOk result (AreKeysOf self.new.codes.rows self.new.keys.keys) }
@@ -41,7 +41,7 @@ impl EachOnce {
         let key = key_of(alloc, &code)?;
         let (place, is_new) = self.keys.insert_full(key)?;
         if is_new {
-            self.codes.push_new(alloc, code)?;
+            self.codes.push_new(code)?;
         }
         Ok(place)
     }

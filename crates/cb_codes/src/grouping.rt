@@ -3,12 +3,12 @@ ghost use Rattle.std.specs.Prelude.{◌≡◌, ◌≤◌, List as Items, [], ◌
 ghost use Rattle.cb_coding.specs.Groups.{zeros as no_symptom};
 ghost use Rattle.cb_coding.specs.declared.group.Problem.{Problem as Problem_};
 ghost use Rattle.cb_codes.specs.Groups.{Fit};
-ghost use Rattle.cb_codes.specs.Grouped.{group, AddsProblem, FitsTogether, HoldsProblems, TakesMember, groups_in};
+ghost use Rattle.cb_codes.specs.Grouped.{group, problem_of, AddsProblem, FitsTogether, HoldsProblems, TakesMember, groups_in};
 
 use crate::each_once::EachOnce;
 use crate::groups::Groups;
 use cb_bits::Row;
-use cb_coding::Problem;
+use cb_compact::CompactRow;
 use cb_model::{List, NamedGroup, NodeName};
 use std::alloc::{AllocError, Global};
 
@@ -29,7 +29,8 @@ impl Grouping {
         ensures none { IfOk result (HoldsProblems []) }
     {
         let mut codes = EachOnce::new(alloc, width);
-        codes.place_of(alloc, Row::zeroed(alloc, width)?)?;
+        let quiet = CompactRow::of(alloc, &Row::zeroed(alloc, width)?)?;
+        codes.place_of(alloc, quiet)?;
         let mut named = Vec::new(alloc);
         named.push(NamedGroup {
             quiet: true,
@@ -44,13 +45,12 @@ impl Grouping {
     }
 
     /// Adds a problem to the group of its code, which is opened where there is none.
-    pub fn add(&mut self, alloc: Global, problem: Problem) -> Result<(), AllocError>
-        requires sound { FitsTogether (length problem.code) self.old }
-        ensures sound { OnOk result (FitsTogether (length problem.code) self.new) }
-        ensures added { OnOk result (AddsProblem problem (groups_in self.old) (groups_in self.new)) }
-        ensures holds { OnOk result ((before : Items Problem_) → HoldsProblems before self.old → HoldsProblems (before ++ problem ∷ []) self.new) }
+    pub fn add(&mut self, alloc: Global, name: NodeName, code: CompactRow) -> Result<(), AllocError>
+        requires sound { FitsTogether (length code) self.old }
+        ensures sound { OnOk result (FitsTogether (length code) self.new) }
+        ensures added { OnOk result (AddsProblem (problem_of name code) (groups_in self.old) (groups_in self.new)) }
+        ensures holds { OnOk result ((before : Items Problem_) → HoldsProblems before self.old → HoldsProblems (before ++ problem_of name code ∷ []) self.new) }
     {
-        let Problem { name, code } = problem;
         let member = name.copy(alloc)?;
         let place = self.codes.place_of(alloc, code)?;
         take_member(alloc, &mut self.named, place, member)?;

@@ -105,6 +105,23 @@ fn count(codes: &[CompactRow], place: usize, counts: &mut [u32])
     ensures { AreCounted codes.now (place + 1) counts.new }
 {
     let code = &codes[place];
+    let Some(columns) = code.positions() else {
+        return count_found(codes, place, counts);
+    };
+    for column in columns {
+        counts[*column as usize + 1] += 1;
+    }
+}
+
+// As `count`, if the columns of the code aren't stored.
+fn count_found(codes: &[CompactRow], place: usize, counts: &mut [u32])
+    requires within { place < length codes.now }
+    requires entries { HaveEntries counts.old codes.now }
+    requires few { length codes.now < 2 ^ 32 }
+    requires counted { AreCounted codes.now place counts.old }
+    ensures { AreCounted codes.now (place + 1) counts.new }
+{
+    let code = &codes[place];
     // A length fits its type, and so does the position after a column.
     let _width = code.len();
     let mut from = 0;
@@ -143,6 +160,27 @@ fn list_all(codes: &[CompactRow], nexts: &mut [u32], places: &mut [u32])
 
 // Lists a code for the columns that it has.
 fn list(codes: &[CompactRow], place: usize, nexts: &mut [u32], places: &mut [u32])
+    requires within { place < length codes.now }
+    requires entries { HaveEntries nexts.old codes.now }
+    requires few { length codes.now < 2 ^ 32 }
+    requires short { length places.old < 2 ^ 32 }
+    requires before { AreHolderLists codes.now place nexts.old places.old }
+    ensures { AreHolderLists codes.now (place + 1) nexts.new places.new }
+{
+    let code = &codes[place];
+    let Some(columns) = code.positions() else {
+        return list_found(codes, place, nexts, places);
+    };
+    for column in columns {
+        let entry = *column as usize + 1;
+        let next = nexts[entry];
+        places[next as usize] = place as u32;
+        nexts[entry] = next + 1;
+    }
+}
+
+// As `list`, if the columns of the code aren't stored.
+fn list_found(codes: &[CompactRow], place: usize, nexts: &mut [u32], places: &mut [u32])
     requires within { place < length codes.now }
     requires entries { HaveEntries nexts.old codes.now }
     requires few { length codes.now < 2 ^ 32 }

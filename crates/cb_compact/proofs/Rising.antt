@@ -1,10 +1,10 @@
 -- Rising positions are those of the ones of the row that has its ones there.
-use Rattle.std.proofs.Common.{◌≡◌, ◌==◌, ℕ, zero, suc, ◌+◌, ◌<◌, ◌≤◌, List, take, Bool, false, length, slice_index_or, refl, sym, ap, ◌∙◌, inl, inr, arith}
+use Rattle.std.proofs.Common.{◌≡◌, ◌≢◌, ◌==◌, ◌||◌, ℕ, zero, suc, ◌+◌, ◌<◌, ◌≤◌, List, [], ◌∷◌, ◌++◌, take, replicate, set, get_or, Bool, true, false, length, slice_index_or, refl, sym, ap, ◌∙◌, inl, inr, arith}
 use Rattle.std.specs.List.{All, count_by, list_any, range_with_len}
-use Rattle.std.proofs.lemmas.Bool.{cases_lt, cases_eq, cases_Bool, eqb-true, eq-eqb}
-use Rattle.std.proofs.lemmas.List.{get_or_default, take_all}
+use Rattle.std.proofs.lemmas.Bool.{cases_lt, cases_eq, cases_Bool, eqb-true, eq-eqb, ne_eqb}
+use Rattle.std.proofs.lemmas.List.{same_lists, length-replicate, get_or-replicate, length-set, get_or-set_same, get_or-set_other, get_or_default, take_all}
 use Rattle.std.proofs.lemmas.List.Elements.{All-get_or}
-use Rattle.std.proofs.lemmas.List.Folds.{list_any_at}
+use Rattle.std.proofs.lemmas.List.Folds.{list_any_at, list_any-append}
 use Rattle.std.proofs.lemmas.List.FromFn.{length-map-range_with_len, get_or-map-range_with_len}
 use Rattle.std.proofs.lemmas.List.Sums.{length-filter}
 use Rattle.std.proofs.lemmas.Grind.{take_at_read}
@@ -13,6 +13,44 @@ use Rattle.cb_bits.specs.Bits.{IsNextOne}
 use Rattle.cb_compact.specs.Compact.{ones_of, with_ones, AreRising}
 use Rattle.cb_compact.proofs.Numbers.{ones_before, next_comes, none_comes}
 use Rattle.cb_compact.proofs.Ones.{one_within, by_places}
+
+-- as many values as are asked for
+pub as_long : (places : List ℕ) (n : ℕ) → length (with_ones places n) ≡ n
+as_long places n = length-map-range_with_len (λ k. list_any (λ place. k == place) places) 0 n
+
+-- no one, and one more
+pub no_ones : (n : ℕ) → with_ones [] n ≡ replicate n false
+no_ones n =
+    let long = length-map-range_with_len (λ k. false) 0 n in
+    let wide = length-replicate n false in
+    same_lists (with_ones [] n) (replicate n false) (long ∙ sym wide)
+    (λ k d lt. get_or-map-range_with_len (λ k. false) 0 n k k d (omega arith) (omega arith) ∙ sym (get_or-replicate n k false d (omega arith)))
+
+pub with_one_more : (places : List ℕ) (place n : ℕ) → place < n → set (with_ones places n) place true ≡ with_ones (places ++ place ∷ []) n
+with_one_more places place n within =
+    let before : ℕ → Bool = λ k. list_any (λ p. k == p) places in
+    let after : ℕ → Bool = λ k. list_any (λ p. k == p) (places ++ place ∷ []) in
+    let long = length-map-range_with_len before 0 n in
+    let size = length-set (with_ones places n) place true in
+    let longer = length-map-range_with_len after 0 n in
+    same_lists (set (with_ones places n) place true) (with_ones (places ++ place ∷ []) n) (size ∙ long ∙ sym longer) (λ k d lt.
+    let low : k < n = omega arith in
+    elim (cases_eq k place) [
+      | inl here ↦
+          ap (λ j. get_or (set (with_ones places n) place true) j d) here ∙ get_or-set_same (with_ones places n) place true d (omega arith)
+          ∙ sym (get_or-map-range_with_len after 0 n k k d low (omega arith) ∙ list_any-append (λ p. k == p) places (place ∷ []) ∙ last_any k place (before k) here)
+      | inr other ↦
+          get_or-set_other (with_ones places n) place k true d other ∙ get_or-map-range_with_len before 0 n k k d low (omega arith)
+          ∙ sym (get_or-map-range_with_len after 0 n k k d low (omega arith) ∙ list_any-append (λ p. k == p) places (place ∷ []) ∙ no_last_any k place (before k) other)
+    ])
+  where
+    last_any : (k place : ℕ) (b : Bool) → k ≡ place → (b || ((k == place) || false)) ≡ true
+    last_any k place true e = refl
+    last_any k place false e = rw (eq-eqb k place e) refl
+
+    no_last_any : (k place : ℕ) (b : Bool) → k ≢ place → (b || ((k == place) || false)) ≡ b
+    no_last_any k place true other = refl
+    no_last_any k place false other = rw (ne_eqb k place other) refl
 
 module _ (places : List ℕ) (n : ℕ) (rise : AreRising places) (within : All (λ k. k < n) places) where
   abbrev value : ℕ → Bool

@@ -1,12 +1,12 @@
 //! A row of truth values, by the positions of its ones where these are few.
-ghost use Rattle.std.specs.Prelude.{All, ◌≡◌, ◌+◌, ◌<◌, ◌≤◌, length, true, false, slice_index_or, count_by, SomeIff, IfSome, IfNone, IfOk};
+ghost use Rattle.std.specs.Prelude.{All, ◌≡◌, ◌+◌, ◌<◌, ◌≤◌, ◌^◌, IsTrue, length, true, false, slice_index_or, count_by, SomeIff, IfSome, IfNone, IfOk};
 ghost use Rattle.cb_bits.specs.Bits.{differing, IsNextOne, HasNoneFrom};
 ghost use Rattle.cb_compact.specs.Compact.{ones_of, with_ones, AreRising, AreBefore, KeepsRow, differs, differing_before, differing_under};
 
 use crate::apart::nth_apart;
 use crate::beside::{shared, shared_under};
 use crate::counted::{below, count_below, count_under, count_under_below, nth_place, words_under};
-use crate::places::{has_place, next_place, place_after, places_of};
+use crate::places::{has_place, next_place, place_after, places_of, row_at};
 use cb_bits::Row;
 use std::alloc::{AllocError, Global};
 use std::marker::Model;
@@ -70,6 +70,13 @@ impl CompactRow {
         }
     }
 
+    /// Whether a row of `len` values, of which `ones` are true, has so few true ones that `of` stores their positions.
+    pub fn is_sparse(len: usize, ones: usize) -> bool
+        ensures { IsTrue result → len ≤ 2 ^ 32 }
+    {
+        len <= MOST_PLACES && ones < len.div_ceil(64) / 2
+    }
+
     /// How many values there are.
     pub fn len(&self) -> usize
         ensures { result ≡ length self.now }
@@ -118,8 +125,8 @@ impl CompactRow {
         }
     }
 
-    /// The row, where it is kept.
-    pub(crate) fn whole(&self) -> Option<&Row>
+    /// The row, if all of it is stored.
+    pub fn whole(&self) -> Option<&Row>
         ensures { IfSome result (λ row. row.now ≡ self.now) }
     {
         match &self.kept {
@@ -129,12 +136,22 @@ impl CompactRow {
     }
 
     /// The positions of the true values, if these are stored.
-    pub(crate) fn places(&self) -> Option<&[u32]>
-        ensures { IfSome result (λ places. places.now ≡ ones_of self.now) }
+    pub fn positions(&self) -> Option<&[u32]>
+        ensures { IfSome result (λ positions. positions.now ≡ ones_of self.now) }
     {
         match &self.kept {
             Kept::Places(places) => Some(places.as_slice()),
             Kept::Whole(_) => None,
+        }
+    }
+
+    /// The row of all values.
+    pub fn to_row(&self, alloc: Global) -> Result<Row, AllocError>
+        ensures { IfOk result (λ row. row ≡ self.now) }
+    {
+        match &self.kept {
+            Kept::Places(places) => row_at(alloc, self.len, places.as_slice()),
+            Kept::Whole(row) => row.copy(alloc),
         }
     }
 
@@ -271,7 +288,7 @@ impl CompactRow {
 fn kept_of(alloc: Global, row: &Row, ones: usize) -> Result<Kept, AllocError>
     ensures { IfOk result (KeepsRow row.now) }
 {
-    if row.len() <= MOST_PLACES && ones < row.words().len() / 2 {
+    if CompactRow::is_sparse(row.len(), ones) {
         let places = places_of(alloc, row, ones)?;
         Ok(Kept::Places(places))
     } else {

@@ -64,8 +64,8 @@ impl<'a> Merged<'a> {
 pub(crate) fn merged_of<'a>(left: &'a CompactRow, right: &'a CompactRow) -> Option<Merged<'a>>
     ensures { IfSome result (IsMergedAt left.now right.now 0) }
 {
-    if let Some(one) = left.places() {
-        if let Some(other) = right.places() {
+    if let Some(one) = left.positions() {
+        if let Some(other) = right.positions() {
             return Some(Merged::of(one, other));
         }
     }

@@ -1,7 +1,7 @@
 //! The positions of the ones of a row, in order.
-ghost use Rattle.std.specs.Prelude.{◌≡◌, ◌<◌, ◌≤◌, ◌+◌, ◌^◌, List, Bool, ℕ, false, length, slice_index_or, IsTrue, IfOk, IfSome, IfNone};
+ghost use Rattle.std.specs.Prelude.{All, ◌≡◌, ◌<◌, ◌≤◌, ◌+◌, ◌^◌, List, Bool, ℕ, false, length, slice_index_or, IsTrue, IfOk, IfSome, IfNone};
 ghost use Rattle.cb_bits.specs.Bits.{IsNextOne, HasNoneFrom};
-ghost use Rattle.cb_compact.specs.Compact.{ones_of, AreRising, AreBefore};
+ghost use Rattle.cb_compact.specs.Compact.{ones_of, with_ones, AreRising, AreBefore};
 
 use cb_bits::Row;
 use std::alloc::{AllocError, Global};
@@ -20,6 +20,18 @@ pub(crate) fn places_of(alloc: Global, row: &Row, ones: usize) -> Result<Vec<u32
         from = place + 1;
     }
     Ok(places)
+}
+
+/// A row of `len` values that has its ones at these positions.
+pub(crate) fn row_at(alloc: Global, len: usize, places: &[u32]) -> Result<Row, AllocError>
+    requires { All (λ k. k < len) places.now }
+    ensures { IfOk result (λ row. row ≡ with_ones places.now len) }
+{
+    let mut row = Row::zeroed(alloc, len)?;
+    for place in places {
+        row.set(*place as usize);
+    }
+    Ok(row)
 }
 
 /// Whether a position is one of a row that has its ones at these.

@@ -16,7 +16,8 @@ pub(crate) fn chosen(alloc: Global, codes: &Codes, columns: &[u32]) -> Result<Co
     let places = places_of(alloc, columns, codes.width())?;
     let mut chosen = Codes::new(alloc, columns.len());
     for place in 0..codes.len() {
-        chosen.push(alloc, over(alloc, codes.row(place), columns, &places)?)?;
+        let code = over(alloc, codes.row(place), columns, &places)?;
+        chosen.push(CompactRow::of(alloc, &code)?)?;
     }
     chosen.list_holders(alloc);
     Ok(chosen)

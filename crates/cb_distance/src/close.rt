@@ -144,13 +144,7 @@ pub(crate) fn few_holders(codes: &Codes, column: usize, columns: usize) -> Optio
 }
 
 // The first code before the end that stands at one of these positions, after this one, and is closer to it than is asked; or the end.
-fn close_among(
-    codes: &Codes,
-    first: usize,
-    needs: &Needs,
-    places: &[u32],
-    mut end: usize,
-) -> usize
+fn close_among(codes: &Codes, first: usize, needs: &Needs, places: &[u32], mut end: usize) -> usize
     requires needs { AreNeedsFor codes.now needs.now }
     requires first { first < length codes.now.rows }
     requires places { All (λ place. place < length codes.now.rows) places.now }

@@ -149,13 +149,7 @@ fn holders_of(codes: &Codes, column: usize) -> usize {
 }
 
 // Whether one of these codes lacks a column and agrees over the columns of a mask with one.
-fn agrees_with_some(
-    codes: &Codes,
-    rest: &Row,
-    column: usize,
-    place: usize,
-    others: &[u32],
-) -> bool
+fn agrees_with_some(codes: &Codes, rest: &Row, column: usize, place: usize, others: &[u32]) -> bool
     requires have_width { HaveWidth (length rest.now) codes.now.rows }
     requires within { place < length codes.now.rows }
     requires has { bit (code_at codes.now.rows place) column ≡ true }

@@ -4,7 +4,7 @@ ghost use Rattle.cb_codes.specs.Grouped.{FitsTogether};
 
 use cb_bits::Row;
 use cb_codes::{Codes, Grouping};
-use cb_coding::Problem;
+use cb_compact::CompactRow;
 use cb_model::NodeName;
 use std::alloc::{AllocError, Global};
 use std::test::Fail;
@@ -12,10 +12,10 @@ use std::test::Fail;
 // Whether two codes of three columns stand where they were put, and are known by the columns that they have.
 fn rows_are_kept(alloc: Global) -> Result<bool, AllocError> {
     let mut codes = Codes::new(alloc, 3);
-    codes.push(alloc, Row::zeroed(alloc, 3)?)?;
+    codes.push(CompactRow::of(alloc, &Row::zeroed(alloc, 3)?)?)?;
     let mut row = Row::zeroed(alloc, 3)?;
     row.set(1);
-    codes.push(alloc, row)?;
+    codes.push(CompactRow::of(alloc, &row)?)?;
     let unlisted = codes.holders(1).is_none();
     codes.list_holders(alloc);
     Ok(
@@ -58,7 +58,7 @@ fn five_problems(alloc: Global) -> Result<Grouping, AllocError>
     ] {
         let name = NodeName::of(alloc, event, instance)?;
         let code = code_of(alloc, code)?;
-        grouping.add(alloc, Problem { name, code })?;
+        grouping.add(alloc, name, CompactRow::of(alloc, &code)?)?;
     }
     Ok(grouping)
 }

@@ -6,7 +6,7 @@ ghost use Rattle.cb_model.specs.declared.node.NodeName.{NodeName as NodeName_};
 
 use cb_bits::Row;
 use cb_codes::{Codes, Grouping, Groups};
-use cb_coding::{Book, Problem};
+use cb_coding::Book;
 use cb_compact::CompactRow;
 use cb_decode::{Answer, Decoder, find, nearest, nearest_by};
 use cb_model::{List, NodeName};
@@ -77,7 +77,7 @@ fn three_groups(alloc: Global) -> Result<Groups, AllocError> {
     for (event, instance, code) in PROBLEMS {
         let name = NodeName::of(alloc, event.as_bytes(), instance.as_bytes())?;
         let code = code_of(alloc, 3, code)?;
-        grouping.add(alloc, Problem { name, code })?;
+        grouping.add(alloc, name, CompactRow::of(alloc, &code)?)?;
     }
     Ok(grouping.into_groups(alloc))
 }
@@ -123,7 +123,7 @@ fn is_answer(answer: &Answer, distance: u32, groups: &[u32], sure: bool) -> bool
 fn four_codes(alloc: Global) -> Result<Codes, AllocError> {
     let mut codes = Codes::new(alloc, 5);
     for text in ["00000", "11100", "00111", "11011"] {
-        codes.push(alloc, code_of(alloc, 5, text)?)?;
+        codes.push(CompactRow::of(alloc, &code_of(alloc, 5, text)?)?)?;
     }
     codes.list_holders(alloc);
     Ok(codes)

@@ -4,6 +4,7 @@ ghost use Rattle.std.specs.Prelude.{◌≡◌, ◌<◌, ◌≤◌, length, IsTru
 use crate::reduce::{code_of, codes_of, drawn, drawn_code};
 use cb_bits::Row;
 use cb_codes::Codes;
+use cb_compact::CompactRow;
 use cb_model::List;
 use cb_pairs::{Fits, Guess, PairFault, Pairs, radius};
 use std::alloc::{AllocError, Global};
@@ -82,7 +83,7 @@ fn refused_groups(alloc: Global, count: usize) -> Result<Option<u32>, AllocError
             code.set(place);
         }
         if code.len() == codes.width() {
-            codes.push(alloc, code)?;
+            codes.push(CompactRow::of(alloc, &code)?)?;
         }
     }
     if !are_some(&codes) {

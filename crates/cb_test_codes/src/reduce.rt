@@ -3,6 +3,7 @@ ghost use Rattle.std.specs.Prelude.{◌≡◌, ◌<◌, ◌≤◌, length, IsTru
 
 use cb_bits::Row;
 use cb_codes::Codes;
+use cb_compact::CompactRow;
 use cb_distance::first_close;
 use cb_reduce::{Pair, Refused, book, book_in_use, least, reduce, whole_book};
 use std::alloc::{AllocError, Global};
@@ -137,7 +138,7 @@ pub(crate) fn drawn(
         let empty = quiet && place == 0;
         let code = drawn_code(alloc, state, width, if empty { 0 } else { of })?;
         if code.len() == codes.width() {
-            codes.push(alloc, code)?;
+            codes.push(CompactRow::of(alloc, &code)?)?;
         }
     }
     codes.list_holders(alloc);
@@ -177,7 +178,7 @@ pub(crate) fn codes_of(alloc: Global, width: usize, texts: &[&str]) -> Result<Co
     for text in texts {
         let code = code_of(alloc, width, text)?;
         if code.len() == codes.width() {
-            codes.push(alloc, code)?;
+            codes.push(CompactRow::of(alloc, &code)?)?;
         }
     }
     codes.list_holders(alloc);

@@ -1,28 +1,38 @@
-use Rattle.std.proofs.Common.{◌+◌, ◌<◌, length, arith}
-use Rattle.cb_codes.proofs.ByColumn.{as_few, has_entry, next_there, none_there, count_column, end_count}
+use Rattle.std.proofs.Common.{get_or, arith}
+use Rattle.cb_codes.proofs.ByColumn.{count_column, end_count}
+use Rattle.cb_codes.proofs.Stored.{after_columns, counted_after, none_left, next_read, entry_read, count_is_low}
 use Rattle.cb_codes.proofs.holders.count.Goals as goal
 
-pub overflow_add-counts : goal.overflow_add-counts
-overflow_add-counts c =
-    let next = c.in-Some.ensures.next in
-    let on = next.on in
-    let entry = has_entry c.args.codes.now c.index-codes-place.result c.args.place c.requires.within c.index-codes-place.is c.args.counts.now c.requires.entries
-    c.loop-column.from c.in-Some.column next in
-    let there : c.in-Some.column + 1 < length c.loop-column.counts = omega arith in
-    let was = c.loop-column.invariant.rest c.in-Some.column there on in
-    let few = as_few c.args.codes.now c.args.place c.in-Some.column in
+pub bounds-counts-column : goal.bounds-counts-column
+bounds-counts-column c =
+    entry_read c.args.codes.now c.index-codes-place.result c.args.place c.requires.within c.index-codes-place.is c.in-Some.columns.now c.in-Some.ensures c.loop-column.column-index c.loop-column-test.true
+    c.args.counts.now c.loop-column.counts c.requires.entries c.loop-column.auto.counts
+
+pub overflow_add-counts-in-loop-column : goal.overflow_add-counts-in-loop-column
+overflow_add-counts-in-loop-column c =
+    let entry = entry_read c.args.codes.now c.index-codes-place.result c.args.place c.requires.within c.index-codes-place.is c.in-Some.columns.now c.in-Some.ensures c.loop-column.column-index c.loop-column-test.true
+    c.args.counts.now c.loop-column.counts c.requires.entries c.loop-column.auto.counts in
+    let low = count_is_low c.args.codes.now c.index-codes-place.result c.args.place c.requires.within c.index-codes-place.is c.in-Some.columns.now c.in-Some.ensures c.loop-column.column-index c.loop-column-test.true
+    c.loop-column.counts c.loop-column.invariant entry in
     omega arith
+
+pub bounds-counts-column-in-loop-column : goal.bounds-counts-column-in-loop-column
+bounds-counts-column-in-loop-column c =
+    entry_read c.args.codes.now c.index-codes-place.result c.args.place c.requires.within c.index-codes-place.is c.in-Some.columns.now c.in-Some.ensures c.loop-column.column-index c.loop-column-test.true
+    c.args.counts.now c.loop-column.counts c.requires.entries c.loop-column.auto.counts
 
 pub loop-column-preserved : goal.loop-column-preserved
 loop-column-preserved c =
-    let next = c.in-Some.ensures.next in
-    let entry = has_entry c.args.codes.now c.index-codes-place.result c.args.place c.requires.within c.index-codes-place.is c.args.counts.now c.requires.entries
-    c.loop-column.from c.in-Some.column next in
-    count_column c.args.codes.now c.args.place c.loop-column.from c.in-Some.column c.loop-column.counts c.loop-column.invariant
-    (next_there c.args.codes.now c.index-codes-place.result c.args.place c.requires.within c.index-codes-place.is c.loop-column.from c.in-Some.column next)
-    (omega arith)
+    let codes = c.args.codes.now in
+    let columns = c.in-Some.columns.now in
+    let i = c.loop-column.column-index in
+    let entry = entry_read c.args.codes.now c.index-codes-place.result c.args.place c.requires.within c.index-codes-place.is c.in-Some.columns.now c.in-Some.ensures c.loop-column.column-index c.loop-column-test.true
+    c.args.counts.now c.loop-column.counts c.requires.entries c.loop-column.auto.counts in
+    let next = next_read c.args.codes.now c.index-codes-place.result c.args.place c.requires.within c.index-codes-place.is c.in-Some.columns.now c.in-Some.ensures c.loop-column.column-index c.loop-column-test.true in
+    counted_after codes c.args.place columns i _
+    (count_column codes c.args.place (after_columns columns i) (get_or columns i 0) c.loop-column.counts c.loop-column.invariant next entry)
 
 pub returns : goal.returns
 returns c =
-    end_count c.args.codes.now c.args.place c.loop-column.from c.loop-column.counts c.loop-column.invariant
-    (none_there c.args.codes.now c.index-codes-place.result c.args.place c.requires.within c.index-codes-place.is c.loop-column.from c.in_default.ensures.none)
+    end_count c.args.codes.now c.args.place (after_columns c.in-Some.columns.now c.loop-column.column-index) c.loop-column.counts c.loop-column.invariant
+    (none_left c.args.codes.now c.index-codes-place.result c.args.place c.requires.within c.index-codes-place.is c.in-Some.columns.now c.in-Some.ensures c.loop-column.column-index (omega arith) (omega arith))

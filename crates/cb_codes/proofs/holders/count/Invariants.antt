@@ -1,9 +1,6 @@
-use Rattle.std.proofs.Common.{◌-◌, length}
 use Rattle.cb_codes.proofs.ByColumn.{AreCountedBelow}
+use Rattle.cb_codes.proofs.Stored.{after_columns}
 use Rattle.cb_codes.proofs.holders.count.Given as goal
 
 abbrev pub invariant-loop-column : goal.invariant-loop-column
-invariant-loop-column l = AreCountedBelow l.codes l.place l.from l.counts
-
-abbrev pub decreases-loop-column : goal.decreases-loop-column
-decreases-loop-column l = length l.code - l.from
+invariant-loop-column l = AreCountedBelow l.codes l.place (after_columns l.columns l.column-index) l.counts

@@ -14,6 +14,6 @@ loop-place-preserved c =
     let within = slice_get_within codes.rows i code at in
     let is = sym (get_or_from_slice_get codes.rows i code code at) in (
       c.in_ok-push.ensures.width ∙ old.0,
-      rw c.in_ok-push.ensures.pushed (all_zip_more (IsOver c.args.columns.now) codes.rows c.loop-place.chosen.rows i code
-          c.in_ok-over.field-0 within is old.1 c.in_ok-over.ensures),
+      rw (c.in_ok-push.ensures.pushed, c.in_ok-of.ensures) (all_zip_more (IsOver c.args.columns.now) codes.rows c.loop-place.chosen.rows i code
+          c.in_ok-code.code within is old.1 c.in_ok-code.ensures),
     )

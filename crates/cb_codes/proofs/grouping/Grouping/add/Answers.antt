@@ -3,13 +3,13 @@ use Rattle.std.specs.List.{AllZip}
 use Rattle.std.proofs.lemmas.List.{map-append}
 use Rattle.cb_model.proofs.Numbers.{zip_push}
 use Rattle.cb_coding.specs.declared.group.Problem.{Problem}
-use Rattle.cb_codes.specs.Grouped.{TakesMember}
+use Rattle.cb_codes.specs.Grouped.{problem_of, TakesMember}
 use Rattle.cb_codes.proofs.Added.{is_added, still_fit, place_low, zip_weaker, stands_there, stays_there}
 use Rattle.cb_codes.proofs.grouping.Grouping.add.Goals as goal
 
 pub take_member-requires : goal.take_member-requires
 take_member-requires c =
-    place_low c.args.problem.code c.args.self.now.codes.codes.rows c.place_of.new.self.codes.rows c.args.self.now.named.items c.in_ok-place.place c.requires.sound.fit
+    place_low c.args.code c.args.self.now.codes.codes.rows c.place_of.new.self.codes.rows c.args.self.now.named.items c.in_ok-place.place c.requires.sound.fit
     c.in_ok-place.ensures.place
 
 pub returns-clause-sound : goal.returns-clause-sound
@@ -20,7 +20,7 @@ returns-clause-sound c =
     record {
       wide = c.in_ok-place.ensures.width ∙ c.requires.sound.wide;
       keys = c.in_ok-place.ensures.keys;
-      fit = still_fit c.args.problem old.codes.codes.rows c.place_of.new.self.codes.rows old.named.items groups c.requires.sound.fit c.in_ok-place.place
+      fit = still_fit (problem_of c.args.name c.args.code) old.codes.codes.rows c.place_of.new.self.codes.rows old.named.items groups c.requires.sound.fit c.in_ok-place.place
           c.in_ok-place.ensures.place takes;
     }
 
@@ -29,12 +29,12 @@ returns-clause-added c =
     let old = c.args.self.now in
     let groups = c.take_member.new.named.items in
     let takes = subst (λ member. TakesMember c.in_ok-place.place member old.named.items groups) c.in_ok-member.ensures c.in_ok-take_member.ensures in
-    is_added c.args.problem old.codes.codes.rows c.place_of.new.self.codes.rows old.named.items groups c.requires.sound.fit c.in_ok-place.place c.in_ok-place.ensures.place takes
+    is_added (problem_of c.args.name c.args.code) old.codes.codes.rows c.place_of.new.self.codes.rows old.named.items groups c.requires.sound.fit c.in_ok-place.place c.in_ok-place.ensures.place takes
 
 pub returns-clause-holds : goal.returns-clause-holds
 returns-clause-holds c = λ before held.
     let old = c.args.self.now in
-    let p = c.args.problem in
+    let p = problem_of c.args.name c.args.code in
     let place = c.in_ok-place.place in
     let codes = c.place_of.new.self.codes.rows in
     let finds = c.in_ok-place.ensures.place in

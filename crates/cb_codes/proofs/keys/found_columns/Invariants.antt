@@ -1,7 +1,7 @@
 use Rattle.std.proofs.Common.{◌≡◌, ◌≤◌, ◌-◌, length}
 use Rattle.cb_coding.specs.Distance.{bit}
 use Rattle.cb_codes.proofs.Passing.{passing}
-use Rattle.cb_codes.proofs.keys.columns_below.Given as goal
+use Rattle.cb_codes.proofs.keys.found_columns.Given as goal
 
 abbrev pub invariant-loop-column : goal.invariant-loop-column
 invariant-loop-column l = (l.columns.items ≡ passing (bit l.code) l.from) × (l.from ≤ length l.code)
