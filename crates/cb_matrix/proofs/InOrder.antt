@@ -1,5 +1,5 @@
 -- The columns of a set of nodes, listed node by node and then put in order.
-use Rattle.std.proofs.Common.{◌≡◌, ◌==◌, ◌↔◌, ℕ, ◌+◌, ◌<◌, List, [], ◌∷◌, ◌++◌, Bool, false, length, None, Some, slice_get, slice_index_or, get_or, refl, sym, ap, subst, ◌∙◌, ◌⊎◌, inl, inr, eqb, arith}
+use Rattle.std.proofs.Common.{◌≡◌, ◌==◌, ◌↔◌, ℕ, ◌<◌, List, [], ◌∷◌, ◌++◌, Bool, false, length, None, Some, slice_index_or, get_or, sym, subst, ◌∙◌, ◌⊎◌, inl, inr, eqb, arith}
 use Rattle.std.specs.List.{All, Contains, dedup, list_any}
 use Rattle.std.specs.List.Sorted.{IsPermutation, IsSorted}
 use Rattle.std.specs.Ordering.{nat_cmp}
@@ -33,7 +33,7 @@ module _ (columns : List NodeId) (row last : List Bool) where
     within = λ k d lt. absurd (omega arith);
     each = λ k m there. (
       λ has. absurd (let lt = has.1 in omega arith),
-      λ is. elim is [ | inl had ↦ absurd (none m had) | inr both ↦ absurd (let lt = both.1 in omega arith) ],
+      λ is. elim is [ inl had ↦ absurd (none m had) | inr both ↦ absurd (let lt = both.1 in omega arith) ],
     );
   }
 
@@ -43,8 +43,8 @@ module _ (columns : List NodeId) (Old New : ℕ → Type 0) (items : List ℕ) (
     within = All-push (λ place. place < length columns) items place old.within (slice_get_within columns place (number node) (is_there columns node place at));
     each = joins columns node place at (Contains items) (Contains (items ++ place ∷ [])) Old New old.each
         (λ k. (
-          λ has. elim (Contains-push_cases items place k has) [ | inl had ↦ inl had | inr same ↦ inr (sym same) ],
-          λ is. elim is [ | inl had ↦ Contains-append_left items (place ∷ []) k had | inr same ↦ subst (Contains (items ++ place ∷ [])) (sym same) (Contains-push items place) ],
+          λ has. elim (Contains-push_cases items place k has) [ inl had ↦ inl had | inr same ↦ inr (sym same) ],
+          λ is. elim is [ inl had ↦ Contains-append_left items (place ∷ []) k had | inr same ↦ subst (Contains (items ++ place ∷ [])) (sym same) (Contains-push items place) ],
         )) more;
   }
 
@@ -66,7 +66,7 @@ all_listed columns row last size none to end items sorted listed moved ordered =
           let has = back place (Contains-get_or list k d lt) in
           subst (λ place. place < length columns) has.2 (listed.within has.0 place has.1);
       each = λ k m there. (
-        λ has. elim ((listed.each k m there).0 (back k has)) [ | inl had ↦ absurd (none m had) | inr both ↦ both.0 ],
+        λ has. elim ((listed.each k m there).0 (back k has)) [ inl had ↦ absurd (none m had) | inr both ↦ both.0 ],
         λ has. Contains-dedup_nat sorted k (Contains-permutation items sorted k moved ((listed.each k m there).1 (elim (cases_lt m to) [
           | inl low ↦ inr (has, low)
           | inr on ↦ inl (then_other _ _ (sym (without_at row last size m) ∙ end m on) has)

@@ -20,8 +20,8 @@ use Rattle.cb_graph.proofs.Chains.{named_once, lead_to_caused}
 use Rattle.cb_cache.specs.Numbers.{IsProblemNumber}
 use Rattle.cb_cache.proofs.Opened.{few_of_rising}
 use Rattle.cb_matrix.specs.Codes.{IsCodeOf}
-use Rattle.cb_matrix.specs.declared.last.LastCode.{LastCode}
-use Rattle.cb_matrix.specs.Coded.{IsCodeFrom, IsCodeOfLast, IsLastCode, AreProblemsAt}
+use Rattle.cb_matrix.specs.declared.coder.Coder.{Coder}
+use Rattle.cb_matrix.specs.Coded.{IsCodeFrom, IsCodeOfLast, IsCoder, AreProblemsAt}
 
 -- a set's code is a search's, where the set is what was found
 pub code_from : (n : Numbered) (columns : List NodeId) (id : NodeId) (reached code : List Bool) → ((k : ℕ) → Has reached k ↔ LeadsTo (EdgeAt n) id.0 k)
@@ -39,9 +39,13 @@ code_over n columns id reached code found coded = record {
   each = λ place node is. (λ has. (found node).1 ((coded.each place node is).0 has), λ has. (coded.each place node is).1 ((found node).0 has));
 }
 
--- no problem yet
-pub none_last : (n : Numbered) (columns : List NodeId) (last : LastCode) → last.problem ≡ None → last.code ≡ replicate (length columns) false → IsLastCode n columns last
-none_last n columns last none code = subst (λ (problem : Option NodeId). IsCodeOfLast n columns problem last.code) (sym none) code
+-- no code is made yet
+pub new_coder : (n : Numbered) (columns : List NodeId) (width : ℕ) (coder : Coder) → coder.none.items ≡ replicate width 0 → coder.last ≡ None
+    → coder.code ≡ replicate (length columns) false → IsCoder n columns width coder
+new_coder n columns width coder none last code = record {
+  none = none;
+  code = subst (λ (problem : Option NodeId). IsCodeOfLast n columns problem coder.code) (sym last) code;
+}
 
 -- one more pair, at the place after the first ones
 pub zip_more : {X Y : Type 0} (R : X → Y → Type 0) (xs : List X) (ys : List Y) (i : ℕ) (d : X) (y : Y) → i < length xs → AllZip R (take i xs) ys

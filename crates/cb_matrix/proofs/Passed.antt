@@ -30,8 +30,8 @@ still code p k low has = elim (cases_eq k p) [
 
 set_there : (code : List Bool) (place : ℕ) → place < length code → (k : ℕ) → Has (slice_set code place true) k ↔ (Has code k ⊎ (k ≡ place))
 set_there code place low k = (
-  λ has. elim (set_cases code place k has) [ | inl same ↦ inr same | inr had ↦ inl had ],
-  λ is. elim is [ | inl had ↦ still code place k low had | inr same ↦ subst (Has (slice_set code place true)) (sym same) (has_set code place low) ],
+  λ has. elim (set_cases code place k has) [ inl same ↦ inr same | inr had ↦ inl had ],
+  λ is. elim is [ inl had ↦ still code place k low had | inr same ↦ subst (Has (slice_set code place true)) (sym same) (has_set code place low) ],
 )
 
 pub same_number : (columns : List NodeId) (place a b : ℕ) → slice_get columns place ≡ Some (number a) → slice_get columns place ≡ Some (number b) → a ≡ b
@@ -55,8 +55,8 @@ module _ (columns : List NodeId) (node place : ℕ) (at : IsPositionOf columns (
   pub joins : (Among After Old New : ℕ → Type 0) → Agrees columns Among Old → ((k : ℕ) → After k ↔ (Among k ⊎ (k ≡ place)))
       → ((m : ℕ) → New m ↔ (Old m ⊎ (m ≡ node))) → Agrees columns After New
   joins Among After Old New old one more k m there = (
-    λ is. (more m).1 (elim ((one k).0 is) [ | inl among ↦ inl ((old k m there).0 among) | inr same ↦ inr ((this_one k m there).0 same) ]),
-    λ is. (one k).1 (elim ((more m).0 is) [ | inl before ↦ inl ((old k m there).1 before) | inr same ↦ inr ((this_one k m there).1 same) ]),
+    λ is. (more m).1 (elim ((one k).0 is) [ inl among ↦ inl ((old k m there).0 among) | inr same ↦ inr ((this_one k m there).0 same) ]),
+    λ is. (one k).1 (elim ((more m).0 is) [ inl before ↦ inl ((old k m there).1 before) | inr same ↦ inr ((this_one k m there).1 same) ]),
   )
 
 -- a node that is no column joins or leaves the set

@@ -1,10 +1,9 @@
 //! The problems in their groups, each with its code from its row.
-ghost use Rattle.std.specs.Prelude.{◌≡◌, ◌≤◌, length, replicate, IfOk, OnOk};
+ghost use Rattle.std.specs.Prelude.{◌≤◌, length, IfOk};
 ghost use Rattle.std.specs.List.{All};
-ghost use Rattle.cb_lanes.specs.Words.{word_limit};
 ghost use Rattle.cb_network.specs.Sound.{node_limit};
 ghost use Rattle.cb_cache.specs.Numbers.{IsProblemNumber};
-ghost use Rattle.cb_matrix.specs.Coded.{IsLastCode, IsProblemAt, AreGroupedAt};
+ghost use Rattle.cb_matrix.specs.Coded.{AreGroupedAt};
 
 use crate::coder::Coder;
 use cb_cache::Cache;

@@ -1,5 +1,5 @@
 //! Codes over numbers of nodes.
-ghost use Rattle.std.specs.Prelude.{◌≡◌, ◌<◌, ◌≤◌, ◌+◌, ◌*◌, length, replicate, IfOk, IfSome, IfNone};
+ghost use Rattle.std.specs.Prelude.{◌≡◌, ◌<◌, ◌≤◌, ◌*◌, length, IfSome, IfNone};
 ghost use Rattle.cb_lanes.specs.Words.{word_limit};
 ghost use Rattle.cb_bits.specs.Bits.{difference, IsNextOne, HasNoneFrom};
 ghost use Rattle.cb_matrix.specs.Codes.{IsCodeOf, IsCodeOfEither, bits};
@@ -8,7 +8,6 @@ use cb_bits::Row;
 use cb_lanes::next_in_a_not_b;
 use cb_nodes::NodeId;
 use cb_topo::ColumnIndex;
-use std::alloc::{AllocError, Global};
 
 /// Makes the code of a row that of another. Only the nodes at which the two differ are looked at.
 pub(crate) fn pass_code(columns: &ColumnIndex, last: &[u64], row: &[u64], code: &mut Row)

@@ -1,4 +1,4 @@
-use Rattle.std.proofs.Common.{◌≡◌, ◌+◌, ◌++◌, ◌∷◌, [], List, ℕ, length, sym, ap, subst, ◌∙◌, eqb}
+use Rattle.std.proofs.Common.{◌+◌, length, sym, ap, subst, ◌∙◌, eqb}
 use Rattle.std.proofs.lemmas.List.{length-replicate}
 use Rattle.std.proofs.lemmas.List.Filters.{dedup_is}
 use Rattle.cb_matrix.specs.Codes.{AreColumnsOf, bits}
@@ -6,7 +6,7 @@ use Rattle.cb_matrix.proofs.WordBits.{same_length, none_has}
 use Rattle.cb_matrix.proofs.Passed.{AddedTo, one_added, none_added}
 use Rattle.cb_matrix.proofs.InOrder.{AreListedBy, none_listed, one_listed, none_more, all_listed}
 use Rattle.cb_matrix.proofs.listed.list_columns.Goals as goal
-use Rattle.cb_matrix.proofs.listed.list_columns.Goals.{in-Some-position+in_ok-push, in_default-position}
+use Rattle.cb_matrix.proofs.listed.list_columns.Goals.{in-Some-position+in_ok-push+else-not-is_sparse, in_default-position}
 
 pub next_left-requires-clause-same : goal.next_left-requires-clause-same
 next_left-requires-clause-same c = sym (ap length c.requires.none ∙ length-replicate (length c.args.row.now) 0)
@@ -30,7 +30,7 @@ loop-node-preserved c =
     let next = c.in-Some.ensures.next in
     let items = c.loop-node.list.items in
     elim c.match-position.branch [
-      | in-Some-position+in_ok-push w ↦
+      | in-Some-position+in_ok-push+else-not-is_sparse w ↦
           rw (w.list-is)
           (subst (AreListedBy columns (AddedTo row none (node + 1))) (sym w.in_ok-push.ensures.items)
           (one_listed columns (AddedTo row none from) (AddedTo row none (node + 1)) items node c.loop-node.invariant w.in-Some-position.place w.in-Some-position.ensures

@@ -1,4 +1,4 @@
-use Rattle.std.proofs.Common.{List, Bool, ℕ, Option, replicate, length, false, sym, ap, subst, ◌∙◌}
+use Rattle.std.proofs.Common.{List, ℕ, Option, sym, subst}
 use Rattle.cb_nodes.specs.declared.id.NodeId.{NodeId}
 use Rattle.cb_matrix.specs.Codes.{IsCodeOf, bits}
 use Rattle.cb_matrix.specs.Coded.{IsCodeOfLast}
@@ -37,6 +37,6 @@ returns-clause-code c =
 
 pub returns-clause-coder : goal.returns-clause-coder
 returns-clause-coder c = record {
-  none = ?;
+  none = elim c.match-self.branch [ in-Some w ↦ rw (w.self-is) c.requires.coder.none | in-None w ↦ rw (w.self-is) c.requires.coder.none ];
   code = (c.requires.problem, returns-clause-code c);
 }
