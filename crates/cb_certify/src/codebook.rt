@@ -49,8 +49,8 @@ pub enum Codebook {
 }
 
 /// What is written of the codebook of the topology for a wanted distance or a cap. A search from each problem gives the groups and
-/// the certificate. If it would have too many entries, there is a codebook for a cap; for a distance the groups result from rows, in
-/// which searches find what earlier ones found.
+/// the certificate. If the certificate would have too many entries, it is only found out whether there is a codebook: for a cap there
+/// always is one, and for a distance the rows of a cache give the groups.
 pub fn codebook_of<L: Ledger>(
     alloc: Global,
     topology: Topology,

@@ -1,4 +1,4 @@
-//! From a topology and raised nodes to the groups that fit them, each with its chains.
+//! From a topology and raised nodes to the groups nearest to them, each with its chains.
 ghost use Rattle.std.specs.Prelude.{◌≡◌, ◌≤◌, ◌+◌, List, ℕ, map, IfOk, OnOk};
 ghost use Rattle.std.specs.List.{All};
 ghost use Rattle.cb_model.specs.declared.node.NodeName.{NodeName as Name};

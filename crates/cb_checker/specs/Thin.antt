@@ -35,6 +35,6 @@ IsThinShown nodes first second claim (accepted.Capped n a b g k) = ⊥
 IsThinShown nodes first second claim (accepted.Thin w f s x) =
     (w ≡ claim.wanted) × IsSideName nodes first f × IsSideName nodes (Root second) s × (x ≡ claim.distance)
 
--- so far apart are two groups that are as close as is claimed
+-- two groups at this distance are as close as is claimed
 abbrev pub IsAsClaimed : Closeness → ℕ → Type 0
 IsAsClaimed claim far = (far ≡ claim.distance) × (0 < far) × (far < claim.wanted)

@@ -19,7 +19,7 @@ use cb_validity::{Accepted, Rejected};
 use std::alloc::{AllocError, Global};
 use std::sync::ledger::Ledger;
 
-/// How far two groups are apart, which is less than is wanted.
+/// What a thin certificate claims: how far its two groups are apart, and the greater distance that was wanted.
 #[derive(Clone, Copy, PartialEq, Eq)]
 pub struct Closeness {
     pub wanted: u32,
@@ -55,7 +55,7 @@ pub(crate) fn check_thin<L: Ledger>(
     Ok(shown)
 }
 
-// Whether two groups that are so far apart are as close as is claimed.
+// Whether two groups at a distance are as close as is claimed.
 fn holds(claim: Closeness, far: u32) -> bool
     ensures { IsTrue result ↔ IsAsClaimed claim far }
 {

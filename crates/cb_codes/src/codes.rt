@@ -47,7 +47,7 @@ impl Codes {
         }
     }
 
-    /// Adds a code after the others. Where memory runs out it is dropped.
+    /// Adds a code after the others. Where memory runs out, that code is dropped.
     pub fn push(&mut self, code: CompactRow) -> Result<(), AllocError>
         requires { length code ≡ self.old.width }
         ensures width { self.new.width ≡ self.old.width }

@@ -28,7 +28,8 @@ impl EachOnce {
         }
     }
 
-    /// The position of a code, which goes after the others where it isn't among them.
+    /// The position of a code, which goes after the others where it isn't among them. After an `Err` the value is of no more use: the key may be
+    /// there without its code.
     pub fn place_of(&mut self, alloc: Global, code: CompactRow) -> Result<usize, AllocError>
         requires keys { AreKeysOf self.old.codes.rows self.old.keys.keys }
         requires width { length code ≡ self.old.codes.width }

@@ -44,7 +44,7 @@ impl Grouping {
         })
     }
 
-    /// Adds a problem to the group of its code, which is opened where there is none.
+    /// Adds a problem to the group of its code, which is opened where there is none. After an `Err` the value is of no more use.
     pub fn add(&mut self, alloc: Global, name: NodeName, code: CompactRow) -> Result<(), AllocError>
         requires sound { FitsTogether (length code) self.old }
         ensures sound { OnOk result (FitsTogether (length code) self.new) }

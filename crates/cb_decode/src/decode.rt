@@ -163,7 +163,7 @@ fn some_reach(radii: &List<u32>, places: &List<u32>, distance: u32) -> bool
     false
 }
 
-// How many lost or spurious symptoms codes that are so far apart put up with.
+/// How many lost or spurious symptoms codes at a distance tolerate.
 pub(crate) fn radius(distance: u32) -> u32
     ensures { result ≡ radius_of distance }
 {

@@ -99,7 +99,7 @@ fn pair_of(codes: &Codes, first: usize, second: usize, needs: &Needs) -> Option<
 }
 
 // The position of the first code after this one that is closer to it than is asked, or the end. A code that has none of the columns that were
-// looked at is as far from this one as they are many.
+// looked at is at least as far from this one as their number.
 fn first_after(codes: &Codes, first: usize, needs: &Needs) -> usize
     requires needs { AreNeedsFor codes.now needs.now }
     requires first { first < length codes.now.rows }

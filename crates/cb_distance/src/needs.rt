@@ -27,7 +27,7 @@ impl<'a> Needs<'a> {
         }
     }
 
-    /// No two codes are asked to be farther apart.
+    /// The most that is asked of any two codes.
     pub(crate) fn most(&self) -> usize
         ensures { result ≡ most_asked self.now }
     {

@@ -20,7 +20,7 @@ use cb_topo::Topology;
 use std::alloc::Global;
 use std::sync::ledger::Ledger;
 
-/// The most bytes that a certificate file may have.
+/// The most bytes that a certificate file, or a file of levels, may have.
 pub const MOST_BYTES: usize = 32 << 20;
 
 /// What a certificate shows, and the graph that it was checked against.

@@ -10,7 +10,7 @@ use cb_report::Fault;
 use cb_request::FileName;
 use std::alloc::Global;
 
-/// The most bytes that a model, topology or symptom file may have.
+/// The most bytes that a model file, a topology file, a symptom file or a script may have.
 pub const MOST_BYTES: usize = 16 << 20;
 
 /// A kind of files: what one is for, and what is made of its text after what is known from the files before it.

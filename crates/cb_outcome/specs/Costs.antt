@@ -37,7 +37,7 @@ CountsLines t lines old new = (cost : ℕ) → AreLinesCost t lines cost → new
 abbrev pub CountsBoth : Topology → List NumberedLine → ℕ → ℕ → Type 0
 CountsBoth t lines old new = (searched : ℕ) → IsOpenCost t searched → CountsLines t lines (old + searched) new
 
--- the same of the lines of a log
+-- no more steps are counted than that search costs, and then the edits in the lines of this log
 abbrev pub CountsLog : Topology → List ℕ → ℕ → ℕ → Type 0
 CountsLog t log old new = CountsBoth t (log_lines log) old new
 
@@ -46,7 +46,7 @@ abbrev pub lines_taken : List ℕ → List ℕ → List NumberedLine
 lines_taken taken [] = log_lines taken
 lines_taken taken (byte ∷ left) = ended_lines taken
 
--- `burst` and `matrix`: no more steps are counted than the search of the topology costs that the model and the topology file give. Where
+-- `burst`, `matrix` and `pairs`: no more steps are counted than the search of the topology costs that the model and the topology file give. Where
 -- they give none, no step is counted.
 pub record CountsSearch (left : Left) (reads : Reads) (old new : ℕ) : Type 0 where
   pub most : (t : Topology) → PassFrom nothing (files_before 2 left reads) (network t) → (searched : ℕ) → IsOpenCost t searched → new ≤ old + searched

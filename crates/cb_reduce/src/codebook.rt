@@ -96,7 +96,7 @@ fn book_of_good(
     Ok(Book { columns, distance })
 }
 
-// The columns that a wish keeps which all columns meet.
+// The columns that a wish keeps, where all columns together meet the wish.
 fn choice_of(
     alloc: Global,
     codes: &Codes,
@@ -122,7 +122,7 @@ fn choice_of(
     columns_of(alloc, &kept)
 }
 
-// The columns that a cap of 1 keeps, without a pair that waits; none where these would be quicker.
+// The columns that a cap of 1 keeps, found without pairs that wait; `None` where pairs that wait would be quicker.
 fn choice_of_one(
     alloc: Global,
     codes: &Codes,
@@ -145,7 +145,7 @@ fn choice_of_one(
     Ok(Some(columns_of(alloc, &kept)?))
 }
 
-// The columns that a wish keeps, as a mask, where pairs wait and columns are forced as long as none is kept.
+// The columns that a wish keeps, as a mask, from the pairs that wait and the columns that are forced before any column is kept.
 fn kept_mask(
     alloc: Global,
     codes: &Codes,

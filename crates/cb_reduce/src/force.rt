@@ -13,7 +13,7 @@ use cb_compact::CompactRow;
 use cb_model::Wish;
 use std::alloc::{AllocError, Global};
 
-// Up to as many differences are looked up one by one; beyond them all columns of both codes are gone through.
+// Up to this number of differences each is looked up by itself; if there are more, all columns of both codes are looked at.
 const FEW: usize = 8;
 
 /// Marks the columns that are forced by a code and one that has a column less, and by the first code and another: such pairs are often close.
@@ -36,7 +36,7 @@ pub(crate) fn force_near(
     Ok(())
 }
 
-// For each number of columns below all the last code that has so many, or the first code.
+// For each number of columns below the width, the last code with that number of columns; or the first code, if there is none.
 fn last_of_each_weight(alloc: Global, codes: &Codes) -> Result<Vec<usize>, AllocError> {
     let mut lasts = Vec::new(alloc);
     for _ in 0..codes.width() {
@@ -155,7 +155,7 @@ pub(crate) fn mark_alone(a: &CompactRow, b: &CompactRow, marked: &mut Row)
     }
 }
 
-/// Whether the marked columns tell each code as far apart from the first as all columns do. Then they do so with any two.
+/// Whether each code is as far from the first one over the marked columns as over all. Then any two codes are.
 pub(crate) fn are_told(codes: &Codes, marked: &Row) -> bool
     requires have_width { HaveWidth (length marked.now) codes.now.rows }
     requires wide { length marked.now ≡ codes.now.width }
@@ -169,7 +169,7 @@ pub(crate) fn are_told(codes: &Codes, marked: &Row) -> bool
     true
 }
 
-// Whether the marked columns tell a code as far apart from the first as all columns do.
+// Whether a code is as far from the first one over the marked columns as over all.
 fn is_told(codes: &Codes, place: usize, marked: &Row) -> bool
     requires have_width { HaveWidth (length marked.now) codes.now.rows }
     requires wide { length marked.now ≡ codes.now.width }

@@ -39,7 +39,7 @@ pub(crate) fn number_of(wish: Wish) -> u32
     }
 }
 
-// How far apart two codes are, or the cap where that is less.
+/// How far apart two codes are, or the cap where that is less.
 pub(crate) fn capped(codes: &Codes, cap: u32, first: usize, second: usize) -> u32
     requires first { first < length codes.now.rows }
     requires second { second < length codes.now.rows }

@@ -1,6 +1,6 @@
 //! The columns that keep codes from being equal, after a zero code: what is kept for a distance or a cap of 1. No pair waits. Of two codes
-//! that a column alone tells apart one has it, and the other has all else that the first one has; so it is found among the codes that have
-//! another column of that one, which few have. If it has no other it is told so from the zero code.
+//! that a column alone tells apart one has it, and the other has all else that the first one has; so the other is found among the codes that
+//! have another column of the first, which few have. If the first has no other column, the zero code is the other one.
 ghost use Rattle.std.specs.Prelude.{◌≡◌, ◌<◌, ℕ, true, false, length, replicate, IsTrue, IfOk, IfSome, IfNone};
 ghost use Rattle.std.specs.List.{All, Contains};
 ghost use Rattle.cb_coding.specs.Distance.{bit, code_at, apart, HaveWidth};
@@ -15,7 +15,7 @@ use cb_codes::Codes;
 use cb_compact::CompactRow;
 use std::alloc::{AllocError, Global};
 
-// So many looks are made for each code.
+// The most looks for each code, on average, for which no pair waits.
 const MOST_LOOKS: usize = 256;
 
 /// Whether so few codes share a column that it is quicker to look at these than to let pairs wait.

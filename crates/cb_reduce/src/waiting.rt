@@ -16,8 +16,9 @@ use cb_codes::Codes;
 use cb_model::{List, Wish};
 use std::alloc::{AllocError, Global};
 
-/// Lets all pairs wait while no column is kept, but for those that are known to be told apart by forced columns: it gives these. After a
-/// zero code, the pairs with it and those that share a column suffice. Where close pairs force all columns that tell codes apart, none waits.
+/// Lets all pairs wait while no column is kept, but for those that the forced columns are known to keep apart; it gives the forced columns.
+/// After a zero code, the pairs with it and those that share a column suffice. Where close pairs force all columns that tell codes apart, none
+/// waits.
 pub(crate) fn wait_all(
     alloc: Global,
     codes: &Codes,
@@ -108,7 +109,7 @@ fn wait_for(
     }
 }
 
-// Marks the first code and those that share a column with one. It answers false where it is quicker to go through all codes.
+/// Marks the first code and those that share a column with one. It answers false where it is quicker to look at all codes.
 pub(crate) fn mark_counting(codes: &Codes, place: usize, marked: &mut Row) -> bool
     requires within { place < length codes.now.rows }
     requires long { length marked.old ≡ length codes.now.rows }

@@ -1,4 +1,4 @@
-//! The words of the line that says why there is no output.
+//! The words for type rules that are broken, and for edits that are refused.
 ghost use Rattle.std.specs.Prelude.{◌≡◌};
 ghost use Rattle.cb_report.specs.FaultWords.{rule_word as word_of_rule, refusal_word as word_of_refusal};
 

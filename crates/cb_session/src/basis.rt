@@ -45,8 +45,8 @@ pub(crate) struct Ready {
 }
 
 impl Ready {
-    /// Of the topology of a cache, for a wish: for a cap the codebook for it; for a distance the one at it where all groups are so far
-    /// apart, and else at the least distance of two groups.
+    /// Of the topology of a cache, for a wish. For a cap the codebook for it. For a distance the codebook at it, if any two groups are at
+    /// least that far apart; else the one at the least distance of two groups.
     pub fn of(alloc: Global, cache: &Cache, wish: Wish) -> Result<Ready, AllocError>
         ensures { IfOk result (IsReady (topology_of cache.now.graph) (for_wanted wish)) }
     {

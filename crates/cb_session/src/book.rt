@@ -22,8 +22,8 @@ pub(crate) enum BookInUse {
 }
 
 impl BookInUse {
-    /// For a cap the codebook for it; for a distance the one at it where all codes are so far apart, and else at the least distance of two
-    /// codes.
+    /// For a cap the codebook for it. For a distance the codebook at it, if any two codes are at least that far apart; else the one at the
+    /// least distance of two codes.
     pub fn of(alloc: Global, codes: &Codes, wish: Wish) -> Result<BookInUse, AllocError>
         requires places_fit { length codes.now.rows ≤ 2 ^ 16 }
         requires columns_fit { codes.now.width ≤ 2 ^ 16 }
@@ -87,7 +87,7 @@ pub(crate) fn capped_event(book: &CapBook, of: u32, groups: u32) -> Event
     }
 }
 
-// How many lost or spurious symptoms codes that are so far apart put up with.
+// How many lost or spurious symptoms codes at a distance tolerate.
 fn radius(distance: u32) -> u32
     ensures { result ≡ radius_of distance }
 {

@@ -22,7 +22,7 @@ pub(crate) struct Reported {
     pub made: Option<Ready>,
 }
 
-/// The events of the closing windows, by the codebook at hand or one made now. Where no window closes, nothing is made ready.
+/// The events of the closing windows, by the codebook in use, or by one that is made now. Where no window closes, nothing is made ready.
 pub(crate) fn closing_report(
     alloc: Global,
     cache: &Cache,

@@ -77,7 +77,7 @@ impl Model for Session {
 
 impl Session {
     /// A session at the beginning of a log, over the topology of a cache: a distance at which codebooks are wanted, and the length of
-    /// windows in the log's unit of time. No memory is taken.
+    /// windows in the log's unit of time. It takes no memory, and never fails.
     pub fn open(
         alloc: Global,
         cache: Cache,

@@ -32,13 +32,13 @@ pub fn run<F: Files, O: Sink, E: Sink, L: Ledger>(
     ensures answer { AnswersOutcome (command_in words.now) result (seen_from F.tells O.tells E.tells files.old files.new out.old out.new err.old err.new) }
     // At each, what was written is a prefix of what was due at some point of the run.
     ensures prefix { WritesDue (command_in words.now) (seen_from F.tells O.tells E.tells files.old files.new out.old out.new err.old err.new) }
-    // Nothing was written at any status but 0, 6 and 9; at 7, 8 and 10 unless the run has come to a log.
+    // At 2, 3, 4, 5, 12 and 13 nothing was written; at 7, 8 and 10 nothing, unless the run has come to a log.
     ensures quiet { KeepsQuiet (command_in words.now) result (seen_from F.tells O.tells E.tells files.old files.new out.old out.new err.old err.new) }
     // The line is that of a fault of this status, which names no file but a file word; at 0 there is none.
     ensures line { SaysStatus (command_in words.now) result (seen_from F.tells O.tells E.tells files.old files.new out.old out.new err.old err.new) }
 
-    // Which words end how, whatever the files have: 2 comes exactly where they are none of the table, 4 only for commands with a topology, 12 only for
-    // `levels`, and 13 only for `pairs`.
+    // Which words end how, whatever the files have: 2 comes exactly where they are none of the table, 4 only for commands with a topology and for
+    // `grow`, 12 only for `levels`, and 13 only for `pairs`.
     ensures ends { MayEnd (command_in words.now) result }
     // Nothing is read where no word names a file.
     ensures unread { file_words (command_in words.now) ≡ [] → files.new ≡ files.old }
@@ -64,12 +64,12 @@ pub fn run<F: Files, O: Sink, E: Sink, L: Ledger>(
     // `burst` is said, over the codebook in use and by the radius of each group, and each thin line names two groups that are closer than wanted, too.
     // No distance of 1 is refused so, nor a cap.
     ensures finds { Finds (command_in words.now) result (seen_from F.tells O.tells E.tells files.old files.new out.old out.new err.old err.new) }
-    // How many steps are counted. By `explain` no more than by `burst`, and then from each problem of a listed group but `quiet` as many as it causes
-    // nodes; by `levels` no more than its problem causes nodes; by `prove` no more than the levels have entries; by `rewind` no more than it costs to
-    // search from each problem of the topology that the script leaves.
-    // No step is counted by `model`, nor where no topology results from the files; by `burst`, `matrix` and `pairs` no more than it costs to search
-    // from each problem of the topology; by `correlate` and `grow` no more than that, and again after each edit of the log for the problems that it makes dirty or new, of
-    // `correlate` as far as the log was read. Of the others nothing is said.
+    // How many steps are counted. None by `model`, nor where the words are no command. By `burst`, `matrix` and `pairs` no more than it costs to
+    // search from each problem of the topology. By `explain` no more than that, and then from each problem of a listed group but `quiet` as many
+    // as it causes nodes. By `levels` no more than its problem causes nodes. By `prove` no more than the levels have entries. By `rewind` no more
+    // than it costs to search from each problem of the topology that the script leaves. By `correlate` and `grow` no more than it costs to search
+    // from each problem of the topology, and again after each edit of the log for the problems that it makes dirty or new; of `correlate` as far
+    // as the log was read. By all of these none where no topology results. Of `codebook`, `verify` and `decode` nothing is said.
     ensures steps { BoundsSteps (command_in words.now) (seen_from F.tells O.tells E.tells files.old files.new out.old out.new err.old err.new) steps.old steps.new }
 {
     let end = answer(alloc, words, files, out, steps);
