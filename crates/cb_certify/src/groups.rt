@@ -11,6 +11,7 @@ use crate::shortfall::ClosePair;
 use cb_bits::Row;
 use cb_breadth::{Order, Visit};
 use cb_codes::{Codes, EachOnce};
+use cb_compact::CompactRow;
 use cb_coding::Pair;
 use cb_model::List;
 use cb_nodes::NodeId;
@@ -42,7 +43,8 @@ pub(crate) fn groups_of(
     let mut codes = quiet_code(alloc, columns.len())?;
     let mut least = List::new(alloc);
     for place in 0..trees.problems.len() {
-        let code = code_of(alloc, columns, &trees.order, &trees.visits[place])?;
+        let row = code_of(alloc, columns, &trees.order, &trees.visits[place])?;
+        let code = CompactRow::of(alloc, &row)?;
         let group = codes.place_of(alloc, code)?;
         add_least(&mut least, group, *trees.problems.at(place))?;
     }
@@ -57,7 +59,8 @@ fn quiet_code(alloc: Global, width: usize) -> Result<EachOnce, AllocError>
     ensures { IfOk result (IsQuietAlone width) }
 {
     let mut codes = EachOnce::new(alloc, width);
-    codes.place_of(alloc, Row::zeroed(alloc, width)?)?;
+    let quiet = CompactRow::of(alloc, &Row::zeroed(alloc, width)?)?;
+    codes.place_of(alloc, quiet)?;
     Ok(codes)
 }
 
