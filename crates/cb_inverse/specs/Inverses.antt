@@ -17,12 +17,12 @@ rebuild_edits r = r.create ∷ rest_of r
 -- all of them, in the order in which they are made
 abbrev pub inverse_edits : Inverse → List Edit
 inverse_edits (Reverse back) = back ∷ []
-inverse_edits (Rebuild r) = rebuild_edits r.value
+inverse_edits (Rebuild r) = rebuild_edits r
 
 -- where memory can run out in the middle, the edit is there to be made again
 abbrev pub HasAgain : Edit → Inverse → Type 0
 HasAgain edit (Reverse back) = ⊤
-HasAgain edit (Rebuild r) = r.value.again ≡ edit
+HasAgain edit (Rebuild r) = r.again ≡ edit
 
 -- the edit that undoes this one; of a Delete nothing is said
 abbrev pub IsReverse : Edit → Edit → Type 0

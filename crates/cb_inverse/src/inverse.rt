@@ -16,8 +16,8 @@ use std::alloc::{AllocError, Global};
 pub enum Inverse {
     /// One edit, of any edit but a Delete. Where memory runs out for it, nothing is made, so nothing has to be made again.
     Reverse(Edit),
-    /// Those that make a deleted instance again, in a box, so that an inverse is small.
-    Rebuild(Box<Rebuild>),
+    /// Those that make a deleted instance again.
+    Rebuild(Rebuild),
 }
 
 /// The inverse of an edit that the topology accepts. It is made before the edit is.
@@ -33,8 +33,11 @@ pub fn inverse_of(
     match accepted.numbered {
         NumberedEdit::Delete { id } => {
             let edits = rebuild_of(alloc, topology, id, accepted.edit)?;
-            Ok(Inverse::Rebuild(Box::new(alloc, edits)?))
+            Ok(Inverse::Rebuild(edits))
         }
-        _ => Ok(Inverse::Reverse(reverse_of(alloc, accepted.edit)?)),
+        _ => {
+            let back = reverse_of(alloc, accepted.edit)?;
+            Ok(Inverse::Reverse(back))
+        }
     }
 }

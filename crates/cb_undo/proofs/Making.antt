@@ -1,7 +1,5 @@
 -- Edits that are made in turn.
 use Rattle.std.proofs.Common.{◌≡◌, ◌+◌, ◌++◌, ◌∷◌, [], ℕ, List, Result, Ok, Err, OnOk, OnErr, IfErr, length, take, drop, slice_index_or, suc, ◌<◌, refl, sym, ap, subst, ◌∙◌, arith}
-use Rattle.std.specs.Global.{Global}
-use Rattle.std.specs.declared.boxed.Box.{Box}
 use Rattle.std.proofs.lemmas.List.{append_assoc}
 use Rattle.std.proofs.Math.Numerals.{add-one}
 use Rattle.std.proofs.Math.Seq.{drop-cons}
@@ -168,8 +166,8 @@ pub inverse_can : (before t : Topology) (inverse : Inverse) → IsInverseOf befo
 inverse_can before t inverse is = undoing_can before t is.edit (inverse_edits inverse) is.undoes
 
 -- those of a rebuild undo the edit that it has a copy of
-pub rebuild_undoes : (before t : Topology) (edits : Box TheRebuild Global) → IsInverseOf before t (Rebuild edits) → Undoes before t edits.value.again (rebuild_edits edits.value)
-rebuild_undoes before t edits is = subst (λ e. Undoes before t e (rebuild_edits edits.value)) (sym is.again) is.undoes
+pub rebuild_undoes : (before t : Topology) (edits : TheRebuild) → IsInverseOf before t (Rebuild edits) → Undoes before t edits.again (rebuild_edits edits)
+rebuild_undoes before t edits is = subst (λ e. Undoes before t e (rebuild_edits edits)) (sym is.again) is.undoes
 
 one_has_no_prefix : (first back next : Edit) (prefix rest : List Edit) → first ∷ (prefix ++ next ∷ rest) ≡ back ∷ [] → ⊥
 one_has_no_prefix first back next [] rest e = cc

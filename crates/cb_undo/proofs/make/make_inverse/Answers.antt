@@ -1,10 +1,7 @@
-use Rattle.std.proofs.Common.{◌∷◌, [], Bool, false, OnOk, OnErr, subst, sym}
+use Rattle.std.proofs.Common.{[], subst}
 use Rattle.cb_topo.specs.Numbered.{topology_of}
-use Rattle.cb_inverse.specs.declared.inverse.Inverse.{Inverse}
-use Rattle.cb_inverse.specs.declared.inverse.Inverse.TheVariants.{Reverse, Rebuild}
-use Rattle.cb_inverse.specs.declared.rebuild.Rebuild.{Rebuild as TheRebuild}
-use Rattle.cb_undo.specs.Kept.{IsInverseOf, Undoes}
-use Rattle.cb_inverse.specs.Inverses.{rebuild_edits}
+use Rattle.cb_inverse.specs.declared.inverse.Inverse.TheVariants.{Reverse}
+use Rattle.cb_undo.specs.Kept.{IsInverseOf}
 use Rattle.cb_undo.proofs.Making.{can_first, inverse_can, rebuild_undoes}
 use Rattle.cb_undo.proofs.make.make_inverse.Goals as goal
 
@@ -18,4 +15,4 @@ pub make_rebuild-requires : goal.make_rebuild-requires
 make_rebuild-requires g c =
     let t = topology_of (g.N.EditedTopology.numbered c.args.network.now) in
     let is = subst (IsInverseOf c.requires.0 t) c.in-Rebuild.is c.requires.1 in
-    (c.requires.0, subst (λ (r : TheRebuild). Undoes c.requires.0 t r.again (rebuild_edits r)) (sym c.deref.ensures) (rebuild_undoes c.requires.0 t c.in-Rebuild.edits is))
+    (c.requires.0, rebuild_undoes c.requires.0 t c.in-Rebuild.edits is)
