@@ -1,6 +1,5 @@
 -- Only a Delete is decided as a Delete, and another edit is undone by its reverse.
-use Rattle.std.proofs.Common.{◌≢◌, ◌∷◌, [], refl, sym, ap, subst}
-use Rattle.std.specs.Prelude.{IfOk, Result, Ok, Err}
+use Rattle.std.proofs.Common.{◌≢◌, ◌∷◌, [], refl, ap}
 use Rattle.cb_network.specs.declared.edit.Edit.{Edit}
 use Rattle.cb_network.specs.declared.edit.Edit.TheVariants.{Create, Delete, Link, Unlink, Mute, Unmute}
 use Rattle.cb_network.specs.Topology.{Topology}
@@ -10,8 +9,7 @@ use Rattle.cb_instances.specs.Net.{Net}
 use Rattle.cb_accept.specs.NumberedEdits.{IsNumberedEdit}
 use Rattle.cb_accept.specs.declared.numbered.NumberedEdit.{NumberedEdit}
 use Rattle.cb_accept.specs.declared.numbered.NumberedEdit.TheVariants as numbered
-use Rattle.cb_inverse.specs.declared.inverse.Inverse.{Inverse}
-use Rattle.cb_inverse.specs.Inverses.{inverse_edits, IsReverse, IsUndoneByOne}
+use Rattle.cb_inverse.specs.Inverses.{IsReverse}
 
 pub reverse_inverts : (n : Net) (t : Topology) (edit back : Edit) (by : NumberedEdit) → IsNumberedEdit n edit by → ((id : InstanceId) → by ≢ numbered.Delete id)
     → IsReverse edit back → Inverts t edit (back ∷ [])
@@ -22,8 +20,3 @@ reverse_inverts n t (Link a rel b) back by is other reverse = ap (λ b. b ∷ []
 reverse_inverts n t (Unlink a rel b) back by is other reverse = ap (λ b. b ∷ []) reverse
 reverse_inverts n t (Mute event name) back by is other reverse = ap (λ b. b ∷ []) reverse
 reverse_inverts n t (Unmute event name) back by is other reverse = ap (λ b. b ∷ []) reverse
-
-pub reversed_if_ok : {E : Type 0} (n : Net) (t : Topology) (edit : Edit) (by : NumberedEdit) → IsNumberedEdit n edit by → ((id : InstanceId) → by ≢ numbered.Delete id)
-    → (result : Result Inverse E) → IfOk result (λ inverse. IsUndoneByOne edit (inverse_edits inverse)) → IfOk result (λ inverse. Inverts t edit (inverse_edits inverse))
-reversed_if_ok n t edit by is other (Ok inverse) (back, reverse, same) = subst (λ es. Inverts t edit es) (sym same) (reverse_inverts n t edit back by is other reverse)
-reversed_if_ok n t edit by is other (Err e) reversed = tt

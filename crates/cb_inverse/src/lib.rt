@@ -12,3 +12,4 @@ mod rebuild;
 mod reverse;
 
 pub use inverse::{Inverse, inverse_of};
+pub use rebuild::Rebuild;

@@ -2,11 +2,10 @@
 ghost use Rattle.std.specs.Prelude.{◌≡◌, IfOk};
 ghost use Rattle.cb_history.specs.Inverse.{Rebuilds, CreatesAgain};
 ghost use Rattle.cb_instances.specs.Net.{IsLiveInstance, name_at};
-ghost use Rattle.cb_inverse.specs.Inverses.{inverse_edits};
+ghost use Rattle.cb_inverse.specs.Inverses.{rebuild_edits};
 ghost use Rattle.cb_topo.specs.Numbered.{topology_of};
 
 use crate::copy::copy_of;
-use crate::inverse::Inverse;
 use crate::links::link_edits;
 use crate::mutes::mute_edits;
 use cb_instances::InstanceId;
@@ -15,23 +14,33 @@ use cb_network::Edit;
 use cb_topo::Topology;
 use std::alloc::{AllocError, Global};
 
+/// The edits that make a deleted instance again, in the order in which they are made. `again` is a copy of the edit that deleted it: where
+/// memory runs out in the middle, it is made again, and no name can be copied then.
+#[derive(Drop)]
+pub struct Rebuild {
+    pub create: Edit,
+    pub links: Vec<Edit>,
+    pub mutes: Vec<Edit>,
+    pub again: Edit,
+}
+
 /// The inverse of an edit that deletes the instance: a Create of it, then an edit for each of its links and each of its mutes.
-pub fn rebuild(
+pub fn rebuild_of(
     alloc: Global,
     topology: &Topology,
     id: InstanceId,
     edit: &Edit,
-) -> Result<Inverse, AllocError>
+) -> Result<Rebuild, AllocError>
     requires { IsLiveInstance topology.now.net id }
-    ensures rebuilds { IfOk result (λ inverse. Rebuilds (topology_of topology.now) (name_at topology.now.net id) (inverse_edits inverse)) }
-    ensures again { IfOk result (λ inverse. inverse.again ≡ edit.now) }
+    ensures rebuilds { IfOk result (λ edits. Rebuilds (topology_of topology.now) (name_at topology.now.net id) (rebuild_edits edits)) }
+    ensures again { IfOk result (λ edits. edits.again ≡ edit.now) }
 {
-    let first = create_again(alloc, topology, id)?;
+    let create = create_again(alloc, topology, id)?;
     let links = link_edits(alloc, topology, id)?;
     let mutes = mute_edits(alloc, topology, id)?;
     let again = copy_of(alloc, edit)?;
-    Ok(Inverse {
-        first,
+    Ok(Rebuild {
+        create,
         links,
         mutes,
         again,

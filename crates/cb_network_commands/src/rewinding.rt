@@ -87,7 +87,7 @@ fn run_script<L: Ledger>(
     steps: &mut Steps<L>,
 ) -> Result<Vec<u8>, AllocError>
     requires { HaveGoodNames script.now }
-    ensures runs { IfOk result (λ reports. (h : Past) → StandFor history.old.network history.old.records h → RunsOn history.old.depth h script.now [] reports.items history.new.network history.new.records) }
+    ensures runs { IfOk result (λ reports. (h : Past) → StandFor (topology_of history.old.network) history.old.records h → RunsOn history.old.depth h script.now [] reports.items (topology_of history.new.network) history.new.records) }
     ensures steps { steps.new ≡ steps.old }
 {
     let mut reports = Vec::new(alloc);
@@ -108,7 +108,7 @@ fn run_line<L: Ledger>(
     requires { HasGoodMove line.now.what }
     ensures depth { history.new.depth ≡ history.old.depth }
     ensures steps { steps.new ≡ steps.old }
-    ensures runs { OnOk result ((h : Past) → StandFor history.old.network history.old.records h → RunsOn history.old.depth h (line.now ∷ []) reports.old.items reports.new.items history.new.network history.new.records) }
+    ensures runs { OnOk result ((h : Past) → StandFor (topology_of history.old.network) history.old.records h → RunsOn history.old.depth h (line.now ∷ []) reports.old.items reports.new.items (topology_of history.new.network) history.new.records) }
 {
     match report_of(alloc, history, line, steps)? {
         Some(report) => push_report(reports, report),
@@ -126,7 +126,7 @@ fn report_of<L: Ledger>(
     requires { HasGoodMove line.now.what }
     ensures depth { history.new.depth ≡ history.old.depth }
     ensures steps { steps.new ≡ steps.old }
-    ensures moves { IfOk result (λ report. (h : Past) → StandFor history.old.network history.old.records h → MovesOn history.old.depth h line.now.line line.now.what report history.new.network history.new.records) }
+    ensures moves { IfOk result (λ report. (h : Past) → StandFor (topology_of history.old.network) history.old.records h → MovesOn history.old.depth h line.now.line line.now.what report (topology_of history.new.network) history.new.records) }
 {
     match &line.what {
         Move::Make(edit) => make(alloc, history, edit, line.line, steps),
@@ -145,7 +145,7 @@ fn make<L: Ledger>(
     requires { HasGoodName edit.now }
     ensures depth { history.new.depth ≡ history.old.depth }
     ensures steps { steps.new ≡ steps.old }
-    ensures moves { IfOk result (λ report. (h : Past) → StandFor history.old.network history.old.records h → MovesOn history.old.depth h line (MakeMove edit.now) report history.new.network history.new.records) }
+    ensures moves { IfOk result (λ report. (h : Past) → StandFor (topology_of history.old.network) history.old.records h → MovesOn history.old.depth h line (MakeMove edit.now) report (topology_of history.new.network) history.new.records) }
 {
     match history.edit(alloc, edit, steps) {
         Ok(()) => Ok(None),
@@ -163,7 +163,7 @@ fn undo<L: Ledger>(
 ) -> Result<Option<LineReport>, AllocError>
     ensures depth { history.new.depth ≡ history.old.depth }
     ensures steps { steps.new ≡ steps.old }
-    ensures moves { IfOk result (λ report. (h : Past) → StandFor history.old.network history.old.records h → MovesOn history.old.depth h line UndoMove report history.new.network history.new.records) }
+    ensures moves { IfOk result (λ report. (h : Past) → StandFor (topology_of history.old.network) history.old.records h → MovesOn history.old.depth h line UndoMove report (topology_of history.new.network) history.new.records) }
 {
     match history.undo(alloc, steps) {
         Ok(()) => Ok(None),

@@ -10,7 +10,7 @@ use Rattle.cb_history.specs.Records.{StandFor}
 use Rattle.cb_history.proofs.Recorded.{edit_is_recorded, last_is_taken}
 use Rattle.cb_history.proofs.Taken.{inverse_takes_back}
 use Rattle.cb_inverse.specs.declared.inverse.Inverse.{Inverse}
-use Rattle.cb_inverse.specs.Inverses.{inverse_edits}
+use Rattle.cb_inverse.specs.Inverses.{inverse_edits, HasAgain}
 use Rattle.cb_history.specs.Inverse.{AllMake, Inverts}
 use Rattle.cb_history.proofs.Recorded.{all_make_one, made_regular}
 use Rattle.cb_network.specs.Sound.{Sound}
@@ -85,7 +85,7 @@ first_undoes t depth inverses count capacity x kept some is =
 pub makes_first : (t u : Topology) (inverses new : List Inverse) (x : Inverse) (s s' : ℕ) → FirstUndoes t inverses x → new ≡ drop 1 inverses → MakesAll t (inverse_edits x) u s s'
     → MakesFirst t inverses u new s s'
 makes_first t u inverses new x s s' f rest makes = record {
-  regular = made_regular f.before x.again t f.inverts.regular f.inverts.after;
+  regular = made_regular f.before f.inverts.edit t f.inverts.undoes.regular f.inverts.undoes.after;
   inverse = x;
   is = f.is ∙ ap (λ xs. x ∷ xs) (sym (rest ∙ ap (λ xs. drop 1 xs) f.is));
   makes = makes;
@@ -96,7 +96,7 @@ pub last_keeps : (t u : Topology) (depth : ℕ) (inverses new : List Inverse) (c
     → FirstUndoes t inverses x → new ≡ drop 1 inverses → count' + 1 ≡ count → capacity' ≡ capacity → MakesAll t (inverse_edits x) u s s' → AreInverses u depth new count' capacity'
 last_keeps t u depth inverses new count capacity count' capacity' x s s' kept f rest fewer same makes =
     let can = inverse_can f.before t x f.inverts in
-    let back : u ≡ f.before = all_make_one t (inverse_edits x) u f.before can.regular makes.make (inverse_takes_back f.before t x.again (inverse_edits x) f.inverts.regular f.inverts.sound f.inverts.after f.inverts.inverts) in
+    let back : u ≡ f.before = all_make_one t (inverse_edits x) u f.before can.regular makes.make (inverse_takes_back f.before t f.inverts.edit (inverse_edits x) f.inverts.undoes.regular f.inverts.undoes.sound f.inverts.undoes.after f.inverts.undoes.inverts) in
     let new_is : new ≡ f.rest = rest ∙ ap (λ xs. drop 1 xs) f.is in
     let long = kept.long in
     let few = kept.few in
@@ -114,14 +114,13 @@ last_keeps t u depth inverses new count capacity count' capacity' x s s' kept f 
 
 -- what is kept once an edit is made
 pub edit_keeps : (t u : Topology) (depth : ℕ) (edit : Edit) (inverses new : List Inverse) (count capacity count' capacity' : ℕ) (i : Inverse) → AreInverses t depth inverses count capacity
-    → Sound t → IsRegular t.model → IsAfter t edit (Ok u) → i.again ≡ edit → Inverts t edit (inverse_edits i) → new ≡ take depth (i ∷ inverses) → count' ≡ min depth (count + 1) → capacity' ≡ capacity
+    → Sound t → IsRegular t.model → IsAfter t edit (Ok u) → HasAgain edit i → Inverts t edit (inverse_edits i) → new ≡ take depth (i ∷ inverses) → count' ≡ min depth (count + 1) → capacity' ≡ capacity
     → AreInverses u depth new count' capacity'
 edit_keeps t u depth edit inverses new count capacity count' capacity' i kept sound regular after again inverts is counts same =
     let inverse : IsInverseOf t u i = record {
-      sound = sound;
-      regular = regular;
-      after = subst (λ e. IsAfter t e (Ok u)) (sym again) after;
-      inverts = subst (λ e. Inverts t e (inverse_edits i)) (sym again) inverts;
+      edit = edit;
+      undoes = record { sound = sound; regular = regular; after = after; inverts = inverts };
+      again = again;
     } in
     let back = fewer_undo depth u (i ∷ inverses) (t ∷ kept.before) (inverse, kept.back) in
     let more = kept.more in

@@ -20,12 +20,14 @@ use Rattle.cb_history.proofs.Again.{part_is_made_again}
 use Rattle.cb_history.proofs.Recorded.{all_make_one, made_regular, all_made_regular}
 use Rattle.cb_history.proofs.Taken.{inverse_takes_back, inverse_is_good_named}
 use Rattle.cb_inverse.specs.declared.inverse.Inverse.{Inverse}
-use Rattle.cb_inverse.specs.Inverses.{inverse_edits, rest_of}
+use Rattle.cb_inverse.specs.declared.inverse.Inverse.TheVariants.{Rebuild}
+use Rattle.cb_inverse.specs.declared.rebuild.Rebuild.{Rebuild as TheRebuild}
+use Rattle.cb_inverse.specs.Inverses.{inverse_edits, rebuild_edits, rest_of}
 use Rattle.cb_topo.specs.Applied.{Applies, Prevents, MayGrow}
 use Rattle.cb_topo.specs.Numbered.{Numbered, topology_of}
 use Rattle.cb_topo.specs.declared.fault.EditFault.{EditFault}
 use Rattle.cb_topo.specs.declared.fault.EditFault.TheVariants.{Refused, NoMemory}
-use Rattle.cb_undo.specs.Kept.{IsInverseOf}
+use Rattle.cb_undo.specs.Kept.{IsInverseOf, Undoes}
 use Rattle.cb_undo.specs.Made.{CanAllBeMade, MakesAll, MakesPrefix, CountsDeleted}
 
 all_after : (t : Topology) (edits : List Edit) (u : Topology) → AllMake t edits u → IsAfterAll t edits u
@@ -151,14 +153,21 @@ prefix_of_second t xs ys v u s s' s'' regular a f = record {
   makes = makes_joined t xs f.prefix v u s s' s'' regular a f.makes;
 }
 
--- the edits of an inverse can be made
-pub inverse_can : (before t : Topology) (inverse : Inverse) → IsInverseOf before t inverse → CanAllBeMade t (inverse_edits inverse)
-inverse_can before t inverse is = record {
-  regular = made_regular before inverse.again t is.regular is.after;
-  good = inverse_is_good_named before t inverse.again (inverse_edits inverse) is.sound is.after is.inverts;
+-- edits that undo an edit can be made
+pub undoing_can : (before t : Topology) (edit : Edit) (edits : List Edit) → Undoes before t edit edits → CanAllBeMade t edits
+undoing_can before t edit edits is = record {
+  regular = made_regular before edit t is.regular is.after;
+  good = inverse_is_good_named before t edit edits is.sound is.after is.inverts;
   last = before;
-  make = inverse_takes_back before t inverse.again (inverse_edits inverse) is.regular is.sound is.after is.inverts;
+  make = inverse_takes_back before t edit edits is.regular is.sound is.after is.inverts;
 }
+
+pub inverse_can : (before t : Topology) (inverse : Inverse) → IsInverseOf before t inverse → CanAllBeMade t (inverse_edits inverse)
+inverse_can before t inverse is = undoing_can before t is.edit (inverse_edits inverse) is.undoes
+
+-- those of a rebuild undo the edit that it has a copy of
+pub rebuild_undoes : (before t : Topology) (edits : TheRebuild) → IsInverseOf before t (Rebuild edits) → Undoes before t edits.again (rebuild_edits edits)
+rebuild_undoes before t edits is = subst (λ e. Undoes before t e (rebuild_edits edits)) (sym is.again) is.undoes
 
 one_has_no_prefix : (first back next : Edit) (prefix rest : List Edit) → first ∷ (prefix ++ next ∷ rest) ≡ back ∷ [] → ⊥
 one_has_no_prefix first back next [] rest e = cc
@@ -193,46 +202,46 @@ deletes t (Delete name) first next prefix rest b =
     heads : (x y : Edit) (xs ys : List Edit) → x ∷ xs ≡ y ∷ ys → x ≡ y
     heads x y xs ys e = cc
 
--- where only a prefix of an inverse was made, the edit can be made again
-module _ (before t mid between : Topology) (inverse : Inverse) (is : IsInverseOf before t inverse) (s s' s'' : ℕ)
-    (first : MakesAll t (inverse.first ∷ []) mid s s') (f : MakesPrefix mid (rest_of inverse) between s' s'') where
-  inverts : Inverts before inverse.again (inverse.first ∷ (f.prefix ++ f.next ∷ f.rest))
-  inverts = subst (λ es. Inverts before inverse.again (inverse.first ∷ es)) f.is is.inverts
+-- where only a prefix of a rebuild was made, the edit can be made again
+module _ (before t mid between : Topology) (edits : TheRebuild) (is : Undoes before t edits.again (rebuild_edits edits)) (s s' s'' : ℕ)
+    (first : MakesAll t (edits.create ∷ []) mid s s') (f : MakesPrefix mid (rest_of edits) between s' s'') where
+  inverts : Inverts before edits.again (edits.create ∷ (f.prefix ++ f.next ∷ f.rest))
+  inverts = subst (λ es. Inverts before edits.again (edits.create ∷ es)) f.is is.inverts
 
   regular : IsRegular t.model
-  regular = made_regular before inverse.again t is.regular is.after
+  regular = made_regular before edits.again t is.regular is.after
 
-  made : MakesAll t (inverse.first ∷ f.prefix) between s s''
-  made = makes_joined t (inverse.first ∷ []) f.prefix mid between s s' s'' regular first f.makes
+  made : MakesAll t (edits.create ∷ f.prefix) between s s''
+  made = makes_joined t (edits.create ∷ []) f.prefix mid between s s' s'' regular first f.makes
 
-  pub again_after : IsAfter between inverse.again (Ok t)
-  again_after = part_is_made_again before t between inverse.again inverse.first f.next f.prefix f.rest is.regular is.sound is.after inverts made.make
+  pub again_after : IsAfter between edits.again (Ok t)
+  again_after = part_is_made_again before t between edits.again edits.create f.next f.prefix f.rest is.regular is.sound is.after inverts made.make
 
   pub between_regular : IsRegular between.model
-  between_regular = all_made_regular t (inverse.first ∷ f.prefix) between regular made.make
+  between_regular = all_made_regular t (edits.create ∷ f.prefix) between regular made.make
 
-  is_delete : Deletes inverse.again inverse.first
-  is_delete = deletes before inverse.again inverse.first f.next f.prefix f.rest inverts
+  is_delete : Deletes edits.again edits.create
+  is_delete = deletes before edits.again edits.create f.next f.prefix f.rest inverts
 
-  pub again_is_free : ¬ MayGrow inverse.again
+  pub again_is_free : ¬ MayGrow edits.again
   again_is_free grows = absurd (subst MayGrow is_delete.edit_is grows)
 
-  pub again_good : HasGoodName inverse.again
+  pub again_good : HasGoodName edits.again
   again_good = subst HasGoodName (sym is_delete.edit_is) tt
 
-  pub again_leads : (u : Topology) → AllMake between (inverse.again ∷ []) u → u ≡ t
-  again_leads u make = all_make_one between (inverse.again ∷ []) u t between_regular make (t, again_after, refl)
+  pub again_leads : (u : Topology) → AllMake between (edits.again ∷ []) u → u ≡ t
+  again_leads u make = all_make_one between (edits.again ∷ []) u t between_regular make (t, again_after, refl)
 
-  pub again_counts : (u : Topology) (s''' : ℕ) → MakesAll between (inverse.again ∷ []) u s'' s''' → CountsDeleted t (inverse_edits inverse) s s'''
+  pub again_counts : (u : Topology) (s''' : ℕ) → MakesAll between (edits.again ∷ []) u s'' s''' → CountsDeleted t (rebuild_edits edits) s s'''
   again_counts u s''' makes =
       let d = is_delete in
-      let all = makes_joined t (inverse.first ∷ f.prefix) (inverse.again ∷ []) between u s s'' s''' regular made makes in
+      let all = makes_joined t (edits.create ∷ f.prefix) (edits.again ∷ []) between u s s'' s''' regular made makes in
       record {
         name = d.name;
         class = d.class;
         prefix = f.prefix;
         rest = f.next ∷ f.rest;
-        is = ap (λ es. inverse.first ∷ es) f.is ∙ ap (λ e. e ∷ (f.prefix ++ f.next ∷ f.rest)) d.first_is;
+        is = ap (λ es. edits.create ∷ es) f.is ∙ ap (λ e. e ∷ (f.prefix ++ f.next ∷ f.rest)) d.first_is;
         cost = subst (λ e. CountsAtMost (IsCostInTurn t (e ∷ (f.prefix ++ Delete d.name ∷ []))) s s''') d.first_is
-            (subst (λ e. CountsAtMost (IsCostInTurn t (inverse.first ∷ (f.prefix ++ e ∷ []))) s s''') d.edit_is all.cost);
+            (subst (λ e. CountsAtMost (IsCostInTurn t (edits.create ∷ (f.prefix ++ e ∷ []))) s s''') d.edit_is all.cost);
       }

@@ -1,19 +1,26 @@
 -- The inverses that are kept.
 use Rattle.std.specs.Prelude.{◌≡◌, ◌<◌, ◌≤◌, ◌∷◌, [], ℕ, List, Ok, length}
+use Rattle.cb_network.specs.declared.edit.Edit.{Edit}
 use Rattle.cb_network.specs.Topology.{Topology}
 use Rattle.cb_network.specs.Sound.{Sound}
 use Rattle.cb_network.specs.Regular.{IsRegular}
 use Rattle.cb_network.specs.Edits.{IsAfter}
 use Rattle.cb_history.specs.Inverse.{Inverts}
 use Rattle.cb_inverse.specs.declared.inverse.Inverse.{Inverse}
-use Rattle.cb_inverse.specs.Inverses.{inverse_edits}
+use Rattle.cb_inverse.specs.Inverses.{inverse_edits, HasAgain}
+
+-- these edits undo this one, which made u of t
+pub record Undoes (t u : Topology) (edit : Edit) (edits : List Edit) : Type 0 where
+  pub sound : Sound t
+  pub regular : IsRegular t.model
+  pub after : IsAfter t edit (Ok u)
+  pub inverts : Inverts t edit edits
 
 -- it undoes the edit that made u of t
 pub record IsInverseOf (t u : Topology) (inverse : Inverse) : Type 0 where
-  pub sound : Sound t
-  pub regular : IsRegular t.model
-  pub after : IsAfter t inverse.again (Ok u)
-  pub inverts : Inverts t inverse.again (inverse_edits inverse)
+  pub edit : Edit
+  pub undoes : Undoes t u edit (inverse_edits inverse)
+  pub again : HasAgain edit inverse
 
 -- the first undoes the edit that made the topology, the next one the edit before that, and so on
 abbrev pub UndoInTurn : Topology → List Inverse → List Topology → Type 0

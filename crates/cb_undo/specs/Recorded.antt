@@ -7,7 +7,7 @@ use Rattle.cb_network.specs.Regular.{IsRegular}
 use Rattle.cb_network.specs.Edits.{IsAccepted, IsRefused}
 use Rattle.cb_history.specs.Inverse.{Inverts}
 use Rattle.cb_inverse.specs.declared.inverse.Inverse.{Inverse}
-use Rattle.cb_inverse.specs.Inverses.{inverse_edits}
+use Rattle.cb_inverse.specs.Inverses.{inverse_edits, HasAgain}
 use Rattle.cb_topo.specs.declared.fault.EditFault.{EditFault}
 use Rattle.cb_topo.specs.declared.fault.EditFault.TheVariants.{Refused, NoMemory}
 
@@ -16,7 +16,7 @@ pub record KeepsInverse (t : Topology) (edit : Edit) (depth : ℕ) (old new : Li
   pub sound : Sound t
   pub regular : IsRegular t.model
   pub inverse : Inverse
-  pub again : inverse.again ≡ edit
+  pub again : HasAgain edit inverse
   pub inverts : Inverts t edit (inverse_edits inverse)
   pub is : new ≡ take depth (inverse ∷ old)
 

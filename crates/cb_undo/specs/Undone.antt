@@ -7,6 +7,7 @@ use Rattle.cb_network.specs.Topology.{Topology}
 use Rattle.cb_network.specs.Regular.{IsRegular}
 use Rattle.cb_inverse.specs.declared.inverse.Inverse.{Inverse}
 use Rattle.cb_inverse.specs.Inverses.{inverse_edits}
+use Rattle.cb_topo.specs.Numbered.{Numbered, topology_of}
 use Rattle.cb_undo.specs.declared.fault.UndoFault.{UndoFault}
 use Rattle.cb_undo.specs.declared.fault.UndoFault.TheVariants.{Nothing, NoMemory}
 use Rattle.cb_undo.specs.Made.{MakesAll, CountsPart}
@@ -27,6 +28,11 @@ pub record CountsFailure (t : Topology) (old : List Inverse) (steps new_steps : 
 abbrev pub StopsUndo : {X : Type 0} → List X → UndoFault → Type 0
 StopsUndo records Nothing = records ≡ []
 StopsUndo records NoMemory = records ≢ []
+
+-- what is left of the network: all of it where there is nothing to undo, and else the topology, perhaps by other numbers
+abbrev pub LeavesNetwork : Numbered → Numbered → UndoFault → Type 0
+LeavesNetwork old new Nothing = new ≡ old
+LeavesNetwork old new NoMemory = topology_of new ≡ topology_of old
 
 -- no more steps were counted than the edits of the first record cost in turn
 pub record CountsUndo (t : Topology) (records : List (List Edit)) (steps new_steps : ℕ) : Type 0 where

@@ -1,13 +1,13 @@
 //! A topology whose last edits can be undone.
-ghost use Rattle.std.specs.Prelude.{◌≡◌, ◌≤◌, false, Ok, length, IfOk, IfErr, OnOk, OnErr};
+ghost use Rattle.std.specs.Prelude.{◌≡◌, ◌≤◌, false, length, IfOk, IfErr, OnOk, OnErr};
 ghost use Rattle.cb_change.specs.Costs.{CountsAtMost, IsEditCost};
-ghost use Rattle.cb_network.specs.Edits.{IsAfter};
 ghost use Rattle.cb_network.specs.Laws.{HasGoodName};
 ghost use Rattle.cb_history.specs.Histories.{History as Past, new_history, edited, undone};
 ghost use Rattle.cb_history.specs.Records.{StandFor};
+ghost use Rattle.cb_topo.specs.Applied.{Applies};
 ghost use Rattle.cb_topo.specs.Numbered.{topology_of};
 ghost use Rattle.cb_undo.specs.Recorded.{StopsEdit};
-ghost use Rattle.cb_undo.specs.Undone.{CountsUndo, CountsFailedUndo, StopsUndo};
+ghost use Rattle.cb_undo.specs.Undone.{CountsUndo, CountsFailedUndo, LeavesNetwork, StopsUndo};
 
 use crate::edited::EditedTopology;
 use crate::fault::UndoFault;
@@ -42,7 +42,7 @@ impl<N: EditedTopology> Model for History<N> {
 
     ghost coded = { undoable_encoding };
 
-    ghost view = { λ h. undoable_of (topology_of (N.numbered h.network)) h.depth h.inverses.items };
+    ghost view = { λ h. undoable_of (N.numbered h.network) h.depth h.inverses.items };
 
     ghost invariant = { λ h. AreInverses (topology_of (N.numbered h.network)) h.depth h.inverses.items (deque_len h.inverses) (deque_capacity h.inverses) };
 }
@@ -54,7 +54,8 @@ impl<N: EditedTopology> History<N> {
         requires some { 1 ≤ depth }
         requires few { depth ≤ 1024 }
         ensures depth { IfOk result (λ h. h.depth ≡ depth) }
-        ensures stands { IfOk result (λ h. StandFor h.network h.records (new_history (topology_of (N.numbered network)))) }
+        ensures network { IfOk result (λ h. h.network ≡ N.numbered network) }
+        ensures stands { IfOk result (λ h. StandFor (topology_of h.network) h.records (new_history (topology_of (N.numbered network)))) }
     {
         let inverses = VecDeque::with_capacity(alloc, depth + 1)?;
         Ok(History {
@@ -66,14 +67,14 @@ impl<N: EditedTopology> History<N> {
 
     /// The network, to be read. What it keeps up to date is right by its own invariant: the rows of a cache are those of this topology.
     pub fn network(&self) -> &N
-        ensures { topology_of (N.numbered result.now) ≡ self.now.network }
+        ensures { N.numbered result.now ≡ self.now.network }
     {
         &self.network
     }
 
     /// The network alone.
     pub fn into_network(self) -> N
-        ensures { topology_of (N.numbered result) ≡ self.network }
+        ensures { N.numbered result ≡ self.network }
     {
         let History { network, .. } = self;
         network
@@ -96,11 +97,11 @@ impl<N: EditedTopology> History<N> {
     ) -> Result<(), EditFault>
         requires { HasGoodName edit.now }
         ensures depth { self.new.depth ≡ self.old.depth }
-        ensures made { OnOk result (IsAfter self.old.network edit.now (Ok self.new.network)) }
-        ensures stands { OnOk result ((h : Past) → StandFor self.old.network self.old.records h → StandFor self.new.network self.new.records (edited self.old.depth h self.new.network)) }
-        ensures fault { IfErr result (StopsEdit self.old.network edit.now) }
+        ensures made { OnOk result (Applies self.old.network edit.now self.new.network) }
+        ensures stands { OnOk result ((h : Past) → StandFor (topology_of self.old.network) self.old.records h → StandFor (topology_of self.new.network) self.new.records (edited self.old.depth h (topology_of self.new.network))) }
+        ensures fault { IfErr result (StopsEdit (topology_of self.old.network) edit.now) }
         ensures same { OnErr result (self.new ≡ self.old) }
-        ensures cost { OnOk result (CountsAtMost (IsEditCost self.old.network edit.now self.new.network) steps.old steps.new) }
+        ensures cost { OnOk result (CountsAtMost (IsEditCost (topology_of self.old.network) edit.now (topology_of self.new.network)) steps.old steps.new) }
         ensures none { N.counts_steps ≡ false → steps.new ≡ steps.old }
         ensures steps { OnErr result (steps.new ≡ steps.old) }
     {
@@ -114,16 +115,17 @@ impl<N: EditedTopology> History<N> {
         )
     }
 
-    /// Undoes the last edit. Where memory runs out in the middle of the undo of a Delete, the instance is deleted again, and these steps
-    /// are counted as well.
+    /// Undoes the last edit. Where memory runs out in the middle of the undo of a Delete, the instance is deleted again: these steps are
+    /// counted as well, and there may be more numbers than before.
     pub fn undo<L: Ledger>(&mut self, alloc: Global, steps: &mut Steps<L>) -> Result<(), UndoFault>
         ensures depth { self.new.depth ≡ self.old.depth }
-        ensures stands { OnOk result ((h : Past) → StandFor self.old.network self.old.records h → StandFor self.new.network self.new.records (undone h)) }
+        ensures stands { OnOk result ((h : Past) → StandFor (topology_of self.old.network) self.old.records h → StandFor (topology_of self.new.network) self.new.records (undone h)) }
         ensures fault { IfErr result (StopsUndo self.old.records) }
-        ensures same { OnErr result (self.new ≡ self.old) }
-        ensures cost { OnOk result (CountsUndo self.old.network self.old.records steps.old steps.new) }
+        ensures same { IfErr result (LeavesNetwork self.old.network self.new.network) }
+        ensures records { OnErr result (self.new.records ≡ self.old.records) }
+        ensures cost { OnOk result (CountsUndo (topology_of self.old.network) self.old.records steps.old steps.new) }
         ensures none { N.counts_steps ≡ false → steps.new ≡ steps.old }
-        ensures failed { OnErr result (CountsFailedUndo self.old.network self.old.records steps.old steps.new) }
+        ensures failed { OnErr result (CountsFailedUndo (topology_of self.old.network) self.old.records steps.old steps.new) }
     {
         undo_last(alloc, &mut self.network, &mut self.inverses, steps)
     }

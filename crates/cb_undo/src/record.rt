@@ -1,10 +1,10 @@
 //! An edit, and the record of its inverse.
-ghost use Rattle.std.specs.Prelude.{◌≡◌, false, Ok, OnOk, OnErr, IfErr};
+ghost use Rattle.std.specs.Prelude.{◌≡◌, false, OnOk, OnErr, IfErr};
 ghost use Rattle.std.specs.VecDeque.{deque_len, deque_capacity};
 ghost use Rattle.cb_change.specs.Costs.{CountsAtMost, IsEditCost};
-ghost use Rattle.cb_network.specs.Edits.{IsAfter};
 ghost use Rattle.cb_network.specs.Laws.{HasGoodName};
 ghost use Rattle.cb_topo.specs.Accepted.{IsDecided};
+ghost use Rattle.cb_topo.specs.Applied.{Applies};
 ghost use Rattle.cb_topo.specs.Numbered.{topology_of};
 ghost use Rattle.cb_undo.specs.Kept.{AreInverses};
 ghost use Rattle.cb_undo.specs.Recorded.{KeepsInverse, StopsEdit};
@@ -31,7 +31,7 @@ pub fn record<N: EditedTopology, L: Ledger>(
     requires name { HasGoodName edit.now }
     requires kept { AreInverses (topology_of (N.numbered network.old)) depth inverses.old.items (deque_len inverses.old) (deque_capacity inverses.old) }
     ensures kept { AreInverses (topology_of (N.numbered network.new)) depth inverses.new.items (deque_len inverses.new) (deque_capacity inverses.new) }
-    ensures made { OnOk result (IsAfter (topology_of (N.numbered network.old)) edit.now (Ok (topology_of (N.numbered network.new)))) }
+    ensures made { OnOk result (Applies (N.numbered network.old) edit.now (N.numbered network.new)) }
     ensures keeps { OnOk result (KeepsInverse (topology_of (N.numbered network.old)) edit.now depth inverses.old.items inverses.new.items) }
     ensures cost { OnOk result (CountsAtMost (IsEditCost (topology_of (N.numbered network.old)) edit.now (topology_of (N.numbered network.new))) steps.old steps.new) }
     ensures none { N.counts_steps ≡ false → steps.new ≡ steps.old }
@@ -58,7 +58,7 @@ fn record_accepted<N: EditedTopology, L: Ledger>(
     requires decided { IsDecided (N.numbered network.old) accepted.now }
     requires kept { AreInverses (topology_of (N.numbered network.old)) depth inverses.old.items (deque_len inverses.old) (deque_capacity inverses.old) }
     ensures kept { AreInverses (topology_of (N.numbered network.new)) depth inverses.new.items (deque_len inverses.new) (deque_capacity inverses.new) }
-    ensures made { OnOk result (IsAfter (topology_of (N.numbered network.old)) accepted.now.edit.now (Ok (topology_of (N.numbered network.new)))) }
+    ensures made { OnOk result (Applies (N.numbered network.old) accepted.now.edit.now (N.numbered network.new)) }
     ensures keeps { OnOk result (KeepsInverse (topology_of (N.numbered network.old)) accepted.now.edit.now depth inverses.old.items inverses.new.items) }
     ensures cost { OnOk result (CountsAtMost (IsEditCost (topology_of (N.numbered network.old)) accepted.now.edit.now (topology_of (N.numbered network.new))) steps.old steps.new) }
     ensures none { N.counts_steps ≡ false → steps.new ≡ steps.old }

@@ -3,7 +3,7 @@ ghost use Rattle.std.specs.Prelude.{◌≡◌, ◌<◌, ◌+◌, ℕ, false, dro
 ghost use Rattle.std.specs.VecDeque.{deque_len, deque_capacity};
 ghost use Rattle.cb_topo.specs.Numbered.{topology_of};
 ghost use Rattle.cb_undo.specs.Kept.{AreInverses};
-ghost use Rattle.cb_undo.specs.Undone.{MakesFirst, CountsFailure, StopsUndo};
+ghost use Rattle.cb_undo.specs.Undone.{MakesFirst, CountsFailure, LeavesNetwork, StopsUndo};
 
 use crate::edited::EditedTopology;
 use crate::fault::UndoFault;
@@ -26,7 +26,7 @@ pub fn undo_last<N: EditedTopology, L: Ledger>(
         → AreInverses (topology_of (N.numbered network.new)) depth inverses.new.items (deque_len inverses.new) (deque_capacity inverses.new) }
     ensures makes { OnOk result (MakesFirst (topology_of (N.numbered network.old)) inverses.old.items (topology_of (N.numbered network.new)) inverses.new.items steps.old steps.new) }
     ensures fault { IfErr result (StopsUndo inverses.old.items) }
-    ensures same { OnErr result (topology_of (N.numbered network.new) ≡ topology_of (N.numbered network.old)) }
+    ensures same { IfErr result (LeavesNetwork (N.numbered network.old) (N.numbered network.new)) }
     ensures inverses { OnErr result (inverses.new.items ≡ inverses.old.items) }
     ensures none { N.counts_steps ≡ false → steps.new ≡ steps.old }
     ensures counts { OnErr result (CountsFailure (topology_of (N.numbered network.old)) inverses.old.items steps.old steps.new) }

@@ -1,4 +1,4 @@
-use Rattle.std.proofs.Common.{ℕ, [], ◌∙◌, subst}
+use Rattle.std.proofs.Common.{ℕ, [], ◌∙◌, ap, subst}
 use Rattle.cb_history.specs.Histories.{new_history}
 use Rattle.cb_topo.specs.Numbered.{topology_of}
 use Rattle.cb_network_commands.specs.Rewinding.{RunsOn}
@@ -8,12 +8,12 @@ pub returns-in-Ok-clause-rewound : goal.returns-in-Ok-clause-rewound
 returns-in-Ok-clause-rewound g c =
     let start = new_history (topology_of c.args.topology) in
     let new = c.run_script-reports.new.history in
-    let ran = subst (λ (d : ℕ). RunsOn d start c.args.script.now [] c.in-Ok.reports.items new.network new.records) c.in_ok-history.ensures.depth
+    let ran = subst (λ (d : ℕ). RunsOn d start c.args.script.now [] c.in-Ok.reports.items (topology_of new.network) new.records) c.in_ok-history.ensures.depth
     (c.in-Ok.ensures.runs start c.in_ok-history.ensures.stands) in
     record {
       reports = ran.reports;
       last = ran.last;
       rewinds = ran.rewinds;
-      now = c.into_network-topology.ensures ∙ ran.stands.now;
+      now = ap topology_of c.into_network-topology.ensures ∙ ran.stands.now;
       text_is = ran.text;
     }

@@ -3,6 +3,7 @@ use Rattle.std.proofs.lemmas.List.{take_more}
 use Rattle.std.proofs.lemmas.List.Elements.{All-get_or}
 use Rattle.cb_history.specs.declared.script.ScriptLine.{ScriptLine}
 use Rattle.cb_line_files.specs.Scripts.{HasGoodMove}
+use Rattle.cb_topo.specs.Numbered.{topology_of}
 use Rattle.cb_network_commands.specs.Rewinding.{RunsOn}
 use Rattle.cb_network_commands.proofs.Moving.{runs_none, runs_more}
 use Rattle.cb_network_commands.proofs.rewinding.run_script.Goals as goal
@@ -14,7 +15,7 @@ loop-line-init g c =
     record {
       depth = refl;
       steps = refl;
-      runs = λ h stands. subst (λ (text : List ℕ). RunsOn old.depth h [] [] text old.network old.records) (sym empty) (runs_none old.depth h [] old.network old.records stands);
+      runs = λ h stands. subst (λ (text : List ℕ). RunsOn old.depth h [] [] text (topology_of old.network) old.records) (sym empty) (runs_none old.depth h [] (topology_of old.network) old.records stands);
     }
 
 pub run_line-requires : goal.run_line-requires
@@ -36,9 +37,9 @@ loop-line-preserved g c =
       steps = c.in_ok-run_line.ensures.steps ∙ c.loop-line.invariant.steps;
       runs = λ h stands.
           let ran = c.loop-line.invariant.runs h stands in
-          let next = subst (λ (d : ℕ). RunsOn d ran.last (line ∷ []) c.loop-line.reports.items c.run_line.new.reports.items c.run_line.new.history.network c.run_line.new.history.records) same
+          let next = subst (λ (d : ℕ). RunsOn d ran.last (line ∷ []) c.loop-line.reports.items c.run_line.new.reports.items (topology_of c.run_line.new.history.network) c.run_line.new.history.records) same
           (c.in_ok-run_line.ensures.runs ran.last ran.stands) in
-          subst (λ (lines : List ScriptLine). RunsOn depth h lines [] c.run_line.new.reports.items c.run_line.new.history.network c.run_line.new.history.records) done
-          (runs_more depth h (take i script) (line ∷ []) [] c.loop-line.reports.items c.run_line.new.reports.items c.loop-line.history.network c.run_line.new.history.network
+          subst (λ (lines : List ScriptLine). RunsOn depth h lines [] c.run_line.new.reports.items (topology_of c.run_line.new.history.network) c.run_line.new.history.records) done
+          (runs_more depth h (take i script) (line ∷ []) [] c.loop-line.reports.items c.run_line.new.reports.items (topology_of c.loop-line.history.network) (topology_of c.run_line.new.history.network)
           c.loop-line.history.records c.run_line.new.history.records ran next);
     }

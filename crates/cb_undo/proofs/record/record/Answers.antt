@@ -1,9 +1,9 @@
-use Rattle.std.proofs.Common.{◌≡◌, Ok, sym, subst, ◌∙◌}
+use Rattle.std.proofs.Common.{◌≡◌, sym, subst}
 use Rattle.cb_change.specs.Costs.{CountsAtMost, IsEditCost}
 use Rattle.cb_network.specs.declared.edit.Edit.{Edit}
-use Rattle.cb_network.specs.Edits.{IsAfter}
 use Rattle.cb_network.specs.Laws.{HasGoodName}
 use Rattle.cb_topo.specs.Accepted.{IsDecided}
+use Rattle.cb_topo.specs.Applied.{Applies}
 use Rattle.cb_topo.specs.Numbered.{Numbered, topology_of}
 use Rattle.cb_undo.specs.Recorded.{KeepsInverse}
 use Rattle.cb_undo.proofs.record.record.Goals as goal
@@ -18,7 +18,7 @@ record_accepted-requires-clause-decided g c =
 
 pub returns-clause-made : goal.returns-clause-made
 returns-clause-made g c =
-    subst (λ (e : Edit). IsAfter (topology_of (g.N.EditedTopology.numbered c.args.network.now)) e (Ok (topology_of (g.N.EditedTopology.numbered c.record_accepted.new.network)))) c.in_ok-accepted.ensures.edit c.in_ok-record_accepted.ensures.made
+    subst (λ (e : Edit). Applies (g.N.EditedTopology.numbered c.args.network.now) e (g.N.EditedTopology.numbered c.record_accepted.new.network)) c.in_ok-accepted.ensures.edit c.in_ok-record_accepted.ensures.made
 
 pub returns-clause-keeps : goal.returns-clause-keeps
 returns-clause-keeps g c =

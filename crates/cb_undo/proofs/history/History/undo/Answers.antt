@@ -15,7 +15,7 @@ returns-clause-stands g c =
     let t = topology_of (g.N.EditedTopology.numbered i.network) in
     let new = c.undo_last.new in
     let u = topology_of (g.N.EditedTopology.numbered new.network) in
-    subst (λ (v : Undoable). OnOk c.undo_last.result ((h : Past) → StandFor v.network v.records h → StandFor u (map inverse_edits new.inverses.items) (undone h))) c.self.view_is
+    subst (λ (v : Undoable). OnOk c.undo_last.result ((h : Past) → StandFor (topology_of v.network) v.records h → StandFor u (map inverse_edits new.inverses.items) (undone h))) c.self.view_is
     (on_ok_weaker c.undo_last.result (λ (takes : MakesFirst t i.inverses.items u new.inverses.items c.args.steps.now new.steps) (h : Past) (stand : StandFor t (map inverse_edits i.inverses.items) h).
     rest_stand t u i.inverses.items new.inverses.items c.args.steps.now new.steps h takes stand) c.undo_last.ensures.makes)
 
@@ -24,7 +24,7 @@ returns-clause-cost g c =
     let i = c.self.inside in
     let t = topology_of (g.N.EditedTopology.numbered i.network) in
     let new = c.undo_last.new in
-    subst (λ (v : Undoable). OnOk c.undo_last.result (CountsUndo v.network v.records c.args.steps.now new.steps)) c.self.view_is
+    subst (λ (v : Undoable). OnOk c.undo_last.result (CountsUndo (topology_of v.network) v.records c.args.steps.now new.steps)) c.self.view_is
     (on_ok_weaker c.undo_last.result (λ (takes : MakesFirst t i.inverses.items (topology_of (g.N.EditedTopology.numbered new.network)) new.inverses.items c.args.steps.now new.steps).
     counts_undo t (topology_of (g.N.EditedTopology.numbered new.network)) i.inverses.items new.inverses.items c.args.steps.now new.steps takes) c.undo_last.ensures.makes)
 
@@ -33,6 +33,6 @@ returns-clause-failed g c =
     let i = c.self.inside in
     let t = topology_of (g.N.EditedTopology.numbered i.network) in
     let new = c.undo_last.new in
-    subst (λ (v : Undoable). OnErr c.undo_last.result (CountsFailedUndo v.network v.records c.args.steps.now new.steps)) c.self.view_is
+    subst (λ (v : Undoable). OnErr c.undo_last.result (CountsFailedUndo (topology_of v.network) v.records c.args.steps.now new.steps)) c.self.view_is
     (on_err_weaker c.undo_last.result (λ (fails : CountsFailure t i.inverses.items c.args.steps.now new.steps).
     counts_failed t i.inverses.items c.args.steps.now new.steps fails) c.undo_last.ensures.counts)
