@@ -2,7 +2,7 @@
 ghost use Rattle.std.specs.Prelude.{◌≡◌, ◌<◌, ◌≤◌, ◌+◌, ◌^◌, ◌↔◌, ℕ, length, replicate, false, IfOk, OnOk};
 ghost use Rattle.cb_successors.specs.Rows.{Has};
 ghost use Rattle.cb_breadth.specs.Lists.{AreBelow, AreRisingNumbers};
-ghost use Rattle.cb_breadth.specs.Trees.{IsTree, IsVisited};
+ghost use Rattle.cb_breadth.specs.Trees.{CountsReached, IsTree, IsVisited};
 ghost use Rattle.cb_breadth.specs.Levels.{IsLevelTree, CountsVisits};
 ghost use Rattle.cb_breadth.specs.Orders.{IsOrder, Follows};
 ghost use Rattle.cb_breadth.specs.Successors.{AreSuccessors};
@@ -55,6 +55,7 @@ pub fn tree<L: Ledger, G: Edges>(
     ensures tree { IfOk result (λ visits. IsTree (Follows (G.edge graph.old) order.now.nodes.items) root visits.items) }
     ensures known { OnOk result (IsSearchOf (G.edge graph.old) order.now searches.new) }
     ensures asked { IfOk result (λ visits. steps.new ≤ steps.old + length visits.items) }
+    ensures reached { CountsReached (Follows (G.edge graph.old) order.now.nodes.items) root (length order.now.nodes.items) steps.old steps.new }
 {
     let visits = grow(
         alloc,
@@ -121,6 +122,7 @@ fn grow<L: Ledger, G: Edges>(
     ensures found { IfOk result (λ visits. (node : ℕ) → Has found.new node ↔ IsVisited visits.items node) }
     ensures capacity { OnOk result (length found.new ≡ length order.now.nodes.items) }
     ensures asked { IfOk result (λ visits. steps.new ≤ steps.old + length visits.items) }
+    ensures reached { CountsReached (Follows (G.edge graph.old) order.now.nodes.items) root (length order.now.nodes.items) steps.old steps.new }
 {
     found.set(root as usize);
     let mut visits = Vec::new(alloc);

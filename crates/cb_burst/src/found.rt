@@ -8,7 +8,6 @@ ghost use Rattle.cb_finding.specs.Matrix.{IsMatrix};
 ghost use Rattle.cb_topo.specs.Numbered.{topology_of};
 ghost use Rattle.cb_burst.specs.Found.{IsSmallMatrix, IsFoundIn};
 
-use cb_cache::Cache;
 use cb_decode::find;
 use cb_finding::Finding;
 use cb_graph::Graph;
@@ -20,7 +19,7 @@ use cb_topo::Topology;
 use std::alloc::{AllocError, Global};
 use std::sync::ledger::Ledger;
 
-/// The matrix of the topology. The memory of the rows that it is taken from is given back.
+/// The matrix of the topology.
 pub fn matrix_of<L: Ledger>(
     alloc: Global,
     topology: Topology,
@@ -31,9 +30,8 @@ pub fn matrix_of<L: Ledger>(
     ensures few_groups { IfOk result (λ matrix. length matrix.groups ≤ problem_limit + 1) }
     ensures cost { (cost : ℕ) → IsOpenCost (topology_of topology) cost → steps.new ≤ steps.old + cost }
 {
-    let graph = Graph::new(alloc, topology)?;
-    let cache = Cache::open(alloc, graph, steps)?;
-    Matrix::of(alloc, &cache)
+    let mut graph = Graph::new(alloc, topology)?;
+    Matrix::search(alloc, &mut graph, steps)
 }
 
 /// The groups of a matrix that are nearest to the raised nodes, over all its columns.

@@ -20,3 +20,4 @@ pub mod Linked
 pub mod Extending
 pub mod Growth
 pub mod Creating
+pub mod Owned

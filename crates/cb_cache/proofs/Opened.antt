@@ -26,7 +26,7 @@ use Rattle.cb_cache.specs.Numbers.{AreOnce, AreProblemNumbers}
 use Rattle.cb_cache.specs.Kept.{OwnSlots, AreRight}
 
 -- the name of a listed number, and the number of a listed name
-name_of : (n : Numbered) (ids : List NodeId) (names : List NodeName) → AreNamed n ids names → (id : NodeId) → Contains ids id → (name : NodeName) × Contains names name × IsNodeNamed n id name
+pub name_of : (n : Numbered) (ids : List NodeId) (names : List NodeName) → AreNamed n ids names → (id : NodeId) → Contains ids id → (name : NodeName) × Contains names name × IsNodeNamed n id name
 name_of n [] names zip id has = absurd (nothing_in_empty id has)
 name_of n (a ∷ ids) [] zip id has = absurd zip
 name_of n (a ∷ ids) (x ∷ names) zip id has = elim (contains_cases a ids id has) [
@@ -34,7 +34,7 @@ name_of n (a ∷ ids) (x ∷ names) zip id has = elim (contains_cases a ids id h
   | inr later ↦ let f = name_of n ids names zip.1 id later in (f.0, contains_tail x names f.0 f.1, f.2)
 ]
 
-number_of : (n : Numbered) (ids : List NodeId) (names : List NodeName) → AreNamed n ids names → (name : NodeName) → Contains names name → (id : NodeId) × Contains ids id × IsNodeNamed n id name
+pub number_of : (n : Numbered) (ids : List NodeId) (names : List NodeName) → AreNamed n ids names → (name : NodeName) → Contains names name → (id : NodeId) × Contains ids id × IsNodeNamed n id name
 number_of n [] [] zip name has = absurd (nothing_in_empty name has)
 number_of n [] (x ∷ names) zip name has = absurd zip
 number_of n (a ∷ ids) [] zip name has = absurd zip

@@ -10,7 +10,7 @@ use Rattle.cb_model.proofs.Rising.{node_cmp_total, node_cmp_exact}
 use Rattle.cb_network.specs.Causes.{Causes}
 use Rattle.cb_network.specs.Nodes.{IsCount, IsNodeOf}
 use Rattle.cb_change.proofs.Kept.{caused_is_node}
-use Rattle.cb_network.proofs.Sets.{in_insert}
+use Rattle.cb_network.proofs.Sets.{in_insert, len_of_part}
 use Rattle.cb_nodes.specs.declared.id.NodeId.{NodeId}
 use Rattle.cb_successors.specs.Rows.{Has, ones}
 use Rattle.cb_successors.specs.Graphs.{EdgeChain, LeadsTo}
@@ -168,3 +168,21 @@ module _ (n : Numbered) (whole : IsWhole n) where
         (there.0, there.1, (lead_to_caused n whole i k name there.0 named there.1).0 leads),
     λ (caused, is, causes). (reached k).1 ((lead_to_caused n whole i k name caused named is).1 causes),
   )
+
+  -- a row of some that a node leads to has no more nodes than the node causes
+  pub reached_within : (i : ℕ) (p : NodeName) (row : List Bool) (size : ℕ) → IsNodeNamed n (number i) p → ((k : ℕ) → Has row k → LeadsTo (EdgeAt n) i k)
+      → IsCount (Causes (topology_of n) p) size → ones row ≤ size
+  reached_within i p row size is each count =
+      let N : ℕ → NodeName → Type 0 = λ k name. IsNodeNamed n (number k) name in
+      let made = set_of_row N
+      (λ a b name x y. ap (λ (z : NodeId). z.0) (whole.one (number a) (number b) name x y))
+      (λ a x y u v. named_once n (number a) x y u v)
+      row 0 (λ k has. let leads = each k has in let named = led_named i leads.0 k leads.1 p is in
+      let e : k ≡ 0 + k = omega arith in (named.0, subst (λ j. N j named.0) e named.1)) in
+      let less = len_of_part node_cmp_total node_cmp_exact made.0 count.nodes (λ q has.
+      let there = (made.1 q).0 has in
+      let e : 0 + there.0 ≡ there.0 = omega arith in
+      (count.members q).1 ((lead_to_caused n whole i there.0 p q is (subst (λ j. N j q) e there.2)).0 (each there.0 there.1))) in
+      let size_is = count.len in
+      let here = made.2 in
+      omega arith

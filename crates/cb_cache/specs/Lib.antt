@@ -13,3 +13,4 @@ pub mod Extended
 pub mod Stale
 pub mod Created
 pub mod Spare
+pub mod Rows

@@ -13,12 +13,13 @@ ghost use Rattle.cb_graph.specs.Edges.{number};
 ghost use Rattle.cb_cache.specs.Cached.{IsReachedRow, IsCausedRow, but_spare};
 ghost use Rattle.cb_cache.specs.Numbers.{IsProblemNumber};
 ghost use Rattle.cb_cache.specs.Reached.{HasSlot};
+ghost use Rattle.cb_cache.specs.Rows.{HaveRows};
 
 use crate::create::create;
 use crate::cut::cut;
 use crate::edits::mark;
 use crate::link::link;
-use crate::rows::{Store, search_all};
+use crate::rows::{Rows, Store, search_all};
 use cb_graph::Graph;
 use cb_nodes::NodeId;
 use cb_pool::{RowPool, Slot};
@@ -80,6 +81,13 @@ impl Cache {
         ensures owned { (slot : SlotOf) → IsTaken result.now slot → (problem : ℕ) × HasSlot self.now.slots problem slot × IsProblemNumber self.now.graph (number problem) }
     {
         &self.store.rows.pool
+    }
+
+    /// The rows of all problems, as such.
+    pub fn rows(&self) -> &Rows
+        ensures { HaveRows self.now.graph (IsProblemNumber self.now.graph) result.now }
+    {
+        &self.store.rows
     }
 
     /// The slot of a problem's row.

@@ -16,3 +16,4 @@ mod scratch;
 mod search;
 
 pub use cache::Cache;
+pub use rows::Rows;

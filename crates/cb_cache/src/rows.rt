@@ -1,29 +1,74 @@
-//! The rows of all problems of a graph.
-ghost use Rattle.std.specs.Prelude.{◌≡◌, ◌≤◌, ℕ, IfOk, OnOk, OnErr, None, replicate};
+//! The rows of all that some nodes of a graph lead to.
+ghost use Rattle.std.specs.Prelude.{List as Items, ◌≡◌, ◌≤◌, ℕ, IfOk, OnOk, OnErr, None, length, replicate};
+ghost use Rattle.std.specs.List.{All, Contains};
 ghost use Rattle.cb_change.specs.Costs.{IsOpenCost, CountsAtMost};
-ghost use Rattle.cb_topo.specs.Numbered.{topology_of};
+ghost use Rattle.cb_topo.specs.Numbered.{topology_of, IsLiveNode};
 ghost use Rattle.cb_cache.specs.Kept.{IsCacheOf};
-ghost use Rattle.cb_cache.specs.Prepared.{IsEmptyFor, IsCapacityFor};
+ghost use Rattle.cb_cache.specs.Prepared.{AreNoRows, IsEmptyFor, IsCapacityFor};
 ghost use Rattle.cb_cache.specs.Capacity.{HasCapacityFor};
+ghost use Rattle.cb_cache.specs.Numbers.{AreOnce};
+ghost use Rattle.cb_cache.specs.Rows.{CostInSomeOrder, HaveRows, IsNodeRow};
 
 use crate::agenda::{Agenda, agenda_for};
 use crate::fill::add_rows;
+use crate::order::scatter;
 use crate::problems::{list_problems, problem_count};
 use crate::scratch::Scratch;
 use cb_bits::Row;
 use cb_graph::Graph;
+use cb_nodes::NodeId;
 use cb_pool::{RowPool, Slot};
 use cb_steps::Steps;
 use cb_topo::Topology;
 use std::alloc::{AllocError, Global};
 use std::sync::ledger::Ledger;
 
-/// For the number of each problem the slot of its row, the rows, and the buffers of a search.
+/// For the number of each node that has a row the slot of that row, the rows, and the buffers of a search.
 #[derive(Drop)]
 pub struct Rows {
     pub slots: Vec<Option<Slot>>,
     pub pool: RowPool,
     pub scratch: Scratch,
+}
+
+impl Rows {
+    /// Those of these nodes, each of which is searched from once.
+    pub fn of<L: Ledger>(
+        alloc: Global,
+        graph: &mut Graph,
+        nodes: &[NodeId],
+        steps: &mut Steps<L>,
+    ) -> Result<Rows, AllocError>
+        requires live { All (IsLiveNode graph.old) nodes.now }
+        requires once { AreOnce nodes.now }
+        ensures same { graph.new ≡ graph.old }
+        ensures rows { IfOk result (HaveRows graph.old (Contains nodes.now)) }
+        ensures cost { OnOk result (CostInSomeOrder graph.old nodes.now steps.old steps.new) }
+        ensures steps { OnErr result (steps.new ≡ steps.old) }
+    {
+        let mut order = Vec::from_slice(alloc, nodes)?;
+        scatter(&mut order);
+        let mut rows = no_rows(alloc, graph.topology().node_capacity(), order.len())?;
+        add_rows(graph, &order, &mut rows, steps);
+        Ok(rows)
+    }
+
+    /// How many words a row has.
+    pub fn width(&self) -> usize
+        ensures { result ≡ self.now.pool.width }
+    {
+        self.pool.width()
+    }
+
+    /// The row of a node.
+    pub fn row(&self, node: NodeId) -> &[u64]
+        requires { (words : Items ℕ) × IsNodeRow self.now node words }
+        ensures row { IsNodeRow self.now node result.now }
+        ensures width { length result.now ≡ self.now.pool.width }
+    {
+        let slot = self.slots[node.0 as usize].unwrap();
+        self.pool.row(slot)
+    }
 }
 
 /// Rows, and the agenda of what is to be done about them.
@@ -71,16 +116,22 @@ fn capacity_now(alloc: Global, topology: &Topology) -> Result<Store, AllocError>
 fn make_capacity(alloc: Global, capacity: usize, count: usize) -> Result<Store, AllocError>
     ensures { IfOk result (IsEmptyFor capacity count) }
 {
+    Ok(Store {
+        rows: no_rows(alloc, capacity, count)?,
+        agenda: agenda_for(alloc, capacity)?,
+    })
+}
+
+// No row yet, and capacity for `count` of them.
+fn no_rows(alloc: Global, capacity: usize, count: usize) -> Result<Rows, AllocError>
+    ensures { IfOk result (AreNoRows capacity count) }
+{
     let mut pool = RowPool::new(alloc, capacity.div_ceil(64));
     pool.reserve(count)?;
-    let rows = Rows {
+    Ok(Rows {
         slots: no_slots(alloc, capacity)?,
         pool,
         scratch: scratch_for(alloc, capacity)?,
-    };
-    Ok(Store {
-        rows,
-        agenda: agenda_for(alloc, capacity)?,
     })
 }
 

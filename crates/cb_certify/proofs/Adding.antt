@@ -10,7 +10,7 @@ use Rattle.cb_coding.specs.declared.group.Group.{Group}
 use Rattle.cb_coding.specs.Groups.{AreCodedProblems, AreGroups, codes_of, zeros}
 use Rattle.cb_coding.proofs.Pushed.{pushed_cases, map_set_same}
 use Rattle.cb_codes.specs.declared.each_once.EachOnce.{EachOnce}
-use Rattle.cb_codes.specs.EachOnce.{AreKeysOf, IsCodeThere, GoesLast, FindsPlace}
+use Rattle.cb_codes.specs.EachOnce.{HaveMarks, IsCodeThere, GoesLast, FindsPlace}
 use Rattle.cb_codes.specs.Grouped.{group, AddsProblem}
 use Rattle.cb_codes.proofs.Grouped.{AreGrouped, quiet_grouped, one_more_grouped, all_grouped}
 use Rattle.cb_matrix.specs.Coded.{IsProblemAt, AreProblemsAt}
@@ -148,11 +148,11 @@ module _ (n : Numbered) (columns ids : List NodeId) where
         least_are = one.least_now;
       }
 
--- the same, of codes that are found by their keys
+-- the same, of codes that are looked up by their marks
 pub record AreHeldSo (n : Numbered) (columns ids : List NodeId) (i : ℕ) (codes : EachOnce) (least : List NodeId) : Type 0 where
   pub added : AreAdded n columns ids i codes.codes.rows least
   pub wide : codes.codes.width ≡ length columns
-  pub keys : AreKeysOf codes.codes.rows codes.keys.keys
+  pub marks : HaveMarks codes.codes.rows codes.firsts
 
 module _ (n : Numbered) (columns ids : List NodeId) (i : ℕ) (codes : List (List Bool)) (least : List NodeId) (end : i ≡ length ids) (added : AreAdded n columns ids i codes least) where
   whole : take i ids ≡ ids

@@ -1,5 +1,4 @@
 pub mod Named
-pub mod Coded
 pub mod Adding
 pub mod Treed
 pub mod Reduced

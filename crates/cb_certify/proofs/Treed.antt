@@ -1,6 +1,7 @@
 -- Problems by their trees.
-use Rattle.std.proofs.Common.{◌≡◌, ℕ, List, Bool, Some, length, slice_get, get_or, refl, sym, subst, ◌∙◌, arith}
+use Rattle.std.proofs.Common.{◌≡◌, ◌<◌, ℕ, List, Bool, Some, length, slice_get, get_or, refl, sym, subst, ◌∙◌, arith}
 use Rattle.std.specs.Global.{Vec}
+use Rattle.std.specs.List.{All}
 use Rattle.std.proofs.lemmas.Option.{slice_get_within, get_or_from_slice_get}
 use Rattle.cb_nodes.specs.declared.id.NodeId.{NodeId}
 use Rattle.cb_breadth.specs.declared.visit.Visit.{Visit}
@@ -12,17 +13,18 @@ use Rattle.cb_graph.specs.Edges.{EdgeAt}
 use Rattle.cb_network.specs.Sound.{Sound}
 use Rattle.cb_topo.specs.Columns.{AreAllColumns}
 use Rattle.cb_topo.specs.Numbered.{Numbered, topology_of, IsNodeNamed, IsWhole}
+use Rattle.cb_breadth.specs.Trees.{HasNode}
+use Rattle.cb_matrix.specs.Codes.{IsCodeWhere}
 use Rattle.cb_matrix.specs.Coded.{IsCodeFrom, IsProblemAt}
 use Rattle.cb_matrix.proofs.Held.{length_zip}
 use Rattle.cb_matrix.proofs.Matched.{all_coded}
-use Rattle.cb_span.specs.Numberings.{HaveRanksBelow as AreVisitsBelow}
 use Rattle.cb_span.specs.Searched.{AreTreesOf, IsTreeOf}
 use Rattle.cb_span.specs.declared.problems.Trees.{Trees}
-use Rattle.cb_span.proofs.Led.{tree_has}
-use Rattle.cb_span.proofs.Using.{tree_ranked}
+use Rattle.cb_breadth.proofs.Led.{tree_has}
+use Rattle.cb_matrix.proofs.Searching.{tree_below}
 use Rattle.cb_span.proofs.Zips.{zip_right}
 use Rattle.cb_certify.specs.declared.groups.CodedGroups.{CodedGroups}
-use Rattle.cb_certify.specs.Groups.{IsCodeBy, AreGroupsIn}
+use Rattle.cb_certify.specs.Groups.{AreGroupsIn}
 use Rattle.cb_certify.proofs.Adding.{AreAdded, all_coded_are, all_groups_are, groups_few}
 use Rattle.cb_certify.proofs.Named.{name_at}
 
@@ -41,10 +43,10 @@ module _ (n : Numbered) (trees : Trees) (are : AreTreesOf n trees) where
           let (found, is, has) = zip_right (IsTreeOf n trees.order) trees.problems trees.visits.items are.each place id at in
           subst (IsTreeOf n trees.order id) (sym (get_or_from_slice_get trees.visits.items place found visits is) ∙ sym there) has
 
-      pub visits_below : AreVisitsBelow (length nodes) visits.items
-      visits_below = tree_ranked (EdgeAt n) nodes tree.rank visits.items tree.is (slice_get_within nodes tree.rank id.0 tree.ranked.node_is)
+      pub visits_below : All (λ (v : Visit). v.node < length nodes) visits.items
+      visits_below = tree_below (EdgeAt n) nodes tree.rank visits.items tree.is (slice_get_within nodes tree.rank id.0 tree.ranked.node_is)
 
-      pub code_from : (columns : List NodeId) (code : List Bool) → IsCodeBy nodes columns visits.items code → IsCodeFrom n columns id code
+      pub code_from : (columns : List NodeId) (code : List Bool) → IsCodeWhere columns (HasNode nodes visits.items) code → IsCodeFrom n columns id code
       code_from columns code is = record {
         width = is.width;
         each = λ k node column.

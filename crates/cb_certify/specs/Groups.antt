@@ -1,31 +1,18 @@
 -- The groups of a topology's problems, by the columns that their trees have.
-use Rattle.std.specs.Prelude.{◌≡◌, ◌↔◌, ◌+◌, ◌-◌, ◌<◌, ◌≤◌, ℕ, List, [], ◌∷◌, ◌++◌, Bool, true, Option, None, Some, length, slice_get, slice_set}
+use Rattle.std.specs.Prelude.{◌≡◌, ◌+◌, ◌-◌, ◌<◌, ◌≤◌, ℕ, List, [], ◌∷◌, ◌++◌, Option, None, Some, length, slice_get}
 use Rattle.cb_model.specs.declared.node.NodeName.{NodeName}
 use Rattle.cb_nodes.specs.declared.id.NodeId.{NodeId}
 use Rattle.cb_coding.specs.declared.group.Group.{Group}
 use Rattle.cb_coding.specs.Groups.{codes_of, zeros}
 use Rattle.cb_codes.specs.declared.each_once.EachOnce.{EachOnce}
-use Rattle.cb_codes.specs.EachOnce.{AreKeysOf}
+use Rattle.cb_codes.specs.EachOnce.{HaveMarks}
 use Rattle.cb_codes.specs.Groups.{Grouped}
 use Rattle.cb_network.specs.Topology.{Topology}
 use Rattle.cb_network.specs.Sound.{problem_limit, symptom_limit}
-use Rattle.cb_successors.specs.Rows.{Has}
-use Rattle.cb_breadth.specs.declared.visit.Visit.{Visit}
 use Rattle.cb_graph.specs.Edges.{number}
 use Rattle.cb_finding.specs.Matrix.{IsMatrix}
-use Rattle.cb_span.specs.Searched.{HasNode}
 use Rattle.cb_topo.specs.Numbered.{Numbered, topology_of, IsNodeNamed}
 use Rattle.cb_certify.specs.declared.groups.CodedGroups.{CodedGroups}
-
--- for each column, whether the visits have it
-pub record IsCodeBy (nodes : List ℕ) (columns : List NodeId) (visits : List Visit) (code : List Bool) : Type 0 where
-  pub width : length code ≡ length columns
-  pub each : (place node : ℕ) → slice_get columns place ≡ Some (number node) → Has code place ↔ HasNode nodes visits node
-
--- the code with the value at a position true, where there is one
-abbrev pub with_one : List Bool → Option ℕ → List Bool
-with_one code None = code
-with_one code (Some place) = slice_set code place true
 
 -- the groups of the topology, with codes over its columns
 pub record AreGroupsOf (t : Topology) (made : Grouped) : Type 0 where
@@ -35,11 +22,11 @@ pub record AreGroupsOf (t : Topology) (made : Grouped) : Type 0 where
   pub few_columns : length columns ≤ symptom_limit
   pub few_groups : length made.groups ≤ problem_limit + 1
 
--- the code of the quiet group alone, with its key
+-- the code of the quiet group alone, with its mark
 pub record IsQuietAlone (width : ℕ) (codes : EachOnce) : Type 0 where
   pub width_is : codes.codes.width ≡ width
   pub quiet : codes.codes.rows ≡ zeros width ∷ []
-  pub keys : AreKeysOf codes.codes.rows codes.keys.keys
+  pub marks : HaveMarks codes.codes.rows codes.firsts
 
 -- the number of the group's least member
 pub record IsLeastOf (n : Numbered) (group : Group) (id : NodeId) : Type 0 where

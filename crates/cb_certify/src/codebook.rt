@@ -14,7 +14,6 @@ ghost use Rattle.cb_certify.specs.Made.{IsBookClaim, IsBookOver, IsCapBookOf, Is
 use crate::columns::columns_at;
 use crate::groups::{close_groups, groups_of};
 use crate::shortfall::{close_named, shortfall};
-use cb_cache::Cache;
 use cb_cert::Certificate;
 use cb_codes::Groups;
 use cb_coding::{Book, CapBook};
@@ -217,7 +216,7 @@ fn of_many<L: Ledger>(
     ensures { IfOk result (IsMadeOf (topology_of graph) wish) }
 {
     match wish {
-        Wish::Plain(wanted) => by_rows(alloc, graph, wanted, steps),
+        Wish::Plain(wanted) => by_searches(alloc, graph, wanted, steps),
         Wish::Cap(_) => {
             drop(graph);
             Ok(Codebook::TooManyEntries)
@@ -226,9 +225,9 @@ fn of_many<L: Ledger>(
 }
 
 // What is written for a distance where a certificate would have too many entries.
-fn by_rows<L: Ledger>(
+fn by_searches<L: Ledger>(
     alloc: Global,
-    graph: Graph,
+    mut graph: Graph,
     wanted: u32,
     steps: &mut Steps<L>,
 ) -> Result<Codebook, AllocError>
@@ -236,11 +235,10 @@ fn by_rows<L: Ledger>(
     requires wanted { IsWanted wanted }
     ensures { IfOk result (IsMadeOf (topology_of graph) (Plain wanted)) }
 {
-    let cache = Cache::open(alloc, graph, steps)?;
-    match Matrix::of(alloc, &cache) {
-        Ok(matrix) => of_matrix(alloc, cache.into_graph(), matrix, wanted, steps),
+    match Matrix::search(alloc, &mut graph, steps) {
+        Ok(matrix) => of_matrix(alloc, graph, matrix, wanted, steps),
         Err(none) => {
-            drop(cache);
+            drop(graph);
             Err(none)
         }
     }

@@ -1,18 +1,16 @@
 //! The groups of a topology's problems, by their trees.
-ghost use Rattle.std.specs.Prelude.{◌≡◌, ◌<◌, ◌≤◌, ℕ, length, IfOk, OnOk, IfSome, Some, slice_get};
-ghost use Rattle.cb_graph.specs.Edges.{number};
-ghost use Rattle.cb_span.specs.Numberings.{HaveRanksBelow as AreVisitsBelow};
+ghost use Rattle.std.specs.Prelude.{◌<◌, ◌≤◌, length, IfOk, OnOk};
 ghost use Rattle.cb_span.specs.Searched.{AreTreesOf};
-ghost use Rattle.cb_topo.specs.Columns.{AreAllColumns, IsPositionOf};
-ghost use Rattle.cb_certify.specs.Groups.{IsCodeBy, with_one, AreGroupsIn, IsLeastAt, IsQuietAlone, TakesLeast};
+ghost use Rattle.cb_topo.specs.Columns.{AreAllColumns};
+ghost use Rattle.cb_certify.specs.Groups.{AreGroupsIn, IsLeastAt, IsQuietAlone, TakesLeast};
 ghost use Rattle.cb_certify.specs.Members.{IsPairOf};
 
 use crate::shortfall::ClosePair;
 use cb_bits::Row;
-use cb_breadth::{Order, Visit};
 use cb_codes::{Codes, EachOnce};
 use cb_coding::Pair;
 use cb_compact::CompactRow;
+use cb_matrix::code_of_visits;
 use cb_model::List;
 use cb_nodes::NodeId;
 use cb_span::Trees;
@@ -42,9 +40,10 @@ pub(crate) fn groups_of(
     let _model = topology.model();
     let mut codes = quiet_code(alloc, columns.len())?;
     let mut least = List::new(alloc);
+    let mut list = Vec::new(alloc);
     for place in 0..trees.problems.len() {
-        let row = code_of(alloc, columns, &trees.order, &trees.visits[place])?;
-        let code = CompactRow::of(alloc, &row)?;
+        let visits = &trees.visits[place];
+        let code = code_of_visits(alloc, columns, &trees.order, visits, &mut list)?;
         let group = codes.place_of(alloc, code)?;
         add_least(&mut least, group, *trees.problems.at(place))?;
     }
@@ -72,42 +71,6 @@ fn add_least(least: &mut List<NodeId>, group: usize, problem: NodeId) -> Result<
         least.push(problem)?;
     }
     Ok(())
-}
-
-// For each column, whether the visits have it.
-fn code_of(
-    alloc: Global,
-    columns: &ColumnIndex,
-    order: &Order,
-    visits: &[Visit],
-) -> Result<Row, AllocError>
-    requires { AreVisitsBelow (length order.now.nodes.items) visits.now }
-    ensures { IfOk result (IsCodeBy order.now.nodes.items columns.now visits.now) }
-{
-    let mut code = Row::zeroed(alloc, columns.len())?;
-    for at in 0..visits.len() {
-        let place = place_of(columns, order, visits[at].node);
-        set_at(&mut code, place);
-    }
-    Ok(code)
-}
-
-// Makes the value at a position true, where there is one.
-fn set_at(code: &mut Row, place: Option<u32>)
-    requires { IfSome place (λ k. k < length code.old) }
-    ensures { code.new ≡ with_one code.old place }
-{
-    if let Some(k) = place {
-        code.set(k as usize);
-    }
-}
-
-// The position among the columns of the node with a rank, where it is one.
-fn place_of(columns: &ColumnIndex, order: &Order, rank: u32) -> Option<u32>
-    requires { rank < length order.now.nodes.items }
-    ensures { (node : ℕ) → slice_get order.now.nodes.items rank ≡ Some node → IsPositionOf columns.now (number node) result }
-{
-    columns.position(NodeId(order.nodes[rank as usize]))
 }
 
 /// The two groups at the positions of a pair.

@@ -17,7 +17,6 @@ ghost use Rattle.cb_chain_commands.specs.Explaining.{IsExplanation, KeepsNetwork
 
 use crate::explanation::Explanation;
 use cb_burst::found_in;
-use cb_cache::Cache;
 use cb_chains::{ChainTree, NodeNames};
 use cb_finding::Finding;
 use cb_graph::Graph;
@@ -52,7 +51,7 @@ struct Found {
     finding: Finding,
 }
 
-// Searches the topology. The memory of the rows in which nodes are looked for is given back.
+// Searches the topology.
 fn search_all<L: Ledger>(
     alloc: Global,
     topology: Topology,
@@ -64,11 +63,8 @@ fn search_all<L: Ledger>(
     ensures finding { IfOk result (λ found. IsBurst (topology_of topology) raised.now found.finding) }
     ensures cost { (cost : ℕ) → IsOpenCost (topology_of topology) cost → steps.new ≤ steps.old + cost }
 {
-    let graph = Graph::new(alloc, topology)?;
-    let cache = Cache::open(alloc, graph, steps)?;
-    let finding = finding_of(alloc, &cache, raised);
-    let graph = cache.into_graph();
-    match finding {
+    let mut graph = Graph::new(alloc, topology)?;
+    match finding_of(alloc, &mut graph, raised, steps) {
         Ok(finding) => Ok(Found { graph, finding }),
         Err(out_of_memory) => {
             drop(graph);
@@ -78,11 +74,18 @@ fn search_all<L: Ledger>(
 }
 
 // What is found for the raised nodes.
-fn finding_of(alloc: Global, cache: &Cache, raised: &Items<NodeName>) -> Result<Finding, AllocError>
+fn finding_of<L: Ledger>(
+    alloc: Global,
+    graph: &mut Graph,
+    raised: &Items<NodeName>,
+    steps: &mut Steps<L>,
+) -> Result<Finding, AllocError>
     requires { Rises node_cmp raised.now }
-    ensures { IfOk result (IsBurst (topology_of cache.now.graph) raised.now) }
+    ensures same { graph.new ≡ graph.old }
+    ensures finding { IfOk result (IsBurst (topology_of graph.old) raised.now) }
+    ensures cost { (cost : ℕ) → IsOpenCost (topology_of graph.old) cost → steps.new ≤ steps.old + cost }
 {
-    let matrix = Matrix::of(alloc, cache)?;
+    let matrix = Matrix::search(alloc, graph, steps)?;
     found_in(alloc, &matrix, raised)
 }
 

@@ -1,18 +1,16 @@
 -- Whether all successors are listed, by numbers and by names.
-use Rattle.std.proofs.Common.{◌≡◌, ◌≢◌, ◌⊎◌, ◌↔◌, inl, inr, ℕ, ◌+◌, ◌<◌, ◌≤◌, ◌&&◌, not, List, [], Bool, true, false, length, replicate, map, refl, sym, ap, subst, ◌∙◌, Option, None, Some, IfNone, arith}
+use Rattle.std.proofs.Common.{◌≡◌, ◌≢◌, ◌⊎◌, ◌↔◌, inl, inr, ℕ, ◌+◌, ◌<◌, ◌≤◌, List, [], Bool, true, false, length, replicate, map, refl, sym, ap, subst, ◌∙◌, Option, None, Some, arith}
 use Rattle.std.specs.Prelude.{Result, Ok, Err, IfOk, slice_get, slice_set, slice_index_or}
 use Rattle.std.specs.List.{All}
-use Rattle.std.specs.Option.{is_some}
 use Rattle.std.specs.declared.cmp.Ordering.TheVariants.{Less, Equal, Greater}
 use Rattle.std.specs.Ordering.{ordering_reverse}
-use Rattle.std.proofs.lemmas.Bool.{false≢true, cases_eq, cases_lt, cases_order}
+use Rattle.std.proofs.lemmas.Bool.{false≢true, cases_eq, cases_lt}
 use Rattle.std.proofs.lemmas.List.{get_or_past, get_or-set_same, get_or-set_other, length-set, length-replicate}
 use Rattle.std.proofs.lemmas.Option.{same_Some, slice_get_within}
 use Rattle.cb_model.specs.declared.node.NodeName.{NodeName}
 use Rattle.cb_model.specs.NodeOrder.{node_cmp}
 use Rattle.cb_model.proofs.Rising.{node_cmp_total, node_cmp_exact, node_strict}
-use Rattle.cb_bits.specs.Bits.{difference, HasNoneFrom}
-use Rattle.cb_bits.proofs.NextOnes.{without_at}
+use Rattle.cb_model.proofs.Numbers.{contains_at, place_in}
 use Rattle.cb_network.specs.Causes.{Edge}
 use Rattle.cb_network.specs.Nodes.{IsNodeOf}
 use Rattle.cb_cert.specs.declared.certificate.Certificate.{Certificate}
@@ -23,14 +21,14 @@ use Rattle.cb_validity.specs.Spans.{IsListedAt, ListsNode}
 use Rattle.cb_validity.specs.Checks.{closed_check, places, Passes, Judges, IsLeastOutside}
 use Rattle.cb_nodes.specs.declared.id.NodeId.{NodeId}
 use Rattle.cb_successors.specs.Rows.{Has}
-use Rattle.cb_topo.specs.Numbered.{Numbered, topology_of, IsNodeNamed}
+use Rattle.cb_topo.specs.Numbered.{Numbered, topology_of, IsLiveNode, IsNodeNamed}
 use Rattle.cb_graph.specs.Edges.{EdgeAt, number}
 use Rattle.cb_graph.proofs.Chains.{named_once}
 use Rattle.cb_checker.specs.Known.{IsKnown}
 use Rattle.cb_checker.specs.Listed.{ArePlaced, IsAmongPlaced, AreListed, AreMarked}
 use Rattle.cb_checker.specs.declared.marks.SpanNodes.{SpanNodes}
 use Rattle.cb_successors.proofs.Marks.{nothing, same_rows}
-use Rattle.cb_checker.specs.Missing.{AreClosed, AreClosedTo, HasSuccessorsTo, IsLeastName, IsLeastIfAny, IsMissing, IsOutside, IsLesser}
+use Rattle.cb_checker.specs.Missing.{AreClosedTo, IsLeastName, IsLeastIfAny, IsMissing, IsUnlistedOf, IsLesser}
 use Rattle.cb_checker.specs.Spans.{asked}
 use Rattle.cb_checker.proofs.Joined.{fails_here, place_fails, place_passes}
 use Rattle.cb_checker.proofs.Placing.{listed_by, placed_by, one_placed, placed_there}
@@ -45,16 +43,6 @@ has_unless row k not_not = elim (slice_index_or row k false) as (λ b. slice_ind
   | true ↦ λ is. is
   | false ↦ λ is. absurd (not_not (λ has. false≢true (sym is ∙ has)))
 ] refl
-
-outside_by : (a b : Bool) → (a && not b) ≡ true → (a ≡ true) × (b ≡ true → ⊥)
-outside_by true true e = absurd (cc)
-outside_by true false e = (refl, λ f. false≢true f)
-outside_by false b e = absurd (cc)
-
-inside_by : (a b : Bool) → (a && not b) ≡ false → a ≡ true → (b ≡ true → ⊥) → ⊥
-inside_by true true e has lacks = lacks refl
-inside_by true false e has lacks = absurd (cc)
-inside_by false b e has lacks = absurd (false≢true has)
 
 -- what doesn't stand before a name, which doesn't stand after another, doesn't stand before the other
 not_below : (least name other : NodeName) → node_cmp least name ≢ Less → node_cmp other least ≢ Less → node_cmp other name ≢ Less
@@ -145,84 +133,51 @@ closed_more n placed listed to id old at here = λ place other low there. elim (
       subst (λ (x : NodeId). (k : ℕ) → ¬ IsMissing n x.0 listed k) same here
 ]
 
--- the least so far of the nodes that are so
-abbrev pub IsLeastTo : Numbered → (ℕ → Type 0) → ℕ → Option NodeName → Type 0
-IsLeastTo n P to least = IsLeastIfAny n (λ k. (k < to) × P k) least
-
--- one node more
-pub least_more : (n : Numbered) (P : ℕ → Type 0) (from node : ℕ) (least : Option NodeName) (name lesser : NodeName) → IsLeastTo n P from least
-    → from ≤ node → ((k : ℕ) → from ≤ k → k < node → ¬ P k) → P node → IsNodeNamed n (number node) name → IsLesser least name lesser
-    → IsLeastTo n P (node + 1) (Some lesser)
-least_more n P from node None name lesser none on first here named same = record {
+-- one node more may be the least
+least_with : (n : Numbered) (P Q : ℕ → Type 0) (node : ℕ) (least : Option NodeName) (name lesser : NodeName) → IsLeastIfAny n P least
+    → ((k : ℕ) → P k → Q k) → ((k : ℕ) → Q k → P k ⊎ (k ≡ node)) → Q node → IsNodeNamed n (number node) name → IsLesser least name lesser
+    → IsLeastIfAny n Q (Some lesser)
+least_with n P Q node None name lesser none keeps split here named same = record {
   node = node;
-  is = (omega arith, here);
+  is = here;
   named = subst (IsNodeNamed n (number node)) (sym same) named;
-  least = λ k other is named_k. elim (cases_order k node) [
-    | inl last ↦ λ less.
+  least = λ k other is named_k. elim (split k is) [
+    | inl had ↦ absurd (none k had)
+    | inr last ↦ λ less.
         let one : other ≡ name = named_once n (number node) other name (subst (λ i. IsNodeNamed n (number i) other) last named_k) named in
         let again = subst (λ x. node_cmp x lesser ≡ Less) (one ∙ sym same) less in
         node_strict lesser lesser again again
-    | inr (inl below) ↦ elim (cases_lt k from) [
-      | inl early ↦ absurd (none k (early, is.1))
-      | inr late ↦ absurd (first k late below is.1)
-    ]
-    | inr (inr above) ↦ absurd (let low = is.0 in omega arith)
   ];
 }
-least_more n P from node (Some least) name lesser old on first here named either = elim either [
+least_with n P Q node (Some least) name lesser old keeps split here named either = elim either [
   | inl (same, less) ↦
-      let kept : IsLeastTo n P (node + 1) (Some least) = record {
+      let kept : IsLeastIfAny n Q (Some least) = record {
         node = old.node;
-        is = (let low = old.is.0 in omega arith, old.is.1);
+        is = keeps old.node old.is;
         named = old.named;
-        least = λ k other is named_k. elim (cases_order k node) [
-          | inl last ↦ λ below.
+        least = λ k other is named_k. elim (split k is) [
+          | inl had ↦ old.least k other had named_k
+          | inr last ↦ λ below.
               let one : other ≡ name = named_once n (number node) other name (subst (λ i. IsNodeNamed n (number i) other) last named_k) named in
               node_strict least name less (subst (λ x. node_cmp x least ≡ Less) one below)
-          | inr (inl below) ↦ elim (cases_lt k from) [
-            | inl early ↦ old.least k other (early, is.1) named_k
-            | inr late ↦ absurd (first k late below is.1)
-          ]
-          | inr (inr above) ↦ absurd (let low = is.0 in omega arith)
         ];
       } in
-      subst (λ x. IsLeastTo n P (node + 1) (Some x)) (sym same) kept
+      subst (λ x. IsLeastIfAny n Q (Some x)) (sym same) kept
   | inr (same, not_less) ↦
-      let now : IsLeastTo n P (node + 1) (Some name) = record {
+      let now : IsLeastIfAny n Q (Some name) = record {
         node = node;
-        is = (omega arith, here);
+        is = here;
         named = named;
-        least = λ k other is named_k. elim (cases_order k node) [
-          | inl last ↦ λ less.
+        least = λ k other is named_k. elim (split k is) [
+          | inl had ↦ λ less. not_below least name other not_less (old.least k other had named_k) less
+          | inr last ↦ λ less.
               let one : other ≡ name = named_once n (number node) other name (subst (λ i. IsNodeNamed n (number i) other) last named_k) named in
               let again = subst (λ x. node_cmp x name ≡ Less) one less in
               node_strict name name again again
-          | inr (inl below) ↦ elim (cases_lt k from) [
-            | inl early ↦ λ less. not_below least name other not_less (old.least k other (early, is.1) named_k) less
-            | inr late ↦ absurd (first k late below is.1)
-          ]
-          | inr (inr above) ↦ absurd (let low = is.0 in omega arith)
         ];
       } in
-      subst (λ x. IsLeastTo n P (node + 1) (Some x)) (sym same) now
+      subst (λ x. IsLeastIfAny n Q (Some x)) (sym same) now
 ]
-
--- all nodes were looked at
-pub least_all : (n : Numbered) (P : ℕ → Type 0) (to : ℕ) (least : Option NodeName) → IsLeastTo n P to least → ((k : ℕ) → to ≤ k → ¬ P k)
-    → IsLeastIfAny n P least
-least_all n P to None none past = λ k is. elim (cases_lt k to) [
-  | inl low ↦ none k (low, is)
-  | inr high ↦ past k high is
-]
-least_all n P to (Some name) old past = record {
-  node = old.node;
-  is = old.is.1;
-  named = old.named;
-  least = λ k other is named_k. elim (cases_lt k to) [
-    | inl low ↦ old.least k other (low, is) named_k
-    | inr high ↦ absurd (past k high is)
-  ];
-}
 
 -- what is so for the same nodes has the same least one
 pub least_same : (n : Numbered) (P Q : ℕ → Type 0) → ((k : ℕ) → P k → Q k) → ((k : ℕ) → Q k → P k) → (least : Option NodeName) → IsLeastIfAny n P least → IsLeastIfAny n Q least
@@ -234,16 +189,59 @@ least_same n P Q to back (Some name) old = record {
   least = λ k other is named_k. old.least k other (back k is) named_k;
 }
 
--- what is left of the row is outside the other
-pub outside_at : (found listed : List Bool) → length found ≡ length listed → (k : ℕ) → slice_index_or (difference found listed) k false ≡ true → IsOutside found listed k
-outside_at found listed same k is =
-    let e = sym (without_at found listed same k) ∙ is in
-    outside_by (slice_index_or found k false) (slice_index_or listed k false) e
+-- one of the first nodes has this number, and it isn't listed
+pub record IsUnlistedTo (nodes : List ℕ) (listed : List Bool) (to k : ℕ) : Type 0 where
+  pub place : ℕ
+  pub low : place < to
+  pub at : slice_get nodes place ≡ Some k
+  pub lacks : ¬ Has listed k
 
-pub inside_at : (found listed : List Bool) → length found ≡ length listed → (k : ℕ) → slice_index_or (difference found listed) k false ≡ false → ¬ IsOutside found listed k
-inside_at found listed same k is out =
-    let e = sym (without_at found listed same k) ∙ is in
-    inside_by (slice_index_or found k false) (slice_index_or listed k false) e out.0 out.1
+pub none_unlisted : (nodes : List ℕ) (listed : List Bool) (k : ℕ) → ¬ IsUnlistedTo nodes listed 0 k
+none_unlisted nodes listed k is = let low = is.low in omega arith
+
+module _ (nodes : List ℕ) (listed : List Bool) (to node : ℕ) (here : slice_get nodes to ≡ Some node) where
+  unlisted_before : (k : ℕ) → IsUnlistedTo nodes listed to k → IsUnlistedTo nodes listed (to + 1) k
+  unlisted_before k is = record { place = is.place; low = (let low = is.low in omega arith); at = is.at; lacks = is.lacks }
+
+  unlisted_split : (k : ℕ) → IsUnlistedTo nodes listed (to + 1) k → IsUnlistedTo nodes listed to k ⊎ (k ≡ node)
+  unlisted_split k is = elim (cases_lt is.place to) [
+    | inl less ↦ inl (record { place = is.place; low = less; at = is.at; lacks = is.lacks })
+    | inr high ↦
+        let last : is.place ≡ to = (let low = is.low in omega arith) in
+        inr (same_Some k node (sym is.at ∙ (ap (slice_get nodes) last ∙ here)))
+  ]
+
+  -- it is listed
+  pub least_past : (n : Numbered) (least : Option NodeName) → Has listed node → IsLeastIfAny n (IsUnlistedTo nodes listed to) least
+      → IsLeastIfAny n (IsUnlistedTo nodes listed (to + 1)) least
+  least_past n least has old =
+      least_same n (IsUnlistedTo nodes listed to) (IsUnlistedTo nodes listed (to + 1)) (λ k is. unlisted_before k is)
+      (λ k is. elim (unlisted_split k is) [
+        | inl had ↦ had
+        | inr last ↦ absurd (is.lacks (subst (Has listed) (sym last) has))
+      ]) least old
+
+  -- it isn't
+  pub least_more : (n : Numbered) (least : Option NodeName) (name lesser : NodeName) → (¬ Has listed node) → IsNodeNamed n (number node) name
+      → IsLesser least name lesser → IsLeastIfAny n (IsUnlistedTo nodes listed to) least → IsLeastIfAny n (IsUnlistedTo nodes listed (to + 1)) (Some lesser)
+  least_more n least name lesser lacks named is old =
+      least_with n (IsUnlistedTo nodes listed to) (IsUnlistedTo nodes listed (to + 1)) node least name lesser old
+      (λ k had. unlisted_before k had) (λ k had. unlisted_split k had)
+      (record { place = to; low = omega arith; at = here; lacks = lacks }) named is
+
+-- all nodes were looked at
+pub least_all : (n : Numbered) (nodes : List ℕ) (listed : List Bool) (to : ℕ) (least : Option NodeName) → length nodes ≤ to
+    → IsLeastIfAny n (IsUnlistedTo nodes listed to) least → IsLeastIfAny n (IsUnlistedOf nodes listed) least
+least_all n nodes listed to least end old =
+    least_same n (IsUnlistedTo nodes listed to) (IsUnlistedOf nodes listed) (λ k is. (contains_at nodes is.place k is.at, is.lacks))
+    (λ k is.
+    let there = place_in nodes k is.0 in
+    let within = slice_get_within nodes there.0 k there.1 in
+    record { place = there.0; low = omega arith; at = there.1; lacks = is.1 }) least old
+
+-- what an edge leads to is a node
+pub end_live : (n : Numbered) (from : ℕ) (k : ℕ) → EdgeAt n from k → IsLiveNode n (number k)
+end_live n from k edge = (edge.to, edge.to_is)
 
 pub has_below : (row : List Bool) (k : ℕ) → Has row k → k < length row
 has_below row k has = elim (cases_lt k (length row)) [
@@ -270,30 +268,6 @@ forgot_marked n old new are none listed found = record {
     λ among. absurd (let at = subst (λ ids. slice_get ids among.0 ≡ Some (number k)) none among.1 in cc),
   );
 }
-
--- successors that were added
-
-pub added_more : (m n : Numbered) (placed : List NodeId) (to : ℕ) (id : NodeId) (row more : List Bool) → m ≡ n → HasSuccessorsTo n placed to row
-    → slice_get placed to ≡ Some id → ((k : ℕ) → Has more k ↔ (Has row k ⊎ EdgeAt m id.0 k)) → HasSuccessorsTo n placed (to + 1) more
-added_more m n placed to id row more same old at added = λ place other low there k edge. elim (cases_lt place to) [
-  | inl less ↦ (added k).1 (inl (old place other less there k edge))
-  | inr high ↦
-      let last : place ≡ to = omega arith in
-      let one : other ≡ id = same_Some other id (sym there ∙ (ap (slice_get placed) last ∙ at)) in
-      let led = subst (λ (x : NodeId). EdgeAt n x.0 k) one edge in
-      (added k).1 (inr (subst (λ (i : Numbered). EdgeAt i id.0 k) (sym same) led))
-]
-
--- where the row has all successors, and nothing but what is listed, all of them are listed
-pub closed_by : (n : Numbered) (placed : List NodeId) (listed found : List Bool) → length found ≡ length listed → HasSuccessorsTo n placed (length placed) found
-    → HasNoneFrom (difference found listed) 0 → AreClosed n placed listed
-closed_by n placed listed found same has none = λ place id low at k missing.
-    inside_at found listed same k (none k (omega arith)) (has place id low at k missing.0, missing.1)
-
--- what holds where nothing is found
-pub none_found : {X A : Type 0} (found : Option X) → IfNone found A → is_some found ≡ false → A
-none_found None a is = a
-none_found (Some x) a is = absurd (false≢true (sym is))
 
 -- marks that are forgotten one by one
 

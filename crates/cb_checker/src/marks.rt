@@ -8,13 +8,14 @@ use cb_nodes::NodeId;
 use cb_topo::Topology;
 use std::alloc::{AllocError, Global};
 
-/// The nodes that the entries of a span list so far, in their order and as a row; what the entries state; and a row for successors.
+/// The nodes that the entries of a span list so far, in their order and as a row; what the entries state; and a row and a list for successors.
 #[derive(Drop)]
 pub struct SpanNodes {
     pub placed: Vec<NodeId>,
     pub listed: Row,
     pub reasons: Vec<Reason>,
     pub found: Row,
+    pub successors: Vec<usize>,
 }
 
 impl SpanNodes {
@@ -28,6 +29,7 @@ impl SpanNodes {
             listed: Row::zeroed(alloc, capacity)?,
             reasons: Vec::new(alloc),
             found: Row::zeroed(alloc, capacity)?,
+            successors: Vec::new(alloc),
         })
     }
 

@@ -8,12 +8,11 @@ ghost use Rattle.cb_checker.specs.Known.{AreLive, verdict_of};
 ghost use Rattle.cb_checker.specs.Listed.{AreListed};
 ghost use Rattle.cb_checker.specs.Books.{AddsCoded, AreGroupsReadTo, JudgesSpans, JudgesCount};
 
-use crate::codes::code_of;
+use crate::codes::compact_code_of;
 use crate::marks::SpanNodes;
 use crate::span::check_span;
 use cb_cert::Span;
 use cb_codes::{Grouping, Groups};
-use cb_compact::CompactRow;
 use cb_graph::Graph;
 use cb_model::List;
 use cb_nodes::NodeId;
@@ -91,9 +90,8 @@ fn add_problem(
     ensures { OnOk result (AddsCoded topology.now columns.now node marks.now.listed grouping.old grouping.new) }
 {
     let name = topology.copy_name(alloc, node)?;
-    let code = code_of(alloc, columns, marks)?;
-    let compact = CompactRow::of(alloc, &code)?;
-    grouping.add(alloc, name, compact)
+    let code = compact_code_of(alloc, columns, marks)?;
+    grouping.add(alloc, name, code)
 }
 
 /// Checks that there are as many spans as problems.

@@ -6,4 +6,5 @@ pub mod Added
 pub mod Passing
 pub mod ByColumn
 pub mod Stored
-pub mod OneKey
+pub mod OneMark
+pub mod Alike

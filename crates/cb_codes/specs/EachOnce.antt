@@ -1,12 +1,16 @@
 -- Codes, each once.
-use Rattle.std.specs.Prelude.{◌≡◌, ◌⊎◌, ℕ, List, [], ◌∷◌, ◌++◌, length, Bool, Some, slice_get}
-use Rattle.std.specs.Global.{Vec}
-use Rattle.cb_codes.specs.Keys.{IsKey}
+use Rattle.std.specs.Prelude.{◌≡◌, ◌⊎◌, ℕ, List, [], ◌∷◌, ◌++◌, length, Bool, nat_eq, Option, None, Some, slice_get}
+use Rattle.std.specs.HashMap.{HashMap, ContainsKey}
+use Rattle.cb_codes.specs.Marks.{IsMark}
 
--- the keys of codes, in the order of the codes
-pub record AreKeysOf (codes : List (List Bool)) (keys : List (Vec ℕ)) : Type 0 where
-  pub all : length keys ≡ length codes
-  pub each : (i : ℕ) (code : List Bool) (key : Vec ℕ) → slice_get codes i ≡ Some code → slice_get keys i ≡ Some key → IsKey code key.items
+-- the mark of each code is there
+abbrev pub HaveMarks : {S : Type 0} → List (List Bool) → HashMap ℕ ℕ S → Type 0
+HaveMarks codes firsts = (i mark : ℕ) (code : List Bool) → slice_get codes i ≡ Some code → IsMark code mark → ContainsKey nat_eq firsts mark
+
+-- a position of a code, if it is among the codes
+abbrev pub IsPlaceIn : List (List Bool) → List Bool → Option ℕ → Type 0
+IsPlaceIn codes code None = (i : ℕ) → ¬ (slice_get codes i ≡ Some code)
+IsPlaceIn codes code (Some place) = slice_get codes place ≡ Some code
 
 -- the code is at that position already
 pub record IsCodeThere (code : List Bool) (old new : List (List Bool)) (place : ℕ) : Type 0 where

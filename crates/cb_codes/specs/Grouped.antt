@@ -7,7 +7,7 @@ use Rattle.cb_coding.specs.declared.group.Problem.{Problem}
 use Rattle.cb_coding.specs.declared.group.Group.{Group}
 use Rattle.cb_codes.specs.Groups.{groups_of, Fit}
 use Rattle.cb_codes.specs.declared.grouping.Grouping.{Grouping}
-use Rattle.cb_codes.specs.EachOnce.{AreKeysOf}
+use Rattle.cb_codes.specs.EachOnce.{HaveMarks}
 
 -- a code with these problems
 abbrev pub group : List Bool → List NodeName → Group
@@ -55,7 +55,7 @@ groups_in grouping = groups_of grouping.codes.codes.rows grouping.named.items
 -- the parts fit one another, and codes have that width
 pub record FitsTogether (width : ℕ) (grouping : Grouping) : Type 0 where
   pub wide : grouping.codes.codes.width ≡ width
-  pub keys : AreKeysOf grouping.codes.codes.rows grouping.codes.keys.keys
+  pub marks : HaveMarks grouping.codes.codes.rows grouping.codes.firsts
   pub fit : Fit grouping.codes.codes.rows grouping.named.items
 
 -- these are the problems, each with the position of its group

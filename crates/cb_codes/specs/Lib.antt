@@ -1,6 +1,6 @@
 pub mod Codes
 pub mod Holders
 pub mod Groups
-pub mod Keys
+pub mod Marks
 pub mod EachOnce
 pub mod Grouped

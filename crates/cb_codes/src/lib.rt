@@ -6,7 +6,7 @@ mod each_once;
 mod grouping;
 mod groups;
 mod holders;
-mod keys;
+mod marks;
 
 pub use codes::Codes;
 pub use each_once::EachOnce;

@@ -1,6 +1,7 @@
 //! A row of truth values, by the positions of its ones where these are few.
 ghost use Rattle.std.specs.Prelude.{All, ◌≡◌, ◌+◌, ◌<◌, ◌≤◌, ◌^◌, IsTrue, length, true, false, slice_index_or, count_by, SomeIff, IfSome, IfNone, IfOk};
 ghost use Rattle.cb_bits.specs.Bits.{differing, IsNextOne, HasNoneFrom};
+ghost use Rattle.cb_compact.specs.Few.{are_few};
 ghost use Rattle.cb_compact.specs.Compact.{ones_of, with_ones, AreRising, AreBefore, KeepsRow, differs, differing_before, differing_under};
 
 use crate::apart::nth_apart;
@@ -14,6 +15,9 @@ use std::marker::Model;
 // The positions of as many values fit 32 bits.
 const MOST_PLACES: usize = 4_294_967_296;
 
+// As few ones are kept by their positions however few the words are.
+const FEW_ONES: usize = 8;
+
 // This many values have no more words than `distance_under` of cb_lanes takes.
 const MOST_COUNTED: usize = 4_294_967_232;
 
@@ -25,7 +29,7 @@ enum Kept {
 }
 
 /// Truth values in order. Contracts see the list of them. Made of a row, it stores the positions of the true values if these are fewer
-/// than half of the words of the row, rounded down; made of positions, it stores these.
+/// than half of the words of the row, rounded down, and 8 more; made of positions, it stores these.
 #[derive(Drop)]
 pub struct CompactRow {
     len: usize,
@@ -70,11 +74,26 @@ impl CompactRow {
         }
     }
 
+    /// As `of` of the row of `len` values of which those at `positions` are true. That row is made only if it is stored.
+    pub fn at(alloc: Global, len: usize, positions: &[u32]) -> Result<CompactRow, AllocError>
+        requires rising { AreRising positions.now }
+        requires within { All (λ k. k < len) positions.now }
+        ensures { IfOk result (λ compact. compact ≡ with_ones positions.now len) }
+    {
+        if CompactRow::is_sparse(len, positions.len()) {
+            let copy = Vec::from_slice(alloc, positions)?;
+            return Ok(CompactRow::of_positions(len, copy));
+        }
+        let row = row_at(alloc, len, positions)?;
+        CompactRow::of(alloc, &row)
+    }
+
     /// Whether a row of `len` values, of which `ones` are true, has so few true ones that `of` stores their positions.
     pub fn is_sparse(len: usize, ones: usize) -> bool
-        ensures { IsTrue result → len ≤ 2 ^ 32 }
+        ensures few { result ≡ are_few len ones }
+        ensures short { IsTrue result → len ≤ 2 ^ 32 }
     {
-        len <= MOST_PLACES && ones < len.div_ceil(64) / 2
+        len <= MOST_PLACES && ones < len.div_ceil(64) / 2 + FEW_ONES
     }
 
     /// How many values there are.
@@ -283,8 +302,8 @@ impl CompactRow {
     }
 }
 
-// The positions of the `ones` ones, if these are fewer than half of the words of the row, and else a copy: a step in two lists takes as long as
-// some two words.
+// The positions of the `ones` ones, if these are few, and else a copy: a step in two lists takes as long as some two words, and two whole rows
+// of few words take as long as some eight steps.
 fn kept_of(alloc: Global, row: &Row, ones: usize) -> Result<Kept, AllocError>
     ensures { IfOk result (KeepsRow row.now) }
 {

@@ -1,5 +1,5 @@
 -- What a node causes is known, so a topology has a matrix.
-use Rattle.std.proofs.Common.{◌≡◌, ◌↔◌, List, [], ◌∷◌, map, length, refl, sym, ap, subst, inl, inr, Bool, true, false, IsTrue}
+use Rattle.std.proofs.Common.{◌≡◌, ◌↔◌, ℕ, List, [], ◌∷◌, map, length, refl, sym, ap, subst, inl, inr, Bool, true, false, IsTrue}
 use Rattle.std.specs.FinSet as set
 use Rattle.std.specs.List.{All, Contains}
 use Rattle.std.proofs.lemmas.List.Elements.{All-nil, All-cons}
@@ -9,7 +9,7 @@ use Rattle.cb_model.proofs.Rising.{contains_head, contains_tail}
 use Rattle.cb_coding.specs.declared.group.Group.{Group}
 use Rattle.cb_coding.specs.declared.group.Problem.{Problem}
 use Rattle.cb_network.specs.Causes.{Chain, Causes, Reaches}
-use Rattle.cb_network.specs.Nodes.{AreProblems}
+use Rattle.cb_network.specs.Nodes.{AreProblems, IsCount}
 use Rattle.cb_network.specs.Regular.{IsRegular}
 use Rattle.cb_network.specs.Topology.{Topology}
 use Rattle.cb_network.proofs.Counts.{count_of_rising}
@@ -42,6 +42,11 @@ module _ (t : Topology) (regular : IsRegular t.model) where
       let (nodes, are) = nodes_in_order (Causes t p) (decide_caused p) (p ∷ possible_nodes t) (λ s causes. is_caused p causes.0 s causes.1) in
       let count = count_of_rising (Causes t p) nodes are.rise (λ s. (are.each s, are.all s)) in
       (count.nodes, count.members)
+
+  pub caused_are_counted : (p : NodeName) → (n : ℕ) × IsCount (Causes t p) n
+  caused_are_counted p =
+      let (reached, is) = reached_exists p in
+      (set.len reached, record { nodes = reached; members = is; len = refl })
 
   pub code_exists : (columns : List NodeName) (p : NodeName) → (code : List Bool) × IsCode t columns p code
   code_exists [] p = ([], tt)

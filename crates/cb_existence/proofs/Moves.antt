@@ -1,5 +1,5 @@
 -- Edits and undos lead to a history, whose topology has a cost.
-use Rattle.std.proofs.Common.{◌≡◌, ℕ, List, [], ◌∷◌, Result, refl}
+use Rattle.std.proofs.Common.{ℕ, List, [], ◌∷◌, refl}
 use Rattle.std.specs.List.{Contains}
 use Rattle.cb_change.specs.Costs.{IsOpenCost}
 use Rattle.cb_change.proofs.Existing.{has_open_cost}

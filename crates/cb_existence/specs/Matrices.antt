@@ -7,7 +7,7 @@ use Rattle.cb_coding.specs.declared.group.Group.{Group}
 use Rattle.cb_coding.specs.declared.group.Problem.{Problem}
 use Rattle.cb_coding.specs.Groups.{AreCodedProblems, AreGroups}
 use Rattle.cb_finding.specs.Matrix.{IsMatrix}
-use Rattle.cb_network.specs.Causes.{Reaches}
+use Rattle.cb_network.specs.Causes.{Causes, Reaches}
 use Rattle.cb_network.specs.Nodes.{IsNodeOf, IsProblem, IsSymptomNode, AreColumns, AreProblems, IsCount}
 use Rattle.cb_network.specs.Regular.{IsRegular}
 use Rattle.cb_network.specs.Topology.{Topology}
@@ -28,6 +28,10 @@ CountsExist = (t : Topology) → IsRegular t.model
 -- each node causes the nodes of some set
 abbrev pub ReachedExists : Type 0
 ReachedExists = (t : Topology) (p : NodeName) → IsRegular t.model → (reached : set.FinSet node_cmp) × Reaches t p reached
+
+-- and some number of nodes
+abbrev pub CausedAreCounted : Type 0
+CausedAreCounted = (t : Topology) (p : NodeName) → IsRegular t.model → (n : ℕ) × IsCount (Causes t p) n
 
 -- problems with codes of one width have groups
 abbrev pub GroupsExist : Type 0

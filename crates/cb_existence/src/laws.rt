@@ -1,7 +1,7 @@
 //! What exists, whatever the program does. Each law is the contract of a function that does nothing.
 ghost use Rattle.cb_existence.specs.Windows.{WindowNodesExist, ClosingExists};
 ghost use Rattle.cb_existence.specs.Results.{ResultExists, AfterAllExists, NowExists, StepExists, CostInTurnExists, MovesLead, LastCostExists};
-ghost use Rattle.cb_existence.specs.Matrices.{ColumnsExist, ProblemsExist, CountsExist, ReachedExists, GroupsExist, MatrixExists};
+ghost use Rattle.cb_existence.specs.Matrices.{ColumnsExist, ProblemsExist, CountsExist, ReachedExists, CausedAreCounted, GroupsExist, MatrixExists};
 ghost use Rattle.cb_existence.specs.Choices.{ClosestPairExists, GoodOrFirstClose, ChoiceExists, ChoiceInUseExists};
 ghost use Rattle.cb_existence.specs.Choices.{BookInUseExists, RadiiExist, CapBookExists};
 ghost use Rattle.cb_existence.specs.Findings.{AnswerExists, FindingExists, BurstExists};
@@ -71,6 +71,11 @@ pub fn counts_exist()
 /// Over a regular model a node reaches a set of nodes.
 pub fn reached_exists()
     ensures { ReachedExists }
+{}
+
+/// Over a regular model the nodes that a node causes can be counted.
+pub fn caused_are_counted()
+    ensures { CausedAreCounted }
 {}
 
 /// Problems with codes of one width have groups.

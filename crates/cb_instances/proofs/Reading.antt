@@ -1,6 +1,7 @@
 -- What is read from a net.
-use Rattle.std.proofs.Common.{◌≡◌, ◌↔◌, ℕ, List, Some, None, IsSome, refl, sym, ap, subst, ◌∙◌}
+use Rattle.std.proofs.Common.{◌≡◌, ◌↔◌, ℕ, List, map, Option, Some, None, IsSome, refl, sym, ap, subst, ◌∙◌}
 use Rattle.std.specs.List.{Contains}
+use Rattle.std.proofs.lemmas.Bool.{false≢true}
 use Rattle.cb_model.specs.declared.id.RelId.{RelId}
 use Rattle.cb_model.specs.declared.tables.Tables.{Tables}
 use Rattle.cb_network.specs.Topology.{IsLive as IsLiveName, HasClass}
@@ -10,7 +11,7 @@ use Rattle.cb_instances.specs.declared.instance.Instance.{Instance}
 use Rattle.cb_instances.specs.Net.{Net, slot, IsLiveInstance, LinkAt, IsWholeNet, inverse_of}
 use Rattle.cb_instances.specs.Places.{Entries, place_of}
 use Rattle.cb_instances.specs.Rows.{row_of}
-use Rattle.cb_instances.specs.Shown.{topology_of_slots, seen, Shows}
+use Rattle.cb_instances.specs.Shown.{name_in, topology_of_slots, seen, Shows}
 use Rattle.cb_instances.specs.Slots.{Slots, At, NamedAt, ListsInstance}
 use Rattle.cb_instances.specs.Sound.{IsNetOf}
 use Rattle.cb_instances.proofs.Creating.{listed_live, shown_of}
@@ -21,6 +22,14 @@ use Rattle.cb_instances.proofs.Showing.{one_at}
 
 pub occupied : (slots : Slots) (i : InstanceId) (name : List ℕ) → NamedAt slots i name → IsSome (slot slots i.0)
 occupied slots i name (x, at, is) = subst IsSome (sym at) refl
+
+-- a number has an instance just where a name is seen
+pub seen_live : (slots : Slots) (i : InstanceId) → IsSome (slot slots i.0) ↔ ((name : List ℕ) × (slot (map name_in slots) i.0 ≡ Some name))
+seen_live slots i = (go (slot slots i.0) refl, λ (name, is). occupied slots i name (seen_at slots i name is))
+  where
+    go : (o : Option Instance) → slot slots i.0 ≡ o → IsSome o → (name : List ℕ) × (slot (map name_in slots) i.0 ≡ Some name)
+    go None at some = absurd (false≢true some)
+    go (Some x) at some = (x.name, at_seen slots i x.name (x, at, refl))
 
 -- a live number is that of an instance of some name
 pub live_at : (tables : Tables) (slots : Slots) (capacity next : ℕ) (n : Net) → seen tables slots capacity next ≡ n → (i : InstanceId) → IsLiveInstance n i → (name : List ℕ) × NamedAt slots i name

@@ -78,6 +78,13 @@ impl Net {
         }
     }
 
+    /// Whether the number is that of an instance.
+    pub fn has_instance(&self, id: InstanceId) -> bool
+        ensures { IsTrue result ↔ IsLiveInstance self.now id }
+    {
+        self.slots.contains(id.0)
+    }
+
     /// The name of the instance.
     pub fn name_of(&self, id: InstanceId) -> &[u8]
         requires { IsLiveInstance self.now id }

@@ -1,9 +1,9 @@
 -- Problems that are added one by one, and the groups that they are in.
-use Rattle.std.proofs.Common.{◌≡◌, ℕ, zero, suc, ◌+◌, ◌<◌, List, [], ◌∷◌, ◌++◌, Bool, length, map, take, slice_get, Some, refl, sym, ap, subst, ◌∙◌, arith}
+use Rattle.std.proofs.Common.{◌≡◌, ℕ, zero, suc, ◌+◌, ◌<◌, List, [], ◌∷◌, ◌++◌, Bool, length, map, take, slice_get, slice_index_or, Some, refl, sym, ap, subst, ◌∙◌, append-nil, arith}
 use Rattle.std.specs.List.{All, AllZip}
-use Rattle.std.proofs.lemmas.List.{take_all, length-take-le, length-map}
-use Rattle.std.proofs.lemmas.Option.{slice_get_within, get_or_from_slice_get}
-use Rattle.cb_model.proofs.Numbers.{take_more, zip_push}
+use Rattle.std.proofs.lemmas.List.{take_all, length_push, length-map, append_assoc}
+use Rattle.std.proofs.lemmas.Option.{slice_get_within, slice_get-get_or, get_or_from_slice_get}
+use Rattle.cb_model.proofs.Numbers.{take_more}
 use Rattle.cb_coding.specs.declared.group.Problem.{Problem}
 use Rattle.cb_coding.specs.Distance.{code_at}
 use Rattle.cb_coding.specs.Groups.{AreCodedProblems, AreGroups, zeros}
@@ -12,8 +12,8 @@ use Rattle.cb_network.specs.Topology.{Topology}
 use Rattle.cb_finding.proofs.Nearest.{coded_are_wide}
 use Rattle.cb_topo.specs.Numbered.{Numbered, IsNodeNamed, AreNamed}
 use Rattle.cb_codes.specs.declared.grouping.Grouping.{Grouping}
-use Rattle.cb_codes.specs.Grouped.{group, AddsProblem, FitsTogether, HoldsProblems, groups_in}
-use Rattle.cb_matrix.specs.Coded.{IsProblemAt, AreProblemsAt, AreGroupedAt}
+use Rattle.cb_codes.specs.Grouped.{group, FitsTogether, HoldsProblems, groups_in}
+use Rattle.cb_matrix.specs.Coded.{AddsOne, AddsProblems, AddsCodedProblems, IsProblemAt, AreProblemsAt, AreGroupedAt}
 use Rattle.cb_matrix.specs.declared.problems.GroupedProblems.{GroupedProblems}
 use Rattle.cb_matrix.specs.Problems.{AreAllGrouped}
 use Rattle.cb_matrix.specs.Parts.{problems_with, HaveCodePlaces}
@@ -37,59 +37,98 @@ prefix (a ∷ all) (y ∷ xs) x e =
     let rest = prefix all xs x tail in
     (ap (λ zs. a ∷ zs) rest.0 ∙ ap (λ z. z ∷ xs) head, rest.1)
 
--- the problems of the first numbers, and their groups, whatever problems come after them
-pub record AreHeld (n : Numbered) (columns ids : List NodeId) (i : ℕ) (grouping : Grouping) : Type 0 where
-  pub problems : List Problem
-  pub coded : AreProblemsAt n columns (take i ids) problems
+-- these problems, and their groups, whatever problems come after them
+pub record AreHeld (width : ℕ) (problems : List Problem) (grouping : Grouping) : Type 0 where
   pub holds : HoldsProblems problems grouping
-  pub sound : FitsTogether (length columns) grouping
-  pub groups : (all : List Problem) → AreCodedProblems (length columns) all → take i all ≡ problems → AreGrouped (length columns) all i (groups_in grouping)
+  pub groups : (all : List Problem) → AreCodedProblems width all → take (length problems) all ≡ problems → AreGrouped width all (length problems) (groups_in grouping)
 
-module _ (n : Numbered) (columns ids : List NodeId) where
-  pub none_held : (grouping : Grouping) → FitsTogether (length columns) grouping → groups_in grouping ≡ group (zeros (length columns)) [] ∷ [] → HoldsProblems [] grouping
-      → AreHeld n columns ids 0 grouping
-  none_held grouping sound quiet none = record {
-    problems = [];
-    coded = tt;
+module _ (width : ℕ) where
+  pub none_held : (grouping : Grouping) → groups_in grouping ≡ group (zeros width) [] ∷ [] → HoldsProblems [] grouping → AreHeld width [] grouping
+  none_held grouping quiet none = record {
     holds = none;
-    sound = sound;
-    groups = λ all are same. subst (AreGrouped (length columns) all 0) (sym quiet) (quiet_grouped (length columns) all);
+    groups = λ all are same. subst (AreGrouped width all 0) (sym quiet) (quiet_grouped width all);
   }
 
-  pub one_more_held : (i : ℕ) (id : NodeId) (p : Problem) (old new : Grouping) → slice_get ids i ≡ Some id → IsProblemAt n columns id p
-      → FitsTogether (length p.code) new → AddsProblem p (groups_in old) (groups_in new) → ((before : List Problem) → HoldsProblems before old → HoldsProblems (before ++ p ∷ []) new)
-      → AreHeld n columns ids i old → AreHeld n columns ids (i + 1) new
-  one_more_held i id p old new at is sound added holds held =
-      let within = slice_get_within ids i id at in
-      let size : length held.problems ≡ i =
-      sym (length_zip (IsProblemAt n columns) (take i ids) held.problems held.coded) ∙ length-take-le i ids (omega arith)
-      in
+  one_more_held : (before : List Problem) (p : Problem) (old new : Grouping) → AddsOne p old new → AreHeld width before old → AreHeld width (before ++ p ∷ []) new
+  one_more_held before p old new adds held =
+      let long : length (before ++ p ∷ []) ≡ length before + 1 = length_push before p in
+      let next : suc (length before) ≡ length (before ++ p ∷ []) = omega arith in
       record {
-        problems = held.problems ++ p ∷ [];
-        coded = subst (λ prefix. AreProblemsAt n columns prefix (held.problems ++ p ∷ [])) (sym (take_more ids i id at))
-            (zip_push (IsProblemAt n columns) (take i ids) held.problems id p held.coded is);
-        holds = holds held.problems held.holds;
-        sound = subst (λ width. FitsTogether width new) is.coded.width sound;
+        holds = adds.holds before held.holds;
         groups = λ all are same.
-            let next : suc (length held.problems) ≡ i + 1 = omega arith in
-            let parts = prefix all held.problems p (ap (λ k. take k all) next ∙ same) in
-            one_more_grouped (length columns) all are i p (subst (λ k. slice_get all k ≡ Some p) size parts.1) (groups_in old) (groups_in new)
-            (held.groups all are (subst (λ k. take k all ≡ held.problems) size parts.0)) added;
+            let parts = prefix all before p (ap (λ k. take k all) next ∙ same) in
+            subst (λ k. AreGrouped width all k (groups_in new)) (sym long)
+            (one_more_grouped width all are (length before) p parts.1 (groups_in old) (groups_in new) (held.groups all are parts.0) adds.added);
       }
 
-  pub all_held : (i : ℕ) (grouping : Grouping) → i ≡ length ids → AreHeld n columns ids i grouping → AreGroupedAt n columns ids grouping
-  all_held i grouping end held =
-      let whole : take i ids ≡ ids = take_all i ids (omega arith) in
-      let coded = subst (λ prefix. AreProblemsAt n columns prefix held.problems) whole held.coded in
-      let size = length_zip (IsProblemAt n columns) ids held.problems coded in
-      let same : take i held.problems ≡ held.problems = take_all i held.problems (omega arith) in
+  more_held : (before problems : List Problem) (old new : Grouping) → AddsProblems problems old new → AreHeld width before old → AreHeld width (before ++ problems) new
+  more_held before [] old new same held = subst (AreHeld width (before ++ [])) same (subst (λ ps. AreHeld width ps old) (sym (append-nil before)) held)
+  more_held before (p ∷ problems) old new (next, adds, rest) held =
+      subst (λ ps. AreHeld width ps new) (append_assoc before (p ∷ []) problems)
+      (more_held (before ++ p ∷ []) problems next new rest (one_more_held before p old next adds held))
+
+  -- each fits beside the others
+  pub fits_together : (problems : List Problem) (old new : Grouping) → All (λ (p : Problem). length p.code ≡ width) problems → AddsProblems problems old new
+      → FitsTogether width old → FitsTogether width new
+  fits_together [] old new wide same sound = subst (FitsTogether width) same sound
+  fits_together (p ∷ problems) old new wide (next, adds, rest) sound =
+      fits_together problems next new (λ k d lt. wide (suc k) d (omega arith)) rest (subst (λ w. FitsTogether w next) (wide 0 p (omega arith)) adds.sound)
+
+-- one after the other
+module _ (n : Numbered) (columns : List NodeId) where
+  pub none_added : (grouping : Grouping) → AddsCodedProblems n columns [] grouping grouping
+  none_added grouping = record { problems = []; coded = tt; adds = refl }
+
+  both_added : (first second : List Problem) (old mid new : Grouping) → AddsProblems first old mid → AddsProblems second mid new → AddsProblems (first ++ second) old new
+  both_added [] second old mid new same rest = subst (λ g. AddsProblems second g new) (sym same) rest
+  both_added (p ∷ first) second old mid new (next, adds, more) rest = (next, adds, both_added first second next mid new more rest)
+
+  zip_both : (ids others : List NodeId) (ps qs : List Problem) → AreProblemsAt n columns ids ps → AreProblemsAt n columns others qs → AreProblemsAt n columns (ids ++ others) (ps ++ qs)
+  zip_both [] others [] qs zip zip' = zip'
+  zip_both [] others (p ∷ ps) qs zip zip' = absurd zip
+  zip_both (a ∷ ids) others [] qs zip zip' = absurd zip
+  zip_both (a ∷ ids) others (p ∷ ps) qs zip zip' = (zip.0, zip_both ids others ps qs zip.1 zip')
+
+  pub added_both : (ids others : List NodeId) (old mid new : Grouping) → AddsCodedProblems n columns ids old mid → AddsCodedProblems n columns others mid new
+      → AddsCodedProblems n columns (ids ++ others) old new
+  added_both ids others old mid new one other = record {
+    problems = one.problems ++ other.problems;
+    coded = zip_both ids others one.problems other.problems one.coded other.coded;
+    adds = both_added one.problems other.problems old mid new one.adds other.adds;
+  }
+
+  pub one_added : (ids : List NodeId) (i : ℕ) (d : NodeId) (p : Problem) (old mid new : Grouping) → i < length ids → IsProblemAt n columns (slice_index_or ids i d) p → AddsOne p mid new
+      → AddsCodedProblems n columns (take i ids) old mid → AddsCodedProblems n columns (take (i + 1) ids) old new
+  one_added ids i d p old mid new low is adds before =
+      let id = slice_index_or ids i d in
+      subst (λ xs. AddsCodedProblems n columns xs old new) (sym (take_more ids i id (slice_get-get_or ids i d low)))
+      (added_both (take i ids) (id ∷ []) old mid new before (record { problems = p ∷ []; coded = (is, tt); adds = (new, adds, refl) }))
+
+  wide_problems : (ids : List NodeId) (problems : List Problem) → AreProblemsAt n columns ids problems → All (λ (p : Problem). length p.code ≡ length columns) problems
+  wide_problems [] [] zip k d lt = absurd (omega arith)
+  wide_problems [] (p ∷ problems) zip k d lt = absurd zip
+  wide_problems (a ∷ ids) [] zip k d lt = absurd zip
+  wide_problems (a ∷ ids) (p ∷ problems) zip zero d lt = zip.0.coded.width
+  wide_problems (a ∷ ids) (p ∷ problems) zip (suc k) d lt = wide_problems ids problems zip.1 k d (omega arith)
+
+  pub added_fit : (ids : List NodeId) (old new : Grouping) → AddsCodedProblems n columns ids old new → FitsTogether (length columns) old → FitsTogether (length columns) new
+  added_fit ids old new added sound = fits_together (length columns) added.problems old new (wide_problems ids added.problems added.coded) added.adds sound
+
+  -- added to quiet alone they are all in their groups
+  pub all_added : (ids : List NodeId) (quiet grouping : Grouping) → FitsTogether (length columns) quiet → groups_in quiet ≡ group (zeros (length columns)) [] ∷ [] → HoldsProblems [] quiet
+      → AddsCodedProblems n columns ids quiet grouping → AreGroupedAt n columns ids grouping
+  all_added ids quiet grouping sound alone none added =
+      let width = length columns in
+      let problems = added.problems in
+      let held = more_held width [] problems quiet grouping added.adds (none_held width quiet alone none) in
+      let same : take (length problems) problems ≡ problems = take_all (length problems) problems (omega arith) in
       record {
-        problems = held.problems;
-        coded = coded;
+        problems = problems;
+        coded = added.coded;
         holds = held.holds;
-        sound = held.sound;
-        groups = λ are. all_grouped (length columns) held.problems i (omega arith) (groups_in grouping) (held.groups held.problems are same);
-        few = λ are. (let few = (held.groups held.problems are same).few in omega arith);
+        sound = added_fit ids quiet grouping added sound;
+        groups = λ are. all_grouped width problems (length problems) (omega arith) (groups_in grouping) (held.groups problems are same);
+        few = λ are. (let few = (held.groups problems are same).few in omega arith);
       }
 
 -- the columns and the problems in their groups

@@ -18,7 +18,7 @@ use Rattle.cb_successors.specs.Rows.{Has}
 use Rattle.cb_topo.specs.Columns.{IsPositionOf}
 use Rattle.cb_graph.specs.Edges.{number}
 use Rattle.cb_compact.specs.Compact.{with_ones}
-use Rattle.cb_matrix.specs.Codes.{AreColumnsOf, IsCodeOf}
+use Rattle.cb_matrix.specs.Codes.{AreColumnsIn, IsCodeWhere}
 use Rattle.cb_matrix.proofs.Passed.{Agrees, AddedTo, is_there, joins, passes, then_other}
 use Rattle.cb_bits.proofs.NextOnes.{without_at}
 
@@ -51,11 +51,17 @@ module _ (columns : List NodeId) (Old New : ℕ → Type 0) (items : List ℕ) (
   pub none_more : IsPositionOf columns (number node) None → ((m : ℕ) → ¬ (m ≡ node) → New m ↔ Old m) → AreListedBy columns New items
   none_more none same = record { within = old.within; each = passes columns (Contains items) Old New node none old.each same }
 
+-- nothing is listed of nothing
+pub nothing_listed : (columns : List NodeId) (Set : ℕ → Type 0) → ((k : ℕ) → ¬ Set k) → AreListedBy columns Set []
+nothing_listed columns Set none = record {
+  within = λ k d lt. absurd (omega arith);
+  each = λ k m there. (λ has. absurd (let lt = has.1 in omega arith), λ is. absurd (none m is));
+}
+
 -- put in order, each once
-pub all_listed : (columns : List NodeId) (row last : List Bool) → length row ≡ length last → ((k : ℕ) → ¬ Has last k) → (to : ℕ) → HasNoneFrom (difference row last) to
-    → (items sorted : List ℕ) → AreListedBy columns (AddedTo row last to) items → IsPermutation items sorted → IsSorted nat_cmp sorted
-    → AreColumnsOf columns row (dedup eqb sorted)
-all_listed columns row last size none to end items sorted listed moved ordered =
+pub in_order : (columns : List NodeId) (Set : ℕ → Type 0) (items sorted : List ℕ) → AreListedBy columns Set items → IsPermutation items sorted → IsSorted nat_cmp sorted
+    → AreColumnsIn columns Set (dedup eqb sorted)
+in_order columns Set items sorted listed moved ordered =
     let list = dedup eqb sorted in
     let back : (k : ℕ) → Contains list k → Contains items k =
     λ k has. Contains-permutation sorted items k (IsPermutation-sym items sorted moved) (Contains-from_dedup eqb sorted k has) in
@@ -66,18 +72,34 @@ all_listed columns row last size none to end items sorted listed moved ordered =
           let has = back place (Contains-get_or list k d lt) in
           subst (λ place. place < length columns) has.2 (listed.within has.0 place has.1);
       each = λ k m there. (
-        λ has. elim ((listed.each k m there).0 (back k has)) [ inl had ↦ absurd (none m had) | inr both ↦ both.0 ],
-        λ has. Contains-dedup_nat sorted k (Contains-permutation items sorted k moved ((listed.each k m there).1 (elim (cases_lt m to) [
-          | inl low ↦ inr (has, low)
-          | inr on ↦ inl (then_other _ _ (sym (without_at row last size m) ∙ end m on) has)
-        ]))),
+        λ has. (listed.each k m there).0 (back k has),
+        λ is. Contains-dedup_nat sorted k (Contains-permutation items sorted k moved ((listed.each k m there).1 is)),
       );
     }
 
--- the row that has its ones at these positions is the code
-pub listed_code : (columns : List NodeId) (reached : List Bool) (positions : List ℕ) → AreColumnsOf columns reached positions
-    → IsCodeOf columns reached (with_ones positions (length columns))
-listed_code columns reached positions are =
+-- a set that is the same
+pub as_listed : (columns : List NodeId) (Set Same : ℕ → Type 0) (items : List ℕ) → ((m : ℕ) → Set m ↔ Same m) → AreListedBy columns Set items → AreListedBy columns Same items
+as_listed columns Set Same items alike listed = record {
+  within = listed.within;
+  each = λ k m there. (λ has. (alike m).0 ((listed.each k m there).0 has), λ is. (listed.each k m there).1 ((alike m).1 is));
+}
+
+-- the nodes that a row has and the last one lacks, where the last one has none
+pub all_listed : (columns : List NodeId) (row last : List Bool) → length row ≡ length last → ((k : ℕ) → ¬ Has last k) → (to : ℕ) → HasNoneFrom (difference row last) to
+    → (items sorted : List ℕ) → AreListedBy columns (AddedTo row last to) items → IsPermutation items sorted → IsSorted nat_cmp sorted
+    → AreColumnsIn columns (Has row) (dedup eqb sorted)
+all_listed columns row last size none to end items sorted listed moved ordered =
+    in_order columns (Has row) items sorted (as_listed columns (AddedTo row last to) (Has row) items (λ m. (
+      λ is. elim is [ inl had ↦ absurd (none m had) | inr both ↦ both.0 ],
+      λ has. elim (cases_lt m to) [
+        | inl low ↦ inr (has, low)
+        | inr on ↦ inl (then_other _ _ (sym (without_at row last size m) ∙ end m on) has)
+      ],
+    )) listed) moved ordered
+
+-- the row that has its ones at these positions has each column of which this holds
+pub coded_in : (columns : List NodeId) (P : ℕ → Type 0) (positions : List ℕ) → AreColumnsIn columns P positions → IsCodeWhere columns P (with_ones positions (length columns))
+coded_in columns P positions are =
     let n = length columns in
     let value : ℕ → Bool = λ k. list_any (λ place. k == place) positions in
     record {

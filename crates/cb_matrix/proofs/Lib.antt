@@ -4,3 +4,7 @@ pub mod Matched
 pub mod WordBits
 pub mod Held
 pub mod Rows
+pub mod Seen
+pub mod Costs
+pub mod Numbering
+pub mod Searching

@@ -19,9 +19,13 @@ use Rattle.cb_graph.specs.Edges.{EdgeAt, number}
 use Rattle.cb_graph.proofs.Chains.{named_once, lead_to_caused}
 use Rattle.cb_cache.specs.Numbers.{IsProblemNumber}
 use Rattle.cb_cache.proofs.Opened.{few_of_rising}
-use Rattle.cb_matrix.specs.Codes.{IsCodeOf}
+use Rattle.cb_cache.specs.declared.rows.Rows.{Rows}
+use Rattle.cb_cache.specs.Rows.{HasReachedRow}
+use Rattle.cb_cache.proofs.Owned.{one_row}
+use Rattle.cb_matrix.specs.Codes.{IsCodeOf, bits}
+use Rattle.cb_matrix.proofs.WordBits.{has_reached}
 use Rattle.cb_matrix.specs.declared.coder.Coder.{Coder}
-use Rattle.cb_matrix.specs.Coded.{IsCodeFrom, IsCodeOfLast, IsCoder, AreProblemsAt}
+use Rattle.cb_matrix.specs.Coded.{IsCodeFrom, IsCodeOfLast, IsCodeOfRow, IsCoder, AreProblemsAt}
 
 -- a set's code is a search's, where the set is what was found
 pub code_from : (n : Numbered) (columns : List NodeId) (id : NodeId) (reached code : List Bool) → ((k : ℕ) → Has reached k ↔ LeadsTo (EdgeAt n) id.0 k)
@@ -31,20 +35,19 @@ code_from n columns id reached code found coded = record {
   each = λ place node is. (λ has. (found node).0 ((coded.each place node is).0 has), λ leads. (coded.each place node is).1 ((found node).1 leads));
 }
 
--- a search's code is that of the set that was found
-pub code_over : (n : Numbered) (columns : List NodeId) (id : NodeId) (reached code : List Bool) → ((k : ℕ) → Has reached k ↔ LeadsTo (EdgeAt n) id.0 k)
-    → IsCodeFrom n columns id code → IsCodeOf columns reached code
-code_over n columns id reached code found coded = record {
-  width = coded.width;
-  each = λ place node is. (λ has. (found node).1 ((coded.each place node is).0 has), λ has. (coded.each place node is).1 ((found node).0 has));
-}
+-- the code of the row of all that a node leads to
+pub code_of_reached : (n : Numbered) (rows : Rows) (columns : List NodeId) (id : NodeId) (code : List Bool) → HasReachedRow n rows id → IsCodeOfRow rows columns id code
+    → IsCodeFrom n columns id code
+code_of_reached n rows columns id code (words, row, reached) (others, is, coded) =
+    let same = one_row rows id others words is row in
+    code_from n columns id (bits words) code (has_reached n id.0 words reached) (subst (λ ws. IsCodeOf columns (bits ws) code) same coded)
 
 -- no code is made yet
-pub new_coder : (n : Numbered) (columns : List NodeId) (width : ℕ) (coder : Coder) → coder.none.items ≡ replicate width 0 → coder.last ≡ None
-    → coder.code ≡ replicate (length columns) false → IsCoder n columns width coder
-new_coder n columns width coder none last code = record {
+pub new_coder : (rows : Rows) (columns : List NodeId) (coder : Coder) → coder.none.items ≡ replicate rows.pool.width 0 → coder.last ≡ None
+    → coder.code ≡ replicate (length columns) false → IsCoder rows columns coder
+new_coder rows columns coder none last code = record {
   none = none;
-  code = subst (λ (problem : Option NodeId). IsCodeOfLast n columns problem coder.code) (sym last) code;
+  code = subst (λ (problem : Option NodeId). IsCodeOfLast rows columns problem coder.code) (sym last) code;
 }
 
 -- one more pair, at the place after the first ones

@@ -11,16 +11,11 @@ use Rattle.cb_successors.specs.Rows.{Has}
 use Rattle.cb_successors.proofs.Marks.{has_set, set_cases, nothing}
 use Rattle.cb_graph.specs.Edges.{number}
 use Rattle.cb_topo.specs.Columns.{IsPositionOf}
-use Rattle.cb_matrix.specs.Codes.{IsCodeOf, IsCodeOfEither}
+use Rattle.cb_matrix.specs.Codes.{IsCodeWhere, IsCodeOf, IsCodeOfEither}
 
 -- of each column: it is among these exactly where its node is in the set
 abbrev pub Agrees : List NodeId → (ℕ → Type 0) → (ℕ → Type 0) → Type 0
 Agrees columns Among Set = (place node : ℕ) → slice_get columns place ≡ Some (number node) → Among place ↔ Set node
-
--- for each column, whether its node is in the set
-pub record IsCodedBy (columns : List NodeId) (Set : ℕ → Type 0) (code : List Bool) : Type 0 where
-  pub width : length code ≡ length columns
-  pub each : Agrees columns (Has code) Set
 
 pub still : (code : List Bool) (p k : ℕ) → p < length code → Has code k → Has (slice_set code p true) k
 still code p k low has = elim (cases_eq k p) [
@@ -67,20 +62,20 @@ passes columns Among Old New node none old same k m there =
     (λ has. alike.1 ((old k m there).0 has), λ is. (old k m there).1 (alike.0 is))
 
 -- one set, and another that differs at one node alone
-module _ (columns : List NodeId) (Old New : ℕ → Type 0) (code : List Bool) (node : ℕ) (old : IsCodedBy columns Old code) where
+module _ (columns : List NodeId) (Old New : ℕ → Type 0) (code : List Bool) (node : ℕ) (old : IsCodeWhere columns Old code) where
   module _ (place : ℕ) (at : IsPositionOf columns (number node) (Some place)) where
     pub place_low : place < length code
     place_low = let e = slice_get_within columns place (number node) (is_there columns node place at) in let f = old.width in omega arith
 
     -- it joins the set
-    pub joined : ((m : ℕ) → New m ↔ (Old m ⊎ (m ≡ node))) → IsCodedBy columns New (slice_set code place true)
+    pub joined : ((m : ℕ) → New m ↔ (Old m ⊎ (m ≡ node))) → IsCodeWhere columns New (slice_set code place true)
     joined more = record {
       width = length-set code place true ∙ old.width;
       each = joins columns node place at (Has code) (Has (slice_set code place true)) Old New old.each (set_there code place place_low) more;
     }
 
     -- it leaves the set
-    pub left : ((m : ℕ) → New m ↔ (Old m × ¬ (m ≡ node))) → IsCodedBy columns New (slice_set code place false)
+    pub left : ((m : ℕ) → New m ↔ (Old m × ¬ (m ≡ node))) → IsCodeWhere columns New (slice_set code place false)
     left less = record {
       width = length-set code place false ∙ old.width;
       each = λ k m there. (
@@ -99,7 +94,7 @@ module _ (columns : List NodeId) (Old New : ℕ → Type 0) (code : List Bool) (
     }
 
   -- it is no column
-  pub no_column : IsPositionOf columns (number node) None → ((m : ℕ) → ¬ (m ≡ node) → New m ↔ Old m) → IsCodedBy columns New code
+  pub no_column : IsPositionOf columns (number node) None → ((m : ℕ) → ¬ (m ≡ node) → New m ↔ Old m) → IsCodeWhere columns New code
   no_column none same = record { width = old.width; each = passes columns (Has code) Old New node none old.each same }
 
 both_of : (a b : Bool) → (a && not b) ≡ true → (a ≡ true) × (b ≡ false)
@@ -181,7 +176,7 @@ module _ (columns : List NodeId) (row last : List Bool) (size : length row ≡ l
     pub none_taken : (m : ℕ) → ¬ (m ≡ node) → TakenTo row last (node + 1) m ↔ TakenTo row last to m
     none_taken m other = (λ is. ((one_taken m).0 is).0, λ is. (one_taken m).1 (is, other))
 
-  pub none_yet : (code : List Bool) → IsCodeOf columns last code → IsCodedBy columns (AddedTo row last 0) code
+  pub none_yet : (code : List Bool) → IsCodeOf columns last code → IsCodeWhere columns (AddedTo row last 0) code
   none_yet code old = record {
     width = old.width;
     each = λ k m there. (
@@ -190,7 +185,7 @@ module _ (columns : List NodeId) (row last : List Bool) (size : length row ≡ l
     );
   }
 
-  pub all_added : (to : ℕ) (code : List Bool) → HasNoneFrom (difference row last) to → IsCodedBy columns (AddedTo row last to) code → IsCodeOfEither columns row last code
+  pub all_added : (to : ℕ) (code : List Bool) → HasNoneFrom (difference row last) to → IsCodeWhere columns (AddedTo row last to) code → IsCodeOfEither columns row last code
   all_added to code none old = record {
     width = old.width;
     each = λ k m there. (
@@ -205,7 +200,7 @@ module _ (columns : List NodeId) (row last : List Bool) (size : length row ≡ l
     );
   }
 
-  pub none_taken_yet : (code : List Bool) → IsCodeOfEither columns row last code → IsCodedBy columns (TakenTo row last 0) code
+  pub none_taken_yet : (code : List Bool) → IsCodeOfEither columns row last code → IsCodeWhere columns (TakenTo row last 0) code
   none_taken_yet code old = record {
     width = old.width;
     each = λ k m there. (
@@ -214,7 +209,7 @@ module _ (columns : List NodeId) (row last : List Bool) (size : length row ≡ l
     );
   }
 
-  pub all_taken : (to : ℕ) (code : List Bool) → HasNoneFrom (difference last row) to → IsCodedBy columns (TakenTo row last to) code → IsCodeOf columns row code
+  pub all_taken : (to : ℕ) (code : List Bool) → HasNoneFrom (difference last row) to → IsCodeWhere columns (TakenTo row last to) code → IsCodeOf columns row code
   all_taken to code none old = record {
     width = old.width;
     each = λ k m there. (
@@ -238,4 +233,18 @@ alone_coded columns row last code none old = record {
     λ has. elim ((old.each place node is).0 has) [ inl on ↦ on | inr had ↦ absurd (none node had) ],
     λ has. (old.each place node is).1 (inl has),
   );
+}
+
+-- of nothing no column is coded
+pub nothing_coded : (columns : List NodeId) (P : ℕ → Type 0) → ((k : ℕ) → ¬ P k) → IsCodeWhere columns P (replicate (length columns) false)
+nothing_coded columns P none = record {
+  width = length-replicate (length columns) false;
+  each = λ place node is. (λ has. absurd (nothing (length columns) place has), λ holds. absurd (none node holds));
+}
+
+-- what is the same of each node has the same code
+pub as_coded : (columns : List NodeId) (P Q : ℕ → Type 0) (code : List Bool) → ((m : ℕ) → P m ↔ Q m) → IsCodeWhere columns P code → IsCodeWhere columns Q code
+as_coded columns P Q code alike coded = record {
+  width = coded.width;
+  each = λ k m there. (λ has. (alike m).0 ((coded.each k m there).0 has), λ is. (coded.each k m there).1 ((alike m).1 is));
 }

@@ -2,3 +2,4 @@ pub mod Codes
 pub mod Coded
 pub mod Problems
 pub mod Parts
+pub mod Searched

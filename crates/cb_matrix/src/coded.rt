@@ -1,35 +1,39 @@
-//! The problems in their groups, each with its code from its row.
-ghost use Rattle.std.specs.Prelude.{◌≤◌, length, IfOk};
-ghost use Rattle.std.specs.List.{All};
+//! Problems that are put into their groups, each with its code from its row.
+ghost use Rattle.std.specs.Prelude.{◌≤◌, length, OnOk};
+ghost use Rattle.std.specs.List.{All, Contains};
+ghost use Rattle.cb_codes.specs.Grouped.{FitsTogether};
 ghost use Rattle.cb_network.specs.Sound.{node_limit};
-ghost use Rattle.cb_cache.specs.Numbers.{IsProblemNumber};
-ghost use Rattle.cb_matrix.specs.Coded.{AreGroupedAt};
+ghost use Rattle.cb_topo.specs.Numbered.{IsLiveNode};
+ghost use Rattle.cb_cache.specs.Rows.{HaveRows};
+ghost use Rattle.cb_matrix.specs.Coded.{AddsCodedProblems};
 
 use crate::coder::Coder;
-use cb_cache::Cache;
+use cb_cache::Rows;
 use cb_codes::Grouping;
-use cb_model::List;
 use cb_nodes::NodeId;
-use cb_topo::ColumnIndex;
+use cb_topo::{ColumnIndex, Topology};
 use std::alloc::{AllocError, Global};
 
-/// The problems of these numbers in the groups of their codes over the columns.
-pub(crate) fn grouping_of(
+/// Adds the problems of these numbers, each of which has a row.
+pub(crate) fn add_by_rows(
     alloc: Global,
-    cache: &Cache,
+    topology: &Topology,
+    rows: &Rows,
     columns: &ColumnIndex,
-    nodes: &List<NodeId>,
-) -> Result<Grouping, AllocError>
-    requires few { length cache.now.graph.nodes ≤ node_limit }
-    requires problems { All (IsProblemNumber cache.now.graph) nodes.now }
-    ensures { IfOk result (AreGroupedAt cache.now.graph columns.now nodes.now) }
+    nodes: &[NodeId],
+    grouping: &mut Grouping,
+) -> Result<(), AllocError>
+    requires few { length topology.now.nodes ≤ node_limit }
+    requires rows { HaveRows topology.now (Contains nodes.now) rows.now }
+    requires live { All (IsLiveNode topology.now) nodes.now }
+    requires sound { FitsTogether (length columns.now) grouping.old }
+    ensures { OnOk result (AddsCodedProblems topology.now columns.now nodes.now grouping.old grouping.new) }
 {
-    let mut coder = Coder::new(alloc, columns, cache.pool().width())?;
-    let mut grouping = Grouping::of_quiet(alloc, columns.len())?;
-    for node in nodes.as_slice() {
-        let name = cache.graph().topology().copy_name(alloc, *node)?;
-        let code = coder.code_of(alloc, cache, columns, *node)?;
+    let mut coder = Coder::new(alloc, columns, rows.width())?;
+    for node in nodes {
+        let name = topology.copy_name(alloc, *node)?;
+        let code = coder.code_of(alloc, rows, columns, *node)?;
         grouping.add(alloc, name, code)?;
     }
-    Ok(grouping)
+    Ok(())
 }

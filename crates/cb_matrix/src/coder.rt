@@ -1,13 +1,13 @@
 //! The codes of problems, made one after the other.
-ghost use Rattle.std.specs.Prelude.{◌≡◌, ◌≤◌, length, replicate, false, None, IfOk, OnOk};
+ghost use Rattle.std.specs.Prelude.{List as Items, ◌≡◌, ◌≤◌, ℕ, length, replicate, false, None, IfOk, OnOk};
 ghost use Rattle.cb_lanes.specs.Words.{word_limit};
-ghost use Rattle.cb_cache.specs.Numbers.{IsProblemNumber};
-ghost use Rattle.cb_matrix.specs.Coded.{IsCodeFrom, IsCoder, IsCodeOfLast};
+ghost use Rattle.cb_cache.specs.Rows.{IsNodeRow};
+ghost use Rattle.cb_matrix.specs.Coded.{IsCodeOfRow, IsCoder, IsCodeOfLast};
 
 use crate::codes::pass_code;
 use crate::listed::list_columns;
 use cb_bits::Row;
-use cb_cache::Cache;
+use cb_cache::Rows;
 use cb_compact::CompactRow;
 use cb_nodes::NodeId;
 use cb_topo::ColumnIndex;
@@ -44,35 +44,35 @@ impl Coder {
     pub fn code_of(
         &mut self,
         alloc: Global,
-        cache: &Cache,
+        rows: &Rows,
         columns: &ColumnIndex,
         problem: NodeId,
     ) -> Result<CompactRow, AllocError>
-        requires few { cache.now.pool.width ≤ word_limit }
-        requires problem { IsProblemNumber cache.now.graph problem }
-        requires coder { IsCoder cache.now.graph columns.now cache.now.pool.width self.old }
-        ensures code { IfOk result (IsCodeFrom cache.now.graph columns.now problem) }
-        ensures coder { OnOk result (IsCoder cache.now.graph columns.now cache.now.pool.width self.new) }
+        requires few { rows.now.pool.width ≤ word_limit }
+        requires row { (words : Items ℕ) × IsNodeRow rows.now problem words }
+        requires coder { IsCoder rows.now columns.now self.old }
+        ensures code { IfOk result (IsCodeOfRow rows.now columns.now problem) }
+        ensures coder { OnOk result (IsCoder rows.now columns.now self.new) }
     {
-        if list_columns(columns, cache.row(problem), &self.none, &mut self.list)? {
+        if list_columns(columns, rows.row(problem), &self.none, &mut self.list)? {
             let positions = Vec::from_slice(alloc, &self.list)?;
             return Ok(CompactRow::of_positions(columns.len(), positions));
         }
-        self.go_on(cache, columns, problem);
+        self.go_on(rows, columns, problem);
         CompactRow::of(alloc, &self.code)
     }
 
     // Goes on to the code of a problem from the last one. Rows that are nearly alike, as those of a chain or of a mesh, cost little.
-    fn go_on(&mut self, cache: &Cache, columns: &ColumnIndex, problem: NodeId)
-        requires few { cache.now.pool.width ≤ word_limit }
-        requires problem { IsProblemNumber cache.now.graph problem }
-        requires coder { IsCoder cache.now.graph columns.now cache.now.pool.width self.old }
-        ensures coder { IsCoder cache.now.graph columns.now cache.now.pool.width self.new }
-        ensures code { IsCodeFrom cache.now.graph columns.now problem self.new.code }
+    fn go_on(&mut self, rows: &Rows, columns: &ColumnIndex, problem: NodeId)
+        requires few { rows.now.pool.width ≤ word_limit }
+        requires row { (words : Items ℕ) × IsNodeRow rows.now problem words }
+        requires coder { IsCoder rows.now columns.now self.old }
+        ensures coder { IsCoder rows.now columns.now self.new }
+        ensures code { IsCodeOfRow rows.now columns.now problem self.new.code }
     {
-        let row = cache.row(problem);
+        let row = rows.row(problem);
         match self.last {
-            Some(last) => pass_code(columns, cache.row(last), row, &mut self.code),
+            Some(last) => pass_code(columns, rows.row(last), row, &mut self.code),
             None => pass_code(columns, &self.none, row, &mut self.code),
         }
         self.last = Some(problem);

@@ -1,8 +1,9 @@
 //! The matrix of a topology.
-ghost use Rattle.std.specs.Prelude.{◌≡◌, ◌<◌, ◌≤◌, ◌+◌, length, map, IfOk, Some, slice_get};
+ghost use Rattle.std.specs.Prelude.{◌≡◌, ◌<◌, ◌≤◌, ◌+◌, ℕ, length, map, IfOk, Some, slice_get};
 ghost use Rattle.cb_coding.specs.Groups.{codes_of};
 ghost use Rattle.cb_codes.specs.Groups.{named_of};
 ghost use Rattle.cb_network.specs.Sound.{problem_limit, symptom_limit};
+ghost use Rattle.cb_change.specs.Costs.{IsOpenCost};
 ghost use Rattle.cb_finding.specs.Matrix.{AreCoded, IsMatrix};
 ghost use Rattle.cb_topo.specs.Columns.{AreAllColumns};
 ghost use Rattle.cb_topo.specs.Numbered.{topology_of};
@@ -13,10 +14,13 @@ use crate::problems::GroupedProblems;
 use cb_cache::Cache;
 use cb_codes::{Codes, Grouping, Groups};
 use cb_compact::CompactRow;
+use cb_graph::Graph;
 use cb_model::{List, NamedGroup, NodeName};
+use cb_steps::Steps;
 use cb_topo::ColumnIndex;
 use std::alloc::{AllocError, Global};
 use std::marker::Model;
+use std::sync::ledger::Ledger;
 
 /// What each problem makes visible: the columns in order, the problems in order, each with its code over the columns, and the
 /// groups of problems that no column tells apart, each with its code. The first group is the quiet one, whose problems no
@@ -62,6 +66,23 @@ impl Matrix {
         ensures few_groups { IfOk result (λ matrix. length matrix.groups ≤ problem_limit + 1) }
     {
         let GroupedProblems { columns, grouping } = GroupedProblems::of(alloc, cache, index)?;
+        Ok(matrix_of(alloc, columns, grouping))
+    }
+
+    /// The matrix of the graph's topology, for which each problem is searched from once. No rows stay in memory.
+    pub fn search<L: Ledger>(
+        alloc: Global,
+        graph: &mut Graph,
+        steps: &mut Steps<L>,
+    ) -> Result<Matrix, AllocError>
+        ensures same { graph.new ≡ graph.old }
+        ensures matrix { IfOk result (λ matrix. IsMatrix (topology_of graph.old) matrix.columns matrix.groups) }
+        ensures problems { IfOk result (λ matrix. AreCoded (topology_of graph.old) matrix.columns matrix.problems) }
+        ensures few_columns { IfOk result (λ matrix. length matrix.columns ≤ symptom_limit) }
+        ensures few_groups { IfOk result (λ matrix. length matrix.groups ≤ problem_limit + 1) }
+        ensures cost { (cost : ℕ) → IsOpenCost (topology_of graph.old) cost → steps.new ≤ steps.old + cost }
+    {
+        let GroupedProblems { columns, grouping } = GroupedProblems::search(alloc, graph, steps)?;
         Ok(matrix_of(alloc, columns, grouping))
     }
 

@@ -27,3 +27,4 @@ pub mod EndingWell
 pub mod Complete
 pub mod Accepted
 pub mod ThinsClose
+pub mod ExplainCosts

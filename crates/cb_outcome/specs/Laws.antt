@@ -2,7 +2,10 @@
 use Rattle.std.specs.Prelude.{◌≡◌, ◌≢◌, ◌⊎◌, ◌≤◌, ℕ, ◌++◌, List, [], ◌∷◌, length, codes, Option, None, Some, IsTrue}
 use Rattle.std.specs.List.{Contains}
 use Rattle.cb_io.specs.Outside.{bytes_left_of, contents}
+use Rattle.cb_model.specs.declared.node.NodeName.{NodeName}
 use Rattle.cb_model.specs.declared.wish.Wish.{Wish}
+use Rattle.cb_model.specs.NodeOrder.{node_cmp}
+use Rattle.cb_model.specs.Order.{Rises}
 use Rattle.cb_network.specs.Regular.{IsRegular}
 use Rattle.cb_network.specs.Sound.{Sound}
 use Rattle.cb_network.specs.Topology.{Topology}
@@ -19,6 +22,7 @@ use Rattle.cb_request.specs.declared.request.Request.{Request}
 use Rattle.cb_outcome.specs.Outcome.{Outcome}
 use Rattle.cb_outcome.specs.Judged.{File, Known, nothing, parsed, network, raised, certified, levelled, scripted, PassFrom}
 use Rattle.cb_outcome.specs.Contents.{Left, Reads, files_from, log_from}
+use Rattle.cb_outcome.specs.Costs.{IsExplainCost}
 use Rattle.cb_outcome.specs.Command.{Command, reads_of, file_words, TaskFaults, JobGives}
 use Rattle.cb_outcome.specs.Commands.Codebook.{codebook}
 use Rattle.cb_outcome.specs.Commands.Verify.{verify}
@@ -82,6 +86,10 @@ HasSoundTopology (scripted t script) = Sound t × IsRegular t.model
 -- so is what is known once files pass: what it costs to search such a topology, and to follow a log over it, exists
 abbrev pub PassedAreSound : Type 0
 PassedAreSound = (files : List File) (known : Known) → PassFrom nothing files known → HasSoundTopology known
+
+-- for raised nodes in order there is a number that is the cost of `explain`
+abbrev pub ExplainCostExists : Type 0
+ExplainCostExists = (t : Topology) (nodes : List NodeName) → IsRegular t.model → Sound t → Rises node_cmp nodes → (cost : ℕ) × IsExplainCost t nodes cost
 
 -- where all judged files pass, the outcome is what the task gives: no file is refused
 abbrev pub PassedGoToJob : Type 0

@@ -1,5 +1,5 @@
 //! What holds of outcomes.
-ghost use Rattle.cb_outcome.specs.Laws.{OutcomeIsOne, OutcomeGoesByBytes, PrefixGivesPrefix, DueIsPrefix, PrefixThinsAreClose, SummedThinsAreClose, PassedAreSound, PassedGoToJob, PassedEndWell, DoneReadsAll, AskedIsInRange, FileWordsAreRead, WrittenIsAccepted, LevelsAreAccepted};
+ghost use Rattle.cb_outcome.specs.Laws.{OutcomeIsOne, OutcomeGoesByBytes, PrefixGivesPrefix, DueIsPrefix, PrefixThinsAreClose, SummedThinsAreClose, PassedAreSound, ExplainCostExists, PassedGoToJob, PassedEndWell, DoneReadsAll, AskedIsInRange, FileWordsAreRead, WrittenIsAccepted, LevelsAreAccepted};
 
 /// The words of the command line and the bytes of the files have one outcome: in how large pieces the files give their
 /// bytes makes no difference.
@@ -39,13 +39,19 @@ pub fn passed_are_sound()
     ensures { PassedAreSound }
 {}
 
+/// From a sound topology over a regular model, `explain` has a cost for raised nodes in order, as a symptom file lists them.
+pub fn explain_cost_exists()
+    ensures { ExplainCostExists }
+{}
+
 /// Where all judged files pass, the outcome is what the task gives.
 pub fn passed_go_to_job()
     ensures { PassedGoToJob }
 {}
 
 /// Where all judged files pass, and the log isn't too long, nothing is wrong but what the task of the command may end with: for
-/// `codebook` a distance or too many entries, and for `grow` a fault of the texts that it makes up.
+/// `codebook` a distance or too many entries, for `levels` no such problem, for `pairs` too many groups, and for `grow` a fault of
+/// the texts that it makes up. Words that are no command are refused.
 pub fn passed_end_well()
     ensures { PassedEndWell }
 {}

@@ -13,5 +13,6 @@ pub mod Listing
 pub mod Capacities
 pub mod OneCapacity
 pub mod Rising
+pub mod ByNames
 pub mod Following
 pub mod Positions

@@ -12,7 +12,7 @@ use Rattle.std.proofs.lemmas.List.Quantifiers.{all_pairs_push}
 use Rattle.cb_model.specs.declared.node.NodeName.{NodeName}
 use Rattle.cb_model.specs.NodeOrder.{node_cmp}
 use Rattle.cb_model.proofs.Rising.{node_cmp_total, node_cmp_exact}
-use Rattle.cb_network.specs.Nodes.{AreInOrder, IsNodeOf}
+use Rattle.cb_network.specs.Nodes.{AreInOrder}
 use Rattle.cb_nodes.specs.declared.id.NodeId.{NodeId}
 use Rattle.cb_topo.specs.declared.kind.NodeKind.{NodeKind}
 use Rattle.cb_topo.specs.Numbered.{Numbered, topology_of, IsNodeNamed, IsLiveNode, AreNamed, IsWhole}
@@ -135,30 +135,8 @@ zip_at R (x ∷ xs) [] i d e all lt = absurd all
 zip_at R (x ∷ xs) (y ∷ ys) zero d e all lt = all.0
 zip_at R (x ∷ xs) (y ∷ ys) (suc i) d e all lt = zip_at R xs ys i d e all.1 (omega arith)
 
-none : NodeName
-none = record { event = []; instance = [] }
-
 number_none : NodeId
 number_none = record { 0 = 0 }
-
--- names that rise, of all nodes, make the nodes settled
-pub settled_from : (n : Numbered) → IsWhole n → (ids : List NodeId) (names : List NodeName) → AreInOrder (IsNodeOf (topology_of n)) names → AreNamed n ids names → IsSettled n ids
-settled_from n whole ids names order named =
-    let long : length ids ≡ length names = zip_length (IsNodeNamed n) ids names named in
-    let at : (k : ℕ) (d : NodeId) (e : NodeName) → k < length ids → IsNodeNamed n (slice_index_or ids k d) (slice_index_or names k e) = λ k d e lt. zip_at (IsNodeNamed n) ids names k d e named lt in
-    record {
-      rising = record {
-        live = λ k d lt. (slice_index_or names k none, at k d none lt);
-        rise = λ i j d lt inside x y is_x is_y.
-            let e = one_name n (slice_index_or ids i d) (slice_index_or names i none) x (at i d none (omega arith)) is_x in
-            let f = one_name n (slice_index_or ids j d) (slice_index_or names j none) y (at j d none inside) is_y in
-            subst (λ r. node_cmp x r ≡ Less) f (subst (λ r. node_cmp r (slice_index_or names j none) ≡ Less) e (order.rise i j none lt (omega arith)));
-      };
-      all = λ id (x, is).
-          let (k, lt, e) = order.all x (whole.live id x is) in
-          let inside : k < length ids = omega arith in
-          (k, inside, whole.one (slice_index_or ids k id) id x (subst (IsNodeNamed n (slice_index_or ids k id)) e (at k id x inside)) is);
-    }
 
 -- nodes have names
 names_of : (n : Numbered) (ids : List NodeId) → All (IsLiveNode n) ids → (names : List NodeName) × AreNamed n ids names

@@ -6,5 +6,6 @@ pub mod Kept
 pub mod Made
 pub mod Ordered
 pub mod Settled
+pub mod Sorted
 pub mod Laws
 pub mod Columns

@@ -11,6 +11,7 @@ mod laws;
 mod order;
 mod readers;
 mod settled;
+mod sorted;
 mod topology;
 
 pub use accepted::AcceptedEdit;

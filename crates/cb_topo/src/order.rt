@@ -1,10 +1,9 @@
 //! Columns, problems and all nodes in order.
-ghost use Rattle.std.specs.Prelude.{◌≡◌, ◌↔◌, List as Items, IfOk, IsTrue};
+ghost use Rattle.std.specs.Prelude.{◌↔◌, List as Items, IfOk, IsTrue};
 ghost use Rattle.cb_model.specs.declared.node.NodeName.{NodeName as Node};
-ghost use Rattle.cb_model.specs.NodeOrder.{node_cmp};
 ghost use Rattle.cb_network.specs.Nodes.{AreInOrder, AreColumns, AreProblems, IsNodeOf};
 ghost use Rattle.cb_topo.specs.Numbered.{topology_of, IsNodeNamed, IsLiveNode, IsWhole, AreNamed};
-ghost use Rattle.cb_topo.specs.Ordered.{IsOfKind, AreOfKind, called};
+ghost use Rattle.cb_topo.specs.Ordered.{IsOfKind};
 ghost use Rattle.cb_topo.specs.Settled.{IsSettled};
 
 use crate::kind::NodeKind;
@@ -12,27 +11,6 @@ use crate::topology::Topology;
 use cb_model::{List, NodeName};
 use cb_nodes::NodeId;
 use std::alloc::{AllocError, Global};
-use std::cmp::Ordering;
-
-/// A node with the two parts of its name, which are lent, so that nodes are put in order without a copy of any name.
-#[derive(Drop)]
-pub(crate) struct NamedNode<'a> {
-    pub(crate) instance: &'a [u8],
-    pub(crate) event: &'a [u8],
-    pub(crate) node: NodeId,
-}
-
-impl NamedNode<'_> {
-    // The order of the names: by the instances, and by the events only where these are equal.
-    pub(crate) fn compare(&self, other: &NamedNode<'_>) -> Ordering
-        ensures { result ≡ node_cmp (called self.now) (called other.now) }
-    {
-        match self.instance.cmp(other.instance) {
-            Ordering::Equal => self.event.cmp(other.event),
-            unlike => unlike,
-        }
-    }
-}
 
 impl Topology {
     /// The columns in order.
@@ -62,7 +40,10 @@ impl Topology {
     {
         match &self.order {
             Some(order) => self.picked(alloc, order, kind),
-            None => Ok(List::of(self.sorted(alloc, kind)?)),
+            None => {
+                let order = self.sorted(alloc)?;
+                self.picked(alloc, &order, kind)
+            }
         }
     }
 
@@ -81,38 +62,6 @@ impl Topology {
         for node in order {
             if self.is_of(*node, kind) {
                 nodes.push(*node)?;
-            }
-        }
-        Ok(nodes)
-    }
-
-    // The nodes of the kind, put in order by their names.
-    pub(crate) fn sorted(&self, alloc: Global, kind: NodeKind) -> Result<Vec<NodeId>, AllocError>
-        ensures { IfOk result (λ ids. (names : Items Node) × AreInOrder (IsOfKind kind (topology_of self.now)) names × AreNamed self.now ids.items names) }
-    {
-        let mut named = self.named(alloc, kind)?;
-        named.sort_unstable_by(|one, other| one.compare(other));
-        let mut nodes = Vec::new(alloc);
-        for one in &named {
-            nodes.push(one.node)?;
-        }
-        Ok(nodes)
-    }
-
-    // The nodes of the kind with their names, by their numbers.
-    fn named(&self, alloc: Global, kind: NodeKind) -> Result<Vec<NamedNode<'_>>, AllocError>
-        ensures { IfOk result (λ nodes. AreOfKind self.now kind nodes.items) }
-    {
-        let mut nodes = Vec::new(alloc);
-        for place in 0..self.nodes.capacity() {
-            let node = NodeId(place as u32);
-            if self.is_live(node) && self.is_of(node, kind) {
-                let (event, instance) = self.node_name(node);
-                nodes.push(NamedNode {
-                    instance,
-                    event,
-                    node,
-                })?;
             }
         }
         Ok(nodes)

@@ -2,18 +2,37 @@
 ghost use Rattle.std.specs.Prelude.{◌≡◌, ◌↔◌, ◌≤◌, length, IsTrue, IfOk, OnOk};
 ghost use Rattle.std.specs.List.{Contains};
 ghost use Rattle.std.specs.List.Sorted.{IsPartitionPoint};
+ghost use Rattle.cb_model.specs.NodeOrder.{node_cmp};
 ghost use Rattle.cb_topo.specs.Numbered.{IsLiveNode, IsNodeNamed, IsWhole};
 ghost use Rattle.cb_topo.specs.Ordered.{called};
 ghost use Rattle.cb_topo.specs.Settled.{IsBefore, IsAt, has_node, AreRisingNodes, IsSettled, LacksInstance, MayBeGone, PutsIn, IsSettledOrder, WasOrderOf};
 
-use crate::kind::NodeKind;
-use crate::order::NamedNode;
 use crate::topology::Topology;
 use cb_instances::InstanceId;
 use cb_network::Edit;
 use cb_nodes::NodeId;
 use std::alloc::{AllocError, Global};
+use std::cmp::Ordering;
 use std::mem;
+
+/// The two parts of a node's name, which are lent, so that nodes are compared without a copy of any name.
+#[derive(Drop)]
+struct NodeParts<'a> {
+    instance: &'a [u8],
+    event: &'a [u8],
+}
+
+impl NodeParts<'_> {
+    // The order of the names: by the instances, and by the events only where these are equal.
+    fn compare(&self, other: &NodeParts<'_>) -> Ordering
+        ensures { result ≡ node_cmp (called self.now) (called other.now) }
+    {
+        match self.instance.cmp(other.instance) {
+            Ordering::Equal => self.event.cmp(other.event),
+            unlike => unlike,
+        }
+    }
+}
 
 impl Topology {
     /// Puts all nodes in the order of their names. Edits keep it from then on, so that `columns`, `problems` and `nodes`
@@ -21,7 +40,7 @@ impl Topology {
     pub fn settle(&mut self, alloc: Global) -> Result<(), AllocError>
         ensures { self.new ≡ self.old }
     {
-        let order = self.sorted(alloc, NodeKind::Any)?;
+        let order = self.sorted(alloc)?;
         self.order = Some(order);
         Ok(())
     }
@@ -142,20 +161,16 @@ impl Topology {
         requires other { IsLiveNode self.now other }
         ensures { IsTrue result ↔ IsBefore self.now one other }
     {
-        let one = self.named_node(one);
-        let other = self.named_node(other);
+        let one = self.parts_of(one);
+        let other = self.parts_of(other);
         one.compare(&other).is_lt()
     }
 
-    fn named_node(&self, node: NodeId) -> NamedNode<'_>
+    fn parts_of(&self, node: NodeId) -> NodeParts<'_>
         requires { IsLiveNode self.now node }
         ensures { IsNodeNamed self.now node (called result) }
     {
         let (event, instance) = self.node_name(node);
-        NamedNode {
-            instance,
-            event,
-            node,
-        }
+        NodeParts { instance, event }
     }
 }

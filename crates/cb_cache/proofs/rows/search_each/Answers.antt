@@ -34,23 +34,23 @@ add_rows-requires-clause-once g c =
 pub add_rows-requires-clause-none : goal.add_rows-requires-clause-none
 add_rows-requires-clause-none g c =
     let (count, most, empty) = c.requires in
-    no_slots_for (length c.args.graph.now.nodes) c.args.store.now.rows.slots.items empty.slots c.deref.result.now
+    no_slots_for (length c.args.graph.now.nodes) c.args.store.now.rows.slots.items empty.rows.slots c.deref.result.now
 
 pub add_rows-requires-clause-rows : goal.add_rows-requires-clause-rows
 add_rows-requires-clause-rows g c =
     let (count, most, empty) = c.requires in
-    no_rows (length c.args.graph.now.nodes) c.args.store.now.rows.slots.items empty.slots c.args.graph.now c.args.store.now.rows.pool
+    no_rows (length c.args.graph.now.nodes) c.args.store.now.rows.slots.items empty.rows.slots c.args.graph.now c.args.store.now.rows.pool
 
 pub add_rows-requires-clause-apart : goal.add_rows-requires-clause-apart
 add_rows-requires-clause-apart g c =
     let (count, most, empty) = c.requires in
-    none_apart (length c.args.graph.now.nodes) c.args.store.now.rows.slots.items empty.slots
+    none_apart (length c.args.graph.now.nodes) c.args.store.now.rows.slots.items empty.rows.slots
 
 pub add_rows-requires-clause-capacity : goal.add_rows-requires-clause-capacity
 add_rows-requires-clause-capacity g c =
     let (count, most, empty) = c.requires in
     let n = c.args.graph.now in
-    record { slots = ap length empty.slots ∙ length-replicate (length n.nodes) _; width = empty.width; scratch = empty.scratch }
+    record { slots = ap length empty.rows.slots ∙ length-replicate (length n.nodes) _; width = empty.rows.width; scratch = empty.rows.scratch }
 
 pub add_rows-requires-clause-spare : goal.add_rows-requires-clause-spare
 add_rows-requires-clause-spare g c =
@@ -60,7 +60,7 @@ add_rows-requires-clause-spare g c =
     let whole = subst IsWhole c.topology.ensures c.list_problems.ensures.whole in
     let are = subst (λ (m : Numbered). AreProblemNumbers m ids) c.topology.ensures c.list_problems.ensures.problems in
     let few = within_most n whole ids count are most in
-    let capacity = empty.spare in
+    let capacity = empty.rows.spare in
     let long = ap length c.deref.ensures.value in
     omega arith
 
@@ -77,7 +77,7 @@ returns-clause-kept g c =
     let rows = subst (λ (xs : List NodeId). AddsRows n xs slots made.slots.items pool made.pool) c.deref.ensures.value c.add_rows.ensures.rows in
     record {
       whole = whole;
-      right = are_right n whole ids are slots made.slots.items pool made.pool (no_slot (length n.nodes) slots empty.slots) (λ slot. none_taken pool slot empty.taken) rows;
+      right = are_right n whole ids are slots made.slots.items pool made.pool (no_slot (length n.nodes) slots empty.rows.slots) (λ slot. none_taken pool slot empty.rows.taken) rows;
       capacity = c.add_rows.ensures.capacity;
       agenda = record {
         touched = empty.agenda.touched;

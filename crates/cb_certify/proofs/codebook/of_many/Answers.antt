@@ -10,7 +10,7 @@ use Rattle.cb_certify.proofs.codebook.of_many.Goals as goal
 
 pub returns-in-Plain : goal.returns-in-Plain
 returns-in-Plain g c =
-    subst (λ (wish : Wish). IfOk c.by_rows.result (IsMadeOf (topology_of c.args.graph) wish)) (sym c.in-Plain.is) c.by_rows.ensures
+    subst (λ (wish : Wish). IfOk c.by_searches.result (IsMadeOf (topology_of c.args.graph) wish)) (sym c.in-Plain.is) c.by_searches.ensures
 
 -- for a cap there is a codebook
 pub returns-in-Cap : goal.returns-in-Cap

@@ -12,5 +12,5 @@ returns c =
       width_is = c.in_ok-place_of.ensures.width ∙ c.new-codes.ensures.width;
       quiet = first_code code rows place (subst (λ (old : List (List Bool)). FindsPlace code old rows place) c.new-codes.ensures.none c.in_ok-place_of.ensures.place)
           ∙ ap (λ (v : List Bool). v ∷ []) (c.in_ok-quiet.ensures ∙ c.in_ok-zeroed.ensures);
-      keys = c.in_ok-place_of.ensures.keys;
+      marks = c.in_ok-place_of.ensures.marks;
     }

@@ -1,4 +1,4 @@
-use Rattle.std.proofs.Common.{◌≡◌, ◌<◌, ◌≤◌, length, get_or, set, take, true, sym, ap, ◌∙◌, arith}
+use Rattle.std.proofs.Common.{length, get_or, set, take, true, sym, ap, ◌∙◌, arith}
 use Rattle.std.proofs.lemmas.List.{take_all}
 use Rattle.std.proofs.lemmas.Grind.{take_at_read}
 use Rattle.cb_compact.specs.Compact.{with_ones}

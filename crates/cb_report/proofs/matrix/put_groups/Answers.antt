@@ -22,7 +22,7 @@ loop-place-preserved g c =
     let head = counted (codes "groups ") (length groups) in
     let lines = group_lines (take place groups) in
     let line = coded_line group.quiet (group_with code group) in (
-      c.put_group.ensures.length ∙ c.loop-place.invariant.0,
+      c.put_group.ensures.same ∙ c.loop-place.invariant.0,
       gathers_same start now c.args.gathering.now c.put_group.new.gathering ((head ++ lines) ++ line) (head ++ group_lines (take (place + 1) groups))
           (append_assoc head lines line ∙ ap (λ (l : List ℕ). head ++ l) (ap (λ (l : List ℕ). lines ++ l) is ∙ sym (group_lines_more groups place at there)))
           (gathers_more start (g.O.Sink.tells c.loop-place.out) now c.args.gathering.now c.loop-place.gathering c.put_group.new.gathering

@@ -19,7 +19,7 @@ returns-clause-sound c =
     let takes = subst (λ member. TakesMember c.in_ok-place.place member old.named.items groups) c.in_ok-member.ensures c.in_ok-take_member.ensures in
     record {
       wide = c.in_ok-place.ensures.width ∙ c.requires.sound.wide;
-      keys = c.in_ok-place.ensures.keys;
+      marks = c.in_ok-place.ensures.marks;
       fit = still_fit (problem_of c.args.name c.args.code) old.codes.codes.rows c.place_of.new.self.codes.rows old.named.items groups c.requires.sound.fit c.in_ok-place.place
           c.in_ok-place.ensures.place takes;
     }
