@@ -1,6 +1,8 @@
-//! From a topology to its matrix, and to what is found for raised nodes.
+//! A topology that is searched for its matrix, and what is found in it for raised nodes.
 #![tactic(auto)]
 
-mod found;
+mod named;
+mod searched;
 
-pub use found::{found_in, matrix_of};
+pub use named::NamedMatrix;
+pub use searched::SearchedNetwork;

@@ -68,7 +68,7 @@ module _ (n : Numbered) (trees : Trees) (are : AreTreesOf n trees) where
   groups_are whole sound columns all i end made added wide =
       let t = topology_of n in
       let at_all = all_coded_are n columns trees.problems i made.codes.rows made.least end added in
-      let coded = all_coded n whole sound columns trees.problems all.names added.problems all.names are.names all.are all.named all.named are.problems are.named at_all in
+      let coded = all_coded n whole sound columns trees.problems added.problems all.names are.names all.are all.named are.problems are.named at_all in
       let size = length_zip (IsNodeNamed n) columns all.names all.named in
       let problems_are : AreCodedProblems (length columns) added.problems =
       subst (λ width. AreCodedProblems width added.problems) (sym size) (coded_are_wide t all.names added.problems coded.problems_are) in

@@ -3,10 +3,10 @@ ghost use Rattle.std.specs.Prelude.{◌≡◌, ◌≤◌, ◌+◌, length, IfOk}
 ghost use Rattle.cb_cert.specs.Format.{IsWanted};
 ghost use Rattle.cb_model.specs.declared.wish.Wish.TheVariants.{Plain, Cap};
 ghost use Rattle.cb_validity.specs.Totals.{HasManyEntries};
-ghost use Rattle.cb_finding.specs.Matrix.{IsMatrix};
 ghost use Rattle.cb_network.specs.Sound.{problem_limit, symptom_limit};
 ghost use Rattle.cb_topo.specs.Columns.{AreAllColumns};
 ghost use Rattle.cb_topo.specs.Numbered.{topology_of};
+ghost use Rattle.cb_matrix.specs.Matrix.{IsMatrixOf};
 ghost use Rattle.cb_span.specs.Searched.{AreTreesOf};
 ghost use Rattle.cb_certify.specs.Groups.{AreGroupsOf};
 ghost use Rattle.cb_certify.specs.Made.{IsBookClaim, IsBookOver, IsCapBookOf, IsCappedFrom, IsChoiceOf, IsMadeOf, IsSomeChoice, IsWantedWish};
@@ -253,7 +253,7 @@ fn of_matrix<L: Ledger>(
     steps: &mut Steps<L>,
 ) -> Result<Codebook, AllocError>
     requires many { HasManyEntries (topology_of graph) }
-    requires matrix { IsMatrix (topology_of graph) matrix.columns matrix.groups }
+    requires matrix { IsMatrixOf graph matrix }
     requires few_columns { length matrix.columns ≤ symptom_limit }
     requires few_groups { length matrix.groups ≤ problem_limit + 1 }
     requires wanted { IsWanted wanted }

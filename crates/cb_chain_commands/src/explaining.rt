@@ -16,11 +16,10 @@ ghost use Rattle.cb_outcome.specs.Outcome.{done};
 ghost use Rattle.cb_chain_commands.specs.Explaining.{IsExplanation, KeepsNetwork, CanBeExplained, HaveMemberChains, HaveGroupChains, AreNamesOf, IsExplainedBy, CountsFrom};
 
 use crate::explanation::Explanation;
-use cb_burst::found_in;
+use cb_burst::SearchedNetwork;
 use cb_chains::{ChainTree, NodeNames};
 use cb_finding::Finding;
 use cb_graph::Graph;
-use cb_matrix::Matrix;
 use cb_model::{List as Items, NamedGroup, NodeName};
 use cb_report::ChainLines;
 use cb_steps::Steps;
@@ -63,30 +62,17 @@ fn search_all<L: Ledger>(
     ensures finding { IfOk result (λ found. IsBurst (topology_of topology) raised.now found.finding) }
     ensures cost { (cost : ℕ) → IsOpenCost (topology_of topology) cost → steps.new ≤ steps.old + cost }
 {
-    let mut graph = Graph::new(alloc, topology)?;
-    match finding_of(alloc, &mut graph, raised, steps) {
-        Ok(finding) => Ok(Found { graph, finding }),
+    let network = SearchedNetwork::of(alloc, topology, steps)?;
+    match network.find(alloc, raised) {
+        Ok(finding) => Ok(Found {
+            graph: network.into_graph(),
+            finding,
+        }),
         Err(out_of_memory) => {
-            drop(graph);
+            drop(network);
             Err(out_of_memory)
         }
     }
-}
-
-// What is found for the raised nodes.
-fn finding_of<L: Ledger>(
-    alloc: Global,
-    graph: &mut Graph,
-    raised: &Items<NodeName>,
-    steps: &mut Steps<L>,
-) -> Result<Finding, AllocError>
-    requires { Rises node_cmp raised.now }
-    ensures same { graph.new ≡ graph.old }
-    ensures finding { IfOk result (IsBurst (topology_of graph.old) raised.now) }
-    ensures cost { (cost : ℕ) → IsOpenCost (topology_of graph.old) cost → steps.new ≤ steps.old + cost }
-{
-    let matrix = Matrix::search(alloc, graph, steps)?;
-    found_in(alloc, &matrix, raised)
 }
 
 // The lines of a finding, with the chains of each group.

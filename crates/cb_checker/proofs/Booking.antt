@@ -1,5 +1,5 @@
 -- A whole book: its checks one after another, and its claim.
-use Rattle.std.proofs.Common.{◌≡◌, ◌↔◌, ◌<◌, ap, ℕ, ◌≤◌, List, [], ◌∷◌, ◌++◌, length, map, refl, sym, subst, ◌∙◌, arith}
+use Rattle.std.proofs.Common.{◌≡◌, ◌↔◌, ◌<◌, ap, ℕ, List, [], ◌∷◌, ◌++◌, length, map, refl, sym, subst, ◌∙◌, arith}
 use Rattle.std.specs.Prelude.{Result, Ok, Err}
 use Rattle.std.specs.List.{All, flat_map}
 use Rattle.cb_model.specs.declared.node.NodeName.{NodeName}
@@ -13,11 +13,6 @@ use Rattle.cb_coding.specs.declared.book.Pair.{Pair}
 use Rattle.cb_coding.specs.Needs.{need_of}
 use Rattle.cb_codes.specs.Groups.{Grouped}
 use Rattle.cb_coding.specs.Pairs.{GoodFor, IsFirstShort}
-use Rattle.cb_model.proofs.Rising.{node_cmp_total, node_cmp_exact}
-use Rattle.cb_network.specs.Nodes.{IsColumn, AreColumns, IsCount}
-use Rattle.cb_network.specs.Sound.{Sound, symptom_limit}
-use Rattle.cb_network.proofs.Counts.{count_of_rising}
-use Rattle.cb_network.proofs.Sets.{len_of_part}
 use Rattle.cb_network.specs.Topology.{Topology}
 use Rattle.cb_cert.specs.declared.certificate.Certificate.{Certificate}
 use Rattle.cb_cert.specs.declared.certificate.Span.{Span}

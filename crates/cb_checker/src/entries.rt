@@ -1,5 +1,5 @@
 //! The entries of a span after its first one.
-ghost use Rattle.std.specs.Prelude.{◌≡◌, ◌<◌, ◌-◌, ◌+◌, ℕ, [], length, IfOk, IfErr, OnOk, Err};
+ghost use Rattle.std.specs.Prelude.{◌≡◌, ◌<◌, ◌-◌, ◌+◌, length, IfOk, IfErr, OnOk, Err};
 ghost use Rattle.std.specs.List.{Contains, flat_map, range_with_len};
 ghost use Rattle.cb_validity.specs.Checks.{entry_checks};
 ghost use Rattle.cb_topo.specs.Columns.{AreIdsBelow};

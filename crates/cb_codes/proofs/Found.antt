@@ -1,5 +1,5 @@
 -- Codes that are looked up by their marks.
-use Rattle.std.proofs.Common.{◌≡◌, ℕ, ◌<◌, List, [], ◌∷◌, ◌++◌, length, cond, slice_get, nat_eq, Option, Some, None, IsSome, Bool, true, false, refl, sym, ap, subst, inl, inr, arith}
+use Rattle.std.proofs.Common.{◌≡◌, ℕ, List, [], ◌∷◌, ◌++◌, cond, slice_get, nat_eq, Option, Some, None, IsSome, Bool, true, false, refl, sym, subst, inl, inr}
 use Rattle.std.specs.HashMap.{HashMap, ContainsKey, Updates, get, IsUnchanged}
 use Rattle.std.specs.Map.{lookup}
 use Rattle.std.proofs.lemmas.Bool.{both_ways}

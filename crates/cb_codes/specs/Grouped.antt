@@ -1,5 +1,5 @@
 -- Groups that problems are added to one by one.
-use Rattle.std.specs.Prelude.{◌≡◌, ◌==◌, ◌⊎◌, ℕ, List, [], ◌∷◌, ◌++◌, length, map, Bool, Some, slice_get, slice_set}
+use Rattle.std.specs.Prelude.{◌≡◌, ◌==◌, ◌⊎◌, ℕ, List, [], ◌∷◌, ◌++◌, length, Bool, Some, slice_get, slice_set}
 use Rattle.std.specs.List.{AllZip}
 use Rattle.cb_model.specs.declared.node.NodeName.{NodeName}
 use Rattle.cb_model.specs.declared.node.NamedGroup.{NamedGroup}
@@ -58,7 +58,6 @@ pub record FitsTogether (width : ℕ) (grouping : Grouping) : Type 0 where
   pub marks : HaveMarks grouping.codes.codes.rows grouping.codes.firsts
   pub fit : Fit grouping.codes.codes.rows grouping.named.items
 
--- these are the problems, each with the position of its group
-pub record HoldsProblems (problems : List Problem) (grouping : Grouping) : Type 0 where
-  pub names : grouping.problems ≡ map (λ p. p.name) problems
-  pub places : AllZip (λ place p. slice_get grouping.codes.codes.rows place ≡ Some p.code) grouping.places problems
+-- each of these problems, in order, has the position of its group
+abbrev pub HoldsProblems : List Problem → Grouping → Type 0
+HoldsProblems problems grouping = AllZip (λ place p. slice_get grouping.codes.codes.rows place ≡ Some p.code) grouping.places problems

@@ -12,10 +12,10 @@ use cb_compact::CompactRow;
 use cb_model::{List, NamedGroup, NodeName};
 use std::alloc::{AllocError, Global};
 
-/// Problems, the groups that they are in, and for each the position of its group.
+/// Groups of problems that are added one by one.
 #[derive(Drop)]
 pub struct Grouping {
-    pub problems: List<NodeName>,
+    /// For each problem, in the order in which they were added, the position of its group.
     pub places: List<usize>,
     pub codes: EachOnce,
     pub named: Vec<NamedGroup>,
@@ -37,7 +37,6 @@ impl Grouping {
             members: List::new(alloc),
         })?;
         Ok(Grouping {
-            problems: List::new(alloc),
             places: List::new(alloc),
             codes,
             named,
@@ -51,10 +50,8 @@ impl Grouping {
         ensures added { OnOk result (AddsProblem (problem_of name code) (groups_in self.old) (groups_in self.new)) }
         ensures holds { OnOk result ((before : Items Problem_) → HoldsProblems before self.old → HoldsProblems (before ++ problem_of name code ∷ []) self.new) }
     {
-        let member = name.copy(alloc)?;
         let place = self.codes.place_of(alloc, code)?;
-        take_member(alloc, &mut self.named, place, member)?;
-        self.problems.push(name)?;
+        take_member(alloc, &mut self.named, place, name)?;
         self.places.push(place)?;
         Ok(())
     }

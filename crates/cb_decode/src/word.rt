@@ -1,46 +1,61 @@
 //! Raised nodes as a word over columns.
-ghost use Rattle.std.specs.Prelude.{◌≡◌, IfOk};
+ghost use Rattle.std.specs.Prelude.{◌<◌, List as Items, length, IfOk, IfSome};
 ghost use Rattle.cb_model.specs.Order.{Rises};
 ghost use Rattle.cb_model.specs.NodeOrder.{node_cmp};
-ghost use Rattle.cb_decode.specs.Found.{IsPlaceAmong};
-ghost use Rattle.cb_finding.specs.Finding.{unknown_of, word_of as word_of_raised};
+ghost use Rattle.cb_model.specs.declared.node.NodeName.{NodeName as Name};
+ghost use Rattle.cb_topo.specs.Numbered.{AreNamed};
+ghost use Rattle.cb_decode.specs.Found.{IsPlaceAmong, IsWordOf};
 
 use cb_bits::Row;
 use cb_model::{List, NodeName};
+use cb_topo::{ColumnIndex, Topology};
 use std::alloc::{AllocError, Global};
 
-/// For each of the `columns`, whether it is among the `raised` nodes.
-pub fn word_of(
-    alloc: Global,
-    columns: &List<NodeName>,
-    raised: &List<NodeName>,
-) -> Result<Row, AllocError>
-    requires { Rises node_cmp columns.now }
-    ensures { IfOk result (λ word. word ≡ word_of_raised columns.now raised.now) }
-{
-    let mut word = Row::zeroed(alloc, columns.len())?;
-    for node in raised.as_slice() {
-        if let Some(k) = place_of(columns, node) {
-            word.set(k);
+/// What a set of raised nodes is over columns.
+#[derive(Drop)]
+pub struct RaisedWord {
+    /// For each column, whether it is raised.
+    pub word: Row,
+    /// How many nodes are raised.
+    pub raised: u64,
+    /// How many of them are no column.
+    pub unknown: u64,
+}
+
+impl RaisedWord {
+    /// The word of these nodes, a set given as its list in order, over columns of a topology.
+    pub fn of(
+        alloc: Global,
+        topology: &Topology,
+        columns: &ColumnIndex,
+        nodes: &List<NodeName>,
+    ) -> Result<RaisedWord, AllocError>
+        requires { Rises node_cmp nodes.now }
+        ensures { IfOk result (λ word. (names : Items Name) → AreNamed topology.now columns.now names → IsWordOf names nodes.now word) }
+    {
+        let mut word = Row::zeroed(alloc, columns.len())?;
+        let mut unknown = 0;
+        for node in nodes.as_slice() {
+            match position_of(topology, columns, node) {
+                Some(position) => word.set(position as usize),
+                None => unknown += 1,
+            }
         }
+        Ok(RaisedWord {
+            word,
+            raised: nodes.len() as u64,
+            unknown,
+        })
     }
-    Ok(word)
 }
 
-// The position of a node among columns, which are in order.
-fn place_of(columns: &List<NodeName>, node: &NodeName) -> Option<usize>
-    requires { Rises node_cmp columns.now }
-    ensures { IsPlaceAmong columns.now node.now result }
+// The position of a node among the columns, if it is one.
+fn position_of(topology: &Topology, columns: &ColumnIndex, node: &NodeName) -> Option<u32>
+    ensures within { IfSome result (λ position. position < length columns.now) }
+    ensures place { (names : Items Name) → AreNamed topology.now columns.now names → IsPlaceAmong names node.now result }
 {
-    columns.as_slice().binary_search(node).ok()
-}
-
-/// How many of the `raised` nodes are no column; `word` is the one that `word_of` makes of them.
-pub fn unknown_among(columns: &List<NodeName>, raised: &List<NodeName>, word: &Row) -> u64
-    requires columns { Rises node_cmp columns.now }
-    requires raised { Rises node_cmp raised.now }
-    requires word { word.now ≡ word_of_raised columns.now raised.now }
-    ensures { result ≡ unknown_of columns.now raised.now }
-{
-    (raised.len() - word.ones()) as u64
+    // A name has one number.
+    let _model = topology.model();
+    let id = topology.node_named(node.event.bytes(), node.instance.bytes())?;
+    columns.position(id)
 }

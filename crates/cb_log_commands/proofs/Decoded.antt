@@ -10,7 +10,7 @@ use Rattle.cb_finding.specs.Matrix.{IsMatrix}
 use Rattle.cb_finding.proofs.One.{matrix_is_one}
 use Rattle.cb_cert.specs.declared.certificate.Certificate.{Certificate}
 use Rattle.cb_cert.specs.declared.certificate.Span.{Span}
-use Rattle.cb_validity.specs.Valid.{AreColumnNumbers, IsValid, IsValidBook, IsValidCapped}
+use Rattle.cb_validity.specs.Valid.{AreColumnNumbers, IsValid, IsValidBook}
 use Rattle.cb_validity.proofs.Matrices.{spans_make_matrix}
 use Rattle.cb_topo.specs.Numbered.{topology_of}
 use Rattle.cb_session.specs.declared.stated.StatedBook.{StatedBook}

@@ -1,11 +1,9 @@
 //! The command `decode`.
-ghost use Rattle.std.specs.Prelude.{◌≡◌, ◌≤◌, ◌^◌, IfOk};
-ghost use Rattle.cb_io.specs.Outside.{SinkReport};
+ghost use Rattle.std.specs.Prelude.{◌≡◌, ◌≤◌, IfOk};
 ghost use Rattle.cb_network.specs.Topology.{Topology as TopologyOf};
 ghost use Rattle.cb_cert.specs.declared.certificate.Certificate.{Certificate};
 ghost use Rattle.cb_outcome.specs.Commands.Decode.{decode as command};
 ghost use Rattle.cb_outcome.specs.LogJobs.{Watch};
-ghost use Rattle.cb_topo.specs.Numbered.{topology_of};
 ghost use Rattle.cb_log_commands.specs.Following.{EndsLog};
 ghost use Rattle.cb_file_kinds.specs.Given.{IsGivenBy, IsGivenBySome};
 ghost use Rattle.cb_log_commands.specs.Fixed.{StandsFixed, stated_of};

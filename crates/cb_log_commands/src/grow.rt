@@ -1,5 +1,5 @@
 //! The command `grow`.
-ghost use Rattle.std.specs.Prelude.{◌≡◌, ◌⊎◌, ◌≤◌, IfOk, IfErr};
+ghost use Rattle.std.specs.Prelude.{◌⊎◌, ◌≤◌, IfOk, IfErr};
 ghost use Rattle.cb_io.specs.Outside.{FilesReport};
 ghost use Rattle.cb_outcome.specs.Commands.Grow.{grow as command};
 ghost use Rattle.cb_gen.specs.Log.{log_text as made_up_log};

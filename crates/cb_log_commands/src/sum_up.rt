@@ -1,5 +1,5 @@
 //! A log that stands in memory, summed up: what results from its lines is counted, and not printed.
-ghost use Rattle.std.specs.Prelude.{◌≡◌, ◌↔◌, ◌++◌, ℕ, List as Items, [], ◌∷◌, false, IsTrue, OnOk};
+ghost use Rattle.std.specs.Prelude.{◌≡◌, ◌↔◌, ◌++◌, List as Items, [], ◌∷◌, false, IsTrue, OnOk};
 ghost use Rattle.cb_alarm.specs.Lines.{NumberedLine, numbered_line as line_of_numbered, log_lines, IsBlank};
 ghost use Rattle.cb_log.specs.declared.event.Event.{Event as EventOf};
 ghost use Rattle.cb_network.specs.Regular.{IsRegular};

@@ -2,22 +2,23 @@
 use Rattle.std.proofs.Common.{◌≡◌, ℕ, zero, suc, ◌+◌, ◌<◌, List, [], ◌∷◌, ◌++◌, Bool, length, map, take, slice_get, slice_index_or, Some, refl, sym, ap, subst, ◌∙◌, append-nil, arith}
 use Rattle.std.specs.List.{All, AllZip}
 use Rattle.std.proofs.lemmas.List.{take_all, length_push, length-map, append_assoc}
-use Rattle.std.proofs.lemmas.Option.{slice_get_within, slice_get-get_or, get_or_from_slice_get}
+use Rattle.std.proofs.lemmas.Option.{slice_get_within, slice_get-get_or}
 use Rattle.cb_model.proofs.Numbers.{take_more}
 use Rattle.cb_coding.specs.declared.group.Problem.{Problem}
-use Rattle.cb_coding.specs.Distance.{code_at}
 use Rattle.cb_coding.specs.Groups.{AreCodedProblems, AreGroups, zeros}
 use Rattle.cb_nodes.specs.declared.id.NodeId.{NodeId}
-use Rattle.cb_network.specs.Topology.{Topology}
 use Rattle.cb_finding.proofs.Nearest.{coded_are_wide}
-use Rattle.cb_topo.specs.Numbered.{Numbered, IsNodeNamed, AreNamed}
+use Rattle.cb_model.specs.declared.node.NodeName.{NodeName}
+use Rattle.cb_topo.specs.Numbered.{Numbered, topology_of, IsNodeNamed, AreNamed}
 use Rattle.cb_codes.specs.declared.grouping.Grouping.{Grouping}
 use Rattle.cb_codes.specs.Grouped.{group, FitsTogether, HoldsProblems, groups_in}
 use Rattle.cb_matrix.specs.Coded.{AddsOne, AddsProblems, AddsCodedProblems, IsProblemAt, AreProblemsAt, AreGroupedAt}
 use Rattle.cb_matrix.specs.declared.problems.GroupedProblems.{GroupedProblems}
 use Rattle.cb_matrix.specs.Problems.{AreAllGrouped}
-use Rattle.cb_matrix.specs.Parts.{problems_with, HaveCodePlaces}
-use Rattle.cb_matrix.proofs.Matched.{AreAllCoded}
+use Rattle.cb_matrix.specs.Matrix.{IsMatrixOf}
+use Rattle.cb_matrix.specs.Parts.{codes_at, HaveCodePlaces}
+use Rattle.cb_matrix.proofs.Rows.{codes_of_problems}
+use Rattle.cb_matrix.proofs.Matched.{AreAllCoded, problem_names}
 use Rattle.cb_codes.proofs.Grouped.{AreGrouped, quiet_grouped, one_more_grouped, all_grouped}
 
 pub length_zip : {X Y : Type 0} (R : X → Y → Type 0) (xs : List X) (ys : List Y) → AllZip R xs ys → length xs ≡ length ys
@@ -131,36 +132,28 @@ module _ (n : Numbered) (columns : List NodeId) where
         few = λ are. (let few = (held.groups problems are same).few in omega arith);
       }
 
--- the columns and the problems in their groups
-pub all_in_groups : (n : Numbered) (t : Topology) (columns ids : List NodeId) (made : GroupedProblems) (grouped : AreGroupedAt n columns ids made.grouping)
-    → AreNamed n columns made.columns → AreAllCoded t made.columns grouped.problems → AreAllGrouped t made
-all_in_groups n t columns ids made grouped named coded =
-    let size = length_zip (IsNodeNamed n) columns made.columns named in
+-- the problems of these numbers in their groups, by the codes over the columns of these names
+pub all_in_groups : (n : Numbered) (columns ids : List NodeId) (names : List NodeName) (grouping : Grouping) (grouped : AreGroupedAt n columns ids grouping)
+    → AreNamed n columns names → AreAllCoded (topology_of n) names grouped.problems → AreAllGrouped n columns (record { problems = ids; grouping = grouping })
+all_in_groups n columns ids names grouping grouped named coded =
+    let size = length_zip (IsNodeNamed n) columns names named in
     let problems = grouped.problems in
     let are : AreCodedProblems (length columns) problems =
-    subst (λ width. AreCodedProblems width problems) (sym size) (coded_are_wide t made.columns problems coded.problems_are) in
+    subst (λ width. AreCodedProblems width problems) (sym size) (coded_are_wide (topology_of n) names problems coded.problems_are) in
     record {
-      problems = problems;
+      columns = names;
+      columns_named = named;
       columns_are = coded.columns_are;
+      problems = problems;
+      problems_named = problem_names n columns ids problems grouped.coded;
       problems_are = coded.problems_are;
-      groups_are = subst (λ width. AreGroups width problems (groups_in made.grouping)) size (grouped.groups are);
+      groups_are = subst (λ width. AreGroups width problems (groups_in grouping)) size (grouped.groups are);
       holds = grouped.holds;
-      sound = subst (λ width. FitsTogether width made.grouping) size grouped.sound;
-      few_columns = coded.few_columns;
+      sound = grouped.sound;
+      few_columns = (let few = coded.few_columns in omega (arith, few, size));
       few_problems = coded.few_problems;
       few_groups = grouped.few are;
     }
-
--- the problems with the codes at their places are those problems
-pub problems_are : (codes : List (List Bool)) (places : List ℕ) (problems : List Problem) → AllZip (λ place (p : Problem). slice_get codes place ≡ Some p.code) places problems
-    → problems_with codes (map (λ p. p.name) problems) places ≡ problems
-problems_are codes [] [] zip = refl
-problems_are codes [] (p ∷ problems) zip = absurd zip
-problems_are codes (k ∷ places) [] zip = absurd zip
-problems_are codes (k ∷ places) (p ∷ problems) zip =
-    let code : code_at codes k ≡ p.code = get_or_from_slice_get codes k p.code [] zip.0 in
-    let here : record { name = p.name; code = code_at codes k } ≡ p = ap (λ (code : List Bool). record { name = p.name; code = code }) code in
-    ap (λ (q : Problem). q ∷ problems_with codes (map (λ p. p.name) problems) places) here ∙ ap (λ rest. p ∷ rest) (problems_are codes places problems zip.1)
 
 places_within : (codes : List (List Bool)) (places : List ℕ) (problems : List Problem) → AllZip (λ place (p : Problem). slice_get codes place ≡ Some p.code) places problems
     → All (λ place. place < length codes) places
@@ -169,9 +162,22 @@ places_within codes (place ∷ places) [] zip k d lt = absurd zip
 places_within codes (place ∷ places) (p ∷ problems) zip zero d lt = slice_get_within codes place p.code zip.0
 places_within codes (place ∷ places) (p ∷ problems) zip (suc k) d lt = places_within codes places problems zip.1 k d (omega arith)
 
-pub have_places : (problems : List Problem) (grouping : Grouping) → HoldsProblems problems grouping → HaveCodePlaces grouping
-have_places problems grouping holds =
-    let zip = holds.places in
-    let size = length_zip (λ place (p : Problem). slice_get grouping.codes.codes.rows place ≡ Some p.code) grouping.places problems zip in
-    let names = ap length holds.names ∙ length-map problems (λ (p : Problem). p.name) in
-    record { all = size ∙ sym names; within = places_within grouping.codes.codes.rows grouping.places problems zip }
+-- what is grouped has the position of a code for each problem, and makes the topology's matrix
+module _ (n : Numbered) (columns : List NodeId) (made : GroupedProblems) (all : AreAllGrouped n columns made) where
+  abbrev codes : List (List Bool)
+  codes = made.grouping.codes.codes.rows
+
+  pub have_places : HaveCodePlaces made.problems made.grouping
+  have_places =
+      let size = length_zip (λ place (p : Problem). slice_get codes place ≡ Some p.code) made.grouping.places all.problems all.holds in
+      let names = length_zip (IsNodeNamed n) made.problems (map (λ p. p.name) all.problems) all.problems_named ∙ length-map all.problems (λ (p : Problem). p.name) in
+      record { all = size ∙ sym names; within = places_within codes made.grouping.places all.problems all.holds }
+
+  pub is_matrix_of : IsMatrixOf n (record { columns = columns; problems = made.problems; codes = codes_at codes made.grouping.places; groups = groups_in made.grouping })
+  is_matrix_of = record {
+    columns = all.columns;
+    columns_named = all.columns_named;
+    is = record { problems = all.problems; columns_are = all.columns_are; problems_are = all.problems_are; groups_are = all.groups_are };
+    problems_named = all.problems_named;
+    codes_are = codes_of_problems codes made.grouping.places all.problems all.holds;
+  }

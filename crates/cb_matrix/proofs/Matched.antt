@@ -114,25 +114,21 @@ pub record AreAllCoded (t : Topology) (columns : List NodeName) (problems : List
   pub few_columns : length columns ≤ symptom_limit
   pub few_problems : length problems ≤ problem_limit
 
-module _ (n : Numbered) (whole : IsWhole n) (sound : Sound (topology_of n)) (columns ids : List NodeId) (made : List NodeName) (coded : List Problem) (names problems : List NodeName)
-    (are_columns : AreColumns (topology_of n) names) (named : AreNamed n columns names) (copied : AreNamed n columns made)
+module _ (n : Numbered) (whole : IsWhole n) (sound : Sound (topology_of n)) (columns ids : List NodeId) (coded : List Problem) (names problems : List NodeName)
+    (are_columns : AreColumns (topology_of n) names) (named : AreNamed n columns names)
     (are_problems : AreProblems (topology_of n) problems) (problems_named : AreNamed n ids problems) (are_coded : AreProblemsAt n columns ids coded) where
-  same_columns : names ≡ made
-  same_columns = names_are_one n columns names made named copied
-
   same_problems : problems ≡ map (λ p. p.name) coded
   same_problems = names_are_one n ids problems (map (λ p. p.name) coded) problems_named (problem_names n columns ids coded are_coded)
 
-  pub all_coded : AreAllCoded (topology_of n) made coded
+  pub all_coded : AreAllCoded (topology_of n) names coded
   all_coded =
-      let columns_are = subst (AreColumns (topology_of n)) same_columns are_columns in
       let problems_are = subst (AreProblems (topology_of n)) same_problems are_problems in
       let names_are : length (map (λ p. p.name) coded) ≡ length coded = length-map coded (λ (p : Problem). p.name) in
       record {
-        columns_are = columns_are;
-        problems_are = record { names = problems_are; codes = all_codes n whole columns made copied ids coded are_coded };
-        few_columns = few_of_rising (IsSymptomNode (topology_of n)) (IsColumn (topology_of n)) made symptom_limit columns_are.rise
-            (λ q. (columns_are.each q, columns_are.all q)) (λ q column. column.symptom) sound.few_symptoms;
+        columns_are = are_columns;
+        problems_are = record { names = problems_are; codes = all_codes n whole columns names named ids coded are_coded };
+        few_columns = few_of_rising (IsSymptomNode (topology_of n)) (IsColumn (topology_of n)) names symptom_limit are_columns.rise
+            (λ q. (are_columns.each q, are_columns.all q)) (λ q column. column.symptom) sound.few_symptoms;
         few_problems = subst (λ k. k ≤ problem_limit) names_are
             (few_of_rising (IsProblem (topology_of n)) (IsProblem (topology_of n)) (map (λ p. p.name) coded) problem_limit problems_are.rise
             (λ q. (problems_are.each q, problems_are.all q)) (λ q problem. problem) sound.few_problems);

@@ -1,5 +1,5 @@
 -- What searches from problems cost, and where they have begun.
-use Rattle.std.specs.Prelude.{◌≡◌, ◌≤◌, ◌+◌, ℕ, List, length, sum}
+use Rattle.std.specs.Prelude.{◌≤◌, ◌+◌, ℕ, List, length, sum}
 use Rattle.std.specs.List.{AllZip}
 use Rattle.cb_breadth.specs.Orders.{IsByNumber}
 use Rattle.cb_breadth.specs.Searches.{IsSearchOf}

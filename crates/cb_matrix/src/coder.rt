@@ -2,7 +2,7 @@
 ghost use Rattle.std.specs.Prelude.{List as Items, ◌≡◌, ◌≤◌, ℕ, length, replicate, false, None, IfOk, OnOk};
 ghost use Rattle.cb_lanes.specs.Words.{word_limit};
 ghost use Rattle.cb_cache.specs.Rows.{IsNodeRow};
-ghost use Rattle.cb_matrix.specs.Coded.{IsCodeOfRow, IsCoder, IsCodeOfLast};
+ghost use Rattle.cb_matrix.specs.Coded.{IsCodeOfRow, IsCoder};
 
 use crate::codes::pass_code;
 use crate::listed::list_columns;

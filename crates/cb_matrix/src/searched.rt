@@ -1,6 +1,6 @@
 //! Problems that are put into their groups, each with its code from a search. Most problems cause few nodes, so that a search visits less than a row of all
 //! nodes takes; where the visits become many, the problems that are left get rows, which take over what other problems cause.
-ghost use Rattle.std.specs.Prelude.{List as Items, ◌≡◌, ◌≤◌, ◌+◌, ◌⊎◌, ℕ, length, take, IfOk, OnOk};
+ghost use Rattle.std.specs.Prelude.{◌≡◌, ◌≤◌, ◌+◌, ◌⊎◌, ℕ, length, take, IfOk, OnOk};
 ghost use Rattle.std.specs.List.{All};
 ghost use Rattle.cb_breadth.specs.Trees.{CountsReached};
 ghost use Rattle.cb_change.specs.Costs.{IsOpenCost};
@@ -25,7 +25,8 @@ use cb_topo::{ColumnIndex, Topology};
 use std::alloc::{AllocError, Global};
 use std::sync::ledger::Ledger;
 
-// So many visits for each number of a node, and these besides, cost less than rows do.
+// Rows are made for the problems that are left once there were this many visits for each number of a node, and `VISITS_BESIDES` more. Up to
+// there searches cost less.
 const VISITS_EACH: usize = 8;
 
 const VISITS_BESIDES: usize = 4_096;

@@ -1,11 +1,13 @@
--- What `pairs` gives, over the columns and groups of a matrix.
+-- What `pairs` gives, over the columns and groups of a topology.
 use Rattle.std.specs.Prelude.{◌≡◌, ℕ, ◌<◌, ◌≤◌, List, [], length, Option, None, Some}
 use Rattle.cb_model.specs.declared.node.NodeName.{NodeName}
-use Rattle.cb_model.specs.Order.{Rises}
-use Rattle.cb_model.specs.NodeOrder.{node_cmp}
+use Rattle.cb_network.specs.Nodes.{AreColumns}
 use Rattle.cb_coding.specs.declared.group.Group.{Group}
 use Rattle.cb_coding.specs.Groups.{codes_of}
 use Rattle.cb_codes.specs.Codes.{Coded}
+use Rattle.cb_topo.specs.Numbered.{topology_of}
+use Rattle.cb_matrix.specs.Parts.{Parts}
+use Rattle.cb_burst.specs.Searched.{SearchedParts}
 use Rattle.cb_decode.specs.Names.{HasName}
 use Rattle.cb_pairs.specs.Fits.{group_limit}
 use Rattle.cb_report.specs.declared.fault.Fault.{Fault}
@@ -18,18 +20,20 @@ use Rattle.cb_outcome.specs.Fits.{IsFoundFor}
 abbrev pub HaveNames : List Group → Type 0
 HaveNames groups = (i : ℕ) → i < length groups → HasName groups i
 
--- the pairs are those of the groups' codes
-pub record AreFitted (columns : List NodeName) (groups : List Group) (pairs : Coded) : Type 0 where
-  pub rise : Rises node_cmp columns
-  pub names : HaveNames groups
-  pub few : length groups ≤ group_limit
-  pub width : pairs.width ≡ length columns
-  pub rows : pairs.rows ≡ codes_of groups
+-- the pairs are those of the groups' codes, and the groups are few
+pub record AreFitted (matrix : Parts) (pairs : Coded) : Type 0 where
+  pub few : length matrix.groups ≤ group_limit
+  pub width : pairs.width ≡ length matrix.columns
+  pub rows : pairs.rows ≡ codes_of matrix.groups
+
+-- these are the fits of the nodes over the columns of the topology
+abbrev pub FindsFits : SearchedParts → List NodeName → FoundFits → Type 0
+FindsFits searched nodes found = (columns : List NodeName) → AreColumns (topology_of searched.network) columns → IsFoundFor columns searched.matrix.groups nodes found
 
 -- exactly the fits are printed, and nothing is wrong
-pub record IsFittedOutput (columns : List NodeName) (groups : List Group) (nodes : List NodeName) (bytes : List ℕ) (fault : Option Fault) : Type 0 where
+pub record IsFittedOutput (searched : SearchedParts) (nodes : List NodeName) (bytes : List ℕ) (fault : Option Fault) : Type 0 where
   pub found : FoundFits
-  pub is_found : IsFoundFor columns groups nodes found
+  pub is_found : FindsFits searched nodes found
   pub text : bytes ≡ fits_text found
   pub well : fault ≡ None
 

@@ -5,20 +5,19 @@ ghost use Rattle.cb_model.specs.Order.{Rises};
 ghost use Rattle.cb_model.specs.NodeOrder.{node_cmp};
 ghost use Rattle.cb_change.specs.Costs.{IsOpenCost};
 ghost use Rattle.cb_decode.specs.Names.{HasName};
-ghost use Rattle.cb_outcome.specs.Fits.{IsFoundFor, IsSecondCalled, NamesGuess};
+ghost use Rattle.cb_outcome.specs.Fits.{IsSecondCalled, NamesGuess};
 ghost use Rattle.cb_outcome.specs.Jobs.{PairsGives};
 ghost use Rattle.cb_pairs.specs.Fits.{ArePairsRefused};
 ghost use Rattle.cb_pairs.specs.Guesses.{IsOfGroups, IsSecondBelow};
 ghost use Rattle.cb_report.specs.Text.{bytes_of_text};
 ghost use Rattle.cb_topo.specs.Numbered.{topology_of};
-ghost use Rattle.cb_network_commands.specs.Fitted.{AreFitted, HaveNames, IsFittedOutput, IsGroupsRefusal};
+ghost use Rattle.cb_network_commands.specs.Fitted.{AreFitted, HaveNames, FindsFits, IsFittedOutput, IsGroupsRefusal};
 ghost use Rattle.cb_file_kinds.specs.Ending.{outcome_of};
 
-use cb_burst::matrix_of;
+use cb_burst::SearchedNetwork;
 use cb_codes::Groups;
-use cb_decode::{group_name, unknown_among, word_of};
+use cb_decode::group_name;
 use cb_file_kinds::Output;
-use cb_matrix::Matrix;
 use cb_model::{GroupName, List, NodeName};
 use cb_pairs::{Guess, PairFault, Pairs, radius};
 use cb_report::{Fault, FitLine, FoundFits, Text, fits_text};
@@ -38,9 +37,24 @@ pub(crate) fn fitting<'w, L: Ledger>(
     ensures gives { IfOk result (λ output. (whole : ℕ) → PairsGives (topology_of topology) raised.now whole (outcome_of output whole)) }
     ensures cost { (cost : ℕ) → IsOpenCost (topology_of topology) cost → steps.new ≤ steps.old + cost }
 {
-    let matrix = matrix_of(alloc, topology, steps)?;
+    let network = SearchedNetwork::of(alloc, topology, steps)?;
+    let output = fitted(alloc, &network, raised);
+    drop(network);
+    output
+}
+
+// What it gives in a network that was searched.
+fn fitted<'w>(
+    alloc: Global,
+    network: &SearchedNetwork,
+    raised: &List<NodeName>,
+) -> Result<Output<'w>, AllocError>
+    requires { Rises node_cmp raised.now }
+    ensures { IfOk result (λ output. (whole : ℕ) → PairsGives (topology_of network.now.network) raised.now whole (outcome_of output whole)) }
+{
+    let matrix = network.matrix();
     match Pairs::of(alloc, matrix.codes()) {
-        Ok(pairs) => listing(alloc, &matrix, &pairs, raised),
+        Ok(pairs) => listing(alloc, network, &pairs, raised),
         Err(fault) => refused(alloc, fault),
     }
 }
@@ -48,15 +62,15 @@ pub(crate) fn fitting<'w, L: Ledger>(
 // The lines of the fits.
 fn listing<'w>(
     alloc: Global,
-    matrix: &Matrix,
+    network: &SearchedNetwork,
     pairs: &Pairs<'_>,
     raised: &List<NodeName>,
 ) -> Result<Output<'w>, AllocError>
     requires raised { Rises node_cmp raised.now }
-    requires fitted { AreFitted matrix.now.columns matrix.now.groups pairs.now }
-    ensures { IfOk result (λ output. IsFittedOutput matrix.now.columns matrix.now.groups raised.now (bytes_of_text output.text) output.fault) }
+    requires fitted { AreFitted network.now.matrix pairs.now }
+    ensures { IfOk result (λ output. IsFittedOutput network.now raised.now (bytes_of_text output.text) output.fault) }
 {
-    let found = found_fits(alloc, matrix, pairs, raised)?;
+    let found = found_fits(alloc, network, pairs, raised)?;
     Ok(Output {
         text: Text::Bytes(fits_text(alloc, &found)?),
         fault: None,
@@ -79,22 +93,21 @@ fn refused<'w>(alloc: Global, fault: PairFault) -> Result<Output<'w>, AllocError
 // The fits of the raised nodes, by what their groups are called.
 fn found_fits(
     alloc: Global,
-    matrix: &Matrix,
+    network: &SearchedNetwork,
     pairs: &Pairs<'_>,
     raised: &List<NodeName>,
 ) -> Result<FoundFits, AllocError>
     requires raised { Rises node_cmp raised.now }
-    requires fitted { AreFitted matrix.now.columns matrix.now.groups pairs.now }
-    ensures { IfOk result (IsFoundFor matrix.now.columns matrix.now.groups raised.now) }
+    requires fitted { AreFitted network.now.matrix pairs.now }
+    ensures { IfOk result (FindsFits network.now raised.now) }
 {
-    let columns = matrix.columns();
-    let word = word_of(alloc, columns, raised)?;
-    let unknown = unknown_among(columns, raised, &word);
-    let fits = pairs.fits(alloc, &word)?;
+    let matrix = network.matrix();
+    let word = network.raised_word(alloc, raised)?;
+    let fits = pairs.fits(alloc, &word.word)?;
     let lines = lines_of(alloc, matrix.coded_groups(), &fits.guesses)?;
     Ok(FoundFits {
-        raised: raised.len() as u64,
-        unknown,
+        raised: word.raised,
+        unknown: word.unknown,
         distance: fits.distance,
         radius: radius(pairs.separation()),
         sure: fits.sure,

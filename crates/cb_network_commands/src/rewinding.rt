@@ -11,8 +11,7 @@ ghost use Rattle.cb_report.specs.Text.{bytes_of_text};
 ghost use Rattle.cb_topo.specs.Numbered.{topology_of};
 ghost use Rattle.cb_network_commands.specs.Rewinding.{MovesOn, RunsOn, IsRewound};
 
-use crate::judge::matrix_lines;
-use cb_burst::matrix_of;
+use crate::judge::lines_of_matrix;
 use cb_history::{LineReport, Move, ScriptLine};
 use cb_network::Edit;
 use cb_report::{Text, push_report};
@@ -46,11 +45,8 @@ pub(crate) fn lines_of_rewind<L: Ledger>(
     // Its model is regular, so the script leads to one history.
     let _model = topology.model();
     let Rewound { reports, topology } = rewind_topology(alloc, topology, script, depth, steps)?;
-    let matrix = matrix_of(alloc, topology, steps)?;
-    Ok(Text::Rewound {
-        reports,
-        matrix: matrix_lines(alloc, matrix)?,
-    })
+    let matrix = lines_of_matrix(alloc, topology, steps)?;
+    Ok(Text::Rewound { reports, matrix })
 }
 
 // What is reported of the script, and the topology after it.

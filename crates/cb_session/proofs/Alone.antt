@@ -1,5 +1,5 @@
 -- What is reported of a source doesn't hang on what other sources say.
-use Rattle.std.proofs.Common.{◌≡◌, ◌∙◌, ℕ, List, [], ◌∷◌, refl, sym, subst, append-nil}
+use Rattle.std.proofs.Common.{◌≡◌, ℕ, List, [], ◌∷◌, refl, sym, subst, append-nil}
 use Rattle.cb_network.specs.Regular.{IsRegular}
 use Rattle.cb_network.specs.Topology.{Topology}
 use Rattle.cb_log.specs.declared.event.Event.{Event}
@@ -7,7 +7,7 @@ use Rattle.cb_log.specs.declared.record.Record.{Record}
 use Rattle.cb_log.specs.Basis.{Mode}
 use Rattle.cb_log.specs.Entries.{LogEntry, records_of}
 use Rattle.cb_log.specs.Events.{EntryGives, EndGives}
-use Rattle.cb_log.specs.Sources.{quiet_entry, quieted, diagnoses_of}
+use Rattle.cb_log.specs.Sources.{quiet_entry, quieted}
 use Rattle.cb_log.proofs.Independent.{entries_same, end_same, records_quiet}
 use Rattle.cb_alarm.specs.Lines.{NumberedLine, ComesTo, ComeTo}
 use Rattle.cb_alarm.specs.Quiet.{AreQuieted}

@@ -42,7 +42,7 @@ module _ (cache : Cached) (ready : Ready) where
   network = topology_of cache.graph
 
   diagnosed : (opening : Topology) → network ≡ opening → (w : ℕ) (records : List Record) (closing : List Closed) (events : List Event)
-      → TellsInUse network (mode_by ready) ready closing events → Diagnoses opening (mode_by ready) w records closing events
+      → TellsInUse cache.graph (mode_by ready) ready closing events → Diagnoses opening (mode_by ready) w records closing events
   diagnosed opening same w records [] events tells = none_reported (IsDiagnosis tells.basis) events tells.each
   diagnosed opening same w records (c ∷ closing) events tells = record {
     network = network;
@@ -57,7 +57,7 @@ module _ (cache : Cached) (ready : Ready) where
 
   -- what is reported is what results from the windows
   closing_comes : (opening : Topology) → network ≡ opening → (w : ℕ) (records next : List Record) (closing : List Closed)
-      → AreClosing (records ++ next) w (length records) closing → (events : List Event) → TellsInUse network (mode_by ready) ready closing events
+      → AreClosing (records ++ next) w (length records) closing → (events : List Event) → TellsInUse cache.graph (mode_by ready) ready closing events
       → ClosingGives opening (mode_by ready) w records next events
   closing_comes opening same w records next closing closes events tells = record {
     closing = closing;
@@ -67,7 +67,7 @@ module _ (cache : Cached) (ready : Ready) where
 
   -- at a record
   pub fixed_tells : (number : ℕ) (r : Record) (windows : Kept) (closing : List Closed) → Closes windows r.at closing
-      → (events : List Event) → TellsInUse network (mode_by ready) ready closing events
+      → (events : List Event) → TellsInUse cache.graph (mode_by ready) ready closing events
       → (refusals : List Event) → RefusesEdit number r.body refusals → EntryTells (fixed_state cache windows ready) (said number r) (events ++ refusals)
   fixed_tells number r windows closing closes events tells refusals refuses = λ opening before regular stands. record {
     closings = events;
@@ -87,7 +87,7 @@ module _ (cache : Cached) (ready : Ready) where
 
   -- at the end
   pub fixed_ends : (windows : Kept) (closing : List Closed) → ClosesAtEnd windows closing → (events : List Event)
-      → TellsInUse network (mode_by ready) ready closing events → TellsAtEnd (fixed_state cache windows ready) events
+      → TellsInUse cache.graph (mode_by ready) ready closing events → TellsAtEnd (fixed_state cache windows ready) events
   fixed_ends windows closing closes events tells = λ opening before stands.
       closing_comes opening stands.network windows.length (records_of before) [] closing
       (subst (λ (rs : List Record). AreClosing rs windows.length (length (records_of before)) closing) (sym (append-nil (records_of before)))

@@ -66,24 +66,24 @@ module _ (columns : List NodeName) (groups : List Group) (kept : List ℕ) (rais
   capped_finding cap radii are found = record { radius_of = radius_at radii; radii = are.each; found = found }
 
 -- what is ready, by its own codebook
-module _ (ready : Ready) (raised : List NodeName) (finding : Finding) where
+module _ (ready : Ready) (columns raised : List NodeName) (finding : Finding) where
   abbrev width : ℕ
-  width = length ready.matrix.columns
+  width = length columns
 
   abbrev groups_codes : List (List Bool)
   groups_codes = codes_of ready.matrix.groups
 
   -- the finding is that by its codebook
   abbrev FindsBy : BookInUse → Type 0
-  FindsBy book = IsFindingFor ready.matrix.columns ready.matrix.groups (in_use_of book).kept (in_use_of book).used raised finding
+  FindsBy book = IsFindingFor columns ready.matrix.groups (in_use_of book).kept (in_use_of book).used raised finding
 
   pub plain_found : (book : Book) → ready.book ≡ books.Plain book
-      → IsFinding ready.matrix.columns ready.matrix.groups book.columns book.distance raised finding → FindsBy ready.book
+      → IsFinding columns ready.matrix.groups book.columns book.distance raised finding → FindsBy ready.book
   plain_found book is found =
-      subst FindsBy (sym is) (plain_finding ready.matrix.columns ready.matrix.groups book.columns raised finding book.distance found)
+      subst FindsBy (sym is) (plain_finding columns ready.matrix.groups book.columns raised finding book.distance found)
 
   pub capped_found : (book : CapBook) → ready.book ≡ books.Capped book → HasRadiiOf width groups_codes ready.book
-      → IsFindingBy ready.matrix.columns ready.matrix.groups book.columns (radius_at book.radii) raised finding → FindsBy ready.book
+      → IsFindingBy columns ready.matrix.groups book.columns (radius_at book.radii) raised finding → FindsBy ready.book
   capped_found book is radii found =
-      subst FindsBy (sym is) (capped_finding ready.matrix.columns ready.matrix.groups book.columns raised finding book.cap book.radii
+      subst FindsBy (sym is) (capped_finding columns ready.matrix.groups book.columns raised finding book.cap book.radii
       (subst (HasRadiiOf width groups_codes) is radii) found)

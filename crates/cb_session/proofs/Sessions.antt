@@ -8,9 +8,7 @@ use Rattle.cb_network.specs.Topology.{Topology}
 use Rattle.cb_network.specs.Regular.{IsRegular}
 use Rattle.cb_log.specs.declared.closed.Closed.{Closed}
 use Rattle.cb_log.specs.declared.event.Event.{Event}
-use Rattle.cb_log.specs.Entries.{LogEntry}
 use Rattle.cb_log.specs.Kept.{Kept}
-use Rattle.cb_topo.specs.Numbered.{topology_of}
 use Rattle.cb_session.specs.declared.basis.Ready.{Ready}
 use Rattle.cb_session.specs.declared.course.Course.{Course}
 use Rattle.cb_session.specs.declared.course.Course.TheVariants.{Wanted, Fixed}
@@ -31,16 +29,13 @@ on_ok_more (Ok x) P Q f h = f h
 on_ok_more (Err e) P Q f h = tt
 
 module _ (cache : Cached) (windows : Kept) (course : Course) (s : State) (view : state_of cache windows course ≡ s)
-    (fits : FitsCourse (topology_of cache.graph) windows course) where
-  abbrev network : Topology
-  network = topology_of cache.graph
-
+    (fits : FitsCourse cache.graph windows course) where
   module _ (wish : Wish) (ready : Option Ready) (is : course ≡ Wanted wish ready) where
     pub wanted_view : wanted_state cache wish windows ready ≡ s
     wanted_view = subst (λ (c : Course). state_of cache windows c ≡ s) is view
 
-    pub wanted_fits : IsSessionSettled network wish windows ready
-    wanted_fits = subst (FitsCourse network windows) is fits
+    pub wanted_fits : IsSessionSettled cache.graph wish windows ready
+    wanted_fits = subst (FitsCourse cache.graph windows) is fits
 
     closes_wanted : (closing : List Closed) → ClosesAtEnd s.windows closing → ClosesAtEnd windows closing
     closes_wanted closing closes = subst (λ (x : State). ClosesAtEnd x.windows closing) (sym wanted_view) closes
@@ -48,7 +43,7 @@ module _ (cache : Cached) (windows : Kept) (course : Course) (s : State) (view :
     pub wanted_rise : (closing : List Closed) → ClosesAtEnd s.windows closing → All HasRisingNodes closing
     wanted_rise closing closes = end_rise windows closing wanted_fits.over (closes_wanted closing closes)
 
-    pub wanted_tells : (closing : List Closed) → ClosesAtEnd s.windows closing → (reported : Reported) → ReportsWindows network wish ready closing reported → TellsAtEnd s reported.events
+    pub wanted_tells : (closing : List Closed) → ClosesAtEnd s.windows closing → (reported : Reported) → ReportsWindows cache.graph wish ready closing reported → TellsAtEnd s reported.events
     wanted_tells closing closes reported tells =
         subst (λ (x : State). TellsAtEnd x reported.events) wanted_view
         (λ opening before stands. end_tells cache wish windows ready closing reported (closes_wanted closing closes) tells opening before stands)
@@ -57,8 +52,8 @@ module _ (cache : Cached) (windows : Kept) (course : Course) (s : State) (view :
     pub fixed_view : fixed_state cache windows ready ≡ s
     fixed_view = subst (λ (c : Course). state_of cache windows c ≡ s) is view
 
-    pub fixed_fits : IsFixed network windows ready
-    fixed_fits = subst (FitsCourse network windows) is fits
+    pub fixed_fits : IsFixed cache.graph windows ready
+    fixed_fits = subst (FitsCourse cache.graph windows) is fits
 
     closes_fixed : (closing : List Closed) → ClosesAtEnd s.windows closing → ClosesAtEnd windows closing
     closes_fixed closing closes = subst (λ (x : State). ClosesAtEnd x.windows closing) (sym fixed_view) closes
@@ -67,7 +62,7 @@ module _ (cache : Cached) (windows : Kept) (course : Course) (s : State) (view :
     fixed_rise closing closes = end_rise windows closing fixed_fits.over (closes_fixed closing closes)
 
     pub fixed_tells_end : (closing : List Closed) → ClosesAtEnd s.windows closing → (events : List Event)
-        → TellsInUse network (mode_by ready) ready closing events → TellsAtEnd s events
+        → TellsInUse cache.graph (mode_by ready) ready closing events → TellsAtEnd s events
     fixed_tells_end closing closes events tells =
         subst (λ (x : State). TellsAtEnd x events) fixed_view (fixed_ends cache ready windows closing (closes_fixed closing closes) events tells)
 

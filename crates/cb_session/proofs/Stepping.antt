@@ -27,7 +27,7 @@ use Rattle.cb_log.specs.Network.{IsNow}
 use Rattle.cb_alarm.specs.Lines.{NumberedLine, text, long, ComesTo}
 use Rattle.cb_alarm.specs.Spelled.{SpellsRecord, SaysBody}
 use Rattle.cb_alarm.proofs.OneSkip.{comes_to_one}
-use Rattle.cb_topo.specs.Numbered.{topology_of}
+use Rattle.cb_topo.specs.Numbered.{Numbered, topology_of}
 use Rattle.cb_session.specs.declared.basis.Ready.{Ready}
 use Rattle.cb_session.specs.declared.reported.Reported.{Reported}
 use Rattle.cb_session.specs.Acts.{Acts, GoesOn, IsWellNamed}
@@ -94,9 +94,9 @@ pub all_stand : (line : NumberedLine) (entry : LogEntry) → ComesTo line entry 
 all_stand line entry comes old new stands other too = subst (EntryStands old new) (comes_to_one line entry other comes too) stands
 
 -- what is ready has a basis, so its codebook is one of the topology
-book_is : (network : Topology) (wish : Wish) (ready : Option Ready) → IfSome ready (IsReady network (wanted wish)) → IfSome (book_of ready) (IsBookInUse network (wanted wish))
-book_is network wish None is = tt
-book_is network wish (Some ready) is = let has = ready_has_basis network (wanted wish) ready is in (has.0, has.1.kept, has.1.used)
+book_is : (n : Numbered) (wish : Wish) (ready : Option Ready) → IfSome ready (IsReady n (wanted wish)) → IfSome (book_of ready) (IsBookInUse (topology_of n) (wanted wish))
+book_is n wish None is = tt
+book_is n wish (Some ready) is = let has = ready_has_basis n (wanted wish) ready is in (has.0, has.1.kept, has.1.used)
 
 -- the windows close at the next record
 abbrev pub Closes : Kept → ℕ → List Closed → Type 0
@@ -113,17 +113,18 @@ module _ (wish : Wish) (number : ℕ) (r : Record) (cache fresh : Cached) (windo
   -- a record closes windows, is reported, and acts
   pub record Goes (closing : List Closed) (reported : Reported) (changed : Bool) (acted : List Event) : Type 0 where
     pub closes : Closes windows r.at closing
-    pub tells : ReportsWindows network wish ready closing reported
+    pub tells : ReportsWindows cache.graph wish ready closing reported
     pub acts : Acts network number r.body new changed acted
+    pub unchanged : changed ≡ false → fresh.graph ≡ cache.graph
     pub on : GoesOn windows later r
     pub same_length : later.length ≡ windows.length
-    pub settled : IsSessionSettled network wish windows ready
+    pub settled : IsSessionSettled cache.graph wish windows ready
 
   module _ (closing : List Closed) (reported : Reported) (changed : Bool) (acted : List Event) (goes : Goes closing reported changed acted) where
     pub record_tells : EntryTells (wanted_state cache wish windows ready) (said number r) (reported.events ++ acted)
     record_tells = λ opening before regular stands. record {
       closings = reported.events;
-      closing = reported_comes opening wish windows.length (records_of before) (r ∷ []) network stands.network ready stands.book.0 closing
+      closing = reported_comes opening wish windows.length (records_of before) (r ∷ []) cache.graph stands.network ready stands.book.0 closing
           (goes.closes (records_of before) r refl stands.windows) reported goes.tells;
       refusals = acted;
       body = body_gives opening regular (records_of before) network stands.network r wish r.body number new changed acted goes.acts;
@@ -134,20 +135,10 @@ module _ (wish : Wish) (number : ℕ) (r : Record) (cache fresh : Cached) (windo
     abbrev kept : Option Ready
     kept = kept_ready changed ready reported.made
 
-    same_network : changed ≡ false → new ≡ network
-    same_network = acts_same r.body goes.acts
-      where
-        acts_same : (body : Body) → Acts network number body new changed acted → changed ≡ false → new ≡ network
-        acts_same (Raise source node) acts e = acts.0
-        acts_same (Clear source node) acts e = acts.0
-        acts_same (Change edit) (Ok u, after, refusal, leaves) e = let yes_changed = leaves.1 in absurd (cc)
-        acts_same (Change edit) (Err why, after, refusal, leaves) e = leaves.0
-        acts_same Tick acts e = acts.0
+    ready_kept : IfSome kept (IsReady fresh.graph (wanted wish))
+    ready_kept = ready_stays cache.graph fresh.graph wish ready goes.settled.ready_is closing reported goes.tells changed goes.unchanged
 
-    ready_kept : IfSome kept (IsReady new (wanted wish))
-    ready_kept = ready_stays network new wish ready goes.settled.ready_is closing reported goes.tells changed same_network
-
-    pub settled_still : IsSessionSettled new wish later kept
+    pub settled_still : IsSessionSettled fresh.graph wish later kept
     settled_still = record {
       over = (goes.settled.over.0 ++ r ∷ [], goes.on goes.settled.over.0 goes.settled.over.1);
       ready_is = ready_kept;
@@ -159,7 +150,7 @@ module _ (wish : Wish) (number : ℕ) (r : Record) (cache fresh : Cached) (windo
         let by : IsChangedBy opening regular (records_of before) network stands.network r new changed =
         changed_by opening regular (records_of before) network stands.network r r.body refl number new changed acted goes.acts in
         let keeps : IsSome (book_of kept) ↔ HasBook opening windows.length (records_of before ++ r ∷ []) =
-        keeps_after opening wish windows.length (records_of before) r network ready stands.book.0 closing
+        keeps_after opening wish windows.length (records_of before) r cache.graph ready stands.book.0 closing
         (goes.closes (records_of before) r refl stands.windows) reported goes.tells changed by.accepted by.refused in
         record {
           network = subst (λ (rs : List Record). IsNow opening rs new) same by.is_now;
@@ -167,7 +158,7 @@ module _ (wish : Wish) (number : ℕ) (r : Record) (cache fresh : Cached) (windo
           book = (
             subst (λ (rs : List Record). IsSome (book_of kept) ↔ HasBook opening later.length rs) same
                 (subst (λ (w : ℕ). IsSome (book_of kept) ↔ HasBook opening w (records_of before ++ r ∷ [])) (sym goes.same_length) keeps),
-            book_is new wish kept ready_kept,
+            book_is fresh.graph wish kept ready_kept,
           );
         }
 
@@ -190,10 +181,10 @@ end_rise windows closing over closes = all_rise over.0 windows.length (length ov
 
 -- what is reported of them is what results from the end
 pub end_tells : (cache : Cached) (wish : Wish) (windows : Kept) (ready : Option Ready) (closing : List Closed) (reported : Reported) → ClosesAtEnd windows closing
-    → ReportsWindows (topology_of cache.graph) wish ready closing reported → (opening : Topology) (before : List LogEntry) → StandsForEntries (wanted_state cache wish windows ready) opening before
+    → ReportsWindows cache.graph wish ready closing reported → (opening : Topology) (before : List LogEntry) → StandsForEntries (wanted_state cache wish windows ready) opening before
     → EndGives opening (wanted wish) windows.length (records_of before) reported.events
 end_tells cache wish windows ready closing reported closes tells opening before stands =
-    reported_comes opening wish windows.length (records_of before) [] (topology_of cache.graph) stands.network ready stands.book.0 closing
+    reported_comes opening wish windows.length (records_of before) [] cache.graph stands.network ready stands.book.0 closing
     (subst (λ (rs : List Record). AreClosing rs windows.length (length (records_of before)) closing) (sym (append-nil (records_of before)))
     (closes (records_of before) stands.windows)) reported tells
 
@@ -204,8 +195,8 @@ no_book opening w = (λ e. absurd (cc), λ has. let within = has.within in absur
 pub opened_stands : (cache : Cached) (wish : Wish) (windows : Kept) → StandsForRecords windows [] → StandsForEntries (wanted_state cache wish windows None) (topology_of cache.graph) []
 opened_stands cache wish windows stands = record { network = refl; windows = stands; book = (no_book (topology_of cache.graph) windows.length, tt) }
 
-pub opened_settled : (network : Topology) (wish : Wish) (windows : Kept) → StandsForRecords windows [] → IsSessionSettled network wish windows None
-opened_settled network wish windows stands = record { over = ([], stands); ready_is = tt }
+pub opened_settled : (n : Numbered) (wish : Wish) (windows : Kept) → StandsForRecords windows [] → IsSessionSettled n wish windows None
+opened_settled n wish windows stands = record { over = ([], stands); ready_is = tt }
 
 -- what results from a line, whatever it comes to
 abbrev pub LineTells : NumberedLine → State → List Event → Type 0

@@ -1,5 +1,5 @@
 //! What the body of a record does.
-ghost use Rattle.std.specs.Prelude.{◌≡◌, [], ◌∷◌, IfOk, OnOk, OnErr};
+ghost use Rattle.std.specs.Prelude.{◌≡◌, [], ◌∷◌, false, IfOk, OnOk, OnErr};
 ghost use Rattle.cb_change.specs.Costs.{CountsAtMost};
 ghost use Rattle.cb_change.specs.InTurn.{IsCostInTurn};
 ghost use Rattle.cb_network.specs.Laws.{HasGoodName};
@@ -32,6 +32,7 @@ pub(crate) fn act<L: Ledger>(
 ) -> Result<bool, AllocError>
     requires { IsWellNamed next.now.body }
     ensures acts { IfOk result (λ changed. ActsAfter (topology_of cache.old.graph) number next.now.body (topology_of cache.new.graph) changed events.old events.new) }
+    ensures unchanged { IfOk result (λ changed. changed ≡ false → cache.new.graph ≡ cache.old.graph) }
     ensures goes_on { OnOk result (GoesOn windows.old windows.new next.now) }
     ensures numbers { OnOk result (KeepsNumbers cache.old.graph cache.new.graph) }
     ensures length { windows.new.length ≡ windows.old.length }
@@ -72,6 +73,7 @@ fn change<L: Ledger>(
 ) -> Result<bool, AllocError>
     requires { HasGoodName edit.now }
     ensures acts { IfOk result (λ changed. ActsAfter (topology_of cache.old.graph) number (Change edit.now) (topology_of cache.new.graph) changed events.old events.new) }
+    ensures unchanged { IfOk result (λ changed. changed ≡ false → cache.new.graph ≡ cache.old.graph) }
     ensures numbers { OnOk result (KeepsNumbers cache.old.graph cache.new.graph) }
     ensures same { OnErr result (cache.new ≡ cache.old) }
     ensures steps { OnErr result (steps.new ≡ steps.old) }

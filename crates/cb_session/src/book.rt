@@ -1,5 +1,5 @@
 //! The codebook in use: for a distance, or for a cap.
-ghost use Rattle.std.specs.Prelude.{◌≡◌, ◌≤◌, ◌<◌, ◌^◌, ◌↔◌, ℕ, length, IfOk, IsTrue};
+ghost use Rattle.std.specs.Prelude.{◌≡◌, ◌≤◌, ◌<◌, ◌^◌, ◌↔◌, length, IfOk, IsTrue};
 ghost use Rattle.cb_coding.specs.Answers.{radius as radius_of};
 ghost use Rattle.cb_log.specs.declared.event.Event.TheVariants.{BookMade};
 ghost use Rattle.cb_session.specs.InUse.{IsInUseFor, KeepsDistance, ReportsCapped, in_use_of};

@@ -2,16 +2,15 @@
 ghost use Rattle.std.specs.Prelude.{◌≡◌, ◌++◌, List as Items, IfOk, OnOk, OnErr};
 ghost use Rattle.cb_log.specs.Entries.{said};
 ghost use Rattle.cb_log.specs.declared.event.Event.{Event as EventOf};
-ghost use Rattle.cb_cache.specs.Cached.{Cached};
-ghost use Rattle.cb_topo.specs.Numbered.{topology_of};
 ghost use Rattle.cb_session.specs.Acts.{GoesOn, RefusesEdit};
 ghost use Rattle.cb_session.specs.Course.{fixed_state, mode_by};
-ghost use Rattle.cb_session.specs.Ready.{IsReady, IsSomewhereReady};
+ghost use Rattle.cb_session.specs.Ready.{IsReady};
 ghost use Rattle.cb_session.specs.Settled.{IsOverSome};
 ghost use Rattle.cb_session.specs.Steps.{EntryTells, EntryStands};
 
 use crate::basis::Ready;
 use crate::reported::reported_in_use;
+use cb_cache::Cache;
 use cb_log::{Body, Event, Record, RefusedWhy};
 use cb_model::List;
 use cb_window::Windows;
@@ -21,23 +20,23 @@ use std::alloc::{AllocError, Global};
 /// before.
 pub(crate) fn go_on_fixed(
     alloc: Global,
+    cache: &Cache,
     windows: &mut Windows,
     ready: &Ready,
     number: u64,
     next: &Record,
 ) -> Result<List<Event>, AllocError>
-    requires ready { IsSomewhereReady ready.now }
+    requires ready { IsReady cache.now.graph (mode_by ready.now) ready.now }
     requires over { IsOverSome windows.old }
-    ensures gives { IfOk result (λ events. (cache : Cached) → IsReady (topology_of cache.graph) (mode_by ready.now) ready.now
-        → EntryTells (fixed_state cache windows.old ready.now) (said number next.now) events) }
-    ensures stands { OnOk result ((cache : Cached)
-        → EntryStands (fixed_state cache windows.old ready.now) (fixed_state cache windows.new ready.now) (said number next.now)) }
+    ensures gives { IfOk result (EntryTells (fixed_state cache.now windows.old ready.now) (said number next.now)) }
+    ensures stands { OnOk result (EntryStands (fixed_state cache.now windows.old ready.now)
+        (fixed_state cache.now windows.new ready.now) (said number next.now)) }
     ensures over { IsOverSome windows.new }
     ensures length { windows.new.length ≡ windows.old.length }
     ensures same { OnErr result (windows.new ≡ windows.old) }
 {
     let closing = windows.due(alloc, next.at)?;
-    let events = reported_in_use(alloc, ready, &closing);
+    let events = reported_in_use(alloc, cache.graph().topology(), ready, &closing);
     drop(closing);
     let mut events = events?;
     refuse_edit(alloc, windows, number, next, &mut events)?;

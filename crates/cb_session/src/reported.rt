@@ -4,15 +4,14 @@ ghost use Rattle.std.specs.List.{All};
 ghost use Rattle.cb_log.specs.Basis.{Mode, wanted as for_wanted};
 ghost use Rattle.cb_model.specs.NodeOrder.{node_cmp};
 ghost use Rattle.cb_model.specs.Order.{Rises};
-ghost use Rattle.cb_network.specs.Topology.{Topology};
-ghost use Rattle.cb_topo.specs.Numbered.{topology_of};
-ghost use Rattle.cb_session.specs.Ready.{IsReady, IsReadyFor, IsSomewhereReady};
+ghost use Rattle.cb_session.specs.Ready.{IsReady, IsReadyBySome};
 ghost use Rattle.cb_session.specs.Reported.{TellsInUse, TellsMade, ReportsWindows, kept_ready};
 
 use crate::basis::{Ready, diagnose};
 use cb_cache::Cache;
 use cb_log::{Closed, Event};
 use cb_model::{List, Wish};
+use cb_topo::Topology;
 use std::alloc::{AllocError, Global};
 
 /// The events that windows bring as they close, and what was made ready for them, if nothing was ready.
@@ -30,9 +29,9 @@ pub(crate) fn closing_report(
     wish: Wish,
     closing: &List<Closed>,
 ) -> Result<Reported, AllocError>
-    requires ready { IfSome ready.now (IsReady (topology_of cache.now.graph) (for_wanted wish)) }
+    requires ready { IfSome ready.now (IsReady cache.now.graph (for_wanted wish)) }
     requires rise { All (λ c. Rises node_cmp c.nodes) closing.now }
-    ensures { IfOk result (ReportsWindows (topology_of cache.now.graph) wish ready.now closing.now) }
+    ensures { IfOk result (ReportsWindows cache.now.graph wish ready.now closing.now) }
 {
     if closing.len() == 0 {
         return Ok(Reported {
@@ -40,14 +39,15 @@ pub(crate) fn closing_report(
             made: None,
         });
     }
+    let topology = cache.graph().topology();
     match ready {
         Some(ready) => Ok(Reported {
-            events: reported_in_use(alloc, ready, closing)?,
+            events: reported_in_use(alloc, topology, ready, closing)?,
             made: None,
         }),
         None => {
             let made = Ready::of(alloc, cache, wish)?;
-            let events = reported_made(alloc, &made, wish, closing)?;
+            let events = reported_made(alloc, topology, &made, wish, closing)?;
             Ok(Reported {
                 events,
                 made: Some(made),
@@ -59,33 +59,34 @@ pub(crate) fn closing_report(
 /// The diagnoses, by what is ready.
 pub(crate) fn reported_in_use(
     alloc: Global,
+    topology: &Topology,
     ready: &Ready,
     closing: &List<Closed>,
 ) -> Result<List<Event>, AllocError>
-    requires ready { IsSomewhereReady ready.now }
+    requires ready { IsReadyBySome topology.now ready.now }
     requires rise { All (λ c. Rises node_cmp c.nodes) closing.now }
-    ensures { IfOk result (λ events. (network : Topology) (mode : Mode) → IsReady network mode ready.now
-        → TellsInUse network mode ready.now closing.now events) }
+    ensures { IfOk result (λ events. (mode : Mode) → IsReady topology.now mode ready.now
+        → TellsInUse topology.now mode ready.now closing.now events) }
 {
     let mut events = List::new(alloc);
-    diagnose(alloc, ready, closing, &mut events)?;
+    diagnose(alloc, topology, ready, closing, &mut events)?;
     Ok(events)
 }
 
 // What is reported of a codebook that is made for them, and the diagnoses.
 fn reported_made(
     alloc: Global,
+    topology: &Topology,
     ready: &Ready,
     wish: Wish,
     closing: &List<Closed>,
 ) -> Result<List<Event>, AllocError>
-    requires ready { IsReadyFor wish ready.now }
+    requires ready { IsReady topology.now (for_wanted wish) ready.now }
     requires rise { All (λ c. Rises node_cmp c.nodes) closing.now }
-    ensures { IfOk result (λ events. (network : Topology) → IsReady network (for_wanted wish) ready.now
-        → TellsMade network wish ready.now closing.now events) }
+    ensures { IfOk result (TellsMade topology.now wish ready.now closing.now) }
 {
     let mut events = ready.announce(alloc, wish)?;
-    diagnose(alloc, ready, closing, &mut events)?;
+    diagnose(alloc, topology, ready, closing, &mut events)?;
     Ok(events)
 }
 

@@ -1,6 +1,5 @@
 //! A session.
 ghost use Rattle.std.specs.Prelude.{◌≡◌, ◌<◌, ◌≤◌, ◌++◌, ◌^◌, ℕ, List as Items, [], ◌∷◌, length as length_of, IfOk, IsOk, OnOk, OnErr};
-ghost use Rattle.std.specs.List.{All};
 ghost use Rattle.cb_alarm.specs.Lines.{NumberedLine, ComesTo};
 ghost use Rattle.cb_coding.specs.Groups.{codes_of};
 ghost use Rattle.cb_coding.specs.Radii.{AreRadii};
@@ -9,7 +8,6 @@ ghost use Rattle.cb_finding.specs.Matrix.{IsMatrix};
 ghost use Rattle.cb_model.specs.declared.node.NodeName.{NodeName};
 ghost use Rattle.cb_model.specs.declared.wish.Wish.{Wish as WishOf};
 ghost use Rattle.cb_model.specs.declared.wish.Wish.TheVariants.{Plain, Cap};
-ghost use Rattle.cb_log.specs.declared.closed.Closed.{Closed as ClosedOf};
 ghost use Rattle.cb_log.specs.Basis.{wanted as for_wanted, fixed as by_fixed};
 ghost use Rattle.cb_log.specs.Entries.{LogEntry, said, records_of};
 ghost use Rattle.cb_log.specs.Events.{EntryGives, EndGives};
@@ -72,7 +70,7 @@ impl Model for Session {
 
     ghost view = { λ s. state_of s.cache s.windows s.course };
 
-    ghost invariant = { λ s. FitsCourse (topology_of s.cache.graph) s.windows s.course };
+    ghost invariant = { λ s. FitsCourse s.cache.graph s.windows s.course };
 }
 
 impl Session {
@@ -207,7 +205,7 @@ impl Session {
 
     // A session at the beginning of a log, by one codebook, for which all is ready.
     fn by_ready(alloc: Global, cache: Cache, ready: Ready, length: u64) -> Session
-        requires ready { IsReady (topology_of cache.graph) (mode_by ready) ready }
+        requires ready { IsReady cache.graph (mode_by ready) ready }
         requires length { 1 ≤ length }
         ensures mode { result.mode ≡ mode_by ready }
         ensures length { result.windows.length ≡ length }
@@ -311,7 +309,7 @@ impl Session {
                 steps,
             ),
             Course::Fixed { ready } => {
-                go_on_fixed(alloc, &mut self.windows, ready, number, next)
+                go_on_fixed(alloc, &self.cache, &mut self.windows, ready, number, next)
             }
         }
     }
@@ -340,7 +338,9 @@ impl Session {
             Course::Wanted { wish, ready } => {
                 Ok(closing_report(alloc, &self.cache, ready, *wish, closing)?.events)
             }
-            Course::Fixed { ready } => reported_in_use(alloc, ready, closing),
+            Course::Fixed { ready } => {
+                reported_in_use(alloc, self.cache.graph().topology(), ready, closing)
+            }
         }
     }
 

@@ -1,6 +1,6 @@
 //! The codebook that a certificate states.
 ghost use Rattle.std.specs.Prelude.{◌≡◌, ◌≤◌, ◌+◌, ℕ, List as Items, Bool, IfOk, Some, length, slice_get};
-ghost use Rattle.cb_finding.specs.Matrix.{IsMatrix};
+ghost use Rattle.cb_matrix.specs.Matrix.{IsMatrixOf};
 ghost use Rattle.cb_model.specs.declared.node.NodeName.{NodeName as Name};
 ghost use Rattle.cb_network.specs.Nodes.{IsColumn, AreColumns, IsNodeOf};
 ghost use Rattle.cb_network.specs.Sound.{problem_limit, symptom_limit};
@@ -61,7 +61,7 @@ pub(crate) fn matrix_and_places(
     stated: &StatedBook,
 ) -> Result<(Matrix, List<u32>), AllocError>
     requires { AreColumnNumbers (topology_of cache.now.graph) stated.now.nodes stated.now.columns }
-    ensures matrix { IfOk result (λ made. IsMatrix (topology_of cache.now.graph) made.0.columns made.0.groups) }
+    ensures matrix { IfOk result (λ made. IsMatrixOf cache.now.graph made.0) }
     ensures few_columns { IfOk result (λ made. length made.0.columns ≤ symptom_limit) }
     ensures few_groups { IfOk result (λ made. length made.0.groups ≤ problem_limit + 1) }
     ensures places { IfOk result (λ made. ArePlacesFor (topology_of cache.now.graph) stated.now.nodes stated.now.columns made.1) }
@@ -72,7 +72,7 @@ pub(crate) fn matrix_and_places(
     let _model = topology.model();
     let columns = topology.column_index(alloc)?;
     let places = places_of(alloc, topology, &columns, &stated.nodes, &stated.columns)?;
-    let matrix = Matrix::over(alloc, cache, &columns)?;
+    let matrix = Matrix::over(alloc, cache, columns)?;
     Ok((matrix, places))
 }
 

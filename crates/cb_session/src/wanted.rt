@@ -33,11 +33,11 @@ pub(crate) fn go_on_wanted<L: Ledger>(
     steps: &mut Steps<L>,
 ) -> Result<List<Event>, AllocError>
     requires named { IsWellNamed next.now.body }
-    requires settled { IsSessionSettled (topology_of cache.old.graph) wish windows.old ready.old }
+    requires settled { IsSessionSettled cache.old.graph wish windows.old ready.old }
     ensures gives { IfOk result (EntryTells (wanted_state cache.old wish windows.old ready.old) (said number next.now)) }
     ensures stands { OnOk result (EntryStands (wanted_state cache.old wish windows.old ready.old)
         (wanted_state cache.new wish windows.new ready.new) (said number next.now)) }
-    ensures settled { IsSessionSettled (topology_of cache.new.graph) wish windows.new ready.new }
+    ensures settled { IsSessionSettled cache.new.graph wish windows.new ready.new }
     ensures numbers { OnOk result (KeepsNumbers cache.old.graph cache.new.graph) }
     ensures length { windows.new.length ≡ windows.old.length }
     ensures same_cache { OnErr result (cache.new ≡ cache.old) }

@@ -1,17 +1,12 @@
-ghost use Rattle.std.specs.Prelude.{◌≡◌, ◌<◌, ℕ, length, IfOk, IsTrue, slice_index_or};
-ghost use Rattle.std.specs.declared.cmp.Ordering.TheVariants.{Less};
-ghost use Rattle.cb_model.specs.Order.{Rises};
-ghost use Rattle.cb_model.specs.NodeOrder.{node_cmp};
-ghost use Rattle.cb_model.specs.declared.node.NodeName.{NodeName as NodeName_};
+ghost use Rattle.std.specs.Prelude.{◌≡◌, length, IfOk};
 
 use cb_bits::Row;
 use cb_codes::{Codes, Grouping, Groups};
 use cb_coding::Book;
 use cb_compact::CompactRow;
-use cb_decode::{Answer, Decoder, find, nearest, nearest_by};
+use cb_decode::{Answer, Decoder, RaisedWord, find, nearest, nearest_by};
 use cb_model::{List, NodeName};
 use std::alloc::{AllocError, Global};
-use std::cmp::Ordering;
 use std::test::Fail;
 
 // Five problems in order, of which two have no symptom and two others have the same.
@@ -27,46 +22,32 @@ const PROBLEMS: [(&str, &str, &str); 5] = [
 fn finds_the_nearest_groups(rt: HostRuntime) -> Result<(), Fail> {
     let alloc = rt.alloc();
     let groups = three_groups(alloc)?;
-    let columns = nodes_of(alloc, &[("Alarm", "a"), ("Alarm", "b"), ("Noise", "b")])?;
     let book = Book {
         columns: List::of(vec![in alloc; 0, 1, 2]?),
         distance: 2,
     };
-    assert!(rt; are_in_order(&columns) && groups.len() == 3 && book.columns.len() == 3);
-    // What is raised, how many of these are no column, the distance, the groups that are so near, and whether it is sure.
-    let table: [(&[(&str, &str)], u64, u32, &[bool], bool); 4] = [
-        (&[], 0, 0, &[true], true),
-        (&[("Alarm", "b")], 0, 1, &[true, false, false], false),
-        (
-            &[
-                ("Alarm", "a"),
-                ("Noise", "a"),
-                ("Alarm", "b"),
-                ("Alarm", "c"),
-            ],
-            2,
-            0,
-            &[false],
-            true,
-        ),
-        (
-            &[("Alarm", "A"), ("Noise", "b"), ("Other", "b")],
-            2,
-            1,
-            &[true, false],
-            false,
-        ),
+    assert!(rt; groups.len() == 3 && book.columns.len() == 3);
+    // Which columns are raised, how many nodes are, how many of these are no column, the distance, the groups that are so near, and whether
+    // it is sure.
+    let cases: [(&str, u64, u64, u32, &[bool], bool); 4] = [
+        ("000", 0, 0, 0, &[true], true),
+        ("010", 1, 0, 1, &[true, false, false], false),
+        ("110", 4, 2, 0, &[false], true),
+        ("001", 3, 2, 1, &[true, false], false),
     ];
-    for (texts, unknown, distance, quiet, sure) in table {
-        let raised = nodes_of(alloc, texts)?;
-        assert!(rt; are_in_order(&raised));
-        let finding = find(alloc, &columns, &groups, &book, &raised)?;
-        assert_eq!(rt; (finding.unknown, finding.distance), (unknown, distance));
-        assert_eq!(rt; (finding.groups.len(), finding.sure), (quiet.len(), sure));
+    for (text, raised, unknown, distance, quiet, sure) in cases {
+        let word = RaisedWord {
+            word: code_of(alloc, 3, text)?,
+            raised,
+            unknown,
+        };
+        let finding = find(alloc, &groups, &book, &word)?;
+        assert_eq!(rt; (finding.raised, finding.unknown), (raised, unknown));
+        assert_eq!(rt; (finding.distance, finding.sure), (distance, sure));
+        assert_eq!(rt; finding.groups.len(), quiet.len());
         for (group, is_quiet) in finding.groups.as_slice().iter().zip(quiet) {
             assert_eq!(rt; group.quiet, *is_quiet);
         }
-        assert_eq!(rt; finding.raised, texts.len() as u64);
     }
     Ok(())
 }
@@ -127,40 +108,6 @@ fn four_codes(alloc: Global) -> Result<Codes, AllocError> {
     }
     codes.list_holders(alloc);
     Ok(codes)
-}
-
-fn nodes_of(alloc: Global, texts: &[(&str, &str)]) -> Result<List<NodeName>, AllocError> {
-    let mut nodes = List::new(alloc);
-    for (event, instance) in texts {
-        nodes.push(NodeName::of(alloc, event.as_bytes(), instance.as_bytes())?)?;
-    }
-    Ok(nodes)
-}
-
-// Whether the nodes are in order.
-fn are_in_order(nodes: &List<NodeName>) -> bool
-    ensures { IsTrue result → Rises node_cmp nodes.now }
-{
-    for i in 0..nodes.len() {
-        if !stands_last(nodes, i) {
-            return false;
-        }
-    }
-    true
-}
-
-// Whether a node comes after all those before it.
-fn stands_last(nodes: &List<NodeName>, i: usize) -> bool
-    requires { i < length nodes.now }
-    ensures { IsTrue result → (j : ℕ) (d : NodeName_) → j < i
-        → node_cmp (slice_index_or nodes.now j d) (slice_index_or nodes.now i d) ≡ Less }
-{
-    for j in 0..i {
-        if nodes.at(j).cmp(nodes.at(i)) != Ordering::Less {
-            return false;
-        }
-    }
-    true
 }
 
 // A code from its text, as wide as is given.

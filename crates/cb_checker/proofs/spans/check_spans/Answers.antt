@@ -27,6 +27,9 @@ loop-place-init g c = record {
   passed = λ whole names known named place a low at. absurd (omega arith);
 }
 
+pub check_span-requires-clause-live : goal.check_span-requires-clause-live
+check_span-requires-clause-live g c = λ i id at. subst (λ (m : Numbered). IsLiveNode m id) (sym c.loop-place.invariant.same) (c.requires.live i id at)
+
 pub check_span-requires-clause-few : goal.check_span-requires-clause-few
 check_span-requires-clause-few g c =
     let more = entries_more c.args.spans.now c.loop-place.place c.at-span.result.now c.at-span.ensures in

@@ -1,4 +1,4 @@
-use Rattle.std.proofs.Common.{◌≡◌, ◌∙◌, List, IfOk, length, sym, ap, subst}
+use Rattle.std.proofs.Common.{◌∙◌, IfOk, length, sym, ap, subst}
 use Rattle.cb_model.specs.WellTyped.{WellTyped}
 use Rattle.cb_network.specs.Topology.{Topology}
 use Rattle.cb_network.proofs.Typed.{typed_is_regular}
@@ -6,9 +6,7 @@ use Rattle.cb_coding.specs.Groups.{codes_of}
 use Rattle.cb_finding.specs.Matrix.{IsMatrix}
 use Rattle.cb_topo.specs.Numbered.{topology_of}
 use Rattle.cb_validity.specs.Valid.{AreColumnNumbers}
-use Rattle.cb_session.specs.State.{State}
 use Rattle.cb_session.specs.Stated.{IsModeStated, StatesRadiiOf}
-use Rattle.cb_session.specs.declared.stated.StatedBook.{StatedBook}
 use Rattle.cb_session.specs.declared.stated.StatedWish.{StatedWish}
 use Rattle.cb_log_commands.proofs.Decoded.{all_stand, given_columns, given_radii}
 use Rattle.cb_log_commands.proofs.decode.session_over.Goals as goal

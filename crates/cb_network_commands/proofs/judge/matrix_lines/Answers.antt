@@ -9,15 +9,19 @@ least-least-requires c = record {
   places_fit =
       let few = c.requires.few_groups in
       let same = ap length c.codes.ensures.rows in
-      let all = length-map c.args.matrix.groups (λ (group : Group). group.code) in
+      let all = length-map c.args.matrix.groups.groups (λ (group : Group). group.code) in
       omega arith;
-  columns_fit = let few = c.requires.few_columns in let wide = c.codes.ensures.width in omega arith;
+  columns_fit =
+      let few = c.requires.few_columns in
+      let wide = c.codes.ensures.width in
+      let same = c.requires.width in
+      omega arith;
 }
 
 pub returns : goal.returns
 returns c =
     if_ok_more c.of.result _ _ (λ lines text. record {
       least = c.least-least.result;
-      least_is = rw (c.codes.ensures.rows, c.codes.ensures.width) at c.least-least.ensures;
-      lines_are = rw (c.into_parts-columns.ensures.columns, c.into_parts-columns.ensures.groups) at text;
+      least_is = rw (c.codes.ensures.rows, c.codes.ensures.width, c.requires.width) at c.least-least.ensures;
+      lines_are = text;
     }) c.of.ensures

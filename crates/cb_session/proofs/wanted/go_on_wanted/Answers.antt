@@ -1,7 +1,6 @@
 use Rattle.std.proofs.Common.{Option, List, sym, subst}
 use Rattle.cb_log.specs.declared.event.Event.{Event}
 use Rattle.cb_log.specs.Entries.{said}
-use Rattle.cb_topo.specs.Numbered.{topology_of}
 use Rattle.cb_session.specs.declared.basis.Ready.{Ready}
 use Rattle.cb_session.specs.Course.{wanted_state}
 use Rattle.cb_session.specs.Settled.{IsSessionSettled}
@@ -27,11 +26,12 @@ returns-clause-settled g c =
       closes = c.in_ok-closing.ensures;
       tells = c.in_ok-reported.ensures;
       acts = acts.1;
+      unchanged = c.in_ok-changed.ensures.unchanged;
       on = c.in_ok-changed.ensures.goes_on;
       same_length = c.in_ok-changed.ensures.length;
       settled = c.requires.settled;
     } in
-    subst (IsSessionSettled (topology_of fresh.graph) wish later) (sym c.keep_ready.ensures) (settled_still wish c.args.number c.args.next.now cache fresh windows later ready c.in_ok-closing.closing reported c.in_ok-changed.changed acts.0 goes)
+    subst (IsSessionSettled fresh.graph wish later) (sym c.keep_ready.ensures) (settled_still wish c.args.number c.args.next.now cache fresh windows later ready c.in_ok-closing.closing reported c.in_ok-changed.changed acts.0 goes)
 
 pub returns-clause-gives : goal.returns-clause-gives
 returns-clause-gives g c =
@@ -47,6 +47,7 @@ returns-clause-gives g c =
       closes = c.in_ok-closing.ensures;
       tells = c.in_ok-reported.ensures;
       acts = acts.1;
+      unchanged = c.in_ok-changed.ensures.unchanged;
       on = c.in_ok-changed.ensures.goes_on;
       same_length = c.in_ok-changed.ensures.length;
       settled = c.requires.settled;
@@ -69,6 +70,7 @@ returns-clause-stands g c =
       closes = c.in_ok-closing.ensures;
       tells = c.in_ok-reported.ensures;
       acts = acts.1;
+      unchanged = c.in_ok-changed.ensures.unchanged;
       on = c.in_ok-changed.ensures.goes_on;
       same_length = c.in_ok-changed.ensures.length;
       settled = c.requires.settled;

@@ -14,14 +14,6 @@ use Rattle.cb_matrix.specs.Coded.{AddsCodedProblems}
 use Rattle.cb_matrix.proofs.Held.{all_added, all_in_groups}
 use Rattle.cb_matrix.proofs.problems.GroupedProblems.of.Goals as goal
 
-pub names_of-requires : goal.names_of-requires
-names_of-requires c =
-    let n = c.args.cache.now.graph in
-    let columns = c.requires in
-    let live = all_live n c.args.index.now columns.names columns.named in
-    subst (λ (m : Numbered). All (IsLiveNode m) c.nodes.result.now) (sym (c.topology-topology.ensures ∙ c.graph.ensures))
-    (subst (λ (ids : List NodeId). All (IsLiveNode n) ids) (sym c.nodes.ensures) live)
-
 pub add_by_rows-requires-clause-few : goal.add_by_rows-requires-clause-few
 add_by_rows-requires-clause-few c =
     let capacity = c.node_capacity-capacity.ensures in
@@ -33,9 +25,9 @@ numbers n ids names are named = all_problem_numbers n ids names named are.each
 pub add_by_rows-requires-clause-rows : goal.add_by_rows-requires-clause-rows
 add_by_rows-requires-clause-rows c =
     let here = c.topology-topology.ensures ∙ c.graph.ensures in
-    let ids = c.in_ok-problem_nodes.problem_nodes in
+    let ids = c.in_ok-problems.problems in
     let n = c.topology-topology.result.now in
-    let problems = c.in_ok-problem_nodes.ensures in
+    let problems = c.in_ok-problems.ensures in
     let all = numbers n ids problems.0 problems.1 problems.2 in
     let rows = subst (λ (m : Numbered). HaveRows m (IsProblemNumber m) c.rows.result.now) (sym here) c.rows.ensures in
     record {
@@ -47,9 +39,9 @@ add_by_rows-requires-clause-rows c =
 
 pub add_by_rows-requires-clause-live : goal.add_by_rows-requires-clause-live
 add_by_rows-requires-clause-live c =
-    let problems = c.in_ok-problem_nodes.ensures in
+    let problems = c.in_ok-problems.ensures in
     subst (λ (xs : List NodeId). All (IsLiveNode c.topology-topology.result.now) xs) (sym c.as_slice-nodes.ensures)
-    (all_live c.topology-topology.result.now c.in_ok-problem_nodes.problem_nodes problems.0 problems.2)
+    (all_live c.topology-topology.result.now c.in_ok-problems.problems problems.0 problems.2)
 
 pub add_by_rows-requires-clause-sound : goal.add_by_rows-requires-clause-sound
 add_by_rows-requires-clause-sound c = subst (λ width. FitsTogether width c.in_ok-grouping.grouping) c.len.ensures c.in_ok-grouping.ensures.sound
@@ -57,10 +49,10 @@ add_by_rows-requires-clause-sound c = subst (λ width. FitsTogether width c.in_o
 pub returns : goal.returns
 returns c =
     let n = c.args.cache.now.graph in
-    let nodes = c.args.index.now in
-    let ids = c.in_ok-problem_nodes.problem_nodes in
+    let nodes = c.args.columns.now in
+    let ids = c.in_ok-problems.problems in
     let columns = c.requires in
-    let problems = c.in_ok-problem_nodes.ensures in
+    let problems = c.in_ok-problems.ensures in
     let here = c.topology-topology.ensures ∙ c.graph.ensures in
     let quiet = c.in_ok-grouping.grouping in
     let grouping = c.add_by_rows.new.grouping in
@@ -69,13 +61,11 @@ returns c =
     let added = subst (λ (m : Numbered). AddsCodedProblems m nodes ids quiet grouping) here
     (subst (λ (xs : List NodeId). AddsCodedProblems c.topology-topology.result.now nodes xs quiet grouping) c.as_slice-nodes.ensures c.in_ok-add_by_rows.ensures) in
     let grouped = all_added n nodes ids quiet grouping sound alone c.in_ok-grouping.ensures.none added in
-    let copied = subst (λ (ns : List NodeId). AreNamed c.topology-topology.result.now ns c.in_ok-columns.columns) c.nodes.ensures c.in_ok-columns.ensures in
-    let named = subst (λ (m : Numbered). AreNamed m nodes c.in_ok-columns.columns) here copied in
-    all_in_groups n (topology_of n) nodes ids (record { columns = c.in_ok-columns.columns; grouping = grouping }) grouped named
+    all_in_groups n nodes ids columns.names grouping grouped columns.named
     (all_coded n
     (subst IsWhole here c.node_capacity-capacity.ensures.whole)
     (subst (λ (m : Numbered). Sound (topology_of m)) here c.node_capacity-capacity.ensures.sound)
-    nodes ids c.in_ok-columns.columns grouped.problems columns.names problems.0 columns.are columns.named named
+    nodes ids grouped.problems columns.names problems.0 columns.are columns.named
     (subst (λ (m : Numbered). AreProblems (topology_of m) problems.0) here problems.1)
     (subst (λ (m : Numbered). AreNamed m ids problems.0) here problems.2)
     grouped.coded)

@@ -1,9 +1,10 @@
-use Rattle.std.proofs.Common.{◌≡◌, ◌∙◌, ℕ, List, length, refl, sym, ap, subst, arith}
+use Rattle.std.proofs.Common.{◌≡◌, ◌∙◌, ℕ, List, length, sym, ap, subst, arith}
 use Rattle.cb_coding.specs.Groups.{codes_of}
 use Rattle.cb_log.specs.Basis.{fixed}
 use Rattle.cb_topo.specs.Numbered.{topology_of}
 use Rattle.cb_session.specs.InUse.{in_use_of}
 use Rattle.cb_session.specs.Stated.{ArePlacesFor}
+use Rattle.cb_session.proofs.Bases.{is_ready_by}
 use Rattle.cb_session.proofs.basis.Ready.by_stated.Goals as goal
 
 pub of-requires-clause-columns_fit : goal.of-requires-clause-columns_fit
@@ -18,15 +19,9 @@ returns-clause-ready c =
     let matrix = c.in_ok-matrix.matrix in
     let few = made.few_places in
     let kept = ap (λ (columns : List ℕ). length columns) c.book_of-book.ensures.kept in
-    record {
-      matrix = made.matrix;
-      in_use = (refl, refl);
-      radii = c.book_of-book.ensures.radii (length matrix.columns) (codes_of matrix.groups) (c.requires.radii matrix.columns matrix.groups made.matrix);
-      decoder = rw (c.columns.ensures, c.codes.ensures.rows) at c.in_ok-decoder.ensures;
-      few_columns = made.few_columns;
-      few_groups = made.few_groups;
-      few_kept = omega (arith, few, kept);
-    }
+    is_ready_by c.args.cache.now.graph (record { matrix = matrix; book = c.book_of-book.result; decoder = c.in_ok-decoder.decoder }) made.matrix made.few_columns made.few_groups
+    (omega (arith, few, kept)) (λ columns groups is. c.book_of-book.ensures.radii (length columns) (codes_of groups) (c.requires.radii columns groups is))
+    (rw (c.columns.ensures, c.codes.ensures.rows) at c.in_ok-decoder.ensures)
 
 pub returns-clause-stated : goal.returns-clause-stated
 returns-clause-stated c =

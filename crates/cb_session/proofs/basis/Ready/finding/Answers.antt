@@ -1,18 +1,17 @@
+use Rattle.std.proofs.Common.{List, sym, subst}
+use Rattle.cb_nodes.specs.declared.id.NodeId.{NodeId}
+use Rattle.cb_topo.specs.Numbered.{AreNamed, IsNodeNamed}
+use Rattle.cb_validity.proofs.Passing.{zip_lengths}
 use Rattle.cb_session.proofs.Following.{if_ok_more}
-use Rattle.cb_session.proofs.InUse.{plain_found, capped_found}
 use Rattle.cb_session.proofs.basis.Ready.finding.Goals as goal
 
-pub returns-in-Plain : goal.returns-in-Plain
-returns-in-Plain c =
-    let ready = c.args.self.now in
-    let raised = c.args.raised.now in
-    if_ok_more c.find_by.result _ _ (λ finding found. plain_found ready raised finding c.in-Plain.book c.in-Plain.is found)
-    (rw (c.columns-columns.ensures, c.coded_groups-groups.ensures.groups) at c.find_by.ensures)
+pub found_for-requires : goal.found_for-requires
+found_for-requires c = (c.args.topology.now, c.requires.ready)
 
-pub returns-in-Capped : goal.returns-in-Capped
-returns-in-Capped c =
-    let ready = c.args.self.now in
-    let raised = c.args.raised.now in
-    let (network, mode, is) = c.requires.ready in
-    if_ok_more c.find_cap_by.result _ _ (λ finding found. capped_found ready raised finding c.in-Capped.book c.in-Capped.is is.radii found)
-    (rw (c.columns-columns.ensures, c.coded_groups-groups.ensures.groups) at c.find_cap_by.ensures)
+pub returns : goal.returns
+returns c =
+    let n = c.args.topology.now in
+    let ids = c.args.self.now.matrix.columns in
+    if_ok_more c.found_for.result _ _ (λ finding found. λ columns named.
+    found columns c.args.raised.now (c.in_ok-word.ensures columns (subst (λ (xs : List NodeId). AreNamed n xs columns) (sym c.columns.ensures) named))
+    (sym (zip_lengths (IsNodeNamed n) ids columns named))) c.found_for.ensures

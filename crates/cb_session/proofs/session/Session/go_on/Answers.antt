@@ -2,7 +2,7 @@ use Rattle.std.proofs.Common.{OnOk, subst}
 use Rattle.cb_log.specs.Entries.{said}
 use Rattle.cb_topo.specs.Numbered.{topology_of}
 use Rattle.cb_session.specs.Counted.{CountsEntry}
-use Rattle.cb_session.specs.Course.{fixed_state, mode_by}
+use Rattle.cb_session.specs.Course.{fixed_state}
 use Rattle.cb_session.specs.InUse.{in_use_of}
 use Rattle.cb_session.specs.Numbers.{KeepsNumbers}
 use Rattle.cb_session.specs.State.{State, network_of}
@@ -17,23 +17,21 @@ pub go_on_fixed-requires-clause-ready : goal.go_on_fixed-requires-clause-ready
 go_on_fixed-requires-clause-ready g c =
     let parts = c.self.inside in
     let fits = fixed_fits parts.cache parts.windows parts.course c.args.self.now c.self.view_is c.self.invariant c.in-Fixed.ready c.in-Fixed.is in
-    (topology_of parts.cache.graph, mode_by c.in-Fixed.ready, fits.ready_is)
+    fits.ready_is
 
 pub returns-in-Fixed-clause-gives : goal.returns-in-Fixed-clause-gives
 returns-in-Fixed-clause-gives g c =
     let parts = c.self.inside in
-    let fits = fixed_fits parts.cache parts.windows parts.course c.args.self.now c.self.view_is c.self.invariant c.in-Fixed.ready c.in-Fixed.is in
     let view = fixed_view parts.cache parts.windows parts.course c.args.self.now c.self.view_is c.self.invariant c.in-Fixed.ready c.in-Fixed.is in
     if_ok_more c.go_on_fixed.result _ _
-    (λ events gives. subst (λ (s : State). EntryTells s (said c.args.number c.args.next.now) events) view (gives parts.cache fits.ready_is)) c.go_on_fixed.ensures.gives
+    (λ events gives. subst (λ (s : State). EntryTells s (said c.args.number c.args.next.now) events) view gives) c.go_on_fixed.ensures.gives
 
 pub returns-in-Fixed-clause-stands : goal.returns-in-Fixed-clause-stands
 returns-in-Fixed-clause-stands g c =
     let parts = c.self.inside in
     let view = fixed_view parts.cache parts.windows parts.course c.args.self.now c.self.view_is c.self.invariant c.in-Fixed.ready c.in-Fixed.is in
     on_ok_more c.go_on_fixed.result _ _
-    (λ stands. subst (λ (s : State). EntryStands s (fixed_state parts.cache c.go_on_fixed.new.windows c.in-Fixed.ready) (said c.args.number c.args.next.now)) view
-    (stands parts.cache)) c.go_on_fixed.ensures.stands
+    (λ stands. subst (λ (s : State). EntryStands s (fixed_state parts.cache c.go_on_fixed.new.windows c.in-Fixed.ready) (said c.args.number c.args.next.now)) view stands) c.go_on_fixed.ensures.stands
 
 pub returns-in-Wanted-clause-cost : goal.returns-in-Wanted-clause-cost
 returns-in-Wanted-clause-cost g c =
